@@ -1,0 +1,97 @@
+//! Gathering small pieces before they are written.
+ghost use Rattle.std.specs.Prelude.{◌≡◌, ◌≤◌, [], false, IsTrue, IsErr, OnOk, OnErr, IfErr, ◌↔◌};
+ghost use Rattle.mcap_io.specs.Outside.{Adds, AddsPart, Rose};
+ghost use Rattle.mcap_io.specs.Gathered.{Puts};
+
+use crate::outside::{Short, Sink};
+use crate::stretch::write_all_of;
+
+// The pieces that wait go to the sink before any later one. Once the sink has failed, nothing more goes to it.
+#[derive(Drop)]
+pub(crate) struct Gather<K> {
+    sink: K,
+    waiting: Vec<u8>,
+    broken: bool,
+}
+
+impl<K: Sink + Drop> Gather<K> {
+    // `room` is an empty buffer, whose capacity says how much may wait.
+    pub(crate) fn new(sink: K, room: Vec<u8>) -> Self
+        requires { room.items ≡ [] }
+        ensures sink { result.sink ≡ sink }
+        ensures room { result.waiting ≡ room }
+        ensures broken { result.broken ≡ false }
+    {
+        Gather {
+            sink,
+            waiting: room,
+            broken: false,
+        }
+    }
+
+    // Writes all that waits.
+    pub(crate) fn flush(&mut self) -> Result<(), Short>
+        ensures written { OnOk result (Adds (K.took self.old.sink) (K.took self.new.sink) self.old.waiting.items) }
+        ensures none_waits { OnOk result (self.new.waiting.items ≡ []) }
+        ensures part { OnErr result (AddsPart (K.took self.old.sink) (K.took self.new.sink) 0 self.old.waiting.items) }
+        ensures none_taken { IfErr result (λ short. short.taken ≡ 0) }
+        ensures cause { self.old.broken ≡ false → OnErr result (Rose (K.faults self.old.sink) (K.faults self.new.sink)) }
+        ensures later { K.faults self.old.sink ≤ K.faults self.new.sink }
+        ensures broken { IsTrue self.new.broken ↔ IsErr result }
+        ensures stays { IsTrue self.old.broken → IsErr result × (K.took self.new.sink ≡ K.took self.old.sink) }
+    {
+        if self.broken {
+            return Err(Short { taken: 0 });
+        }
+        match write_all_of(&mut self.sink, &self.waiting) {
+            Ok(()) => {
+                self.waiting.clear();
+                return Ok(());
+            }
+            Err(_) => {
+                self.broken = true;
+                return Err(Short { taken: 0 });
+            }
+        }
+    }
+
+    // Puts the piece behind what waits. Where there is no room for it, all that waits is written first.
+    pub(crate) fn put(&mut self, bytes: &[u8]) -> Result<(), Short>
+        ensures puts { Puts (K.took self.old.sink) self.old.waiting.items (K.took self.new.sink) self.new.waiting.items bytes.now result }
+        ensures cause { self.old.broken ≡ false → OnErr result (Rose (K.faults self.old.sink) (K.faults self.new.sink)) }
+        ensures later { K.faults self.old.sink ≤ K.faults self.new.sink }
+        ensures broken { IsTrue self.new.broken ↔ IsErr result }
+        ensures stays { IsTrue self.old.broken → IsErr result × (K.took self.new.sink ≡ K.took self.old.sink) }
+    {
+        if !self.broken && bytes.len() <= self.waiting.capacity() - self.waiting.len() {
+            self.waiting.extend_from_slice(bytes).unwrap();
+            return Ok(());
+        }
+        match self.flush() {
+            Ok(()) => return self.put_first(bytes),
+            Err(short) => return Err(short),
+        }
+    }
+
+    // Puts the piece where nothing waits. One that is larger than the room goes past it.
+    fn put_first(&mut self, bytes: &[u8]) -> Result<(), Short>
+        requires none_waits { self.old.waiting.items ≡ [] }
+        requires whole { self.old.broken ≡ false }
+        ensures puts { Puts (K.took self.old.sink) [] (K.took self.new.sink) self.new.waiting.items bytes.now result }
+        ensures cause { OnErr result (Rose (K.faults self.old.sink) (K.faults self.new.sink)) }
+        ensures later { K.faults self.old.sink ≤ K.faults self.new.sink }
+        ensures broken { IsTrue self.new.broken ↔ IsErr result }
+    {
+        if bytes.len() <= self.waiting.capacity() - self.waiting.len() {
+            self.waiting.extend_from_slice(bytes).unwrap();
+            return Ok(());
+        }
+        match write_all_of(&mut self.sink, bytes) {
+            Ok(()) => return Ok(()),
+            Err(short) => {
+                self.broken = true;
+                return Err(short);
+            }
+        }
+    }
+}

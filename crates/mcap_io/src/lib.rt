@@ -1,0 +1,26 @@
+//! The outside as the recorder sees it: sources, sinks, live stores and the world that opens and keeps them,
+//! each with a meaning that contracts can name and a count of its faults.
+#![tactic(auto)]
+
+mod ahead;
+mod files;
+mod gather;
+mod memory;
+mod memory_world;
+mod outside;
+mod stretch;
+mod writer;
+
+pub use files::{FileLive, FileSource, FileWorld, Stretch};
+pub use memory::{
+    FailingWrite, MemoryLive, MemorySink, MemorySource, Piece, QuietLive, QuietSource,
+};
+pub use memory_world::{MemoryWorld, Plan};
+pub use outside::{
+    AppendRefused, Extent, Failed, LiveStore, OpenRefused, ReadRefused, Short, Sink, Source, World,
+};
+pub use stretch::{read_up_to, write_all_of};
+pub use writer::WriterSink;
+
+#[cfg(test)]
+mod tests;

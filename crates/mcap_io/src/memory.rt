@@ -1,0 +1,376 @@
+//! Sources, sinks and live stores in memory. They tell all of their bytes.
+ghost use Rattle.std.specs.Prelude.{◌≡◌, ◌≤◌, ◌<◌, ◌+◌, ◌⊎◌, ◌↔◌, ℕ, List, length, [], Some, Ok, Contains, IsTrue, IsSome, IsErr, IfOk, IfErr, OnErr, vec_len, vec_capacity};
+ghost use Rattle.mcap_io.specs.Outside.{HasCause, ReadGives, Writes, Adds, AppendCause, AppendLeaves};
+ghost use Rattle.mcap_io.specs.Planned.{left_of, planned, next_call, WritesAsPlanned, AppendsAsPlanned};
+
+use crate::outside::{AppendRefused, Extent, Failed, LiveStore, Sink, Source};
+use std::alloc::{AllocError, Global};
+
+/// A source that gives these bytes and never fails.
+#[derive(Drop)]
+pub struct QuietSource {
+    bytes: Vec<u8>,
+    next: usize,
+    ghost within: { next ≤ vec_len bytes },
+}
+
+impl QuietSource {
+    /// A source of these bytes.
+    pub fn new(bytes: Vec<u8>) -> Self
+        ensures { ⟦<QuietSource as Source>⟧.left result ≡ Some bytes.items }
+    {
+        QuietSource { bytes, next: 0 }
+    }
+}
+
+impl Source for QuietSource {
+    ghost left = { λ s. left_of s.bytes.items s.next };
+
+    ghost faults = { λ _. 0 };
+
+    fn read(&mut self, out: &mut [u8]) -> Result<usize, Failed> {
+        let rest = &self.bytes[self.next..];
+        let n = rest.len().min(out.len());
+        out[..n].copy_from_slice(&rest[..n]);
+        self.next += n;
+        Ok(n)
+    }
+
+    fn faults(&self) -> u64 {
+        0
+    }
+}
+
+// Which calls are to fail, by their numbers, and how many calls there were.
+#[derive(Drop)]
+pub(crate) struct Calls {
+    failing: Vec<u64>,
+    made: u64,
+}
+
+impl Calls {
+    pub(crate) fn new(failing: Vec<u64>) -> Self
+        ensures plan { result.failing ≡ failing }
+        ensures made { result.made ≡ 0 }
+    {
+        Calls { failing, made: 0 }
+    }
+
+    pub(crate) fn made(&self) -> u64
+        ensures { result ≡ self.now.made }
+    {
+        self.made
+    }
+
+    // Counts a call, and says whether it is one of those that fail.
+    pub(crate) fn next_fails(&mut self) -> bool
+        ensures planned { IsTrue result ↔ Contains self.old.failing.items self.old.made }
+        ensures counted { self.new.made ≡ next_call self.old.made }
+        ensures plan { self.new.failing ≡ self.old.failing }
+    {
+        let call = self.made;
+        self.made = call.saturating_add(1);
+        self.failing.contains(&call)
+    }
+}
+
+/// A source that gives these bytes, and fails where it is told to.
+#[derive(Drop)]
+pub struct MemorySource {
+    bytes: QuietSource,
+    reads: Calls,
+    faults: u64,
+}
+
+impl MemorySource {
+    /// The reads that have room are numbered from 0. Those in the list fail, once each, and take nothing.
+    pub fn new(bytes: Vec<u8>, failing: Vec<u64>) -> Self
+        ensures tells { ⟦<MemorySource as Source>⟧.left result ≡ Some bytes.items }
+        ensures unused { ⟦<MemorySource as Source>⟧.faults result ≡ 0 }
+        ensures plan { result.reads.failing ≡ failing }
+        ensures made { result.reads.made ≡ 0 }
+    {
+        MemorySource {
+            bytes: QuietSource::new(bytes),
+            reads: Calls::new(failing),
+            faults: 0,
+        }
+    }
+}
+
+impl Source for MemorySource {
+    ghost left = { λ s. ⟦<QuietSource as Source>⟧.left s.bytes };
+
+    ghost faults = { λ s. s.faults };
+
+    fn read(&mut self, out: &mut [u8]) -> Result<usize, Failed>
+        ensures bound { IfOk result (λ n. n ≤ length out.new) }
+        ensures gives { ReadGives (left_of self.old.bytes.bytes.items self.old.bytes.next) (left_of self.new.bytes.bytes.items self.new.bytes.next) out.new result }
+        ensures no_room { length out.new ≡ 0 → (result ≡ Ok 0) × (left_of self.new.bytes.bytes.items self.new.bytes.next ≡ left_of self.old.bytes.bytes.items self.old.bytes.next) × (self.new.faults ≡ self.old.faults) }
+        ensures cause { HasCause self.old.faults self.new.faults result }
+        ensures planned { IsErr result ↔ (0 < length out.new) × Contains self.old.reads.failing.items self.old.reads.made }
+    {
+        if out.is_empty() {
+            return Ok(0);
+        }
+        if self.reads.next_fails() {
+            self.faults = self.faults.saturating_add(1);
+            return Err(Failed);
+        }
+        self.bytes.read(out)
+    }
+
+    fn faults(&self) -> u64 {
+        self.faults
+    }
+}
+
+/// A write or an append that is to fail: the number of the call, from 0, and how many bytes of the piece it takes.
+#[derive(Clone, Copy, Debug, PartialEq, Eq)]
+pub struct FailingWrite {
+    pub call: u64,
+    pub taken: u64,
+}
+
+// Which writes are to fail, and how many writes there were.
+#[derive(Drop)]
+struct PlannedWrites {
+    failing: Vec<FailingWrite>,
+    made: u64,
+}
+
+impl PlannedWrites {
+    // Counts a write of so many bytes. Where it is to fail, says how many of them it takes.
+    fn next_takes(&mut self, len: usize) -> Option<usize>
+        ensures planned { result ≡ planned self.old.failing.items self.old.made len }
+        ensures counted { self.new.made ≡ next_call self.old.made }
+        ensures plan { self.new.failing ≡ self.old.failing }
+    {
+        let call = self.made;
+        self.made = call.saturating_add(1);
+        self.failing
+            .iter()
+            .find(|write| write.call == call)
+            .map(|write| (write.taken as usize).min(len))
+    }
+}
+
+/// A sink that keeps what it takes, and fails where it is told to. Want of memory is a fault too.
+#[derive(Drop)]
+pub struct MemorySink {
+    bytes: Vec<u8>,
+    writes: PlannedWrites,
+    faults: u64,
+}
+
+impl MemorySink {
+    /// An empty sink. The writes are numbered from 0.
+    pub fn new(alloc: Global, failing: Vec<FailingWrite>) -> Self
+        ensures tells { ⟦<MemorySink as Sink>⟧.took result ≡ Some [] }
+        ensures unused { ⟦<MemorySink as Sink>⟧.faults result ≡ 0 }
+        ensures plan { result.writes.failing ≡ failing }
+        ensures made { result.writes.made ≡ 0 }
+    {
+        MemorySink {
+            bytes: Vec::new(alloc),
+            writes: PlannedWrites { failing, made: 0 },
+            faults: 0,
+        }
+    }
+
+    /// The bytes that it took.
+    pub fn bytes(&self) -> &[u8]
+        ensures { ⟦<MemorySink as Sink>⟧.took self.now ≡ Some result.now }
+    {
+        &self.bytes
+    }
+}
+
+impl Sink for MemorySink {
+    ghost took = { λ s. Some s.bytes.items };
+
+    ghost faults = { λ s. s.faults };
+
+    fn write(&mut self, bytes: &[u8]) -> Result<usize, Failed>
+        ensures bound { IfOk result (λ n. n ≤ length bytes.now) }
+        ensures goes_on { IfOk result (λ n. 0 < length bytes.now → 0 < n) }
+        ensures takes { Writes (Some self.old.bytes.items) (Some self.new.bytes.items) bytes.now result }
+        ensures cause { HasCause self.old.faults self.new.faults result }
+        ensures planned { WritesAsPlanned (planned self.old.writes.failing.items self.old.writes.made (length bytes.now)) bytes.now result }
+        ensures memory { OnErr result (IsSome (planned self.old.writes.failing.items self.old.writes.made (length bytes.now)) ⊎ (vec_capacity self.old.bytes < vec_len self.old.bytes + length bytes.now)) }
+    {
+        let planned = self.writes.next_takes(bytes.len());
+        let taken = planned.unwrap_or(bytes.len());
+        let stored = self.bytes.extend_from_slice(&bytes[..taken]);
+        if planned.is_some() || stored.is_err() {
+            self.faults = self.faults.saturating_add(1);
+            return Err(Failed);
+        }
+        Ok(taken)
+    }
+
+    fn faults(&self) -> u64 {
+        self.faults
+    }
+}
+
+/// The bytes that one append took. They are never let go, so that they can be read on any thread for good.
+#[derive(Clone, Copy, Debug)]
+pub struct Piece {
+    bytes: &'static [u8],
+}
+
+impl Piece {
+    /// The bytes.
+    pub fn bytes(&self) -> &'static [u8]
+        ensures { ⟦<Piece as Extent>⟧.tells self.now ≡ Some result.now }
+    {
+        self.bytes
+    }
+}
+
+impl Extent for Piece {
+    ghost tells = { λ piece. Some piece.bytes.now };
+
+    ghost size = { λ piece. length piece.bytes.now };
+
+    fn same(&self) -> Self {
+        *self
+    }
+
+    fn len(&self) -> u64 {
+        self.bytes.len() as u64
+    }
+
+    ghost sized = { λ piece bytes told. Prim.cc };
+}
+
+/// A live store that keeps what is appended and never fails.
+#[derive(Drop)]
+pub struct QuietLive {
+    alloc: Global,
+    bytes: Vec<u8>,
+}
+
+impl QuietLive {
+    /// An empty store.
+    pub fn new(alloc: Global) -> Self
+        ensures { ⟦<QuietLive as LiveStore>⟧.held result ≡ Some [] }
+    {
+        QuietLive {
+            alloc,
+            bytes: Vec::new(alloc),
+        }
+    }
+
+    /// The bytes that it holds.
+    pub fn bytes(&self) -> &[u8]
+        ensures { ⟦<QuietLive as LiveStore>⟧.held self.now ≡ Some result.now }
+    {
+        &self.bytes
+    }
+
+    /// The bytes that it held.
+    pub fn into_bytes(self) -> Vec<u8>
+        ensures { ⟦<QuietLive as LiveStore>⟧.held self ≡ Some result.items }
+    {
+        let QuietLive { alloc: _, bytes } = self;
+        bytes
+    }
+}
+
+impl LiveStore for QuietLive {
+    type Extent = Piece;
+
+    ghost held = { λ s. Some s.bytes.items };
+
+    ghost faults = { λ _. 0 };
+
+    fn append(&mut self, bytes: &[u8]) -> Result<Piece, AppendRefused> {
+        let Ok(copy) = Vec::from_slice(self.alloc, bytes) else {
+            return Err(AppendRefused::Memory);
+        };
+        let Ok(()) = self.bytes.extend_from_slice(bytes) else {
+            return Err(AppendRefused::Memory);
+        };
+        Ok(Piece { bytes: copy.leak() })
+    }
+
+    fn faults(&self) -> u64 {
+        0
+    }
+}
+
+/// A live store that keeps what is appended, and fails where it is told to.
+#[derive(Drop)]
+pub struct MemoryLive {
+    store: QuietLive,
+    appends: PlannedWrites,
+    faults: u64,
+}
+
+impl MemoryLive {
+    /// An empty store. The appends are numbered from 0.
+    pub fn new(alloc: Global, failing: Vec<FailingWrite>) -> Self
+        ensures tells { ⟦<MemoryLive as LiveStore>⟧.held result ≡ Some [] }
+        ensures unused { ⟦<MemoryLive as LiveStore>⟧.faults result ≡ 0 }
+        ensures plan { result.appends.failing ≡ failing }
+        ensures made { result.appends.made ≡ 0 }
+    {
+        MemoryLive {
+            store: QuietLive::new(alloc),
+            appends: PlannedWrites { failing, made: 0 },
+            faults: 0,
+        }
+    }
+
+    /// The bytes that it holds.
+    pub fn bytes(&self) -> &[u8]
+        ensures { ⟦<MemoryLive as LiveStore>⟧.held self.now ≡ Some result.now }
+    {
+        self.store.bytes()
+    }
+
+    /// The bytes that it held.
+    pub fn into_bytes(self) -> Vec<u8>
+        ensures { ⟦<MemoryLive as LiveStore>⟧.held self ≡ Some result.items }
+    {
+        let MemoryLive {
+            store,
+            appends: _,
+            faults: _,
+        } = self;
+        store.into_bytes()
+    }
+}
+
+impl LiveStore for MemoryLive {
+    type Extent = Piece;
+
+    ghost held = { λ s. ⟦<QuietLive as LiveStore>⟧.held s.store };
+
+    ghost faults = { λ s. s.faults };
+
+    fn append(&mut self, bytes: &[u8]) -> Result<Piece, AppendRefused>
+        ensures adds { IfOk result (λ e. Adds (Some self.old.store.bytes.items) (Some self.new.store.bytes.items) bytes.now) }
+        ensures extent { IfOk result (λ e. (length e.bytes.now ≡ length bytes.now) × ((before : List ℕ) → Some self.old.store.bytes.items ≡ Some before → Some e.bytes.now ≡ Some bytes.now)) }
+        ensures leaves { IfErr result (AppendLeaves (Some self.old.store.bytes.items) (Some self.new.store.bytes.items) bytes.now) }
+        ensures cause { AppendCause self.old.faults self.new.faults result }
+        ensures planned { AppendsAsPlanned (planned self.old.appends.failing.items self.old.appends.made (length bytes.now)) result }
+    {
+        let Some(taken) = self.appends.next_takes(bytes.len()) else {
+            return self.store.append(bytes);
+        };
+        let Ok(()) = self.store.bytes.extend_from_slice(&bytes[..taken]) else {
+            return Err(AppendRefused::Memory);
+        };
+        self.faults = self.faults.saturating_add(1);
+        Err(AppendRefused::Failed {
+            taken: taken as u64,
+        })
+    }
+
+    fn faults(&self) -> u64 {
+        self.faults
+    }
+}
