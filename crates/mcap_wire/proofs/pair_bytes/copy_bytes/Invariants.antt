@@ -1,0 +1,7 @@
+use Rattle.std.proofs.Common.{◌≡◌, take}
+use Rattle.mcap_wire.specs.PairBytes.{pairs_in}
+use Rattle.mcap_wire.proofs.PairWalks.{WalkedTo}
+use Rattle.mcap_wire.proofs.pair_bytes.copy_bytes.Given as goal
+
+abbrev pub invariant-loop-i : goal.invariant-loop-i
+invariant-loop-i l = WalkedTo l.bytes (pairs_in l.count l.bytes) l.i l.at × (l.pairs.items ≡ take l.i (pairs_in l.count l.bytes))

@@ -1,0 +1,11 @@
+pub mod Layout
+pub mod Reading
+pub mod Writing
+pub mod Laws
+pub mod Maps
+pub mod PairBytes
+pub mod PairsPlace
+pub mod Arrays
+pub mod ArrayBytes
+pub mod ArrayPlaces
+pub mod Contents

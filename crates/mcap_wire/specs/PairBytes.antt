@@ -1,0 +1,46 @@
+-- The pairs of a map that is kept as its bytes.
+use Rattle.std.specs.Prelude.{◌≡◌, ℕ, zero, suc, ◌+◌, List, [], ◌∷◌, drop, false, Result, Ok, Err, All}
+use Rattle.std.specs.Ordering.{nat_cmp, is_gt}
+use Rattle.std.specs.Cmp.Lexicographic.{slice_cmp}
+use denote.Ref.{Bor}
+use Rattle.mcap_wire.specs.declared.faults.Why.{Why}
+use Rattle.mcap_wire.specs.declared.faults.Why.TheVariants.{Short, BadText, BadLength, DoubleKey}
+use Rattle.mcap_wire.specs.Reading.{TextAt, TextIsShort, TextIsBad, text_length, text_bytes}
+use Rattle.mcap_wire.specs.Maps.{IsTextMap, pair_texts, PairsStop}
+
+-- what stands behind the first text
+abbrev pub behind_text : List ℕ → List ℕ
+behind_text bytes = drop (4 + text_length bytes 0) bytes
+
+-- the first n pairs
+unfoldable pub pairs_in : ℕ → List ℕ → List (List ℕ × List ℕ)
+pairs_in zero bytes = []
+pairs_in (suc n) bytes = (text_bytes bytes 0, text_bytes (behind_text bytes) 0) ∷ pairs_in n (behind_text (behind_text bytes))
+
+-- these bytes are a map of n pairs
+pub record HoldsMap (bytes : List ℕ) (n : ℕ) : Type 0 where
+  pub spelled : bytes ≡ pair_texts (pairs_in n bytes)
+  pub is_map : IsTextMap (pairs_in n bytes)
+
+abbrev pub CountsPairs : List ℕ → Result ℕ Why → Type 0
+CountsPairs bytes (Ok n) = HoldsMap bytes n
+CountsPairs bytes (Err why) = PairsStop bytes why
+
+-- no key is above this one
+abbrev pub NoneAbove : List (List ℕ × List ℕ) → List ℕ → Type 0
+NoneAbove pairs largest = All (λ p. is_gt (slice_cmp nat_cmp p.0 largest) ≡ false) pairs
+
+-- some text stands there
+abbrev pub TextStands : List ℕ → ℕ → Type 0
+TextStands bytes at = (text : List ℕ) × (end : ℕ) × TextAt bytes at text end
+
+-- why a text of a pair can't be read
+abbrev pub PartFails : List ℕ → ℕ → Why → Type 0
+PartFails bytes at Short = ⊥
+PartFails bytes at BadText = TextIsBad bytes at
+PartFails bytes at BadLength = TextIsShort bytes at
+PartFails bytes at DoubleKey = ⊥
+
+abbrev pub ReadsPart : List ℕ → ℕ → Result (Bor (List ℕ) × ℕ) Why → Type 0
+ReadsPart bytes at (Ok r) = TextAt bytes at r.0.now r.1
+ReadsPart bytes at (Err why) = PartFails bytes at why
