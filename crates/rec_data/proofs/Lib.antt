@@ -1,0 +1,4 @@
+pub mod Contents
+mod MapContents
+pub mod OwnedLengths
+pub mod OwnedReading

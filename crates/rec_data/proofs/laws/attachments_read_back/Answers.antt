@@ -1,0 +1,6 @@
+use Rattle.mcap_wire.proofs.Contents.{rows_back}
+use Rattle.rec_data.specs.Records.{attachment_kinds}
+use Rattle.rec_data.proofs.laws.attachments_read_back.Goals as goal
+
+pub returns : goal.returns
+returns c = rows_back attachment_kinds

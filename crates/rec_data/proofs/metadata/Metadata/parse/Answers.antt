@@ -1,0 +1,20 @@
+use Rattle.std.proofs.Common.{rules, ◌≡◌, subst, inl, inr, Err}
+use Rattle.mcap_wire.specs.Reading.{TextAt, ReadsText}
+use Rattle.mcap_wire.specs.Maps.{PairsFail, ReadsPairs}
+use Rattle.rec_data.proofs.MapContents.{metadata_none}
+use Rattle.rec_data.proofs.metadata.Metadata.parse.Goals as goal
+
+pub returns-in_err-name-clause-none : goal.returns-in_err-name-clause-none
+returns-in_err-name-clause-none c = metadata_none c.args.content.now c.from_residual.result (search rules)
+
+pub returns-in_err-metadata-clause-first_fault : goal.returns-in_err-metadata-clause-first_fault
+returns-in_err-metadata-clause-first_fault c =
+    let content = c.args.content.now in
+    let first : TextAt content 0 c.in_ok-name.name.now c.in_ok-name.at = subst (ReadsText content 0) c.in_ok-name.ensures.ok c.take_text.ensures in
+    let bad = c.in_err-metadata.field-0.0 in
+    let fails : PairsFail content c.in_ok-name.at bad.why = subst (ReadsPairs content c.in_ok-name.at) c.in_err-metadata.ensures.err.1 c.take_pairs.ensures in
+    let is : c.from_residual-in_err-metadata.result ≡ Err bad = search rules in
+    rw is (inr (_, _, first, inl (c.in_err-metadata.ensures.err.0, fails)))
+
+pub returns-in_err-metadata-clause-none : goal.returns-in_err-metadata-clause-none
+returns-in_err-metadata-clause-none c = metadata_none c.args.content.now c.from_residual-in_err-metadata.result (returns-in_err-metadata-clause-first_fault c)

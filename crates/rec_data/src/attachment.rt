@@ -1,0 +1,106 @@
+//! The record Attachment (MCAP specification, "Attachment (op=0x09)").
+ghost use Rattle.std.specs.Prelude.{◌≡◌, ◌+◌, ◌^◌, ◌<◌, ◌≤◌, ℕ, List, ◌++◌, length, vec_capacity, IfOk, IfErr, OnOk, OnErr};
+ghost use Rattle.mcap_wire.specs.Layout.{framed};
+ghost use Rattle.mcap_wire.specs.Writing.{LacksRoom};
+ghost use Rattle.rec_data.specs.Records.{attachment_opcode, attachment_text, ShowsAttachment, AttachmentFails, CrcStandsAt, HasCrcAt};
+
+use crate::faults::{ATTACHMENT, Bad, at_field};
+use mcap_wire::{
+    Memory, add_bytes64, add_head, add_text, add_u32, add_u64, make_room, take_bytes64, take_text,
+    take_u32, take_u64,
+};
+
+/// A file that goes along with the messages: when it was logged and when it was created, both in nanoseconds, its name, its
+/// media type, its data, and the CRC-32 of these fields (0 where there is none).
+#[derive(Clone, Copy, Debug, PartialEq, Eq)]
+pub struct Attachment<'a> {
+    pub log_time: u64,
+    pub create_time: u64,
+    pub name: &'a str,
+    pub media_type: &'a str,
+    pub payload: &'a [u8],
+    pub crc: u32,
+}
+
+impl<'a> Attachment<'a> {
+    /// Reads the fields from a content. Bytes after the last field are allowed.
+    pub fn parse(content: &'a [u8]) -> Result<Self, Bad>
+        ensures shown { IfOk result (λ a. ShowsAttachment content.now
+            a.log_time a.create_time a.name.now a.media_type.now a.payload.now a.crc) }
+        ensures none { OnErr result
+            ((log_time create_time : ℕ) (name media_type payload : List ℕ) (crc : ℕ)
+            → ShowsAttachment content.now log_time create_time name media_type payload crc → ⊥) }
+        ensures first_fault { IfErr result (λ bad. AttachmentFails content.now bad.field bad.why) }
+    {
+        match Self::read(content) {
+            Ok((attachment, _)) => Ok(attachment),
+            Err(bad) => Err(bad),
+        }
+    }
+
+    // The fields, and the place of the last.
+    fn read(content: &'a [u8]) -> Result<(Self, usize), Bad>
+        ensures shown { IfOk result (λ r. CrcStandsAt content.now r.1
+            r.0.log_time r.0.create_time r.0.name.now r.0.media_type.now r.0.payload.now r.0.crc) }
+        ensures none { OnErr result
+            ((log_time create_time : ℕ) (name media_type payload : List ℕ) (crc : ℕ)
+            → ShowsAttachment content.now log_time create_time name media_type payload crc → ⊥) }
+        ensures first_fault { IfErr result (λ bad. AttachmentFails content.now bad.field bad.why) }
+    {
+        let (log_time, at) = at_field(1, take_u64(content, 0))?;
+        let (create_time, at) = at_field(2, take_u64(content, at))?;
+        let (name, at) = at_field(3, take_text(content, at))?;
+        let (media_type, at) = at_field(4, take_text(content, at))?;
+        let (payload, at) = at_field(5, take_bytes64(content, at))?;
+        let (crc, _after) = at_field(6, take_u32(content, at))?;
+        let attachment = Attachment {
+            log_time,
+            create_time,
+            name,
+            media_type,
+            payload,
+            crc,
+        };
+        Ok((attachment, at))
+    }
+
+    /// Appends the whole record. Memory is lacking only where the vector has no room for it, and then the vector keeps its
+    /// bytes.
+    pub fn frame(&self, out: &mut Vec<u8>) -> Result<(), Memory>
+        requires name_fits { length self.now.name.now < 2 ^ 32 }
+        requires media_type_fits { length self.now.media_type.now < 2 ^ 32 }
+        ensures ok { OnOk result (out.new.items ≡ out.old.items ++ framed attachment_opcode
+            (attachment_text self.now.log_time self.now.create_time
+            self.now.name.now self.now.media_type.now self.now.payload.now self.now.crc)) }
+        ensures err { OnErr result (out.new.items ≡ out.old.items) }
+        ensures full { OnErr result (LacksRoom out.old (45 + length self.now.name.now
+            + length self.now.media_type.now + length self.now.payload.now)) }
+        ensures capacity { vec_capacity out.old ≤ vec_capacity out.new }
+    {
+        let len = 36 + self.name.len() + self.media_type.len() + self.payload.len();
+        make_room(out, 9 + len)?;
+        add_head(out, ATTACHMENT, len as u64);
+        add_u64(out, self.log_time);
+        add_u64(out, self.create_time);
+        add_text(out, self.name);
+        add_text(out, self.media_type);
+        add_bytes64(out, self.payload);
+        add_u32(out, self.crc);
+        Ok(())
+    }
+}
+
+/// The place in a content of an Attachment where its CRC stands, which is that of the bytes in front of it. It is refused
+/// where `Attachment::parse` refuses the content, with the same field and reason.
+pub fn attachment_crc_place(content: &[u8]) -> Result<usize, Bad>
+    ensures place { IfOk result (HasCrcAt content.now) }
+    ensures none { OnErr result
+        ((log_time create_time : ℕ) (name media_type payload : List ℕ) (crc : ℕ)
+        → ShowsAttachment content.now log_time create_time name media_type payload crc → ⊥) }
+    ensures first_fault { IfErr result (λ bad. AttachmentFails content.now bad.field bad.why) }
+{
+    match Attachment::read(content) {
+        Ok((_, place)) => Ok(place),
+        Err(bad) => Err(bad),
+    }
+}
