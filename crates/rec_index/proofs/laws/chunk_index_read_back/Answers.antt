@@ -1,0 +1,6 @@
+use Rattle.mcap_wire.proofs.Contents.{rows_back}
+use Rattle.rec_index.specs.Records.{chunk_index_kinds}
+use Rattle.rec_index.proofs.laws.chunk_index_read_back.Goals as goal
+
+pub returns : goal.returns
+returns c = rows_back chunk_index_kinds

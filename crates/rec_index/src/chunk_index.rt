@@ -1,0 +1,89 @@
+//! The record Chunk Index (MCAP specification, "Chunk Index (op=0x08)").
+ghost use Rattle.std.specs.Prelude.{◌≡◌, ◌+◌, ◌^◌, ◌<◌, ◌≤◌, ℕ, List, ◌++◌, length, vec_capacity, IfOk, IfErr, OnOk, OnErr};
+ghost use Rattle.mcap_wire.specs.Arrays.{entry_texts};
+ghost use Rattle.mcap_wire.specs.Layout.{framed};
+ghost use Rattle.mcap_wire.specs.Writing.{LacksRoom};
+ghost use Rattle.rec_index.specs.Records.{chunk_index_opcode, chunk_index_text, ShowsChunkIndex, ChunkIndexFails};
+
+use crate::faults::{Bad, CHUNK_INDEX, at_field};
+use mcap_wire::{
+    CountsRef, Memory, add_counts, add_head, add_text, add_u64, make_room, take_counts, take_text,
+    take_u64,
+};
+
+/// A Chunk of the file: the first and the last log time of its messages in nanoseconds, where the whole record starts and how
+/// long it is, where the Message Index of each channel starts, how many bytes these have together, the compression, and the
+/// sizes of the chunk's records with and without it. Offsets and sizes are in bytes.
+#[derive(Debug, Drop)]
+pub struct ChunkIndex<'a> {
+    pub message_start_time: u64,
+    pub message_end_time: u64,
+    pub chunk_start_offset: u64,
+    pub chunk_length: u64,
+    pub message_index_offsets: CountsRef<'a>,
+    pub message_index_length: u64,
+    pub compression: &'a str,
+    pub compressed_size: u64,
+    pub uncompressed_size: u64,
+}
+
+impl<'a> ChunkIndex<'a> {
+    /// Reads the fields from a content. Bytes after the last field are allowed.
+    pub fn parse(content: &'a [u8]) -> Result<Self, Bad>
+        ensures shown { IfOk result (λ i. ShowsChunkIndex content.now
+            i.message_start_time i.message_end_time i.chunk_start_offset i.chunk_length i.message_index_offsets i.message_index_length i.compression.now i.compressed_size i.uncompressed_size) }
+        ensures none { OnErr result
+            ((message_start_time message_end_time chunk_start_offset chunk_length : ℕ) (message_index_offsets : List (ℕ × ℕ)) (message_index_length : ℕ) (compression : List ℕ) (compressed_size uncompressed_size : ℕ)
+            → ShowsChunkIndex content.now
+            message_start_time message_end_time chunk_start_offset chunk_length message_index_offsets message_index_length compression compressed_size uncompressed_size → ⊥) }
+        ensures first_fault { IfErr result (λ bad. ChunkIndexFails content.now bad.field bad.why) }
+    {
+        let (message_start_time, at) = at_field(1, take_u64(content, 0))?;
+        let (message_end_time, at) = at_field(2, take_u64(content, at))?;
+        let (chunk_start_offset, at) = at_field(3, take_u64(content, at))?;
+        let (chunk_length, at) = at_field(4, take_u64(content, at))?;
+        let (message_index_offsets, at) = at_field(5, take_counts(content, at))?;
+        let (message_index_length, at) = at_field(6, take_u64(content, at))?;
+        let (compression, at) = at_field(7, take_text(content, at))?;
+        let (compressed_size, at) = at_field(8, take_u64(content, at))?;
+        let (uncompressed_size, _after) = at_field(9, take_u64(content, at))?;
+        Ok(ChunkIndex {
+            message_start_time,
+            message_end_time,
+            chunk_start_offset,
+            chunk_length,
+            message_index_offsets,
+            message_index_length,
+            compression,
+            compressed_size,
+            uncompressed_size,
+        })
+    }
+
+    /// Appends the whole record. Memory is lacking only where the vector has no room for it, and then the vector keeps its
+    /// bytes.
+    pub fn frame(&self, out: &mut Vec<u8>) -> Result<(), Memory>
+        requires message_index_offsets_fit { length (entry_texts 2 self.now.message_index_offsets) < 2 ^ 32 }
+        requires compression_fits { length self.now.compression.now < 2 ^ 32 }
+        ensures ok { OnOk result (out.new.items ≡ out.old.items ++ framed chunk_index_opcode
+            (chunk_index_text self.now.message_start_time self.now.message_end_time self.now.chunk_start_offset self.now.chunk_length self.now.message_index_offsets self.now.message_index_length self.now.compression.now self.now.compressed_size self.now.uncompressed_size)) }
+        ensures err { OnErr result (out.new.items ≡ out.old.items) }
+        ensures full { OnErr result (LacksRoom out.old
+            (73 + length (entry_texts 2 self.now.message_index_offsets) + length self.now.compression.now)) }
+        ensures capacity { vec_capacity out.old ≤ vec_capacity out.new }
+    {
+        let len = 64 + self.message_index_offsets.byte_len() + self.compression.len();
+        make_room(out, 9 + len)?;
+        add_head(out, CHUNK_INDEX, len as u64);
+        add_u64(out, self.message_start_time);
+        add_u64(out, self.message_end_time);
+        add_u64(out, self.chunk_start_offset);
+        add_u64(out, self.chunk_length);
+        add_counts(out, &self.message_index_offsets);
+        add_u64(out, self.message_index_length);
+        add_text(out, self.compression);
+        add_u64(out, self.compressed_size);
+        add_u64(out, self.uncompressed_size);
+        Ok(())
+    }
+}

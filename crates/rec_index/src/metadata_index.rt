@@ -1,0 +1,56 @@
+//! The record Metadata Index (MCAP specification, "Metadata Index (op=0x0D)").
+ghost use Rattle.std.specs.Prelude.{◌≡◌, ◌+◌, ◌^◌, ◌<◌, ◌≤◌, ℕ, List, ◌++◌, length, vec_capacity, IfOk, IfErr, OnOk, OnErr};
+ghost use Rattle.mcap_wire.specs.Layout.{framed};
+ghost use Rattle.mcap_wire.specs.Writing.{LacksRoom};
+ghost use Rattle.rec_index.specs.Records.{metadata_index_opcode, metadata_index_text, ShowsMetadataIndex, MetadataIndexFails};
+
+use crate::faults::{Bad, METADATA_INDEX, at_field};
+use mcap_wire::{Memory, add_head, add_text, add_u64, make_room, take_text, take_u64};
+
+/// A Metadata record of the file: where it starts and how long the whole record is, both in bytes, and its name.
+#[derive(Clone, Copy, Debug, PartialEq, Eq)]
+pub struct MetadataIndex<'a> {
+    pub offset: u64,
+    pub length: u64,
+    pub name: &'a str,
+}
+
+impl<'a> MetadataIndex<'a> {
+    /// Reads the fields from a content. Bytes after the last field are allowed.
+    pub fn parse(content: &'a [u8]) -> Result<Self, Bad>
+        ensures shown { IfOk result (λ i.
+            ShowsMetadataIndex content.now i.offset i.length i.name.now) }
+        ensures none { OnErr result ((offset size : ℕ) (name : List ℕ)
+            → ShowsMetadataIndex content.now offset size name → ⊥) }
+        ensures first_fault { IfErr result
+            (λ bad. MetadataIndexFails content.now bad.field bad.why) }
+    {
+        let (offset, at) = at_field(1, take_u64(content, 0))?;
+        let (length, at) = at_field(2, take_u64(content, at))?;
+        let (name, _after) = at_field(3, take_text(content, at))?;
+        Ok(MetadataIndex {
+            offset,
+            length,
+            name,
+        })
+    }
+
+    /// Appends the whole record. Memory is lacking only where the vector has no room for it, and then the vector keeps its
+    /// bytes.
+    pub fn frame(&self, out: &mut Vec<u8>) -> Result<(), Memory>
+        requires { length self.now.name.now < 2 ^ 32 }
+        ensures ok { OnOk result (out.new.items ≡ out.old.items ++ framed metadata_index_opcode
+            (metadata_index_text self.now.offset self.now.length self.now.name.now)) }
+        ensures err { OnErr result (out.new.items ≡ out.old.items) }
+        ensures full { OnErr result (LacksRoom out.old (29 + length self.now.name.now)) }
+        ensures capacity { vec_capacity out.old ≤ vec_capacity out.new }
+    {
+        let len = 20 + self.name.len();
+        make_room(out, 9 + len)?;
+        add_head(out, METADATA_INDEX, len as u64);
+        add_u64(out, self.offset);
+        add_u64(out, self.length);
+        add_text(out, self.name);
+        Ok(())
+    }
+}
