@@ -1,0 +1,7 @@
+mod Register
+mod Entries
+mod Blocks
+mod Folding
+mod Below
+mod Lanes
+pub mod RemainderLemmas
