@@ -1,0 +1,155 @@
+-- What the program did: to the names of the world, to both outputs, and how it ended.
+use Rattle.std.specs.Prelude.{◌≡◌, ◌⊎◌, ℕ, ◌≤◌, List, [], ◌∷◌, ◌++◌, Bool, true, if◌then◌else◌, Option, Some, None}
+use Rattle.mcap_io.specs.Outside.{Rose, Names, OthersSame, Adds, AddsPart}
+use Rattle.mcap_app.specs.declared.report.Report.{Report}
+use Rattle.mcap_app.specs.declared.report.FeedReport.{FeedReport}
+use Rattle.mcap_app.specs.declared.report.FeedEnd.{FeedEnd}
+use Rattle.mcap_app.specs.declared.report.FeedEnd.TheVariants as feed_ends
+use Rattle.mcap_app.specs.declared.report.End.{End}
+use Rattle.mcap_app.specs.declared.report.End.TheVariants as ends
+use Rattle.mcap_app.specs.declared.report.Stop.TheVariants as stops
+use Rattle.mcap_app.specs.declared.faults.Counts.{Counts}
+use Rattle.mcap_app.specs.declared.answering.Failures.{Failures}
+use Rattle.mcap_app.specs.Feed.{Top, Stops, EndsFeed}
+use Rattle.mcap_app.specs.File.{file_of, IsPrefix, WrittenSoFar}
+use Rattle.mcap_app.specs.Recorded.{Assembled, IsOnlyFeed}
+use Rattle.mcap_app.specs.Texts.{Trouble, bad_words, fault, output_fault, grammar, not_built, printed, said, status_of}
+
+-- ---- counts of faults
+
+-- the counts of the world, of its kept inputs and outputs, and of standard output
+abbrev pub counts : ℕ → ℕ → ℕ → ℕ → Counts
+counts world inputs outputs printing = record { world = world; inputs = inputs; outputs = outputs; printing = printing }
+
+abbrev pub AnyRose : Counts → Counts → Type 0
+AnyRose before now = Rose before.world now.world ⊎ (Rose before.inputs now.inputs
+    ⊎ (Rose before.outputs now.outputs ⊎ Rose before.printing now.printing))
+
+-- ---- the status
+
+abbrev pub end_status : FeedEnd → ℕ
+end_status (feed_ends.Grammar n) = 1
+end_status (feed_ends.NotBuilt n) = 1
+end_status end = 0
+
+-- the report names a want of memory
+abbrev pub NamesMemory : FeedEnd → End → Type 0
+NamesMemory end writer = (end ≡ feed_ends.Memory) ⊎ (writer ≡ ends.Stopped stops.Memory)
+
+-- 5 for want of memory; else 3 exactly where a count rose; else 1 exactly where the feed broke a rule or holds
+-- what isn't recorded yet; else 0. A want of memory that the report names is answered as one.
+pub record EndsWith (before now : Counts) (report : Option Report) (status : ℕ) : Type 0 where
+  pub rose : AnyRose before now → (status ≡ 3) ⊎ (status ≡ 5)
+  pub calm : (AnyRose before now → ⊥) → (r : Report) (f : FeedReport) → report ≡ Some r → IsOnlyFeed r f → (status ≡ end_status f.end) ⊎ (status ≡ 5)
+  pub no_report : (AnyRose before now → ⊥) → report ≡ None → status ≡ 5
+  pub memory : (r : Report) (f : FeedReport) → report ≡ Some r → IsOnlyFeed r f → NamesMemory f.end r.writer.end → status ≡ 5
+
+-- ---- standard error
+
+-- the trouble, where it is there
+abbrev pub when : Bool → Trouble → List Trouble
+when there trouble = if there then trouble ∷ [] else []
+
+-- the trouble that a feed's end is
+abbrev pub end_troubles : List ℕ → Option FeedEnd → List Trouble
+end_troubles feed None = []
+end_troubles feed (Some feed_ends.Done) = []
+end_troubles feed (Some (feed_ends.Grammar n)) = grammar feed n ∷ []
+end_troubles feed (Some (feed_ends.NotBuilt n)) = not_built feed n ∷ []
+end_troubles feed (Some (feed_ends.Fault faults)) = []
+end_troubles feed (Some feed_ends.Memory) = []
+end_troubles feed (Some feed_ends.Ended) = []
+
+-- the troubles of a recording, in their order: of the feed, of the file, of standard output
+abbrev pub troubles_of : List ℕ → List ℕ → Option FeedEnd → Failures → List Trouble
+troubles_of out feed end failed = end_troubles feed end ++ (when failed.feed (fault feed)
+    ++ (when failed.out (fault out) ++ when failed.printing output_fault))
+
+-- the end of the one feed of a report, where there is a report
+abbrev pub EndOf : Option Report → Option FeedEnd → Type 0
+EndOf None end = end ≡ None
+EndOf (Some r) end = (f : FeedReport) → IsOnlyFeed r f → end ≡ Some f.end
+
+-- which part failed, each with its cause
+pub record Causes (before now : Counts) (failed : Failures) : Type 0 where
+  pub feed : failed.feed ≡ true → Rose before.world now.world ⊎ Rose before.inputs now.inputs
+  pub out : failed.out ≡ true → Rose before.world now.world ⊎ Rose before.outputs now.outputs
+  pub printing : failed.printing ≡ true → Rose before.printing now.printing
+
+-- What standard error is told of a recording: a line for the feed's end, and one for each part that failed. They
+-- give the status. Nothing is promised where memory lacked, and nothing is told where this output fails.
+pub record Says (out feed : List ℕ) (report : Option Report) (before now : Counts) (took after : Option (List ℕ)) (errors_before errors_now : ℕ) (answer : ℕ) : Type 0 where
+  pub later : errors_before ≤ errors_now
+  pub end : Option FeedEnd
+  pub end_is : EndOf report end
+  pub failed : Failures
+  pub causes : Causes before now failed
+  pub answer_is : (answer ≡ 5 → ⊥) → status_of (troubles_of out feed end failed) ≡ answer
+  pub text : (answer ≡ 5 → ⊥) → (Rose errors_before errors_now → ⊥) → Adds took after (said (troubles_of out feed end failed))
+
+-- What standard error is told of bad words, unless it fails
+pub record Refuses (took after : Option (List ℕ)) (errors_before errors_now : ℕ) : Type 0 where
+  pub later : errors_before ≤ errors_now
+  pub text : (Rose errors_before errors_now → ⊥) → Adds took after (said (bad_words ∷ []))
+
+-- ---- the file
+
+-- what a recording leaves under the names
+pub record LeavesNames (out : List ℕ) (before now_count : ℕ) (report : Option Report) (history : List Top) (all now : Names) : Type 0 where
+  -- all names but the output's hold what they held
+  pub others : OthersSame all now out
+  -- whatever fails, the output holds what it held or a first part of the file
+  pub part : (now out ≡ all out) ⊎ ((text : List ℕ) × (now out ≡ Some text) × IsPrefix text (file_of [] history))
+  -- where no opening and no keeping fails, it holds the whole file if the writer closed it, else a first part
+  pub file : (Rose before now_count → ⊥) → (r : Report) → report ≡ Some r → (text : List ℕ) × (now out ≡ Some text) × WrittenSoFar text history r.writer.end r.writer.bytes
+
+-- the same where the world tells its names; it goes on telling them
+abbrev pub Leaves : List ℕ → ℕ → ℕ → Option Report → List Top → Option Names → Option Names → Type 0
+Leaves out before now_count report history old new = (all : Names) → old ≡ Some all → (now : Names) × (new ≡ Some now) × LeavesNames out before now_count report history all now
+
+-- ---- standard output
+
+-- the report's lines, or a first part of them where the output failed; nothing without a report
+abbrev pub PrintsReport : Option (List ℕ) → Option (List ℕ) → ℕ → ℕ → Option Report → Type 0
+PrintsReport old new before now None = (now ≡ before) × (new ≡ old)
+PrintsReport old new before now (Some r) = (before ≤ now) × (Adds old new (printed r) ⊎ (Rose before now × AddsPart old new 0 (printed r)))
+
+-- ---- the report
+
+-- what the report says of the feed and of the writer has its cause
+pub record Reported (feed : List ℕ) (names : Option Names) (inputs_before inputs_now outputs_before outputs_now : ℕ) (r : Report) : Type 0 where
+  pub only : FeedReport
+  pub one_feed : IsOnlyFeed r only
+  pub history : Assembled r []
+  pub end : (all : Names) (bytes : List ℕ) → names ≡ Some all → all feed ≡ Some bytes → EndsFeed bytes only.end
+  pub feed_fault : (faults : ℕ) → only.end ≡ feed_ends.Fault faults → Rose inputs_before inputs_now
+  pub writer_fault : (faults : ℕ) → r.writer.end ≡ ends.Stopped (stops.Fault faults) → Rose outputs_before outputs_now
+
+-- ---- a command
+
+-- what the world and both outputs tell, and how often they have failed
+pub record Scene : Type 0 where
+  pub names : Option Names
+  pub counts : Counts
+  pub printed : Option (List ℕ)
+  pub told : Option (List ℕ)
+  pub errors : ℕ
+
+abbrev pub scene : Option Names → Counts → Option (List ℕ) → Option (List ℕ) → ℕ → Scene
+scene names counts printed told errors = record { names = names; counts = counts; printed = printed; told = told; errors = errors }
+
+-- what `record --plain` does
+pub record Records (out feed : List ℕ) (old new : Scene) (report : Option Report) (answer : ℕ) : Type 0 where
+  -- the file is that of the report's history, and all else stays
+  pub names : Leaves out old.counts.world new.counts.world report [] old.names new.names
+  -- what the report says has its cause
+  pub reported : (r : Report) → report ≡ Some r → Reported feed old.names old.counts.inputs new.counts.inputs old.counts.outputs new.counts.outputs r
+  -- standard output is told of the report
+  pub printed : PrintsReport old.printed new.printed old.counts.printing new.counts.printing report
+  -- standard error is told of the troubles
+  pub said : Says out feed report old.counts new.counts old.told new.told old.errors new.errors answer
+  -- the status says what became of it
+  pub ended : EndsWith old.counts new.counts report answer
+  -- a good feed is recorded, unless a count rises or memory lacks
+  pub complete : (all : Names) (bytes : List ℕ) → old.names ≡ Some all → all feed ≡ Some bytes → Stops bytes feed_ends.Done
+      → (AnyRose old.counts new.counts → ⊥) → (answer ≡ 0) ⊎ (answer ≡ 5)

@@ -1,0 +1,102 @@
+-- What the program prints: on standard output the lines of a report, on standard error a line for each complaint;
+-- and the status that it ends with.
+use Rattle.std.specs.Prelude.{ℕ, ◌+◌, List, [], ◌∷◌, ◌++◌, length, codes, decimal, Bool, ◌==◌, find, unwrap_or}
+use Rattle.std.specs.List.{flat_map, list_any}
+use Rattle.json.specs.Print.{quoted}
+use Rattle.mcap_app.specs.declared.complaint.Complaint.{Complaint}
+use Rattle.mcap_app.specs.declared.complaint.Complaint.TheVariants as complaints
+use Rattle.mcap_app.specs.declared.report.Report.{Report}
+use Rattle.mcap_app.specs.declared.report.FeedReport.{FeedReport}
+use Rattle.mcap_app.specs.declared.report.WriterReport.{WriterReport}
+use Rattle.mcap_app.specs.declared.report.FeedEnd.{FeedEnd}
+use Rattle.mcap_app.specs.declared.report.FeedEnd.TheVariants as feed_ends
+use Rattle.mcap_app.specs.declared.report.End.{End}
+use Rattle.mcap_app.specs.declared.report.End.TheVariants as ends
+use Rattle.mcap_app.specs.declared.report.Stop.TheVariants as stops
+
+-- ---- standard output
+
+abbrev pub feed_end_text : FeedEnd → List ℕ
+feed_end_text feed_ends.Done = codes "end"
+feed_end_text (feed_ends.Grammar n) = codes "grammar " ++ decimal n
+feed_end_text (feed_ends.NotBuilt n) = codes "not-built " ++ decimal n
+feed_end_text (feed_ends.Fault faults) = codes "fault"
+feed_end_text feed_ends.Memory = codes "memory"
+feed_end_text feed_ends.Ended = codes "ended"
+
+abbrev pub end_text : End → List ℕ
+end_text ends.Closed = codes "closed"
+end_text (ends.Stopped (stops.Fault faults)) = codes "stopped fault"
+end_text (ends.Stopped stops.Memory) = codes "stopped memory"
+
+-- feed J accepted=A refused=R passed=P E
+unfoldable pub feed_line : ℕ → FeedReport → List ℕ
+feed_line j f = codes "feed " ++ (decimal j ++ (codes " accepted=" ++ (decimal (length f.accepted.items)
+    ++ (codes " refused=" ++ (decimal (length f.refused.items) ++ (codes " passed=" ++ (decimal f.passed
+    ++ (codes " " ++ (feed_end_text f.end ++ codes "\n")))))))))
+
+-- the lines of the feeds, numbered from j
+abbrev pub feed_lines : ℕ → List FeedReport → List ℕ
+feed_lines j [] = []
+feed_lines j (f ∷ fs) = feed_line j f ++ feed_lines (j + 1) fs
+
+-- file records=H blocks=B bytes=L E
+unfoldable pub file_line : WriterReport → List ℕ
+file_line w = codes "file records=" ++ (decimal w.records ++ (codes " blocks=" ++ (decimal w.blocks
+    ++ (codes " bytes=" ++ (decimal w.bytes ++ (codes " " ++ (end_text w.end ++ codes "\n")))))))
+
+abbrev pub printed : Report → List ℕ
+printed r = feed_lines 1 r.feeds.items ++ file_line r.writer
+
+-- ---- standard error
+
+-- a trouble that the program complains of
+pub data Trouble : Type 0 where
+  bad_words : Trouble
+  fault : List ℕ → Trouble
+  output_fault : Trouble
+  grammar : List ℕ → ℕ → Trouble
+  not_built : List ℕ → ℕ → Trouble
+  no_memory : Trouble
+
+-- the trouble of a complaint
+abbrev pub trouble_of : Complaint → Trouble
+trouble_of complaints.BadWords = bad_words
+trouble_of (complaints.Fault name) = fault name.now
+trouble_of complaints.OutputFault = output_fault
+trouble_of (complaints.Grammar name n) = grammar name.now n
+trouble_of (complaints.NotBuilt name n) = not_built name.now n
+trouble_of complaints.NoMemory = no_memory
+
+abbrev pub usage : List ℕ
+usage = codes "usage: mcaprec\n  record --plain OUT FEED\n"
+
+unfoldable pub line_of : Trouble → List ℕ
+line_of bad_words = codes "mcaprec: bad words\n" ++ usage
+line_of (fault name) = codes "mcaprec: " ++ (quoted name ++ codes ": fault\n")
+line_of output_fault = codes "mcaprec: output: fault\n"
+line_of (grammar name n) = codes "mcaprec: " ++ (quoted name ++ (codes ": grammar at " ++ (decimal n ++ codes "\n")))
+line_of (not_built name n) = codes "mcaprec: " ++ (quoted name ++ (codes ": not built at " ++ (decimal n ++ codes "\n")))
+line_of no_memory = codes "mcaprec: no memory\n"
+
+abbrev pub said : List Trouble → List ℕ
+said troubles = flat_map line_of troubles
+
+-- ---- the status
+
+-- the status that a trouble asks for
+abbrev pub asked_status : Trouble → ℕ
+asked_status bad_words = 2
+asked_status (fault name) = 3
+asked_status output_fault = 3
+asked_status (grammar name n) = 1
+asked_status (not_built name n) = 1
+asked_status no_memory = 5
+
+-- one of the troubles asks for the status
+abbrev pub is_asked : List Trouble → ℕ → Bool
+is_asked troubles status = list_any (λ t. asked_status t == status) troubles
+
+-- the first of 2, 5, 3 and 1 that is asked for, or 0
+abbrev pub status_of : List Trouble → ℕ
+status_of troubles = unwrap_or (find (is_asked troubles) (2 ∷ 5 ∷ 3 ∷ 1 ∷ [])) 0
