@@ -5,6 +5,7 @@ use Rattle.std.proofs.Math.Seq.{take-append-add}
 use Rattle.std.proofs.lemmas.List.{drop-drop, take_all}
 use Rattle.mcap_io.specs.declared.outside.Failed.{Failed}
 use Rattle.mcap_io.specs.declared.outside.ReadRefused.{ReadRefused}
+use Rattle.mcap_io.specs.declared.outside.ReadRefused.TheVariants as read_refusals
 use Rattle.mcap_io.specs.Outside.{Rose, StretchTaken, TakesFront, Adds, AddsPart, Names, OthersSame, KeepsUnder}
 
 -- ---- counts of faults
@@ -39,9 +40,10 @@ stretch-after rest mid new m len got before taken =
 
 -- a stretch that could not be read, behind the first m bytes
 pub stretch-lost : (rest : List ℕ) (mid new : Option (List ℕ)) (m len : ℕ) (got : List ℕ) (why : ReadRefused) → mid ≡ Some (drop m rest) → StretchTaken mid new len got (Err why) → (n : ℕ) × (m ≤ n) × (new ≡ Some (drop n rest))
-stretch-lost rest mid new m len got why before taken =
+stretch-lost rest mid new m len got read_refusals.Failed before taken =
     let lost = taken (drop m rest) before in
-    (m + lost.0, omega arith, lost.1 ∙ ap Some (drop-drop lost.0 m rest))
+    (m + lost.0, omega arith, lost.2 ∙ ap Some (drop-drop lost.0 m rest))
+stretch-lost rest mid new m len got read_refusals.Memory before taken = (m, omega arith, taken ∙ before)
 
 -- the bytes that were taken so far, and a stretch behind them
 pub stretches-join : (rest : List ℕ) (m len : ℕ) (got : List ℕ) → got ≡ take len (drop m rest) → take m rest ++ got ≡ take (m + len) rest

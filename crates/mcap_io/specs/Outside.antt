@@ -57,9 +57,11 @@ pub record TakesFront (rest : List ℕ) (left : Option (List ℕ)) (len : ℕ) (
   pub given : got ≡ take len rest
   pub after : left ≡ Some (drop len rest)
 
+-- or a first part of it was lost in a failure; where memory lacked, nothing was
 abbrev pub StretchTaken : Option (List ℕ) → Option (List ℕ) → ℕ → List ℕ → Result Unit ReadRefused → Type 0
 StretchTaken old new len got (Ok it) = (rest : List ℕ) → old ≡ Some rest → TakesFront rest new len got
-StretchTaken old new len got (Err why) = (rest : List ℕ) → old ≡ Some rest → (n : ℕ) × (new ≡ Some (drop n rest))
+StretchTaken old new len got (Err read_refusals.Failed) = (rest : List ℕ) → old ≡ Some rest → (n : ℕ) × (n < len) × (new ≡ Some (drop n rest))
+StretchTaken old new len got (Err read_refusals.Memory) = new ≡ old
 
 -- ---- sinks and live stores
 

@@ -1,9 +1,9 @@
 -- What the filling of a slice from a source takes and gives.
-use Rattle.std.specs.Prelude.{◌≡◌, ℕ, List, length, take, drop, Option, Some, Result, Ok, Err}
+use Rattle.std.specs.Prelude.{◌≡◌, ℕ, ◌<◌, List, length, take, drop, Option, Some, Result, Ok, Err}
 use Rattle.mcap_io.specs.declared.outside.Failed.{Failed}
 use Rattle.mcap_io.specs.Outside.{TakesFront}
 
 -- the first n bytes of the slice are the front of what was left, as long as the slice unless the input ended
 abbrev pub Fills : Option (List ℕ) → Option (List ℕ) → List ℕ → Result ℕ Failed → Type 0
 Fills old new out (Ok n) = (rest : List ℕ) → old ≡ Some rest → TakesFront rest new (length out) (take n out)
-Fills old new out (Err why) = (rest : List ℕ) → old ≡ Some rest → (n : ℕ) × (new ≡ Some (drop n rest))
+Fills old new out (Err why) = (rest : List ℕ) → old ≡ Some rest → (n : ℕ) × (n < length out) × (new ≡ Some (drop n rest))
