@@ -1,5 +1,5 @@
 -- An array spells one list of entries, and is refused only where it spells none.
-use Rattle.std.proofs.Common.{◌≡◌, ◌≢◌, ℕ, zero, suc, ◌+◌, ◌*◌, ◌%◌, ◌/◌, ◌^◌, ◌<◌, ◌≤◌, List, [], ◌∷◌, ◌++◌, length, get_or, take, drop, refl, sym, ap, subst, inl, inr, ◌∙◌, append_assoc, arith}
+use Rattle.std.proofs.Common.{◌≡◌, ℕ, zero, suc, ◌+◌, ◌*◌, ◌/◌, ◌^◌, ◌<◌, ◌≤◌, List, [], ◌∷◌, ◌++◌, length, get_or, take, drop, refl, sym, ap, subst, inl, inr, ◌∙◌, append_assoc, arith}
 use Rattle.std.specs.Prelude.{All, slice_get, Some}
 use Rattle.std.proofs.lemmas.Grind.{flat_map-append}
 use Rattle.std.proofs.lemmas.List.{append-nil, take_at, drop_at, length-append, length-take-le, length-drop, drop-drop, drop_more, take-append-drop, flat_map_more, get_or_at, nil_from_length}
@@ -11,11 +11,11 @@ use Rattle.mcap_wire.specs.declared.faults.Why.TheVariants.{Short, BadText, BadL
 use Rattle.mcap_wire.specs.Layout.{le, number, prefixed}
 use Rattle.mcap_wire.specs.Reading.{FieldAt, NumberAt, NumberFails, BytesAt, text_length, text_bytes}
 use Rattle.mcap_wire.specs.Maps.{KeysDiffer, HasKey, LacksKey}
-use Rattle.mcap_wire.specs.Arrays.{IsEntry, entry_text, entry_texts, array_text, ArrayAt, EntriesFail, CountFails, CountsStop, CountsFail, CountsAt}
+use Rattle.mcap_wire.specs.Arrays.{IsEntry, entry_text, entry_texts, array_text, ArrayAt, EntriesFail, CountFails, CountsStop, CountsFail}
 use Rattle.mcap_wire.specs.ArrayBytes.{entries_in, HoldsArray, HoldsCounts}
 use Rattle.mcap_wire.proofs.Numbers.{AreBytes, length-le, number-le, le-number, number_below}
 use Rattle.mcap_wire.proofs.Fields.{AreBytes-take, AreBytes-drop}
-use Rattle.mcap_wire.proofs.Framing.{texts_apart, split_number, length-string, length_found, bytes_found, stands_within, number_is_short, number_not_refused, number_decided}
+use Rattle.mcap_wire.proofs.Framing.{texts_apart, split_number, length-string, length_found, bytes_found, stands_within, number_not_refused, number_decided}
 use Rattle.mcap_wire.proofs.TextMaps.{KeysDiffer-push, key_stands_before}
 use Rattle.mcap_wire.proofs.PairWalks.{taken_more}
 
@@ -251,11 +251,22 @@ no_counts bytes = record {
   keys_differ = λ i j d below within. absurd (omega (arith, length-entries_in 2 0 []));
 }
 
-pub counts_before : (bytes : List ℕ) (count at : ℕ) → at ≤ length bytes → HoldsCounts (take at bytes) count → FieldAt bytes 0 at (entry_texts 2 (entries_in 2 count (take at bytes)))
+counts_before : (bytes : List ℕ) (count at : ℕ) → at ≤ length bytes → HoldsCounts (take at bytes) count → FieldAt bytes 0 at (entry_texts 2 (entries_in 2 count (take at bytes)))
 counts_before bytes count at within held = record {
   spelled_there = sym (take-append-drop at bytes) ∙ ap (λ (l : List ℕ). l ++ drop at bytes) held.array.spelled;
   begins = omega arith;
   ends = within;
+}
+
+-- behind the counts up to an offset the next one fails
+pub counts_stop : (bytes : List ℕ) (count at : ℕ) (why : Why) → at ≤ length bytes → HoldsCounts (take at bytes) count → CountFails (entries_in 2 count (take at bytes)) bytes at why → CountsStop bytes why
+counts_stop bytes count at why within held fails = record {
+  before = entries_in 2 count (take at bytes);
+  at = at;
+  field = counts_before bytes count at within held;
+  entries_fit = held.array.entries_fit;
+  keys_differ = held.keys_differ;
+  fails = fails;
 }
 
 pub counts_fail : (content : List ℕ) (at : ℕ) (why : Why) → at + 4 + text_length content at ≤ length content → CountsStop (text_bytes content at) why → CountsFail content at why

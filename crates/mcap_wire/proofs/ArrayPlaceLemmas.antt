@@ -1,5 +1,5 @@
 -- A borrowed array or map of counts holds as many entries as it counts.
-use Rattle.std.proofs.Common.{◌≡◌, ℕ, List, length}
+use Rattle.std.proofs.Common.{◌≡◌, ℕ, length}
 use Rattle.mcap_wire.specs.declared.arrays.EntriesPlace.{EntriesPlace}
 use Rattle.mcap_wire.specs.declared.arrays.EntriesPlace.TheVariants as entries
 use Rattle.mcap_wire.specs.declared.counts.CountsPlace.{CountsPlace}

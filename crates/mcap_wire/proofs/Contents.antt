@@ -3,7 +3,7 @@ use Rattle.std.proofs.Common.{◌≡◌, ℕ, suc, ◌+◌, ◌≤◌, List, [],
 use Rattle.mcap_wire.specs.declared.faults.Why.{Why}
 use Rattle.mcap_wire.specs.Layout.{le}
 use Rattle.mcap_wire.specs.Contents.{Kind, a_number, a_text, some_bytes, a_text_map, an_array, a_count_map, Value, spelled, Fits, FieldStands, FieldFails, Values, row, AllFit, Begins, Shows, FailsFrom, Fails, RowReadsBack}
-use Rattle.mcap_wire.specs.Reading.{NumberFails, TextIsShort, TextIsBad, TextFails, BytesFail}
+use Rattle.mcap_wire.specs.Reading.{NumberFails, TextFails, BytesFail}
 use Rattle.mcap_wire.specs.declared.faults.Why.TheVariants.{Short, BadText, BadLength, DoubleKey}
 use Rattle.mcap_wire.proofs.Framing.{texts_apart, split_number, bytes_apart, ends_within, number_is_short, text_not_refused, bytes_not_refused}
 use Rattle.mcap_wire.proofs.Numbers.{length-le}

@@ -6,6 +6,7 @@ pub mod PairWalks
 mod PlaceLemmas
 pub mod ArrayLemmas
 mod ArrayPlaceLemmas
+mod MarkLemmas
 mod MapFaults
 pub mod Contents
 mod KeyOrder

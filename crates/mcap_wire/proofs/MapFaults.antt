@@ -1,13 +1,13 @@
 -- An array or a map is refused in one way.
-use Rattle.std.proofs.Common.{◌≡◌, ◌≢◌, ◌⊎◌, ℕ, ◌+◌, ◌<◌, ◌≤◌, List, [], ◌∷◌, ◌++◌, length, get_or, drop, refl, sym, ap, subst, inl, inr, ◌∙◌, append_assoc, arith}
-use Rattle.std.specs.Prelude.{All, Any}
+use Rattle.std.proofs.Common.{◌≡◌, ◌⊎◌, ℕ, ◌+◌, ◌<◌, ◌≤◌, List, [], ◌∷◌, ◌++◌, length, drop, refl, sym, ap, subst, inl, inr, ◌∙◌, append_assoc, arith}
+use Rattle.std.specs.Prelude.{All}
 use Rattle.std.specs.List.{flat_map}
 use Rattle.std.proofs.lemmas.List.{append-nil, length-append, length-drop, get_or_at}
 use Rattle.std.proofs.lemmas.List.Elements.{All-head, All-tail}
 use Rattle.mcap_wire.specs.declared.faults.Why.{Why}
 use Rattle.mcap_wire.specs.declared.faults.Why.TheVariants.{Short, BadText, BadLength, DoubleKey}
 use Rattle.mcap_wire.specs.Layout.{le, string}
-use Rattle.mcap_wire.specs.Reading.{FieldAt, NumberAt, TextAt, TextFails, TextIsShort, TextIsBad}
+use Rattle.mcap_wire.specs.Reading.{TextAt, TextFails, TextIsShort, TextIsBad}
 use Rattle.mcap_wire.specs.Maps.{KeysDiffer, HasKey, LacksKey, IsTextPair, IsTextMap, pair_text, PairFails, PairsStop, PairsFail}
 use Rattle.mcap_wire.specs.Arrays.{IsEntry, entry_text, EntriesFail, CountFails, CountsStop, CountsFail}
 use Rattle.mcap_wire.proofs.Framing.{texts_apart, split_number, text_not_refused}

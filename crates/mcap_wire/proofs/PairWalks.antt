@@ -13,10 +13,10 @@ use Rattle.std.proofs.Math.Seq.{take-add}
 use Rattle.mcap_wire.specs.declared.faults.Why.{Why}
 use Rattle.mcap_wire.specs.declared.faults.Why.TheVariants.{Short, BadText, BadLength, DoubleKey}
 use Rattle.mcap_wire.specs.Layout.{string}
-use Rattle.mcap_wire.specs.Reading.{FieldAt, TextAt, TextFails, text_length, text_bytes}
+use Rattle.mcap_wire.specs.Reading.{FieldAt, TextAt, text_length, text_bytes}
 use Rattle.mcap_wire.specs.Maps.{IsText, IsTextPair, LacksKey, IsTextMap, pair_text, pair_texts, PairFails}
 use Rattle.mcap_wire.specs.PairBytes.{behind_text, pairs_in, HoldsMap, NoneAbove, PartFails, TextStands}
-use Rattle.mcap_wire.proofs.Framing.{length-string, length_found, bytes_found, stands_within, text_not_refused, text_decided}
+use Rattle.mcap_wire.proofs.Framing.{length-string, length_found, bytes_found, stands_within, text_decided}
 use Rattle.mcap_wire.proofs.TextMaps.{Pair, IsTextMap-nil, IsTextMap-push, pair_texts-push, pair_parts}
 
 -- ---- the pairs that some bytes are

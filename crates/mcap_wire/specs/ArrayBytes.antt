@@ -1,5 +1,5 @@
 -- The entries of an array that is kept as its bytes.
-use Rattle.std.specs.Prelude.{◌≡◌, ℕ, zero, suc, ◌+◌, ◌*◌, List, [], ◌∷◌, length, take, drop, Result, Ok, Err, All}
+use Rattle.std.specs.Prelude.{◌≡◌, ℕ, zero, suc, ◌+◌, List, [], ◌∷◌, take, drop, Result, Ok, Err, All}
 use Rattle.mcap_wire.specs.declared.faults.Why.{Why}
 use Rattle.mcap_wire.specs.Layout.{number}
 use Rattle.mcap_wire.specs.Maps.{KeysDiffer}

@@ -1,5 +1,5 @@
 -- The entries that a borrowed array or map of counts stands for.
-use Rattle.std.specs.Prelude.{◌≡◌, ℕ, List, length, All}
+use Rattle.std.specs.Prelude.{◌≡◌, ℕ, List, length}
 use Rattle.mcap_wire.specs.declared.arrays.EntriesPlace.{EntriesPlace}
 use Rattle.mcap_wire.specs.declared.arrays.EntriesPlace.TheVariants as entries
 use Rattle.mcap_wire.specs.declared.counts.CountsPlace.{CountsPlace}

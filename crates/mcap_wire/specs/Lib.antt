@@ -9,3 +9,4 @@ pub mod Arrays
 pub mod ArrayBytes
 pub mod ArrayPlaces
 pub mod Contents
+pub mod Marks

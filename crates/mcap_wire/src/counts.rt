@@ -7,6 +7,7 @@ ghost use Rattle.mcap_wire.specs.ArrayBytes.{entries_in, HoldsArray, HoldsCounts
 ghost use Rattle.mcap_wire.specs.Writing.{HasRoom, LacksRoom};
 
 use crate::faults::{Memory, Why};
+use crate::marks::{Marks, mark};
 use crate::reading::{take_bytes32, take_u16, take_u64};
 use crate::room::{add_bytes, add_u16, add_u32, add_u64, make_room};
 use std::marker::Model;
@@ -182,7 +183,36 @@ pub fn put_counts(out: &mut Vec<u8>, value: &CountsRef<'_>) -> Result<(), Memory
     Ok(())
 }
 
-// Counts the counts of a map.
+// The bytes of so few counts that their keys are compared in place: 16 of them.
+const FEW: usize = 160;
+
+// Counts the counts of a map, each key marked in a table. No other function pays for the table on the stack.
+#[inline(never)]
+fn count_marked(bytes: &[u8]) -> Result<usize, Why>
+    ensures { CountsCounts bytes.now result }
+{
+    let mut marks: Marks = [0; 1024];
+    let mut at = 0;
+    let mut count = 0;
+    while at < bytes.len() {
+        let key = match take_u16(bytes, at) {
+            Ok(read) => read,
+            Err(_) => return Err(Why::BadLength),
+        };
+        if !mark(&mut marks, key.0) {
+            return Err(Why::DoubleKey);
+        }
+        let number = match take_u64(bytes, key.1) {
+            Ok(read) => read,
+            Err(_) => return Err(Why::BadLength),
+        };
+        at = number.1;
+        count += 1;
+    }
+    Ok(count)
+}
+
+// Counts the counts of a map. At the first key that doesn't ascend a long map is begun anew with a table.
 fn count_counts(bytes: &[u8]) -> Result<usize, Why>
     ensures { CountsCounts bytes.now result }
 {
@@ -194,6 +224,9 @@ fn count_counts(bytes: &[u8]) -> Result<usize, Why>
             Ok(read) => read,
             Err(_) => return Err(Why::BadLength),
         };
+        if bytes.len() > FEW && (key.0 as u32) < bound {
+            return count_marked(bytes);
+        }
         if !is_new(&bytes[..at], count, bound, key.0) {
             return Err(Why::DoubleKey);
         }
@@ -210,8 +243,9 @@ fn count_counts(bytes: &[u8]) -> Result<usize, Why>
 
 /// Reads a map of counts, and says where it ends. A fault is the first from the left: `Short`, where the length is cut short
 /// or passes the end; `BadLength`, where the map ends inside a count; `DoubleKey`, where a key stands earlier. Nothing is
-/// copied. Keys that ascend are read in one pass; each other key is looked up among those before it, so keys in another
-/// order cost up to the square of their number.
+/// copied. Each order costs time that grows with the number of counts alone. A map whose keys ascend is read in one pass. Up to
+/// 16 counts in another order are compared in place; a longer map is read once more from its front, its keys marked in a
+/// table of 8 KB on the stack.
 pub fn take_counts(content: &[u8], at: usize) -> Result<(CountsRef<'_>, usize), Why>
     requires { at ≤ length content.now }
     ensures { ReadsCounts content.now at result }

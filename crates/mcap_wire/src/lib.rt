@@ -8,6 +8,7 @@ mod faults;
 mod heads;
 pub mod laws;
 mod maps;
+mod marks;
 mod pair_bytes;
 mod pair_list;
 mod pairs;

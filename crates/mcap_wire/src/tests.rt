@@ -1,4 +1,5 @@
 use super::*;
+use std::alloc::Global;
 use std::test::Fail;
 
 // One field of each kind, one behind the other: 0x2a, 0x1234, 0x12345678, 2^56 + 2 and the text "foo".
@@ -292,6 +293,40 @@ fn maps_of_counts_that_are_refused(rt: HostRuntime) {
             Err(told) => assert_eq!(rt; told, why, "at {content:?}"),
         }
     }
+}
+
+// A map with each key of two bytes, the largest first, but for its last key.
+fn descending(alloc: Global, last: u16) -> Result<Vec<u8>, Memory> {
+    let mut out = Vec::new(alloc);
+    put_u32(&mut out, 655_360)?;
+    for i in 0..u16::MAX {
+        put_u16(&mut out, u16::MAX - i)?;
+        put_u64(&mut out, 7)?;
+    }
+    put_u16(&mut out, last)?;
+    put_u64(&mut out, 7)?;
+    Ok(out)
+}
+
+#[test]
+fn a_map_of_all_keys_in_another_order_is_read(rt: HostRuntime) -> Result<(), Fail> {
+    let content = descending(rt.alloc(), 0)?;
+    let (counts, end) = take_counts(content.as_slice(), 0)?;
+    assert_eq!(rt; end, 655_364);
+    assert_eq!(rt; counts.count(), 65_536);
+    assert_eq!(rt; counts.item(0), (65_535, 7));
+    assert_eq!(rt; counts.item(65_535), (0, 7));
+    Ok(())
+}
+
+#[test]
+fn a_last_key_that_stands_first_is_refused(rt: HostRuntime) -> Result<(), Fail> {
+    let content = descending(rt.alloc(), u16::MAX)?;
+    match take_counts(content.as_slice(), 0) {
+        Ok(_) => assert!(rt; false),
+        Err(why) => assert_eq!(rt; why, Why::DoubleKey),
+    }
+    Ok(())
 }
 
 #[test]

@@ -1,6 +1,6 @@
 -- How long the records that own what they hold are.
-use Rattle.std.proofs.Common.{◌≡◌, ℕ, ◌+◌, List, [], ◌∷◌, ◌++◌, length, refl, sym, ap, ◌∙◌, arith}
-use Rattle.std.proofs.lemmas.List.{length-append, append-nil}
+use Rattle.std.proofs.Common.{◌≡◌, ℕ, ◌+◌, List, [], ◌++◌, length, ap, arith}
+use Rattle.std.proofs.lemmas.List.{length-append}
 use Rattle.mcap_wire.specs.Layout.{le, string, prefixed, framed}
 use Rattle.mcap_wire.specs.Maps.{pair_texts, text_map}
 use Rattle.mcap_wire.proofs.Numbers.{length-le}

@@ -1,5 +1,5 @@
 -- Records that own what they hold.
-use Rattle.std.specs.Prelude.{◌≡◌, ◌⊎◌, ℕ, ◌^◌, ◌<◌, ◌≤◌, List, [], ◌++◌, length, Result, Ok, Err}
+use Rattle.std.specs.Prelude.{◌≡◌, ℕ, ◌^◌, ◌<◌, ◌≤◌, List, length, Result, Ok, Err}
 use Rattle.mcap_wire.specs.Layout.{framed}
 use Rattle.mcap_wire.specs.Maps.{pair_texts}
 use Rattle.rec_data.specs.declared.owned.Rec.{Rec}

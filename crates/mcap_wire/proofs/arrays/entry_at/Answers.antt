@@ -1,4 +1,4 @@
-use Rattle.std.proofs.Common.{◌≡◌, ◌*◌, arith}
+use Rattle.std.proofs.Common.{◌*◌, arith}
 use Rattle.mcap_wire.proofs.ArrayLemmas.{array_size, first_not_refused, second_not_refused, entry_read}
 use Rattle.mcap_wire.proofs.arrays.entry_at.Goals as goal
 

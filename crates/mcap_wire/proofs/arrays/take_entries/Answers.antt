@@ -1,4 +1,4 @@
-use Rattle.std.proofs.Common.{rules, ◌≡◌, ◌/◌, List, ℕ, length, sym, subst, arith}
+use Rattle.std.proofs.Common.{rules, ◌/◌, List, length, sym, subst, arith}
 use Rattle.mcap_wire.specs.Arrays.{ArrayAt}
 use Rattle.mcap_wire.specs.ArrayBytes.{HoldsArray}
 use Rattle.mcap_wire.proofs.Numbers.{AreBytes}

@@ -1,7 +1,8 @@
-use Rattle.std.proofs.Common.{◌≡◌, ◌+◌, List, ℕ, [], take, inl, inr, arith}
+use Rattle.std.proofs.Common.{◌+◌, [], take, inl, inr, arith}
 use Rattle.mcap_wire.specs.ArrayBytes.{entries_in}
+use Rattle.mcap_wire.specs.declared.faults.Why.TheVariants.{BadLength}
 use Rattle.mcap_wire.proofs.Framing.{number_is_short}
-use Rattle.mcap_wire.proofs.ArrayLemmas.{length-entries_in, one_more_count, bound_more, no_counts, counts_before}
+use Rattle.mcap_wire.proofs.ArrayLemmas.{length-entries_in, one_more_count, bound_more, no_counts, counts_stop}
 use Rattle.mcap_wire.proofs.counts.count_counts.Goals as goal
 
 pub loop-at-init : goal.loop-at-init
@@ -10,27 +11,13 @@ loop-at-init c =
 
 pub returns-in-Err : goal.returns-in-Err
 returns-in-Err c =
-    let bytes = c.args.bytes.now in
-    record {
-      before = entries_in 2 c.loop-at.count (take c.loop-at.at bytes);
-      at = c.loop-at.at;
-      field = counts_before bytes c.loop-at.count c.loop-at.at c.loop-at.invariant.0 c.loop-at.invariant.2;
-      entries_fit = c.loop-at.invariant.2.array.entries_fit;
-      keys_differ = c.loop-at.invariant.2.keys_differ;
-      fails = (c.loop-at-test.true, inl (number_is_short 2 bytes c.loop-at.at c.in-Err.field-0 c.in-Err.ensures));
-    }
+    counts_stop c.args.bytes.now c.loop-at.count c.loop-at.at BadLength c.loop-at.invariant.0 c.loop-at.invariant.2
+    (c.loop-at-test.true, inl (number_is_short 2 c.args.bytes.now c.loop-at.at c.in-Err.field-0 c.in-Err.ensures))
 
 pub returns-in-Err-take_u64 : goal.returns-in-Err-take_u64
 returns-in-Err-take_u64 c =
-    let bytes = c.args.bytes.now in
-    record {
-      before = entries_in 2 c.loop-at.count (take c.loop-at.at bytes);
-      at = c.loop-at.at;
-      field = counts_before bytes c.loop-at.count c.loop-at.at c.loop-at.invariant.0 c.loop-at.invariant.2;
-      entries_fit = c.loop-at.invariant.2.array.entries_fit;
-      keys_differ = c.loop-at.invariant.2.keys_differ;
-      fails = (c.loop-at-test.true, inr (c.in-Ok.read.0, c.in-Ok.read.1, c.in-Ok.ensures, c.if-not-is_new.ensures, number_is_short 8 bytes c.in-Ok.read.1 c.in-Err-take_u64.field-0 c.in-Err-take_u64.ensures));
-    }
+    counts_stop c.args.bytes.now c.loop-at.count c.loop-at.at BadLength c.loop-at.invariant.0 c.loop-at.invariant.2
+    (c.loop-at-test.true, inr (c.in-Ok.read.0, c.in-Ok.read.1, c.in-Ok.ensures, c.if-not-is_new.ensures, number_is_short 8 c.args.bytes.now c.in-Ok.read.1 c.in-Err-take_u64.field-0 c.in-Err-take_u64.ensures))
 
 pub loop-at-preserved : goal.loop-at-preserved
 loop-at-preserved c =

@@ -1,5 +1,5 @@
 use Rattle.std.proofs.Common.{List, ℕ, sym, subst}
-use Rattle.mcap_wire.specs.Arrays.{CountsStop, ArrayAt}
+use Rattle.mcap_wire.specs.Arrays.{CountsStop}
 use Rattle.mcap_wire.proofs.ArrayLemmas.{bytes_there, whole_there, counts_fail}
 use Rattle.mcap_wire.proofs.counts.take_counts.Goals as goal
 

@@ -1,4 +1,4 @@
-use Rattle.std.proofs.Common.{◌≡◌, List, ℕ, length, ap, sym, ◌∙◌}
+use Rattle.std.proofs.Common.{List, ℕ, length, ap, sym, ◌∙◌}
 use Rattle.mcap_wire.proofs.ArrayPlaceLemmas.{length-entries_of}
 use Rattle.mcap_wire.proofs.arrays.EntriesRef.count.Goals as goal
 

@@ -1,4 +1,4 @@
-use Rattle.std.proofs.Common.{◌≡◌, List, ℕ, length, ap, sym, ◌∙◌}
+use Rattle.std.proofs.Common.{List, ℕ, length, ap, sym, ◌∙◌}
 use Rattle.mcap_wire.proofs.ArrayPlaceLemmas.{length-counts_of}
 use Rattle.mcap_wire.proofs.counts.CountsRef.count.Goals as goal
 

@@ -1,4 +1,4 @@
-use Rattle.std.proofs.Common.{rules, ◌≡◌, List, ℕ, subst, inl, inr, Err}
+use Rattle.std.proofs.Common.{rules, ◌≡◌, subst, inl, inr, Err}
 use Rattle.mcap_wire.specs.Reading.{NumberAt, ReadsNumber, TextAt, TextFails, ReadsText}
 use Rattle.mcap_wire.specs.Maps.{PairsFail, ReadsPairs}
 use Rattle.rec_data.proofs.MapContents.{channel_none}
