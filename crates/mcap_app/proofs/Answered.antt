@@ -2,18 +2,20 @@
 use Rattle.std.proofs.Common.{◌≡◌, ◌⊎◌, ℕ, Bool, true, false, cond, ◌||◌, List, [], Option, Some, None, refl, sym, ap, subst, inl, inr, ◌∙◌, arith}
 use Rattle.std.proofs.lemmas.Bool.Decides.{eqb_tells}
 use Rattle.mcap_io.specs.Outside.{Names}
-use Rattle.mcap_app.specs.declared.report.Report.{Report}
-use Rattle.mcap_app.specs.declared.report.FeedReport.{FeedReport}
-use Rattle.mcap_app.specs.declared.report.FeedEnd.{FeedEnd}
-use Rattle.mcap_app.specs.declared.report.FeedEnd.TheVariants as feed_ends
+use Rattle.recorder.specs.declared.report.Report.{Report}
+use Rattle.recorder.specs.declared.report.FeedReport.{FeedReport}
+use Rattle.recorder.specs.declared.report.FeedEnd.{FeedEnd}
+use Rattle.recorder.specs.declared.report.FeedEnd.TheVariants as feed_ends
 use Rattle.mcap_app.specs.declared.faults.Counts.{Counts}
 use Rattle.mcap_app.specs.declared.answering.Failures.{Failures}
-use Rattle.mcap_app.specs.Feed.{Stops}
-use Rattle.mcap_app.specs.Recorded.{IsOnlyFeed}
+use Rattle.rec_data.specs.declared.owned.Rec.{Rec}
+use Rattle.recorder.specs.Feed.{Top, FeedRead, Stops}
+use Rattle.recorder.specs.Recorded.{IsOnlyFeed}
 use Rattle.mcap_app.specs.Texts.{status_of}
 use Rattle.mcap_app.specs.Answer.{Failed, Answers}
-use Rattle.mcap_app.proofs.OneEnd.{good_end}
-use Rattle.mcap_app.specs.Run.{counts, AnyRose, Causes, EndOf, EndsWith, Says, Scene, scene, Records, Reported, Leaves, PrintsReport, troubles_of, end_status}
+use Rattle.recorder.proofs.OneEnd.{good_read}
+use Rattle.mcap_app.proofs.Whole.{whole}
+use Rattle.mcap_app.specs.Run.{counts, AnyRose, Causes, EndOf, EndsWith, Says, Scene, scene, Records, Reported, NamesRecorded, PrintsReport, troubles_of, end_status}
 
 pub same_counts : (c : Counts) (world inputs outputs printing : ℕ) → c.world ≡ world → c.inputs ≡ inputs → c.outputs ≡ outputs → c.printing ≡ printing → c ≡ counts world inputs outputs printing
 same_counts c world inputs outputs printing a b d e =
@@ -155,34 +157,47 @@ told out feed before now report failed took after errors errors_now answer a cau
   text = a.text;
 }
 
+-- the end of a good feed's reading gives no status of its own
+good_status : (bytes : List ℕ) (tops others : List Top) (left : Option (List ℕ)) (end : FeedEnd) → Stops bytes tops feed_ends.Done → FeedRead bytes others left end → end_status end ≡ 0
+good_status bytes tops others left end good read = elim (good_read bytes tops others left end good read) [
+  | inl done ↦ ap end_status done
+  | inr (inl memory) ↦ ap end_status memory
+  | inr (inr (inl ended)) ↦ ap end_status ended
+  | inr (inr (inr fault)) ↦ ap end_status fault.1
+]
+
 -- a good feed is recorded
-complete : (feed : List ℕ) (before now : Counts) (names : Option Names) (report : Option Report) (answer : ℕ)
-    → ((r : Report) → report ≡ Some r → Reported feed names before.inputs now.inputs before.outputs now.outputs r) → EndsWith before now report answer
-    → (all : Names) (bytes : List ℕ) → names ≡ Some all → all feed ≡ Some bytes → Stops bytes feed_ends.Done → (AnyRose before now → ⊥) → (answer ≡ 0) ⊎ (answer ≡ 5)
-complete feed before now names None answer reported ends all bytes told there good quiet = inr (ends.no_report quiet refl)
-complete feed before now names (Some r) answer reported ends all bytes told there good quiet =
+complete : (feed : List ℕ) (before now : Counts) (names : Option Names) (report : Option Report) (history : List Rec) (answer : ℕ)
+    → ((r : Report) → report ≡ Some r → Reported feed names before.inputs now.inputs before.outputs now.outputs history r) → EndsWith before now report answer
+    → (all : Names) (bytes : List ℕ) (tops : List Top) → names ≡ Some all → all feed ≡ Some bytes → Stops bytes tops feed_ends.Done → (AnyRose before now → ⊥) → (answer ≡ 0) ⊎ (answer ≡ 5)
+complete feed before now names None history answer reported ends all bytes tops told there good quiet = inr (ends.no_report quiet refl)
+complete feed before now names (Some r) history answer reported ends all bytes tops told there good quiet =
     let here = reported r refl in
+    let read = here.read all bytes told there in
     elim (ends.calm quiet r here.only refl here.one_feed) [
-      | inl status ↦ inl (status ∙ good_end bytes here.only.end good (here.end all bytes told there))
+      | inl status ↦ inl (status ∙ good_status bytes tops here.tops read.0 here.only.end good read.1)
       | inr five ↦ inr five
     ]
 
 -- all that the program promises of a recording
 pub recorded : (out feed : List ℕ) (names names_now : Option Names) (before now : Counts) (took took_now told_before told_now : Option (List ℕ)) (errors errors_now : ℕ) (report : Option Report) (failed : Failures) (answer : ℕ)
-    → Leaves out before.world now.world report [] names names_now
-    → ((r : Report) → report ≡ Some r → Reported feed names before.inputs now.inputs before.outputs now.outputs r)
+    → NamesRecorded out feed before.world now.world before.inputs now.inputs before.outputs now.outputs names names_now report
     → PrintsReport took took_now before.printing now.printing report
     → Answers out feed report failed told_before told_now errors errors_now answer → Causes before now failed → (AnyRose before now → Failed failed)
     → Records out feed (scene names before took told_before errors) (scene names_now now took_now told_now errors_now) report answer
-recorded out feed names names_now before now took took_now told_before told_now errors errors_now report failed answer leaves reports prints a causes any_failed =
+recorded out feed names names_now before now took took_now told_before told_now errors errors_now report failed answer made prints a causes any_failed =
     let ends = ended out feed before now report failed told_before told_now errors errors_now answer a causes any_failed in
     record {
-      names = leaves;
-      reported = reports;
+      history = made.history;
+      names = made.names;
+      reported = made.reported;
+      untouched = made.untouched;
+      unread = made.unread;
       printed = prints;
       said = told out feed before now report failed told_before told_now errors errors_now answer a causes;
       ended = ends;
-      complete = complete feed before now names report answer reports ends;
+      complete = complete feed before now names report made.history answer made.reported ends;
+      whole = whole feed names before now made.history report answer made.reported ends;
     }
 
 -- the status of a recording is not that of bad words

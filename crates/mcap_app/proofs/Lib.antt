@@ -1,9 +1,6 @@
 mod Answered
-mod Cuts
-mod Feeds
-mod Files
-mod Heads
+mod Lacks
 pub mod Lines
 pub mod Mapped
-mod OneEnd
 mod Runs
+mod Whole

@@ -5,7 +5,7 @@ use Rattle.mcap_io.specs.Outside.{Adds, AddsPart}
 use Rattle.mcap_io.proofs.Calls.{adds-adds, adds-part, rose-second}
 use Rattle.mcap_io.specs.declared.outside.Failed.{Failed}
 use Rattle.mcap_app.specs.Printing.{Prints}
-use Rattle.mcap_app.specs.declared.report.FeedReport.{FeedReport}
+use Rattle.recorder.specs.declared.report.FeedReport.{FeedReport}
 use Rattle.mcap_app.specs.Texts.{feed_line, feed_lines}
 
 -- the lines of more feeds stand behind the lines of the first

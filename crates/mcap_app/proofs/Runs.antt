@@ -1,58 +1,191 @@
 -- What a recording says of the world's names and counts.
-use Rattle.std.proofs.Common.{◌≡◌, ℕ, ◌^◌, ◌<◌, List, [], Option, refl, sym, subst, ◌∙◌, arith}
-use Rattle.std.specs.List.{AllByRecursion}
-use Rattle.mcap_io.specs.Outside.{Rose, added, Names, TellsName}
-use Rattle.mcap_app.specs.declared.report.Report.{Report}
-use Rattle.mcap_app.specs.declared.report.FeedReport.{FeedReport}
-use Rattle.mcap_app.specs.declared.report.FeedEnd.{FeedEnd}
-use Rattle.mcap_app.specs.declared.report.FeedEnd.TheVariants as feed_ends
-use Rattle.mcap_app.specs.declared.report.End.{End}
-use Rattle.mcap_app.specs.declared.report.End.TheVariants as ends
-use Rattle.mcap_app.specs.declared.report.Stop.TheVariants as stops
-use Rattle.mcap_app.specs.Feed.{FeedRead, FeedCause, EndsFeed}
-use Rattle.mcap_app.specs.File.{WriterCause}
-use Rattle.mcap_app.specs.Recorded.{IsOnlyFeed, HasNoMessage, FeedRecorded, WriterRecorded}
-use Rattle.mcap_app.specs.Run.{Reported}
+use Rattle.std.proofs.Common.{◌≡◌, ◌⊎◌, ℕ, ◌+◌, ◌^◌, ◌<◌, ◌≤◌, List, [], ◌++◌, length, Option, Some, None, Result, Ok, Err, refl, sym, ap, subst, inl, inr, ◌∙◌, arith}
+use Rattle.std.specs.Prelude.{IsSome, false}
+use Rattle.std.proofs.lemmas.Bool.{both_ways}
+use Rattle.std.specs.Prelude.{OnErr}
+use Rattle.mcap_io.specs.Outside.{Rose, added, Names, TellsName, KeepsUnder, Placed}
+use Rattle.mcap_io.specs.declared.outside.Failed.{Failed}
+use Rattle.rec_data.specs.declared.owned.Rec.{Rec}
+use Rattle.recorder.specs.declared.report.Report.{Report}
+use Rattle.recorder.specs.declared.report.FeedEnd.{FeedEnd}
+use Rattle.recorder.specs.declared.report.FeedEnd.TheVariants as feed_ends
+use Rattle.recorder.specs.declared.report.End.{End}
+use Rattle.recorder.specs.declared.report.End.TheVariants as ends
+use Rattle.recorder.specs.declared.report.Stop.TheVariants as stops
+use Rattle.recorder.specs.Feed.{FeedCause}
+use Rattle.recorder.specs.File.{file_of, IsPrefix, WrittenSoFar, WriterCause}
+use Rattle.recorder.specs.Recorded.{Recorded}
+use Rattle.recorder.proofs.Files.{written_prefix}
+use Rattle.mcap_app.specs.Run.{Reported, LeavesNames, Leaves, NamesRecorded}
 
--- where the reading ended is where the feed ends
-ends_feed : (bytes : List ℕ) (after : Option (List ℕ)) (end : FeedEnd) → FeedRead bytes after end → EndsFeed bytes end
-ends_feed bytes after feed_ends.Done read = (read.0, read.1, read.2, read.3)
-ends_feed bytes after (feed_ends.Grammar n) read = read
-ends_feed bytes after (feed_ends.NotBuilt n) read = read
-ends_feed bytes after (feed_ends.Fault faults) read = tt
-ends_feed bytes after feed_ends.Memory read = tt
-ends_feed bytes after feed_ends.Ended read = read
+-- ---- counts
 
 -- a fault of an object that is kept shows in the count of the kept ones
 kept_fault : (before now total sum : ℕ) → before ≡ 0 → Rose before now → total < 2 ^ 64 → sum ≡ added total now → Rose total sum
 kept_fault before now total sum start rose fits is = omega arith
 
-feed_caused : (before now : ℕ) (end : FeedEnd) (faults : ℕ) → FeedCause before now end → end ≡ feed_ends.Fault faults → Rose before now
+feed_caused : (before now : ℕ) (end : FeedEnd) (faults : ℕ) → FeedCause before now end → end ≡ feed_ends.Fault faults → Rose before now × (faults ≡ now)
 feed_caused before now end faults cause is =
     let P : FeedEnd → Type 0 = λ e. FeedCause before now e in
     let why = subst P is cause in
-    why.1
+    (why.1, why.2)
 
-writer_caused : (before now : ℕ) (end : End) (faults : ℕ) → WriterCause before now end → end ≡ ends.Stopped (stops.Fault faults) → Rose before now
+writer_caused : (before now : ℕ) (end : End) (faults : ℕ) → WriterCause before now end → end ≡ ends.Stopped (stops.Fault faults) → Rose before now × (faults ≡ now)
 writer_caused before now end faults cause is =
     let P : End → Type 0 = λ e. WriterCause before now e in
     let why = subst P is cause in
-    why.1
+    (why.1, why.2)
 
-pub reported : (feed : List ℕ) (names : Option Names) (left after held held_after : Option (List ℕ))
-    (feed_before feed_now live_before live_now inputs inputs_now outputs outputs_now : ℕ) (r : Report) (f : FeedReport)
-    → IsOnlyFeed r f → HasNoMessage f → FeedRecorded left after feed_before feed_now f.end → WriterRecorded held held_after live_before live_now [] r.writer
+-- a failure since a later moment is one since an earlier one
+pub failed_since : (before middle now : ℕ) (result : Result Unit Failed) → before ≤ middle → OnErr result (Rose middle now) → OnErr result (Rose before now)
+failed_since before middle now (Ok it) later failed = failed
+failed_since before middle now (Err why) later failed = omega arith
+
+-- ---- the report
+
+reported : (feed : List ℕ) (names : Option Names) (left after held held_after : Option (List ℕ))
+    (feed_before feed_now live_before live_now inputs inputs_now outputs outputs_now : ℕ) (r : Report)
+    → (made : Recorded left after feed_before feed_now held held_after live_before live_now r)
     → TellsName names feed left → feed_before ≡ 0 → inputs < 2 ^ 64 → inputs_now ≡ added inputs feed_now → live_before ≡ 0 → outputs < 2 ^ 64 → outputs_now ≡ added outputs live_now
-    → Reported feed names inputs inputs_now outputs outputs_now r
-reported feed names left after held held_after feed_before feed_now live_before live_now inputs inputs_now outputs outputs_now r f one silent read wrote tells unused inputs_fit inputs_is new outputs_fit outputs_is = record {
-  only = f;
-  one_feed = one;
-  history = record {
-    records = sym wrote.records;
-    given = refl;
-    feeds = subst (λ (fs : List FeedReport). AllByRecursion HasNoMessage fs) (sym one) (silent, tt);
-  };
-  end = λ all bytes told is. ends_feed bytes after f.end (read.read bytes ((tells all told).0 ∙ is));
-  feed_fault = λ faults is. kept_fault feed_before feed_now inputs inputs_now unused (feed_caused feed_before feed_now f.end faults read.cause is) inputs_fit inputs_is;
-  writer_fault = λ faults is. kept_fault live_before live_now outputs outputs_now new (writer_caused live_before live_now r.writer.end faults wrote.cause is) outputs_fit outputs_is;
+    → Reported feed names inputs inputs_now outputs outputs_now made.history r
+reported feed names left after held held_after feed_before feed_now live_before live_now inputs inputs_now outputs outputs_now r made tells unused inputs_fit inputs_is new outputs_fit outputs_is = record {
+  only = made.feed;
+  one_feed = made.only;
+  tops = made.tops;
+  lists = made.reported;
+  records = made.writer.records;
+  blocks = made.writer.blocks;
+  read = λ all bytes told is. (after, made.ended.read bytes ((tells all told).0 ∙ is));
+  there = λ all told. (tells all told).1;
+  feed_fault = λ faults is.
+      let why = feed_caused feed_before feed_now made.feed.end faults made.ended.cause is in
+      (kept_fault feed_before feed_now inputs inputs_now unused why.0 inputs_fit inputs_is, inputs_is ∙ ap (added inputs) (sym why.1));
+  writer_fault = λ faults is.
+      let why = writer_caused live_before live_now r.writer.end faults made.writer.cause is in
+      (kept_fault live_before live_now outputs outputs_now new why.0 outputs_fit outputs_is, outputs_is ∙ ap (added outputs) (sym why.1));
 }
+
+-- ---- the names
+
+abbrev some : List ℕ → Option (List ℕ)
+some l = Some l
+
+-- what a keeping left under the name is what it held, or the object's bytes
+placed_part : (all now : Names) (out text : List ℕ) (history : List Rec) (result : Result Unit Failed) → Placed all now out text result → IsPrefix text (file_of [] history)
+    → (now out ≡ all out) ⊎ ((text : List ℕ) × (now out ≡ Some text) × IsPrefix text (file_of [] history))
+placed_part all now out text history (Ok it) is front = inr (text, is, front)
+placed_part all now out text history (Err why) (inl is) front = inr (text, is, front)
+placed_part all now out text history (Err why) (inr same) front = inl same
+
+placed_whole : (all now : Names) (out text : List ℕ) (before after : ℕ) (result : Result Unit Failed) → Placed all now out text result → OnErr result (Rose before after)
+    → (now out ≡ Some text) ⊎ ((now out ≡ all out) × Rose before after)
+placed_whole all now out text before after (Ok it) is failed = inl is
+placed_whole all now out text before after (Err why) (inl is) failed = inl is
+placed_whole all now out text before after (Err why) (inr same) failed = inr (same, failed)
+
+-- an empty object leaves nothing under the name, or what it held
+placed_nothing : (all now : Names) (out text : List ℕ) (result : Result Unit Failed) → Placed all now out text result → text ≡ [] → (now out ≡ all out) ⊎ (now out ≡ Some [])
+placed_nothing all now out text (Ok it) is none = inr (is ∙ ap (λ (l : List ℕ). some l) none)
+placed_nothing all now out text (Err why) (inl is) none = inr (is ∙ ap (λ (l : List ℕ). some l) none)
+placed_nothing all now out text (Err why) (inr same) none = inl same
+
+leaves : (out : List ℕ) (before after : ℕ) (report : Option Report) (history : List Rec) (names names_now : Option Names) (held : Option (List ℕ)) (result : Result Unit Failed)
+    → KeepsUnder names names_now out held result → OnErr result (Rose before after)
+    → ((all : Names) → names ≡ Some all → (text : List ℕ) × (held ≡ Some text) × IsPrefix text (file_of [] history)
+    × ((r : Report) → report ≡ Some r → WrittenSoFar text history r.writer.end r.writer.bytes) × (report ≡ None → text ≡ []))
+    → Leaves out before after report history names names_now
+leaves out before after report history names names_now held result keeps failed holds = λ all told.
+    let kept = keeps all told in
+    let stored = holds all told in
+    let placed = kept.2.placed stored.0 stored.1 in (
+      kept.0,
+      kept.1,
+      record {
+        others = kept.2.others;
+        part = placed_part all kept.0 out stored.0 history result placed stored.2;
+        file = λ r here. (stored.0, stored.3 r here, placed_whole all kept.0 out stored.0 before after result placed failed);
+        unmade = λ none. placed_nothing all kept.0 out stored.0 result placed (stored.4 none);
+      },
+    )
+
+-- a store that was new holds what was written of the file
+written_there : (held held_after : Option (List ℕ)) (left after : Option (List ℕ)) (feed_before feed_now live_before live_now : ℕ) (r : Report)
+    → (made : Recorded left after feed_before feed_now held held_after live_before live_now r) → held ≡ Some []
+    → (text : List ℕ) × (held_after ≡ Some text) × IsPrefix text (file_of [] made.history) × WrittenSoFar text made.history r.writer.end r.writer.bytes
+written_there held held_after left after feed_before feed_now live_before live_now r made empty =
+    let there = made.writer.written [] empty in
+    (there.0, there.1, written_prefix there.0 made.history r.writer.end r.writer.bytes there.2, there.2)
+
+same_report : (a b : Report) → Some a ≡ Some b → a ≡ b
+same_report a b e = cc
+
+none_some : (r : Report) → None ≡ Some r → ⊥
+none_some r e = cc
+
+same_names : (a b : Names) → Some a ≡ Some b → a ≡ b
+same_names a b e = cc
+
+-- a name that is there isn't missing
+not_missing : (found : Option (List ℕ)) (A : Type 0) → IsSome found → found ≡ None → A
+not_missing None A some none = absurd (both_ways false refl some)
+not_missing (Some bytes) A there none = absurd (apart none)
+  where
+    apart : Some bytes ≡ None → ⊥
+    apart e = cc
+
+-- a count to which nothing is added stays
+pub added_nothing : (total sum now : ℕ) → now ≡ 0 → total < 2 ^ 64 → sum ≡ added total now → sum ≡ total
+added_nothing total sum now none fits is = omega arith
+
+-- there was no recording, and the names are as they were
+pub unnamed : (out feed : List ℕ) (names names_now : Option Names) (before now inputs inputs_now outputs outputs_now : ℕ) (report : Option Report)
+    → report ≡ None → names_now ≡ names → inputs_now ≡ inputs → outputs_now ≡ outputs → NamesRecorded out feed before now inputs inputs_now outputs outputs_now names names_now report
+unnamed out feed names names_now before now inputs inputs_now outputs outputs_now report none same inputs_same outputs_same = record {
+  history = [];
+  names = λ all told. (
+    all,
+    same ∙ told,
+    record {
+      others = λ other differs. refl;
+      part = inl refl;
+      file = λ r here. absurd (none_some r (sym none ∙ here));
+      unmade = λ still. inl refl;
+    },
+  );
+  reported = λ r here. absurd (none_some r (sym none ∙ here));
+  untouched = λ all now_names told told_now missing. ap (λ (there : Names). there out) (same_names now_names all (sym told_now ∙ same ∙ told));
+  unread = λ still. (inputs_same, outputs_same);
+}
+
+-- what a recording into a new store left, with its report or without one
+pub named : (out feed : List ℕ) (names names_now : Option Names) (left after held held_after : Option (List ℕ))
+    (feed_before feed_now live_before live_now before now inputs inputs_now outputs outputs_now : ℕ) (report : Option Report) (result : Result Unit Failed)
+    → (report ≡ None → (held_after ≡ held) × (feed_now ≡ feed_before) × (live_now ≡ live_before))
+    → ((r : Report) → report ≡ Some r → Recorded left after feed_before feed_now held held_after live_before live_now r)
+    → TellsName names feed left → feed_before ≡ 0 → inputs < 2 ^ 64 → inputs_now ≡ added inputs feed_now
+    → ((all : Names) → names ≡ Some all → held ≡ Some []) → live_before ≡ 0 → outputs < 2 ^ 64 → outputs_now ≡ added outputs live_now
+    → KeepsUnder names names_now out held_after result → OnErr result (Rose before now)
+    → NamesRecorded out feed before now inputs inputs_now outputs outputs_now names names_now report
+named out feed names names_now left after held held_after feed_before feed_now live_before live_now before now inputs inputs_now outputs outputs_now None result same made tells unused inputs_fit inputs_is empty new outputs_fit outputs_is keeps failed = record {
+  history = [];
+  names = leaves out before now None [] names names_now held_after result keeps failed
+      (λ all told. ([], (same refl).0 ∙ empty all told, (file_of [] [], refl), λ r here. absurd (none_some r here), λ none. refl));
+  reported = λ r here. absurd (none_some r here);
+  untouched = λ all now_names told told_now missing. not_missing (all feed) (now_names out ≡ all out) (tells all told).1 missing;
+  unread = λ none. (
+    added_nothing inputs inputs_now feed_now ((same refl).1 ∙ unused) inputs_fit inputs_is,
+    added_nothing outputs outputs_now live_now ((same refl).2 ∙ new) outputs_fit outputs_is,
+  );
+}
+named out feed names names_now left after held held_after feed_before feed_now live_before live_now before now inputs inputs_now outputs outputs_now (Some r) result same made tells unused inputs_fit inputs_is empty new outputs_fit outputs_is keeps failed =
+    let all_made = made r refl in record {
+      history = all_made.history;
+      names = leaves out before now (Some r) all_made.history names names_now held_after result keeps failed
+          (λ all told.
+          let there = written_there held held_after left after feed_before feed_now live_before live_now r all_made (empty all told) in
+          (there.0, there.1, there.2, λ s here. subst (λ (x : Report). WrittenSoFar there.0 all_made.history x.writer.end x.writer.bytes) (same_report r s here) there.3, λ none. absurd (none_some r (sym none))));
+      reported = λ s here. subst (λ (x : Report). Reported feed names inputs inputs_now outputs outputs_now all_made.history x) (same_report r s here)
+          (reported feed names left after held held_after feed_before feed_now live_before live_now inputs inputs_now outputs outputs_now r all_made tells unused inputs_fit inputs_is new outputs_fit outputs_is);
+      untouched = λ all now_names told told_now missing. not_missing (all feed) (now_names out ≡ all out) (tells all told).1 missing;
+      unread = λ none. absurd (none_some r (sym none));
+    }

@@ -3,13 +3,10 @@ use Rattle.std.specs.Prelude.{◌≡◌, ◌⊎◌, ℕ, ◌≤◌, List, Bool, 
 use Rattle.mcap_wire.specs.declared.faults.Memory.{Memory}
 use Rattle.mcap_io.specs.Outside.{Rose, Adds}
 use Rattle.mcap_app.specs.declared.answering.Failures.{Failures}
-use Rattle.mcap_app.specs.declared.report.Report.{Report}
-use Rattle.mcap_app.specs.declared.report.FeedReport.{FeedReport}
-use Rattle.mcap_app.specs.declared.report.FeedEnd.{FeedEnd}
-use Rattle.mcap_app.specs.declared.report.FeedEnd.TheVariants as feed_ends
-use Rattle.mcap_app.specs.declared.report.End.TheVariants as ends
-use Rattle.mcap_app.specs.declared.report.Stop.TheVariants as stops
-use Rattle.mcap_app.specs.Recorded.{IsOnlyFeed}
+use Rattle.recorder.specs.declared.report.Report.{Report}
+use Rattle.recorder.specs.declared.report.FeedReport.{FeedReport}
+use Rattle.recorder.specs.declared.report.FeedEnd.{FeedEnd}
+use Rattle.recorder.specs.Recorded.{IsOnlyFeed}
 use Rattle.mcap_app.specs.Texts.{Trouble, said, status_of}
 use Rattle.mcap_app.specs.Run.{EndOf, NamesMemory, troubles_of}
 
@@ -23,9 +20,9 @@ Tells old new before now text (Ok it) = (before ≤ now) × ((Rose before now �
 Tells old new before now text (Err why) = (before ≤ now) × (new ≡ old)
 
 -- memory lacked
-abbrev pub AnswersMemory : Option Report → Option FeedEnd → Failures → Bool → Type 0
-AnswersMemory None end failed answer = (Failed failed → ⊥) → answer ≡ true
-AnswersMemory (Some r) end failed answer = (end ≡ Some feed_ends.Memory) ⊎ (r.writer.end ≡ ends.Stopped stops.Memory) → answer ≡ true
+abbrev pub AnswersMemory : Option Report → Failures → Bool → Type 0
+AnswersMemory None failed answer = (Failed failed → ⊥) → answer ≡ true
+AnswersMemory (Some r) failed answer = (f : FeedReport) → IsOnlyFeed r f → NamesMemory f r.writer.end → answer ≡ true
 
 -- the troubles were told, and the status is theirs
 abbrev pub Complained : Option (List ℕ) → Option (List ℕ) → ℕ → ℕ → List Trouble → Result ℕ Memory → Type 0
@@ -39,5 +36,5 @@ pub record Answers (out feed : List ℕ) (report : Option Report) (failed : Fail
   pub end_is : EndOf report end
   pub answer_is : (answer ≡ 5 → ⊥) → status_of (troubles_of out feed end failed) ≡ answer
   pub text : (answer ≡ 5 → ⊥) → (Rose before now → ⊥) → Adds took after (said (troubles_of out feed end failed))
-  pub memory : (r : Report) (f : FeedReport) → report ≡ Some r → IsOnlyFeed r f → NamesMemory f.end r.writer.end → answer ≡ 5
+  pub memory : (r : Report) (f : FeedReport) → report ≡ Some r → IsOnlyFeed r f → NamesMemory f r.writer.end → answer ≡ 5
   pub no_report : report ≡ None → (Failed failed → ⊥) → answer ≡ 5

@@ -1,11 +1,5 @@
 pub mod Answer
-pub mod Feed
-pub mod File
-pub mod Laws
-pub mod Next
-pub mod Plain
 pub mod Printing
-pub mod Recorded
 pub mod Run
 pub mod Texts
 pub mod Words

@@ -1,18 +1,22 @@
 -- What the program did: to the names of the world, to both outputs, and how it ended.
-use Rattle.std.specs.Prelude.{◌≡◌, ◌⊎◌, ℕ, ◌≤◌, List, [], ◌∷◌, ◌++◌, Bool, true, if◌then◌else◌, Option, Some, None}
-use Rattle.mcap_io.specs.Outside.{Rose, Names, OthersSame, Adds, AddsPart}
-use Rattle.mcap_app.specs.declared.report.Report.{Report}
-use Rattle.mcap_app.specs.declared.report.FeedReport.{FeedReport}
-use Rattle.mcap_app.specs.declared.report.FeedEnd.{FeedEnd}
-use Rattle.mcap_app.specs.declared.report.FeedEnd.TheVariants as feed_ends
-use Rattle.mcap_app.specs.declared.report.End.{End}
-use Rattle.mcap_app.specs.declared.report.End.TheVariants as ends
-use Rattle.mcap_app.specs.declared.report.Stop.TheVariants as stops
+use Rattle.std.specs.Prelude.{◌≡◌, ◌⊎◌, ℕ, ◌≤◌, List, [], ◌∷◌, ◌++◌, length, Bool, true, false, if◌then◌else◌, Option, Some, None, IsSome}
+use Rattle.std.specs.List.{list_any}
+use Rattle.mcap_io.specs.Outside.{Rose, added, Names, OthersSame, Adds, AddsPart}
+use Rattle.recorder.specs.declared.report.Report.{Report}
+use Rattle.recorder.specs.declared.report.FeedReport.{FeedReport}
+use Rattle.recorder.specs.declared.report.FeedEnd.{FeedEnd}
+use Rattle.recorder.specs.declared.report.FeedEnd.TheVariants as feed_ends
+use Rattle.recorder.specs.declared.report.End.{End}
+use Rattle.recorder.specs.declared.report.End.TheVariants as ends
+use Rattle.recorder.specs.declared.report.Stop.TheVariants as stops
 use Rattle.mcap_app.specs.declared.faults.Counts.{Counts}
 use Rattle.mcap_app.specs.declared.answering.Failures.{Failures}
-use Rattle.mcap_app.specs.Feed.{Top, Stops, EndsFeed}
-use Rattle.mcap_app.specs.File.{file_of, IsPrefix, WrittenSoFar}
-use Rattle.mcap_app.specs.Recorded.{Assembled, IsOnlyFeed}
+use Rattle.rec_data.specs.declared.owned.Rec.{Rec}
+use Rattle.recorder.specs.declared.report.Cause.{Cause}
+use Rattle.recorder.specs.declared.report.Cause.TheVariants as causes
+use Rattle.recorder.specs.Feed.{Top, FeedRead, Stops}
+use Rattle.recorder.specs.File.{file_of, IsPrefix, WrittenSoFar}
+use Rattle.recorder.specs.Recorded.{FeedReported, IsOnlyFeed}
 use Rattle.mcap_app.specs.Texts.{Trouble, bad_words, fault, output_fault, grammar, not_built, printed, said, status_of}
 
 -- ---- counts of faults
@@ -32,9 +36,13 @@ end_status (feed_ends.Grammar n) = 1
 end_status (feed_ends.NotBuilt n) = 1
 end_status end = 0
 
--- the report names a want of memory
-abbrev pub NamesMemory : FeedEnd → End → Type 0
-NamesMemory end writer = (end ≡ feed_ends.Memory) ⊎ (writer ≡ ends.Stopped stops.Memory)
+abbrev pub is_memory : Cause → Bool
+is_memory (causes.Stopped at stop) = false
+is_memory causes.Memory = true
+
+-- the report names a want of memory: as the end of the feed or of the file, or as why a message was refused
+abbrev pub NamesMemory : FeedReport → End → Type 0
+NamesMemory f writer = (f.end ≡ feed_ends.Memory) ⊎ ((writer ≡ ends.Stopped stops.Memory) ⊎ (list_any (λ x. is_memory x.cause) f.refused.items ≡ true))
 
 -- 5 for want of memory; else 3 exactly where a count rose; else 1 exactly where the feed broke a rule or holds
 -- what isn't recorded yet; else 0. A want of memory that the report names is answered as one.
@@ -42,7 +50,7 @@ pub record EndsWith (before now : Counts) (report : Option Report) (status : ℕ
   pub rose : AnyRose before now → (status ≡ 3) ⊎ (status ≡ 5)
   pub calm : (AnyRose before now → ⊥) → (r : Report) (f : FeedReport) → report ≡ Some r → IsOnlyFeed r f → (status ≡ end_status f.end) ⊎ (status ≡ 5)
   pub no_report : (AnyRose before now → ⊥) → report ≡ None → status ≡ 5
-  pub memory : (r : Report) (f : FeedReport) → report ≡ Some r → IsOnlyFeed r f → NamesMemory f.end r.writer.end → status ≡ 5
+  pub memory : (r : Report) (f : FeedReport) → report ≡ Some r → IsOnlyFeed r f → NamesMemory f r.writer.end → status ≡ 5
 
 -- ---- standard error
 
@@ -70,11 +78,16 @@ abbrev pub EndOf : Option Report → Option FeedEnd → Type 0
 EndOf None end = end ≡ None
 EndOf (Some r) end = (f : FeedReport) → IsOnlyFeed r f → end ≡ Some f.end
 
--- which part failed, each with its cause
+-- which parts failed: each with its cause, and none is left out
 pub record Causes (before now : Counts) (failed : Failures) : Type 0 where
   pub feed : failed.feed ≡ true → Rose before.world now.world ⊎ Rose before.inputs now.inputs
   pub out : failed.out ≡ true → Rose before.world now.world ⊎ Rose before.outputs now.outputs
   pub printing : failed.printing ≡ true → Rose before.printing now.printing
+  -- and each count that rose is told of
+  pub inputs_told : Rose before.inputs now.inputs → failed.feed ≡ true
+  pub outputs_told : Rose before.outputs now.outputs → failed.out ≡ true
+  pub printing_told : Rose before.printing now.printing → failed.printing ≡ true
+  pub world_told : Rose before.world now.world → (failed.feed ≡ true) ⊎ (failed.out ≡ true)
 
 -- What standard error is told of a recording: a line for the feed's end, and one for each part that failed. They
 -- give the status. Nothing is promised where memory lacked, and nothing is told where this output fails.
@@ -95,16 +108,20 @@ pub record Refuses (took after : Option (List ℕ)) (errors_before errors_now : 
 -- ---- the file
 
 -- what a recording leaves under the names
-pub record LeavesNames (out : List ℕ) (before now_count : ℕ) (report : Option Report) (history : List Top) (all now : Names) : Type 0 where
+pub record LeavesNames (out : List ℕ) (before now_count : ℕ) (report : Option Report) (history : List Rec) (all now : Names) : Type 0 where
   -- all names but the output's hold what they held
   pub others : OthersSame all now out
   -- whatever fails, the output holds what it held or a first part of the file
   pub part : (now out ≡ all out) ⊎ ((text : List ℕ) × (now out ≡ Some text) × IsPrefix text (file_of [] history))
-  -- where no opening and no keeping fails, it holds the whole file if the writer closed it, else a first part
-  pub file : (Rose before now_count → ⊥) → (r : Report) → report ≡ Some r → (text : List ℕ) × (now out ≡ Some text) × WrittenSoFar text history r.writer.end r.writer.bytes
+  -- with a report, what was written is the whole file if the writer closed it, else a first part; and the output holds
+  -- it, or what it held, where an opening or a keeping failed
+  pub file : (r : Report) → report ≡ Some r → (text : List ℕ) × WrittenSoFar text history r.writer.end r.writer.bytes
+      × ((now out ≡ Some text) ⊎ ((now out ≡ all out) × Rose before now_count))
+  -- without a report it holds what it held, or nothing
+  pub unmade : report ≡ None → (now out ≡ all out) ⊎ (now out ≡ Some [])
 
 -- the same where the world tells its names; it goes on telling them
-abbrev pub Leaves : List ℕ → ℕ → ℕ → Option Report → List Top → Option Names → Option Names → Type 0
+abbrev pub Leaves : List ℕ → ℕ → ℕ → Option Report → List Rec → Option Names → Option Names → Type 0
 Leaves out before now_count report history old new = (all : Names) → old ≡ Some all → (now : Names) × (new ≡ Some now) × LeavesNames out before now_count report history all now
 
 -- ---- standard output
@@ -116,14 +133,37 @@ PrintsReport old new before now (Some r) = (before ≤ now) × (Adds old new (pr
 
 -- ---- the report
 
--- what the report says of the feed and of the writer has its cause
-pub record Reported (feed : List ℕ) (names : Option Names) (inputs_before inputs_now outputs_before outputs_now : ℕ) (r : Report) : Type 0 where
+-- What the report says: its feed has these records, which its lists and this history fit; and each fault has its cause.
+pub record Reported (feed : List ℕ) (names : Option Names) (inputs_before inputs_now outputs_before outputs_now : ℕ) (history : List Rec) (r : Report) : Type 0 where
   pub only : FeedReport
   pub one_feed : IsOnlyFeed r only
-  pub history : Assembled r []
-  pub end : (all : Names) (bytes : List ℕ) → names ≡ Some all → all feed ≡ Some bytes → EndsFeed bytes only.end
-  pub feed_fault : (faults : ℕ) → only.end ≡ feed_ends.Fault faults → Rose inputs_before inputs_now
-  pub writer_fault : (faults : ℕ) → r.writer.end ≡ ends.Stopped (stops.Fault faults) → Rose outputs_before outputs_now
+  pub tops : List Top
+  pub lists : FeedReported tops history only r.writer
+  pub records : r.writer.records ≡ length history
+  pub blocks : r.writer.blocks ≡ 0
+  -- where the world tells its names, the records are those of the bytes under the feed's name
+  pub read : (all : Names) (bytes : List ℕ) → names ≡ Some all → all feed ≡ Some bytes → (left : Option (List ℕ)) × FeedRead bytes tops left only.end
+  -- the feed's name is there
+  pub there : (all : Names) → names ≡ Some all → IsSome (all feed)
+  -- a fault that is reported is one by which the count rose
+  pub feed_fault : (faults : ℕ) → only.end ≡ feed_ends.Fault faults → Rose inputs_before inputs_now × (inputs_now ≡ added inputs_before faults)
+  pub writer_fault : (faults : ℕ) → r.writer.end ≡ ends.Stopped (stops.Fault faults) → Rose outputs_before outputs_now × (outputs_now ≡ added outputs_before faults)
+
+-- what a recording did to the world's names and counts
+pub record NamesRecorded (out feed : List ℕ) (before now inputs_before inputs_now outputs_before outputs_now : ℕ) (old new : Option Names) (report : Option Report) : Type 0 where
+  pub history : List Rec
+  pub names : Leaves out before now report history old new
+  pub reported : (r : Report) → report ≡ Some r → Reported feed old inputs_before inputs_now outputs_before outputs_now history r
+  pub untouched : (all now : Names) → old ≡ Some all → new ≡ Some now → all feed ≡ None → now out ≡ all out
+  pub unread : report ≡ None → (inputs_now ≡ inputs_before) × (outputs_now ≡ outputs_before)
+
+-- the whole feed was recorded: its Data End was read, none of its messages was refused, and the file was closed
+pub record RecordsAll (r : Report) : Type 0 where
+  pub only : FeedReport
+  pub one_feed : IsOnlyFeed r only
+  pub end : only.end ≡ feed_ends.Done
+  pub none_refused : only.refused.items ≡ []
+  pub closed : r.writer.end ≡ ends.Closed
 
 -- ---- a command
 
@@ -140,10 +180,16 @@ scene names counts printed told errors = record { names = names; counts = counts
 
 -- what `record --plain` does
 pub record Records (out feed : List ℕ) (old new : Scene) (report : Option Report) (answer : ℕ) : Type 0 where
-  -- the file is that of the report's history, and all else stays
-  pub names : Leaves out old.counts.world new.counts.world report [] old.names new.names
-  -- what the report says has its cause
-  pub reported : (r : Report) → report ≡ Some r → Reported feed old.names old.counts.inputs new.counts.inputs old.counts.outputs new.counts.outputs r
+  -- the records that were accepted, in order
+  pub history : List Rec
+  -- the file is that of the history, and all else stays
+  pub names : Leaves out old.counts.world new.counts.world report history old.names new.names
+  -- the feed and the report give the history, and what the report says has its cause
+  pub reported : (r : Report) → report ≡ Some r → Reported feed old.names old.counts.inputs new.counts.inputs old.counts.outputs new.counts.outputs history r
+  -- where the feed isn't there, the output's name holds what it held
+  pub untouched : (all now : Names) → old.names ≡ Some all → new.names ≡ Some now → all feed ≡ None → now out ≡ all out
+  -- without a report no source and no store failed
+  pub unread : report ≡ None → (new.counts.inputs ≡ old.counts.inputs) × (new.counts.outputs ≡ old.counts.outputs)
   -- standard output is told of the report
   pub printed : PrintsReport old.printed new.printed old.counts.printing new.counts.printing report
   -- standard error is told of the troubles
@@ -151,5 +197,7 @@ pub record Records (out feed : List ℕ) (old new : Scene) (report : Option Repo
   -- the status says what became of it
   pub ended : EndsWith old.counts new.counts report answer
   -- a good feed is recorded, unless a count rises or memory lacks
-  pub complete : (all : Names) (bytes : List ℕ) → old.names ≡ Some all → all feed ≡ Some bytes → Stops bytes feed_ends.Done
+  pub complete : (all : Names) (bytes : List ℕ) (tops : List Top) → old.names ≡ Some all → all feed ≡ Some bytes → Stops bytes tops feed_ends.Done
       → (AnyRose old.counts new.counts → ⊥) → (answer ≡ 0) ⊎ (answer ≡ 5)
+  -- the status 0 says that all of the feed was recorded
+  pub whole : answer ≡ 0 → (r : Report) × (report ≡ Some r) × RecordsAll r

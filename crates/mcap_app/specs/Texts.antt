@@ -5,14 +5,14 @@ use Rattle.std.specs.List.{flat_map, list_any}
 use Rattle.json.specs.Print.{quoted}
 use Rattle.mcap_app.specs.declared.complaint.Complaint.{Complaint}
 use Rattle.mcap_app.specs.declared.complaint.Complaint.TheVariants as complaints
-use Rattle.mcap_app.specs.declared.report.Report.{Report}
-use Rattle.mcap_app.specs.declared.report.FeedReport.{FeedReport}
-use Rattle.mcap_app.specs.declared.report.WriterReport.{WriterReport}
-use Rattle.mcap_app.specs.declared.report.FeedEnd.{FeedEnd}
-use Rattle.mcap_app.specs.declared.report.FeedEnd.TheVariants as feed_ends
-use Rattle.mcap_app.specs.declared.report.End.{End}
-use Rattle.mcap_app.specs.declared.report.End.TheVariants as ends
-use Rattle.mcap_app.specs.declared.report.Stop.TheVariants as stops
+use Rattle.recorder.specs.declared.report.Report.{Report}
+use Rattle.recorder.specs.declared.report.FeedReport.{FeedReport}
+use Rattle.recorder.specs.declared.report.WriterReport.{WriterReport}
+use Rattle.recorder.specs.declared.report.FeedEnd.{FeedEnd}
+use Rattle.recorder.specs.declared.report.FeedEnd.TheVariants as feed_ends
+use Rattle.recorder.specs.declared.report.End.{End}
+use Rattle.recorder.specs.declared.report.End.TheVariants as ends
+use Rattle.recorder.specs.declared.report.Stop.TheVariants as stops
 
 -- ---- standard output
 

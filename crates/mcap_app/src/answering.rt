@@ -1,15 +1,16 @@
 //! The answer to a recording: what standard error is told, and the status.
+ghost use Rattle.std.specs.List.{list_any};
 ghost use Rattle.std.specs.Prelude.{◌≡◌, ◌⊎◌, ◌≤◌, ◌++◌, Some, None, true, map, IfOk, OnOk, OnErr};
 ghost use Rattle.mcap_io.specs.Outside.{Rose, Adds};
 ghost use Rattle.mcap_app.specs.Texts.{trouble_of, said};
 ghost use Rattle.mcap_app.specs.Answer.{Tells, Complained, Answers, AnswersMemory, Failed};
-ghost use Rattle.mcap_app.specs.Run.{AnyRose, Causes, EndOf, Refuses, when, troubles_of};
+ghost use Rattle.mcap_app.specs.Run.{AnyRose, Causes, EndOf, NamesMemory, Refuses, is_memory, when, troubles_of};
 
 use crate::complaint::{BAD_WORDS, Complaint, say, status};
 use crate::faults::{Counts, rose};
-use crate::report::{End, FeedEnd, Report, Stop};
 use mcap_io::{Sink, write_all_of};
 use mcap_wire::Memory;
+use recorder::{Cause, End, FeedEnd, FeedReport, Refused, Report, Stop};
 use std::alloc::Global;
 
 /// What a recording came to: its report, and which of its names couldn't be opened or kept.
@@ -101,16 +102,45 @@ fn complaints_of<'a>(
     Ok(all)
 }
 
+// Whether the message was refused for want of memory.
+fn is_for_memory(refused: &Refused) -> bool
+    ensures { result ≡ is_memory refused.now.cause }
+{
+    match refused.cause {
+        Cause::Memory => true,
+        Cause::Stopped { .. } => false,
+    }
+}
+
+// Whether a message was refused for want of memory.
+fn has_lacked(refused: &[Refused]) -> bool
+    ensures { result ≡ list_any (λ x. is_memory x.cause) refused.now }
+{
+    refused.iter().any(|x| is_for_memory(x))
+}
+
+// Whether the feed's report or the end of the file names a want of memory.
+fn names_memory(feed: &FeedReport, end: End) -> bool
+    ensures { NamesMemory feed.now end → result ≡ true }
+{
+    let lacked = has_lacked(&feed.refused);
+    match (feed.end, end) {
+        (FeedEnd::Memory, _) => return true,
+        (_, End::Stopped { stop: Stop::Memory }) => return true,
+        _ => return lacked,
+    }
+}
+
 // Whether memory lacked: the report names it, or there is no report though nothing failed.
-fn lacks_memory(report: &Option<Report>, end: Option<FeedEnd>, failed: Failures) -> bool
-    ensures { AnswersMemory report.now end failed result }
+fn lacks_memory(report: &Option<Report>, failed: Failures) -> bool
+    ensures { AnswersMemory report.now failed result }
 {
     match report {
-        Some(report) => {
-            matches!(end, Some(FeedEnd::Memory))
-                || matches!(report.writer.end, End::Stopped { stop: Stop::Memory })
-        }
-        None => !failed.feed && !failed.out && !failed.printing,
+        Some(report) => match report.feeds.as_slice() {
+            [feed, ..] => return names_memory(feed, report.writer.end),
+            [] => return true,
+        },
+        None => return !failed.feed && !failed.out && !failed.printing,
     }
 }
 
@@ -180,7 +210,7 @@ pub fn answer<E: Sink>(
     ensures { Answers out.now feed.now report.now failed (E.took err.old) (E.took err.new) (E.faults err.old) (E.faults err.new) result }
 {
     let end = end_of(report);
-    let lacks = lacks_memory(report, end, failed);
+    let lacks = lacks_memory(report, failed);
     match complain(alloc, err, out, feed, end, failed) {
         Ok(status) if !lacks => return status,
         _ => {

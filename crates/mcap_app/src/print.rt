@@ -4,8 +4,8 @@ ghost use Rattle.mcap_app.specs.Texts.{feed_end_text, end_text, feed_line, feed_
 ghost use Rattle.mcap_app.specs.Printing.{Prints};
 
 use crate::line::{LINE_ROOM, Line};
-use crate::report::{End, FeedEnd, FeedReport, Report, Stop, WriterReport};
 use mcap_io::{Failed, Sink, write_all_of};
+use recorder::{End, FeedEnd, FeedReport, Report, Stop, WriterReport};
 
 // Puts the end of a feed behind the line.
 fn push_feed_end(line: &mut Line, end: FeedEnd)
@@ -111,8 +111,8 @@ pub fn print_report<K: Sink>(out: &mut K, report: &Report) -> Result<(), Failed>
 #[cfg(test)]
 mod tests {
     use super::*;
-    use crate::report::{Accepted, Cause, Refused};
     use mcap_io::{FailingWrite, MemorySink};
+    use recorder::{Accepted, Cause, Refused};
     use std::alloc::{AllocError, Global};
     use std::test::Fail;
 

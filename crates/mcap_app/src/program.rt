@@ -1,17 +1,16 @@
 //! The program: what each command does to the world and to both outputs.
-ghost use Rattle.std.specs.Prelude.{◌≡◌, ◌≤◌, ◌<◌, ◌^◌, ◌↔◌, ℕ, List, [], Some, None, true};
+ghost use Rattle.std.specs.Prelude.{◌≡◌, ◌≤◌, ◌<◌, ◌^◌, ◌↔◌, ℕ, List, None, true};
 ghost use Rattle.mcap_io.specs.Outside.{Rose};
 ghost use Rattle.mcap_app.specs.Words.{AreBad, IsRecord};
-ghost use Rattle.mcap_app.specs.Run.{counts, scene, Leaves, Reported, PrintsReport, Records, Refuses};
+ghost use Rattle.mcap_app.specs.Run.{counts, scene, NamesRecorded, PrintsReport, Records, Refuses};
 
 use crate::answering::{Outcome, answer, failed_parts, refuse_words};
 use crate::faults::Counts;
 use crate::print::print_report;
-use crate::recorder::{Recording, record};
-use crate::report::Report;
 use crate::words::{Command, parse_words};
 use mcap_io::{OpenRefused, Sink, World};
 use mcap_wire::Text;
+use recorder::{Recording, Report, record};
 use std::alloc::Global;
 
 /// How the program ended: its status, and the report of a recording. The status is 0 where all was done, 1 where
@@ -46,13 +45,12 @@ fn is_failed(why: OpenRefused) -> bool
 fn record_names<W: World>(alloc: Global, out: &str, feed: &str, world: &mut W) -> Outcome
     requires inputs_fit { W.input_faults world.old < 2 ^ 64 }
     requires outputs_fit { W.output_faults world.old < 2 ^ 64 }
-    ensures leaves { Leaves out.now (W.faults world.old) (W.faults world.new) result.report [] (W.names world.old) (W.names world.new) }
+    ensures recorded { NamesRecorded out.now feed.now (W.faults world.old) (W.faults world.new) (W.input_faults world.old) (W.input_faults world.new) (W.output_faults world.old) (W.output_faults world.new) (W.names world.old) (W.names world.new) result.report }
     ensures later { W.faults world.old ≤ W.faults world.new }
     ensures later_inputs { W.input_faults world.old ≤ W.input_faults world.new }
     ensures later_outputs { W.output_faults world.old ≤ W.output_faults world.new }
     ensures feed_failed { result.feed_failed ≡ true → Rose (W.faults world.old) (W.faults world.new) }
     ensures out_failed { result.out_failed ≡ true → Rose (W.faults world.old) (W.faults world.new) }
-    ensures reported { (r : Report) → result.report ≡ Some r → Reported feed.now (W.names world.old) (W.input_faults world.old) (W.input_faults world.new) (W.output_faults world.old) (W.output_faults world.new) r }
 {
     let source = match world.source(feed) {
         Ok(source) => source,

@@ -1,0 +1,142 @@
+-- How the records of a feed follow one another, and where its reading ends.
+use Rattle.std.proofs.Common.{◌≡◌, ◌⊎◌, ℕ, ◌+◌, ◌≤◌, true, false, List, [], ◌∷◌, ◌++◌, length, take, drop, Option, Some, refl, sym, ap, subst, inl, inr, ◌∙◌, append_assoc, arith}
+use Rattle.std.proofs.lemmas.List.{take-append-drop, append-nil, length-append}
+use Rattle.std.proofs.lemmas.Grind.{flat_map-append}
+use Rattle.mcap_wire.specs.Layout.{le, framed, magic}
+use Rattle.mcap_wire.proofs.Numbers.{length-le}
+use Rattle.mcap_io.proofs.Calls.{rose-second}
+use Rattle.recorder.specs.declared.report.FeedEnd.{FeedEnd}
+use Rattle.recorder.specs.declared.report.FeedEnd.TheVariants as feed_ends
+use Rattle.recorder.specs.Feed.{Top, top_bytes, spelled, FitsBehind, HasDataEnd, IsBuilt, declarations, is_unbuilt, opcode, declared, first_top, Reads, ReadsTo, IsBroken, BeginsWith, AllGiven, FeedRead, FeedCause}
+use Rattle.recorder.specs.Next.{TakesTop, GivesPart, NextEnds}
+use Rattle.recorder.specs.Lane.{top_of}
+use Rattle.recorder.proofs.Places.{at_none, each_more}
+
+pub length-framed : (op : ℕ) (content : List ℕ) → length (framed op content) ≡ 9 + length content
+length-framed op content =
+    let size = length-append (le 8 (length content)) content in
+    let eight = length-le 8 (length content) in
+    omega arith
+
+-- one record more: its bytes stand behind those of the others
+pub spelled_more : (tops : List Top) (t : Top) → spelled (tops ++ t ∷ []) ≡ spelled tops ++ top_bytes t
+spelled_more tops t = flat_map-append top_bytes tops (t ∷ []) ∙ ap (λ (l : List ℕ). spelled tops ++ l) (append-nil (top_bytes t))
+
+-- a Data End among one record more
+pub ended_last : (tops : List Top) (t : Top) → t.op ≡ 15 → HasDataEnd (tops ++ t ∷ [])
+ended_last [] t is = inl is
+ended_last (x ∷ xs) t is = inr (ended_last xs t is)
+
+pub ended_more : (tops : List Top) (t : Top) → HasDataEnd (tops ++ t ∷ []) → HasDataEnd tops ⊎ (t.op ≡ 15)
+ended_more [] t (inl here) = inr here
+ended_more [] t (inr none) = absurd none
+ended_more (x ∷ xs) t (inl here) = inl (inl here)
+ended_more (x ∷ xs) t (inr behind) = elim (ended_more xs t behind) [
+  | inl old ↦ inl (inr old)
+  | inr last ↦ inr last
+]
+
+-- the feed behind its magic
+pub begun : (bytes rest : List ℕ) → bytes ≡ magic ++ rest → ReadsTo bytes [] rest 8
+begun bytes rest split = record {
+  reads = record {
+    split = split;
+    good = λ n x at. absurd (at_none n x at);
+    built = λ n x at. absurd (at_none n x at);
+  };
+  unended = λ h. h;
+  offset = refl;
+}
+
+-- one record more was taken
+pub taken_more : (bytes : List ℕ) (tops : List Top) (rest : List ℕ) (at : ℕ) (left : Option (List ℕ)) (op : ℕ) (content : List ℕ) → ReadsTo bytes tops rest at → (t : TakesTop rest (declarations tops) at left op content) → is_unbuilt (declarations tops) at op (length content) ≡ false → FitsBehind tops (top_of op content) → Reads bytes (tops ++ top_of op content ∷ []) t.after
+taken_more bytes tops rest at left op content so_far t recorded fits = record {
+  split = so_far.reads.split ∙ ap (λ (l : List ℕ). magic ++ l) (
+      ap (λ (l : List ℕ). spelled tops ++ l) t.split
+      ∙ sym (append_assoc (spelled tops) (framed op content) t.after)
+      ∙ ap (λ (l : List ℕ). l ++ t.after) (sym (spelled_more tops (top_of op content))));
+  good = each_more FitsBehind tops (top_of op content) so_far.reads.good fits;
+  built = each_more IsBuilt tops (top_of op content) so_far.reads.built (subst (λ (n : ℕ). is_unbuilt (declarations tops) n op (length content) ≡ false) so_far.offset recorded);
+}
+
+-- the place behind it
+pub place_more : (tops : List Top) (at op : ℕ) (content : List ℕ) → at ≡ 8 + length (spelled tops) → at + 9 + length content ≡ 8 + length (spelled (tops ++ top_of op content ∷ []))
+place_more tops at op content place =
+    let more : length (spelled (tops ++ top_of op content ∷ [])) ≡ length (spelled tops ++ framed op content) = ap length (spelled_more tops (top_of op content)) in
+    let parts = length-append (spelled tops) (framed op content) in
+    let frame = length-framed op content in
+    omega arith
+
+-- the reading goes on behind a record that is no Data End
+pub reads_on : (bytes : List ℕ) (tops : List Top) (rest : List ℕ) (at : ℕ) (left : Option (List ℕ)) (op : ℕ) (content : List ℕ) → ReadsTo bytes tops rest at → (t : TakesTop rest (declarations tops) at left op content) → is_unbuilt (declarations tops) at op (length content) ≡ false → FitsBehind tops (top_of op content) → (op ≡ 15 → ⊥) → ReadsTo bytes (tops ++ top_of op content ∷ []) t.after (at + 9 + length content)
+reads_on bytes tops rest at left op content so_far t recorded fits other = record {
+  reads = taken_more bytes tops rest at left op content so_far t recorded fits;
+  unended = λ ended. elim (ended_more tops (top_of op content) ended) [
+    | inl before ↦ so_far.unended before
+    | inr last ↦ other last
+  ];
+  offset = place_more tops at op content so_far.offset;
+}
+
+-- a record that doesn't fit behind the others breaks a rule at its offset
+pub broken_there : (bytes : List ℕ) (tops : List Top) (rest : List ℕ) (at : ℕ) (left : Option (List ℕ)) (op : ℕ) (content : List ℕ) → ReadsTo bytes tops rest at → TakesTop rest (declarations tops) at left op content → (FitsBehind tops (top_of op content) → ⊥) → (after : Option (List ℕ)) → FeedRead bytes tops after (feed_ends.Grammar at)
+broken_there bytes tops rest at left op content so_far t bad after =
+    inr (rest, so_far, inr (t.begins, t.built_there, inr (t.whole, λ (fits : FitsBehind tops (first_top rest)). bad (subst (λ (x : Top). FitsBehind tops x) t.first fits))))
+
+-- a first part of a reading's rest is the rest of a reading of fewer bytes
+part_split : (bytes : List ℕ) (tops : List Top) (rest : List ℕ) (n : ℕ) → bytes ≡ magic ++ (spelled tops ++ rest) → bytes ≡ (magic ++ (spelled tops ++ take n rest)) ++ drop n rest
+part_split bytes tops rest n split =
+    split ∙ ap (λ (l : List ℕ). magic ++ l) (
+    ap (λ (l : List ℕ). spelled tops ++ l) (sym (take-append-drop n rest))
+    ∙ sym (append_assoc (spelled tops) (take n rest) (drop n rest)))
+
+all_given : (bytes : List ℕ) (tops : List Top) (rest : List ℕ) (left : Option (List ℕ)) → Reads bytes tops rest → GivesPart rest left → (given behind : List ℕ) × (bytes ≡ given ++ behind) × (left ≡ Some behind) × AllGiven given tops
+all_given bytes tops rest left so_far (n, left_is, cut) =
+    let some : Reads (magic ++ (spelled tops ++ take n rest)) tops (take n rest) = record {
+      split = refl;
+      good = so_far.good;
+      built = so_far.built;
+    } in
+    (magic ++ (spelled tops ++ take n rest), drop n rest, part_split bytes tops rest n so_far.split, left_is, inr (take n rest, some, cut))
+
+-- no record could be taken
+pub ends_there : (bytes : List ℕ) (tops : List Top) (rest : List ℕ) (at : ℕ) (left : Option (List ℕ)) (end : FeedEnd) → ReadsTo bytes tops rest at → NextEnds rest (declarations tops) at left end → FeedRead bytes tops left end
+ends_there bytes tops rest at left feed_ends.Done so_far why = absurd why
+ends_there bytes tops rest at left (feed_ends.Grammar n) so_far why =
+    let here : ReadsTo bytes tops rest n = subst (λ (m : ℕ). ReadsTo bytes tops rest m) (sym why.0) so_far in
+    let P : ℕ → Type 0 = λ m. IsBroken tops rest m in
+    let broken : IsBroken tops rest at = elim why.1 [
+      | inl headless ↦ inl headless
+      | inr cut ↦ inr (cut.0, cut.1, inl cut.2)
+    ] in
+    inr (rest, here, subst P (sym why.0) broken)
+ends_there bytes tops rest at left (feed_ends.NotBuilt n) so_far why =
+    let here : ReadsTo bytes tops rest n = subst (λ (m : ℕ). ReadsTo bytes tops rest m) (sym why.0) so_far in
+    let later : is_unbuilt (declarations tops) n (opcode rest) (declared rest) ≡ true = subst (λ (m : ℕ). is_unbuilt (declarations tops) m (opcode rest) (declared rest) ≡ true) (sym why.0) why.2 in
+    (rest, here, record { head = why.1; unbuilt = later })
+ends_there bytes tops rest at left (feed_ends.Fault faults) so_far why = all_given bytes tops rest left so_far.reads why
+ends_there bytes tops rest at left feed_ends.Memory so_far why = inr (rest, so_far.reads)
+ends_there bytes tops rest at left feed_ends.Ended so_far why = absurd why
+
+-- the record that was taken is a Data End
+pub done_there : (bytes : List ℕ) (tops : List Top) (rest : List ℕ) (at : ℕ) (left : Option (List ℕ)) (content : List ℕ) → ReadsTo bytes tops rest at → (t : TakesTop rest (declarations tops) at left 15 content) → is_unbuilt (declarations tops) at 15 (length content) ≡ false → FitsBehind tops (top_of 15 content) → FeedRead bytes (tops ++ top_of 15 content ∷ []) left feed_ends.Done
+done_there bytes tops rest at left content so_far t recorded fits =
+    (t.after, taken_more bytes tops rest at left 15 content so_far t recorded fits, ended_last tops (top_of 15 content) refl, t.left_after)
+
+-- calls before one that came to an end leave its cause
+pub cause_after : (before mid now : ℕ) (end : FeedEnd) → before ≤ mid → FeedCause mid now end → FeedCause before now end
+cause_after before mid now feed_ends.Done later cause = omega arith
+cause_after before mid now (feed_ends.Grammar n) later cause = omega arith
+cause_after before mid now (feed_ends.NotBuilt n) later cause = omega arith
+cause_after before mid now (feed_ends.Fault faults) later cause = (omega (arith, cause.0), rose-second before mid now later cause.1, cause.2)
+cause_after before mid now feed_ends.Memory later cause = omega arith
+cause_after before mid now feed_ends.Ended later cause = omega arith
+
+-- what was read so far, for the ends by want of memory and by a stopped writer, of which FeedRead says no more
+pub begun_with : (bytes : List ℕ) (tops : List Top) (rest : List ℕ) (at : ℕ) → ReadsTo bytes tops rest at → BeginsWith bytes tops
+begun_with bytes tops rest at so_far = inr (rest, so_far.reads)
+
+-- the same behind one record more
+pub begun_more : (bytes : List ℕ) (tops : List Top) (rest : List ℕ) (at : ℕ) (left : Option (List ℕ)) (op : ℕ) (content : List ℕ) → ReadsTo bytes tops rest at → (t : TakesTop rest (declarations tops) at left op content) → is_unbuilt (declarations tops) at op (length content) ≡ false → FitsBehind tops (top_of op content) → BeginsWith bytes (tops ++ top_of op content ∷ [])
+begun_more bytes tops rest at left op content so_far t recorded fits =
+    inr (t.after, taken_more bytes tops rest at left op content so_far t recorded fits)

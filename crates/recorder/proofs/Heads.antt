@@ -1,0 +1,148 @@
+-- The head and the content of the record at the front of what a feed has left.
+use Rattle.std.proofs.Common.{◌≡◌, ◌⊎◌, ℕ, suc, ◌+◌, ◌^◌, ◌<◌, ◌≤◌, min, Bool, true, false, not, eqb, leb, List, [], ◌∷◌, ◌++◌, length, get_or, take, drop, Option, Some, Err, refl, sym, ap, subst, inl, inr, ◌∙◌, ◌&&◌, ◌||◌, append_assoc, arith}
+use Rattle.std.specs.Prelude.{nat_le, nat_lt}
+use Rattle.std.proofs.lemmas.List.{take-append-drop, drop_at, drop-drop, drop-take, take-take, length-take, length-append, get_or-take}
+use Rattle.std.proofs.lemmas.Bool.{le-leb, lt-leb, ltb-false, or_parts}
+use Rattle.std.proofs.lemmas.Grind.{common_steps}
+use Rattle.mcap_wire.specs.Layout.{le, number}
+use Rattle.mcap_wire.proofs.Fields.{number_bytes, number_there}
+use Rattle.mcap_wire.proofs.Numbers.{length-le}
+use Rattle.mcap_io.specs.declared.outside.ReadRefused.{ReadRefused}
+use Rattle.mcap_io.specs.declared.outside.ReadRefused.TheVariants as reads
+use Rattle.mcap_io.specs.Outside.{StretchTaken}
+use Rattle.recorder.specs.declared.report.FeedEnd.{FeedEnd}
+use Rattle.recorder.specs.Feed.{has_head, opcode, declared, is_whole, is_later_kind, is_declaration, length_limit, is_unbuilt, FeedRead}
+use Rattle.recorder.specs.Next.{IsHead, TakesHead, TakesTop, NextEnds, Failure}
+use Rattle.recorder.specs.Lane.{top_of}
+
+nonzero_head : (op n : ℕ) → (op ≡ 0 → ⊥) → 9 ≤ n → (leb 9 n && not (eqb op 0)) ≡ true
+nonzero_head op n h le = grind (arith, common_steps)
+
+pub head_taken : (rest bytes : List ℕ) (left : Option (List ℕ)) (op len : ℕ) → bytes ≡ take 9 rest → left ≡ Some (drop 9 rest) → IsHead bytes op len → TakesHead rest left op len
+head_taken [] bytes left op len is left_is head =
+    let size : length bytes ≡ 0 = ap length is in
+    absurd (omega (arith, head.size))
+head_taken (r ∷ rs) bytes left op len is left_is head =
+    let long : length bytes ≡ min 9 (length (r ∷ rs)) = ap length is ∙ length-take 9 (r ∷ rs) in
+    let enough : 9 ≤ length (r ∷ rs) = omega (arith, head.size) in
+    let first : get_or bytes 0 0 ≡ r = ap (λ (l : List ℕ). get_or l 0 0) is in
+    let op_is : op ≡ r = head.op_is ∙ first in
+    let nonzero : r ≡ 0 → ⊥ = λ (e : r ≡ 0). head.no_zero (op_is ∙ e) in
+    let behind : drop 1 bytes ≡ take 8 rs = ap (drop 1) is in
+    let length_bytes : take 8 rs ≡ le 8 len =
+    sym (take-take 8 8 rs (omega arith)) ∙ ap (take 8) (sym behind) ∙ number_bytes 8 bytes 1 len 9 head.len_there in
+    let value : number (take 8 rs) ≡ len =
+    ap number (sym (take-take 8 8 rs (omega arith)) ∙ ap (take 8) (sym behind)) ∙ number_there 8 bytes 1 len 9 head.len_there in
+    record {
+      begins = nonzero_head r (length (r ∷ rs)) nonzero enough;
+      op_is = sym op_is;
+      len_is = value;
+      no_zero = head.no_zero;
+      after = drop 8 rs;
+      split = ap (λ (b : ℕ). b ∷ rs) (sym op_is) ∙ ap (λ (l : List ℕ). op ∷ l) (sym (take-append-drop 8 rs) ∙ ap (λ (l : List ℕ). l ++ drop 8 rs) length_bytes);
+      left_after = left_is;
+    }
+
+-- fewer than nine bytes, or opcode 0: no record begins there
+pub no_head : (rest bytes : List ℕ) → bytes ≡ take 9 rest → (length bytes < 9) ⊎ ((length bytes ≡ 9) × (get_or bytes 0 0 ≡ 0)) → has_head rest ≡ false
+no_head rest bytes is (inl short) =
+    let size : length bytes ≡ min 9 (length rest) = ap length is ∙ length-take 9 rest in
+    let few : length rest < 9 = omega arith in
+    grind (arith, common_steps)
+no_head rest bytes is (inr zero_op) =
+    let first : get_or bytes 0 0 ≡ get_or rest 0 0 = ap (λ (l : List ℕ). get_or l 0 0) is ∙ get_or-take 9 rest 0 0 (omega arith) in
+    let none : get_or rest 0 0 ≡ 0 = sym first ∙ zero_op.1 in
+    grind (arith, common_steps)
+
+-- the content that was read is shorter than what was declared: it isn't all there
+pub cut_off : (rest content : List ℕ) (left : Option (List ℕ)) (op len : ℕ) (head : TakesHead rest left op len) → content ≡ take len head.after → length content < len → is_whole rest ≡ false
+cut_off rest content left op len head is short =
+    let size : length content ≡ min len (length head.after) = ap length is ∙ length-take len head.after in
+    let whole : length rest ≡ suc (length (le 8 len ++ head.after)) = ap length head.split in
+    let parts = length-append (le 8 len) head.after in
+    let len_is = head.len_is in
+    let eight = length-le 8 len in
+    grind (arith, common_steps)
+
+-- ---- a source that failed, or memory that lacked
+
+-- a first part has the length that the whole declares
+declared_front : (k : ℕ) (rest : List ℕ) → 8 ≤ k → declared (take (1 + k) rest) ≡ declared rest
+declared_front k rest enough =
+    ap (λ (l : List ℕ). number (take 8 l)) (drop-take 1 k rest) ∙ ap number (take-take 8 k (drop 1 rest) enough)
+
+-- the head was given, and less than the content
+few_behind : (rest : List ℕ) (n len : ℕ) → declared rest ≡ len → n < len → is_whole (take (9 + n) rest) ≡ false
+few_behind rest n len len_is few =
+    let more : 9 + n ≡ 1 + (8 + n) = omega arith in
+    let declares : declared (take (9 + n) rest) ≡ len = ap (λ (k : ℕ). declared (take k rest)) more ∙ declared_front (8 + n) rest (omega arith) ∙ len_is in
+    let size = length-take (9 + n) rest in
+    lt-leb (9 + declared (take (9 + n) rest)) (length (take (9 + n) rest)) (omega arith)
+
+-- why the magic wasn't read
+pub magic_refused : (bytes : List ℕ) (old new : Option (List ℕ)) (got : List ℕ) (faults : ℕ) (why : ReadRefused) (end : FeedEnd) → old ≡ Some bytes → StretchTaken old new 8 got (Err why) → Failure faults why end → FeedRead bytes [] new end
+magic_refused bytes old new got faults reads.Failed end told taken is =
+    let lost = taken bytes told in
+    let size = length-take lost.0 bytes in
+    let few : length (take lost.0 bytes) < 8 = omega (arith, lost.1) in
+    subst (λ (e : FeedEnd). FeedRead bytes [] new e) (sym is)
+    (take lost.0 bytes, drop lost.0 bytes, sym (take-append-drop lost.0 bytes), lost.2, inl (refl, few))
+magic_refused bytes old new got faults reads.Memory end told taken is =
+    subst (λ (e : FeedEnd). FeedRead bytes [] new e) (sym is) (inl refl)
+
+-- what is behind the head
+behind_head : (rest : List ℕ) (left : Option (List ℕ)) (op len : ℕ) (head : TakesHead rest left op len) → drop 9 rest ≡ head.after
+behind_head rest left op len head = ap (drop 9) head.split ∙ drop_at (le 8 len) head.after 8 (length-le 8 len)
+
+-- why a content wasn't read
+pub content_refused : (rest : List ℕ) (count at : ℕ) (old new : Option (List ℕ)) (op len : ℕ) (got : List ℕ) (faults : ℕ) (why : ReadRefused) (end : FeedEnd) → TakesHead rest old op len → StretchTaken old new len got (Err why) → Failure faults why end → NextEnds rest count at new end
+content_refused rest count at old new op len got faults reads.Failed end head taken is =
+    let lost = taken head.after head.left_after in
+    let left_is : new ≡ Some (drop (9 + lost.0) rest) =
+    lost.2 ∙ ap (λ (l : List ℕ). Some (drop lost.0 l)) (sym (behind_head rest old op len head)) ∙ ap Some (drop-drop lost.0 9 rest) in
+    subst (λ (e : FeedEnd). NextEnds rest count at new e) (sym is) (9 + lost.0, left_is, inr (few_behind rest lost.0 len head.len_is lost.1))
+content_refused rest count at old new op len got faults reads.Memory end head taken is =
+    subst (λ (e : FeedEnd). NextEnds rest count at new e) (sym is) tt
+
+-- ---- a whole record
+
+-- what is recorded is decided by the head at the front
+pub built_there : (rest : List ℕ) (left : Option (List ℕ)) (count at op len : ℕ) (b : Bool) → TakesHead rest left op len → is_unbuilt count at op len ≡ b → is_unbuilt count at (opcode rest) (declared rest) ≡ b
+built_there rest left count at op len b head is =
+    ap (λ (o : ℕ). is_unbuilt count at o (declared rest)) head.op_is ∙ ap (λ (n : ℕ). is_unbuilt count at op n) head.len_is ∙ is
+
+-- a record that is recorded ends near enough to the front
+pub near_front : (count at op len : ℕ) → is_unbuilt count at op len ≡ false → at + 9 + len ≤ 2 ^ 39
+near_front count at op len built =
+    let early = is_declaration op && nat_le 1000 count in
+    let long = nat_lt (length_limit op) len in
+    let far = nat_lt 549755813888 (at + 9 + len) in
+    let known = or_parts (is_later_kind op) (early || (long || far)) built in
+    let first = or_parts early (long || far) known.1 in
+    let near = or_parts long far first.1 in
+    omega (arith, ltb-false 549755813888 (at + 9 + len) near.1)
+
+-- all of the content is there
+whole_there : (rest after content : List ℕ) (op len declares : ℕ) → rest ≡ op ∷ (le 8 len ++ after) → declares ≡ len → content ≡ take len after → length content ≡ len → leb (9 + declares) (length rest) ≡ true
+whole_there rest after content op len declares split len_is is size =
+    let total : length rest ≡ suc (length (le 8 len ++ after)) = ap length split in
+    let parts = length-append (le 8 len) after in
+    let eight = length-le 8 len in
+    let taken : length content ≡ min len (length after) = ap length is ∙ length-take len after in
+    le-leb (9 + declares) (length rest) (omega arith)
+
+-- the whole content was read
+pub top_taken : (rest content : List ℕ) (left left_after : Option (List ℕ)) (count at op len : ℕ) (head : TakesHead rest left op len) → content ≡ take len head.after → left_after ≡ Some (drop len head.after) → len ≤ length content → length content ≤ len → is_unbuilt count at op len ≡ false → TakesTop rest count at left_after op content
+top_taken rest content left left_after count at op len head is left_is long bound built =
+    let size : length content ≡ len = omega arith in
+    let parts : head.after ≡ content ++ drop len head.after = sym (take-append-drop len head.after) ∙ ap (λ (l : List ℕ). l ++ drop len head.after) (sym is) in
+    let inside : take (declared rest) (drop 9 rest) ≡ content = ap (λ (n : ℕ). take n (drop 9 rest)) head.len_is ∙ ap (take len) (behind_head rest left op len head) ∙ sym is in
+    record {
+      after = drop len head.after;
+      split = head.split ∙ ap (λ (l : List ℕ). op ∷ (le 8 len ++ l)) parts ∙ ap (λ (l : List ℕ). op ∷ l) (sym (append_assoc (le 8 len) content (drop len head.after))) ∙ ap (λ (n : ℕ). op ∷ ((le 8 n ++ content) ++ drop len head.after)) (sym size);
+      left_after = left_is;
+      begins = head.begins;
+      whole = whole_there rest head.after content op len (declared rest) head.split head.len_is is size;
+      built_there = built_there rest left count at op len false head built;
+      first = ap (λ (o : ℕ). top_of o (take (declared rest) (drop 9 rest))) head.op_is ∙ ap (λ (l : List ℕ). top_of op l) inside;
+    }

@@ -1,0 +1,20 @@
+use Rattle.std.proofs.Common.{◌∙◌, refl, sym, inr, arith, false}
+use Rattle.recorder.proofs.Heads.{content_refused, cut_off, top_taken, built_there}
+use Rattle.recorder.proofs.feed.next_record.Goals as goal
+
+pub returns-in-Err-read_up_to-clause-taken : goal.returns-in-Err-read_up_to-clause-taken
+returns-in-Err-read_up_to-clause-taken g c = λ rest told.
+    content_refused rest c.args.declared c.args.offset _ _ _ _ c.read_up_to.new.buffer.items _ _ _ (c.in-Ok.ensures.taken rest told) c.in-Err-read_up_to.ensures.taken c.refused.ensures
+
+pub returns-then-len-head-clause-taken : goal.returns-then-len-head-clause-taken
+returns-then-len-head-clause-taken g c = λ rest told.
+    let head = c.in-Ok.ensures.taken rest told in
+    let content = c.in-Ok-read_up_to.ensures.taken head.after head.left_after in
+    let built = built_there rest _ c.args.declared c.args.offset _ _ false head (sym c.is_later.ensures ∙ c.if-is_later.false) in
+    (refl, inr (head.begins, built, cut_off rest c.read_up_to.new.buffer.items _ _ _ head content.given (omega arith)))
+
+pub returns-clause-taken : goal.returns-clause-taken
+returns-clause-taken g c = λ rest told.
+    let head = c.in-Ok.ensures.taken rest told in
+    let content = c.in-Ok-read_up_to.ensures.taken head.after head.left_after in
+    top_taken rest c.read_up_to.new.buffer.items _ _ c.args.declared c.args.offset _ _ head content.given content.after (omega arith) (omega arith) (sym c.is_later.ensures ∙ c.if-is_later.false)

@@ -1,0 +1,62 @@
+-- Each record goes on or ends the lane.
+use Rattle.std.proofs.Common.{◌≡◌, ℕ, ◌+◌, false, ◌∷◌, length, vec_len, None, ap, subst, ◌∙◌, arith}
+use Rattle.recorder.specs.Feed.{is_unbuilt}
+use Rattle.recorder.proofs.Sections.{SoFar, so_far_begins, stands_next, so_far_more, ends_at, stops_there}
+use Rattle.recorder.proofs.section.read_section.Goals as goal
+
+pub records-init : goal.records-init
+records-init g c = record {
+  within = c.requires.start;
+  few = omega (arith, c.requires.unread);
+  later = omega arith;
+  so_far = λ header held before left kind taken goes. so_far_begins _ _ header left _ held _ before _ c.args.start kind goes taken;
+}
+
+pub take_record-requires-clause-stands : goal.take_record-requires-clause-stands
+take_record-requires-clause-stands g c =
+    let b = c.requires.begins in
+    let s = c.records.invariant.so_far b.0 b.1 b.2 None b.3 (λ bytes told. absurd cc) b.4 in
+    (s.first ∷ s.more, s.history, s.goes.lane_stands)
+
+pub take_record-requires-clause-fits : goal.take_record-requires-clause-fits
+take_record-requires-clause-fits g c =
+    let b = c.requires.begins in
+    (c.records.invariant.so_far b.0 b.1 b.2 None b.3 (λ bytes told. absurd cc) b.4).goes.fits
+
+pub returns-in-Err : goal.returns-in-Err
+returns-in-Err g c = λ header held before faults left kind taken later goes.
+    let s = c.records.invariant.so_far header held before left kind taken goes in
+    let at = c.records.offset in
+    let op = c.in-Taken.op in
+    let content = c.next_record.new.buffer.items in
+    let next = stands_next c.records.lane c.records.tape left _ _ held _ before _ at op content s c.in-Taken.ensures.taken in
+    let built = subst (λ (n : ℕ). is_unbuilt n at op (length content) ≡ false) s.goes.lane_stands.declarations c.in-Taken.ensures.fits.0 in
+    ends_at _ _ (s.first ∷ s.more) left _ held _ faults _ before _ at op content c.in-Err.end next built
+    (omega (arith, later, c.records.invariant.later, c.in-Taken.ensures.cause))
+    (c.in-Err.ensures.taken s.first s.more s.history held before s.unended s.goes)
+
+pub records-preserved : goal.records-preserved
+records-preserved g c =
+    let at = c.records.offset in
+    let op = c.in-Taken.op in
+    let content = c.next_record.new.buffer.items in
+    let size : c.len.result ≡ length content = c.len.ensures ∙ ap vec_len c.take_record.ensures.content ∙ c.next_record.new.buffer.ok.0 in
+    let place : at + 9 + length content ≡ at + (9 + c.len.result) = omega arith in
+    record {
+      within = omega (arith, c.in-Taken.ensures.fits.1);
+      few = omega (arith, c.records.invariant.few, c.take_record.ensures.handled);
+      later = omega (arith, c.records.invariant.later, c.in-Taken.ensures.cause);
+      so_far = λ header held before left kind taken goes.
+          let s = c.records.invariant.so_far header held before left kind taken goes in
+          let next = stands_next c.records.lane c.records.tape left _ _ held _ before _ at op content s c.in-Taken.ensures.taken in
+          let built = subst (λ (n : ℕ). is_unbuilt n at op (length content) ≡ false) s.goes.lane_stands.declarations c.in-Taken.ensures.fits.0 in
+          subst (λ (n : ℕ). SoFar c.take_record.new.lane c.take_record.new.tape left (g.S.Source.left c.next_record.new.source) held (g.L.LiveStore.held c.take_record.new.live) before (g.L.LiveStore.faults c.take_record.new.live) n) place
+          (so_far_more _ _ s.first s.more left _ held _ before _ at op content s.unended next built (c.in-Ok.ensures.taken s.first s.more s.history held before s.unended s.goes));
+    }
+
+pub returns-in-End : goal.returns-in-End
+returns-in-End g c = λ header held before faults left kind taken later goes.
+    let s = c.records.invariant.so_far header held before left kind taken goes in
+    stops_there c.records.lane c.records.tape left _ _ held _ faults _ _ before _ c.records.offset c.in-End.end s
+    (omega (arith, c.records.invariant.few, c.records.invariant.within)) c.in-End.ensures.taken
+    (omega (arith, later, c.records.invariant.later)) c.in-End.ensures.cause c.in-End.ensures.unstopped

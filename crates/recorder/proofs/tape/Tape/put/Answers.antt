@@ -1,0 +1,11 @@
+-- A record that was taken stands behind the others; of a refused one a first part does.
+use Rattle.recorder.proofs.Files.{put_behind, not_put}
+use Rattle.recorder.proofs.tape.Tape.put.Goals as goal
+
+pub returns-in-Ok-clause-wrote : goal.returns-in-Ok-clause-wrote
+returns-in-Ok-clause-wrote g c = λ held before history r is wrote.
+    put_behind held _ _ before _ _ history r c.args.piece.now _ _ _ c.requires.goes_on is wrote c.in-Ok.ensures
+
+pub returns-in-Err-clause-wrote : goal.returns-in-Err-clause-wrote
+returns-in-Err-clause-wrote g c = λ held before history r is wrote.
+    not_put held _ _ before _ _ history r c.args.piece.now _ _ _ c.requires.goes_on is wrote c.in-Err.ensures

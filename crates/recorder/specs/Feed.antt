@@ -1,0 +1,246 @@
+-- The records of a feed, and where its reading ends and why.
+use Rattle.std.specs.Prelude.{◌≡◌, ◌⊎◌, ℕ, ◌+◌, ◌<◌, ◌≤◌, List, [], ◌∷◌, ◌++◌, length, take, drop, filter, slice_index, Bool, true, false, not, ◌&&◌, ◌||◌, ◌==◌, nat_lt, nat_le, if◌then◌else◌, Option, Some, IsPermutation}
+use Rattle.std.specs.List.{flat_map, list_any}
+use Rattle.mcap_wire.specs.Layout.{number, framed, magic}
+use Rattle.rec_data.specs.Records.{ShowsHeader, ShowsDataEnd, ShowsSchema, ShowsChannel, ShowsMessage}
+use Rattle.mcap_io.specs.Outside.{Rose}
+use Rattle.recorder.specs.declared.report.FeedEnd.{FeedEnd}
+use Rattle.recorder.specs.declared.report.FeedEnd.TheVariants as feed_ends
+use Rattle.recorder.specs.Places.{At, EachBehind}
+
+-- a top-level record
+pub record Top : Type 0 where
+  pub op : ℕ
+  pub content : List ℕ
+
+abbrev pub top_bytes : Top → List ℕ
+top_bytes t = framed t.op t.content
+
+-- the records' bytes, one after the other
+abbrev pub spelled : List Top → List ℕ
+spelled tops = flat_map top_bytes tops
+
+-- ---- what the records show (MCAP specification: Header, Schema, Channel, Message, Data End)
+
+pub record IsHeader (t : Top) : Type 0 where
+  pub kind : t.op ≡ 1
+  pub profile : List ℕ
+  pub library : List ℕ
+  pub layout : ShowsHeader t.content profile library
+
+pub record IsDataEnd (t : Top) : Type 0 where
+  pub kind : t.op ≡ 15
+  pub crc : ℕ
+  pub layout : ShowsDataEnd t.content crc
+
+-- what a schema is but for its id: its name, its encoding and its data
+pub record SchemaFields : Type 0 where
+  pub name : List ℕ
+  pub encoding : List ℕ
+  pub payload : List ℕ
+
+-- the record shows a Schema of that id, which isn't 0
+pub record IsSchema (t : Top) (id : ℕ) (f : SchemaFields) : Type 0 where
+  pub kind : t.op ≡ 3
+  pub layout : ShowsSchema t.content id f.name f.encoding f.payload
+  pub some : id ≡ 0 → ⊥
+
+-- what a channel is but for its id: the id of its schema, or 0 where it has none, its topic, the encoding of its
+-- messages, and its metadata
+pub record ChannelFields : Type 0 where
+  pub schema : ℕ
+  pub topic : List ℕ
+  pub encoding : List ℕ
+  pub metadata : List (List ℕ × List ℕ)
+
+-- equal fields: the metadata are compared as maps
+pub record SameChannel (f g : ChannelFields) : Type 0 where
+  pub schema : f.schema ≡ g.schema
+  pub topic : f.topic ≡ g.topic
+  pub encoding : f.encoding ≡ g.encoding
+  pub metadata : IsPermutation f.metadata g.metadata
+
+-- the record shows a Channel of that id
+pub record IsChannel (t : Top) (id : ℕ) (f : ChannelFields) : Type 0 where
+  pub kind : t.op ≡ 4
+  pub layout : ShowsChannel t.content id f.schema f.topic f.encoding f.metadata
+
+-- what a message is but for its channel
+pub record MessageFields : Type 0 where
+  pub sequence : ℕ
+  pub log_time : ℕ
+  pub publish_time : ℕ
+  pub payload : List ℕ
+
+-- the record shows a Message on the channel of that id
+pub record IsMessage (t : Top) (channel : ℕ) (m : MessageFields) : Type 0 where
+  pub kind : t.op ≡ 5
+  pub layout : ShowsMessage t.content channel m.sequence m.log_time m.publish_time m.payload
+
+-- ---- which records may follow one another (MCAP specification: File Structure)
+
+-- one of them is a Data End
+abbrev pub HasDataEnd : List Top → Type 0
+HasDataEnd [] = ⊥
+HasDataEnd (t ∷ ts) = (t.op ≡ 15) ⊎ HasDataEnd ts
+
+-- one of them is a Schema of that id
+pub record HasSchema (tops : List Top) (id : ℕ) : Type 0 where
+  pub place : ℕ
+  pub top : Top
+  pub shown : SchemaFields
+  pub at : At tops place top
+  pub is : IsSchema top id shown
+
+-- one of them is a Channel of that id
+pub record HasChannel (tops : List Top) (id : ℕ) : Type 0 where
+  pub place : ℕ
+  pub top : Top
+  pub shown : ChannelFields
+  pub at : At tops place top
+  pub is : IsChannel top id shown
+
+-- a Schema whose fields are those of each Schema of its id before it
+pub record SchemaFits (before : List Top) (t : Top) : Type 0 where
+  pub id : ℕ
+  pub shown : SchemaFields
+  pub is : IsSchema t id shown
+  pub same : (n : ℕ) (u : Top) (other : SchemaFields) → At before n u → IsSchema u id other → other ≡ shown
+
+-- a Channel without a schema, or whose schema stands before it, with the fields of each Channel of its id before it
+pub record ChannelFits (before : List Top) (t : Top) : Type 0 where
+  pub id : ℕ
+  pub shown : ChannelFields
+  pub is : IsChannel t id shown
+  pub schema : (shown.schema ≡ 0) ⊎ HasSchema before shown.schema
+  pub same : (n : ℕ) (u : Top) (other : ChannelFields) → At before n u → IsChannel u id other → SameChannel other shown
+
+-- a Message whose channel stands before it
+pub record MessageFits (before : List Top) (t : Top) : Type 0 where
+  pub channel : ℕ
+  pub message : MessageFields
+  pub is : IsMessage t channel message
+  pub known : HasChannel before channel
+
+-- a Header stands first; behind it stand Schemas, Channels and Messages up to the Data End
+abbrev pub FitsBehind : List Top → Top → Type 0
+FitsBehind [] t = IsHeader t
+FitsBehind (first ∷ more) t = (HasDataEnd (first ∷ more) → ⊥)
+    × (IsDataEnd t ⊎ (SchemaFits (first ∷ more) t ⊎ (ChannelFits (first ∷ more) t ⊎ MessageFits (first ∷ more) t)))
+
+abbrev pub AreGood : List Top → Type 0
+AreGood tops = EachBehind FitsBehind tops
+
+-- ---- what isn't recorded yet
+
+-- chunks, message indexes, attachments, metadata and unknown records
+abbrev pub is_later_kind : ℕ → Bool
+is_later_kind op = list_any (λ kind. kind == op) (6 ∷ 7 ∷ 9 ∷ 12 ∷ []) || nat_le 16 op
+
+-- schemas and channels
+abbrev pub is_declaration : ℕ → Bool
+is_declaration op = (op == 3) || (op == 4)
+
+-- how many of the records are schemas or channels
+abbrev pub declarations : List Top → ℕ
+declarations tops = length (filter (λ t. is_declaration t.op) tops)
+
+-- the longest content that is read yet, of a Message and of another record
+abbrev pub length_limit : ℕ → ℕ
+length_limit op = if op == 5 then 33554454 else 500000
+
+-- by its kind, by its length, behind a thousand others of schemas and channels, or since it would end too far from
+-- the feed's front
+abbrev pub is_unbuilt : ℕ → ℕ → ℕ → ℕ → Bool
+is_unbuilt declared_before at op len = is_later_kind op || ((is_declaration op && nat_le 1000 declared_before)
+    || (nat_lt (length_limit op) len || nat_lt 549755813888 (at + 9 + len)))
+
+-- behind those before it, the first of which stands behind the magic, the record is recorded
+abbrev pub IsBuilt : List Top → Top → Type 0
+IsBuilt before t = is_unbuilt (declarations before) (8 + length (spelled before)) t.op (length t.content) ≡ false
+
+-- ---- what stands at the front of some bytes
+
+abbrev pub opcode : List ℕ → ℕ
+opcode rest = slice_index rest 0
+
+-- the length that the record there declares
+abbrev pub declared : List ℕ → ℕ
+declared rest = number (take 8 (drop 1 rest))
+
+-- a record begins there: nine bytes at least, and no opcode 0
+abbrev pub has_head : List ℕ → Bool
+has_head rest = nat_le 9 (length rest) && not (opcode rest == 0)
+
+-- its content is all there
+abbrev pub is_whole : List ℕ → Bool
+is_whole rest = nat_le (9 + declared rest) (length rest)
+
+abbrev pub first_top : List ℕ → Top
+first_top rest = record { op = opcode rest; content = take (declared rest) (drop 9 rest) }
+
+-- ---- the reading of a feed
+
+-- the feed is the magic, these good records, and the rest
+pub record Reads (bytes : List ℕ) (tops : List Top) (rest : List ℕ) : Type 0 where
+  pub split : bytes ≡ magic ++ (spelled tops ++ rest)
+  pub good : AreGood tops
+  pub built : EachBehind IsBuilt tops
+
+-- the same, with no Data End so far, and the offset of the rest
+pub record ReadsTo (bytes : List ℕ) (tops : List Top) (rest : List ℕ) (at : ℕ) : Type 0 where
+  pub reads : Reads bytes tops rest
+  pub unended : HasDataEnd tops → ⊥
+  pub offset : at ≡ 8 + length (spelled tops)
+
+-- a record that isn't recorded yet begins at the rest
+pub record IsLater (tops : List Top) (rest : List ℕ) (at : ℕ) : Type 0 where
+  pub head : has_head rest ≡ true
+  pub unbuilt : is_unbuilt (declarations tops) at (opcode rest) (declared rest) ≡ true
+
+-- no record begins at the rest; or one begins that is recorded, but is cut off or may not stand behind the others
+abbrev pub IsBroken : List Top → List ℕ → ℕ → Type 0
+IsBroken tops rest at = (has_head rest ≡ false)
+    ⊎ ((has_head rest ≡ true) × (is_unbuilt (declarations tops) at (opcode rest) (declared rest) ≡ false)
+    × ((is_whole rest ≡ false) ⊎ ((is_whole rest ≡ true) × (FitsBehind tops (first_top rest) → ⊥))))
+
+-- the feed doesn't begin with the magic
+abbrev pub LacksMagic : List ℕ → Type 0
+LacksMagic bytes = (rest : List ℕ) → bytes ≡ magic ++ rest → ⊥
+
+-- the feed begins with these records, or none of it was read
+abbrev pub BeginsWith : List ℕ → List Top → Type 0
+BeginsWith bytes tops = (tops ≡ []) ⊎ ((rest : List ℕ) × Reads bytes tops rest)
+
+-- these are all records that are whole in the bytes which a source gave
+abbrev pub AllGiven : List ℕ → List Top → Type 0
+AllGiven given tops = ((tops ≡ []) × (length given < 8))
+    ⊎ ((part : List ℕ) × Reads given tops part × ((has_head part ≡ false) ⊎ (is_whole part ≡ false)))
+
+-- The records that a reading took, what its source has left, and the end that it came to, where the source tells
+-- its bytes. Behind a Data End the rest is left.
+abbrev pub FeedRead : List ℕ → List Top → Option (List ℕ) → FeedEnd → Type 0
+FeedRead bytes tops left feed_ends.Done = (rest : List ℕ) × Reads bytes tops rest × HasDataEnd tops × (left ≡ Some rest)
+FeedRead bytes tops left (feed_ends.Grammar n) = ((n ≡ 0) × (tops ≡ []) × LacksMagic bytes)
+    ⊎ ((rest : List ℕ) × ReadsTo bytes tops rest n × IsBroken tops rest n)
+FeedRead bytes tops left (feed_ends.NotBuilt n) = (rest : List ℕ) × ReadsTo bytes tops rest n × IsLater tops rest n
+FeedRead bytes tops left (feed_ends.Fault faults) = (given rest : List ℕ) × (bytes ≡ given ++ rest) × (left ≡ Some rest) × AllGiven given tops
+FeedRead bytes tops left feed_ends.Memory = BeginsWith bytes tops
+FeedRead bytes tops left feed_ends.Ended = BeginsWith bytes tops
+
+-- The count of the source doesn't fall. The end by a fault comes only where it rose, and carries it.
+abbrev pub FeedCause : ℕ → ℕ → FeedEnd → Type 0
+FeedCause before now (feed_ends.Fault faults) = (before ≤ now) × Rose before now × (faults ≡ now)
+FeedCause before now end = before ≤ now
+
+-- ---- the end of a feed
+
+-- these are the records of a feed of these bytes, and its reading comes to this end
+abbrev pub Stops : List ℕ → List Top → FeedEnd → Type 0
+Stops bytes tops feed_ends.Done = (rest : List ℕ) × Reads bytes tops rest × HasDataEnd tops
+Stops bytes tops (feed_ends.Grammar n) = ((n ≡ 0) × (tops ≡ []) × LacksMagic bytes)
+    ⊎ ((rest : List ℕ) × ReadsTo bytes tops rest n × IsBroken tops rest n)
+Stops bytes tops (feed_ends.NotBuilt n) = (rest : List ℕ) × ReadsTo bytes tops rest n × IsLater tops rest n
+Stops bytes tops (feed_ends.Fault faults) = ⊥
+Stops bytes tops feed_ends.Memory = ⊥
+Stops bytes tops feed_ends.Ended = ⊥

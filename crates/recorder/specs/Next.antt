@@ -1,0 +1,124 @@
+-- What reading the next record of a feed comes to.
+use Rattle.std.specs.Prelude.{◌≡◌, ◌⊎◌, ℕ, ◌+◌, ◌^◌, ◌<◌, ◌≤◌, slice_index, List, [], ◌∷◌, ◌++◌, length, take, drop, true, false, Option, Some, None, Result, Ok, Err}
+use Rattle.mcap_wire.specs.Layout.{le, framed, magic}
+use Rattle.mcap_wire.specs.Reading.{NumberAt}
+use Rattle.mcap_io.specs.declared.outside.ReadRefused.{ReadRefused}
+use Rattle.mcap_io.specs.declared.outside.ReadRefused.TheVariants as reads
+use Rattle.recorder.specs.declared.report.FeedEnd.{FeedEnd}
+use Rattle.recorder.specs.declared.report.FeedEnd.TheVariants as feed_ends
+use Rattle.recorder.specs.declared.feed.Next.{Next}
+use Rattle.recorder.specs.declared.feed.Next.TheVariants as next
+use Rattle.recorder.specs.declared.feed.Head.{Head}
+use Rattle.recorder.specs.Feed.{Top, ReadsTo, FeedRead, FeedCause, has_head, opcode, declared, is_unbuilt, is_whole, first_top, spelled}
+
+-- nine bytes are the head of a record: its opcode, and the length of its content
+pub record IsHead (bytes : List ℕ) (op len : ℕ) : Type 0 where
+  pub size : length bytes ≡ 9
+  pub op_is : op ≡ slice_index bytes 0
+  pub no_zero : op ≡ 0 → ⊥
+  pub len_there : NumberAt 8 bytes 1 len 9
+
+-- the bytes are a head, or too few, or of opcode 0
+abbrev pub HeadRead : List ℕ → Option Head → Type 0
+HeadRead bytes None = (length bytes < 9) ⊎ ((length bytes ≡ 9) × (slice_index bytes 0 ≡ 0))
+HeadRead bytes (Some head) = IsHead bytes head.op head.len
+
+-- a head stands at the front, and the bytes behind it are left
+pub record TakesHead (rest : List ℕ) (left : Option (List ℕ)) (op len : ℕ) : Type 0 where
+  pub begins : has_head rest ≡ true
+  pub op_is : opcode rest ≡ op
+  pub len_is : declared rest ≡ len
+  pub no_zero : op ≡ 0 → ⊥
+  pub after : List ℕ
+  pub split : rest ≡ op ∷ (le 8 len ++ after)
+  pub left_after : left ≡ Some after
+
+-- a first part of what was left, in which no record is whole, was taken
+abbrev pub GivesPart : List ℕ → Option (List ℕ) → Type 0
+GivesPart rest left = (n : ℕ) × (left ≡ Some (drop n rest)) × ((has_head (take n rest) ≡ false) ⊎ (is_whole (take n rest) ≡ false))
+
+-- Why no record could be taken, behind so many declarations and at that offset.
+abbrev pub NextEnds : List ℕ → ℕ → ℕ → Option (List ℕ) → FeedEnd → Type 0
+NextEnds rest count at left feed_ends.Done = ⊥
+NextEnds rest count at left (feed_ends.Grammar n) = (n ≡ at) × ((has_head rest ≡ false)
+    ⊎ ((has_head rest ≡ true) × (is_unbuilt count at (opcode rest) (declared rest) ≡ false) × (is_whole rest ≡ false)))
+NextEnds rest count at left (feed_ends.NotBuilt n) = (n ≡ at) × (has_head rest ≡ true) × (is_unbuilt count at (opcode rest) (declared rest) ≡ true)
+NextEnds rest count at left (feed_ends.Fault faults) = GivesPart rest left
+NextEnds rest count at left feed_ends.Memory = Unit {0}
+NextEnds rest count at left feed_ends.Ended = ⊥
+
+-- why no head could be taken
+abbrev pub HeadEnds : List ℕ → ℕ → Option (List ℕ) → FeedEnd → Type 0
+HeadEnds rest at left (feed_ends.Grammar n) = (n ≡ at) × (has_head rest ≡ false)
+HeadEnds rest at left (feed_ends.Fault faults) = GivesPart rest left
+HeadEnds rest at left feed_ends.Memory = Unit {0}
+HeadEnds rest at left end = ⊥
+
+abbrev pub HeadTaken : List ℕ → ℕ → Option (List ℕ) → Result Head FeedEnd → Type 0
+HeadTaken rest at left (Ok head) = TakesHead rest left head.op head.len
+HeadTaken rest at left (Err end) = HeadEnds rest at left end
+
+abbrev pub HeadCause : {T : Type 0} → ℕ → ℕ → Result T FeedEnd → Type 0
+HeadCause before now (Ok it) = before ≤ now
+HeadCause before now (Err end) = FeedCause before now end
+
+-- a record was taken from the front, its content, and the bytes behind it are left
+pub record TakesTop (rest : List ℕ) (count at : ℕ) (left : Option (List ℕ)) (op : ℕ) (content : List ℕ) : Type 0 where
+  pub after : List ℕ
+  pub split : rest ≡ framed op content ++ after
+  pub left_after : left ≡ Some after
+  pub begins : has_head rest ≡ true
+  pub whole : is_whole rest ≡ true
+  pub built_there : is_unbuilt count at (opcode rest) (declared rest) ≡ false
+  pub first : first_top rest ≡ record { op = op; content = content }
+
+abbrev pub NextTaken : List ℕ → ℕ → ℕ → Option (List ℕ) → List ℕ → Next → Type 0
+NextTaken rest count at left content (next.Taken op) = TakesTop rest count at left op content
+NextTaken rest count at left content (next.End end) = NextEnds rest count at left end
+
+abbrev pub NextCause : ℕ → ℕ → Next → Type 0
+NextCause before now (next.Taken op) = before ≤ now
+NextCause before now (next.End end) = FeedCause before now end
+
+-- a record that was taken is recorded, and so ends near enough to the feed's front
+abbrev pub NextFits : ℕ → ℕ → List ℕ → Next → Type 0
+NextFits count offset content (next.Taken op) = (is_unbuilt count offset op (length content) ≡ false) × (offset + 9 + length content ≤ 2 ^ 39)
+NextFits count offset content (next.End end) = Unit {0}
+
+-- no writer ends a reading
+abbrev pub NextUnstopped : Next → Type 0
+NextUnstopped (next.Taken op) = Unit {0}
+NextUnstopped (next.End end) = end ≡ feed_ends.Ended → ⊥
+
+abbrev pub Unstopped : {T : Type 0} → Result T FeedEnd → Type 0
+Unstopped (Ok it) = Unit {0}
+Unstopped (Err end) = end ≡ feed_ends.Ended → ⊥
+
+-- the end for a reading that was refused
+abbrev pub Failure : ℕ → ReadRefused → FeedEnd → Type 0
+Failure faults reads.Failed end = end ≡ feed_ends.Fault faults
+Failure faults reads.Memory end = end ≡ feed_ends.Memory
+
+-- the magic was taken, or this is why not
+abbrev pub MagicTaken : List ℕ → Option (List ℕ) → Result Unit FeedEnd → Type 0
+MagicTaken bytes left (Ok it) = (rest : List ℕ) × (left ≡ Some rest) × (bytes ≡ magic ++ rest)
+MagicTaken bytes left (Err end) = FeedRead bytes [] left end
+
+-- the Header was taken: these are its offset behind it and what is left
+pub record TakesHeader (bytes : List ℕ) (header : Top) (left : Option (List ℕ)) (offset : ℕ) : Type 0 where
+  pub rest : List ℕ
+  pub left_after : left ≡ Some rest
+  pub reads : ReadsTo bytes (header ∷ []) rest offset
+
+-- a Header of any source; of one that tells, it is the first record
+pub record HeaderStands (before now : ℕ) (left after : Option (List ℕ)) (offset : ℕ) : Type 0 where
+  pub later : before ≤ now
+  pub header : Top
+  pub kind : header.op ≡ 1
+  pub place : offset ≡ 8 + length (spelled (header ∷ []))
+  pub taken : (bytes : List ℕ) → left ≡ Some bytes → TakesHeader bytes header after offset
+
+-- the Header was taken, or this is why not
+abbrev pub HeaderTaken : ℕ → ℕ → Option (List ℕ) → Option (List ℕ) → Result ℕ FeedEnd → Type 0
+HeaderTaken before now left after (Ok offset) = HeaderStands before now left after offset
+HeaderTaken before now left after (Err end) = FeedCause before now end × ((bytes : List ℕ) → left ≡ Some bytes → FeedRead bytes [] after end)

@@ -1,0 +1,182 @@
+//! Writing a plain file: the magic and a Header, then its records, then what closes it. Each piece is one append.
+ghost use Rattle.std.specs.Prelude.{◌≡◌, ◌+◌, ◌<◌, ◌≤◌, ◌^◌, ◌++◌, ◌∷◌, ℕ, List, Option, [], None, Some, length, IfOk};
+ghost use Rattle.rec_data.specs.declared.owned.Rec.{Rec};
+ghost use Rattle.rec_data.specs.Owned.{rec_bytes};
+ghost use Rattle.recorder.specs.File.{front, back, PieceAdded, WrittenSoFar, WriterCause};
+ghost use Rattle.recorder.specs.Tape.{Wrote};
+ghost use Rattle.recorder.specs.Recorded.{WriterRecorded};
+ghost use Rattle.recorder.specs.declared.report.Stop.{Stop};
+ghost use Rattle.recorder.specs.declared.report.End.TheVariants.{Stopped};
+
+use crate::report::{End, Stop, WriterReport};
+use mcap_io::{AppendRefused, LiveStore};
+use mcap_wire::{MAGIC, Memory, put_bytes};
+use rec_data::{DataEnd, Footer, Header};
+use std::alloc::Global;
+
+/// What the Header says of the program that wrote the file.
+const LIBRARY: &str = "mcaprec 1";
+
+/// A file that is being written: how many bytes the store took in whole pieces, and why no more are appended, if so.
+#[derive(Clone, Copy, Debug, PartialEq, Eq)]
+pub(crate) struct Tape {
+    pub bytes: u64,
+    pub stop: Option<Stop>,
+}
+
+// The magic and the Header.
+#[tactic(auto, unfolding(crate::specs::File::front))]
+fn front_piece(alloc: Global) -> Result<Vec<u8>, Memory>
+    ensures { IfOk result (λ piece. piece.items ≡ front []) }
+{
+    let header = Header {
+        profile: "",
+        library: LIBRARY,
+    };
+    let mut piece = Vec::new(alloc);
+    put_bytes(&mut piece, &MAGIC)?;
+    header.frame(&mut piece)?;
+    Ok(piece)
+}
+
+// Data End, the Footer of a file without a summary, and the magic.
+#[tactic(auto, unfolding(crate::specs::File::back))]
+fn back_piece(alloc: Global) -> Result<Vec<u8>, Memory>
+    ensures { IfOk result (λ piece. piece.items ≡ back) }
+{
+    let data_end = DataEnd {
+        data_section_crc: 0,
+    };
+    let footer = Footer {
+        summary_start: 0,
+        summary_offset_start: 0,
+        summary_crc: 0,
+    };
+    let mut piece = Vec::new(alloc);
+    data_end.frame(&mut piece)?;
+    footer.frame(&mut piece)?;
+    put_bytes(&mut piece, &MAGIC)?;
+    Ok(piece)
+}
+
+// Appends a piece, and says how long it is.
+fn append_piece<L: LiveStore>(live: &mut L, piece: &[u8]) -> Result<u64, Stop>
+    ensures { PieceAdded (L.held live.old) (L.held live.new) (L.faults live.old) (L.faults live.new) piece.now result }
+{
+    match live.append(piece) {
+        Ok(_) => return Ok(piece.len() as u64),
+        Err(AppendRefused::Failed { .. }) => {
+            return Err(Stop::Fault {
+                faults: live.faults(),
+            });
+        }
+        Err(AppendRefused::Memory) => return Err(Stop::Memory),
+    }
+}
+
+// Appends what the file begins with, and says how long that is.
+fn write_front<L: LiveStore>(alloc: Global, live: &mut L) -> Result<u64, Stop>
+    ensures { PieceAdded (L.held live.old) (L.held live.new) (L.faults live.old) (L.faults live.new) (front []) result }
+{
+    match front_piece(alloc) {
+        Ok(piece) => return append_piece(live, &piece),
+        Err(_) => return Err(Stop::Memory),
+    }
+}
+
+// Appends what closes the file, and says how long that is.
+fn write_back<L: LiveStore>(alloc: Global, live: &mut L) -> Result<u64, Stop>
+    ensures { PieceAdded (L.held live.old) (L.held live.new) (L.faults live.old) (L.faults live.new) back result }
+{
+    match back_piece(alloc) {
+        Ok(piece) => return append_piece(live, &piece),
+        Err(_) => return Err(Stop::Memory),
+    }
+}
+
+impl Tape {
+    /// A tape whose front was appended to the store, or refused.
+    pub(crate) fn open<L: LiveStore>(alloc: Global, live: &mut L) -> Tape
+        ensures wrote { Wrote (L.held live.old) (L.held live.new) (L.faults live.old) (L.faults live.new) [] result.stop result.bytes }
+        ensures size { result.bytes ≤ 34 }
+    {
+        match write_front(alloc, live) {
+            Ok(bytes) => return Tape { bytes, stop: None },
+            Err(stop) => {
+                return Tape {
+                    bytes: 0,
+                    stop: Some(stop),
+                };
+            }
+        }
+    }
+
+    /// Appends a record behind those of the history.
+    pub(crate) fn put<L: LiveStore>(&mut self, live: &mut L, piece: &[u8])
+        requires goes_on { self.old.stop ≡ None }
+        requires fits { self.old.bytes + length piece.now < 2 ^ 64 }
+        ensures wrote { (held : Option (List ℕ)) (before : ℕ) (history : List Rec) (r : Rec) → piece.now ≡ rec_bytes r
+            → Wrote held (L.held live.old) before (L.faults live.old) history self.old.stop self.old.bytes
+            → Wrote held (L.held live.new) before (L.faults live.new) (history ++ r ∷ []) self.new.stop self.new.bytes }
+        ensures size { self.new.bytes ≤ self.old.bytes + length piece.now }
+    {
+        match append_piece(live, piece) {
+            Ok(more) => self.bytes += more,
+            Err(stop) => self.stop = Some(stop),
+        }
+    }
+
+    /// Appends two records behind those of the history. Where the tape stops at the first one, the second isn't appended.
+    pub(crate) fn put_both<L: LiveStore>(&mut self, live: &mut L, first: &[u8], second: &[u8])
+        requires goes_on { self.old.stop ≡ None }
+        requires fits { self.old.bytes + length first.now + length second.now < 2 ^ 64 }
+        ensures wrote { (held : Option (List ℕ)) (before : ℕ) (history : List Rec) (r q : Rec) → first.now ≡ rec_bytes r → second.now ≡ rec_bytes q
+            → Wrote held (L.held live.old) before (L.faults live.old) history self.old.stop self.old.bytes
+            → Wrote held (L.held live.new) before (L.faults live.new) (history ++ r ∷ q ∷ []) self.new.stop self.new.bytes }
+        ensures size { self.new.bytes ≤ self.old.bytes + length first.now + length second.now }
+    {
+        self.put(live, first);
+        match self.stop {
+            Some(_) => return,
+            None => {
+                self.put(live, second);
+                return;
+            }
+        }
+    }
+
+    /// Closes the file, unless the tape had stopped, and reports how the writing ended. So many records were put.
+    pub(crate) fn close<L: LiveStore>(
+        self,
+        alloc: Global,
+        live: &mut L,
+        records: u64,
+    ) -> WriterReport
+        requires { self.bytes < 2 ^ 63 }
+        ensures stopped { (stop : Stop) → self.stop ≡ Some stop → result.end ≡ Stopped stop }
+        ensures recorded { (held : Option (List ℕ)) (before : ℕ) (history : List Rec) → records ≡ length history
+            → Wrote held (L.held live.old) before (L.faults live.old) history self.stop self.bytes
+            → WriterRecorded held (L.held live.new) before (L.faults live.new) history result }
+    {
+        let mut writer = WriterReport {
+            records,
+            blocks: 0,
+            bytes: self.bytes,
+            end: End::Closed,
+        };
+        if let Some(stop) = self.stop {
+            writer.end = End::Stopped { stop };
+            return writer;
+        }
+        match write_back(alloc, live) {
+            Ok(more) => {
+                writer.bytes += more;
+                return writer;
+            }
+            Err(stop) => {
+                writer.end = End::Stopped { stop };
+                return writer;
+            }
+        }
+    }
+}
