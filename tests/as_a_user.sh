@@ -5,6 +5,7 @@ set -u
 
 root=$(CDPATH='' cd -P -- "$(dirname -- "$0")/.." && pwd)
 sample=$root/samples/empty.mcap
+session=$root/samples/session.mcap
 room=$(mktemp -d) || exit 1
 disk=$room/disk
 wrong=0
@@ -26,6 +27,9 @@ compare() {
     [ "$2" = "$3" ] || say_wrong "$1 is to be: $2"
 }
 
+# What standard output goes through before it is compared.
+filter='cat'
+
 # Runs a command and compares what it leaves: the status, standard output, standard error, and the command.
 expect() {
     status=$1 out=$2 err=$3
@@ -36,7 +40,7 @@ expect() {
     cat -- "$room/stdout" "$room/stderr"
     printf 'status %s\n\n' "$got"
     compare 'the status' "$status" "$got"
-    compare 'standard output' "$out" "$(cat -- "$room/stdout")"
+    compare 'standard output' "$out" "$($filter <"$room/stdout")"
     compare 'standard error' "$err" "$(cat -- "$room/stderr")"
 }
 
@@ -49,15 +53,42 @@ digits_of() {
     od -An -v -tx1 -- "$1" | tr -d ' \n'
 }
 
-# The file of a recording without records: magic, Header, Data End, Footer, magic.
-empty_file=894d434150300d0a\
-01110000000000000000000000090000006d6361707265632031\
-0f040000000000000000000000\
+# What each file begins with, magic and Header, and ends with: Data End, Footer, magic.
+front=894d434150300d0a\
+01110000000000000000000000090000006d6361707265632031
+back=0f040000000000000000000000\
 0214000000000000000000000000000000000000000000000000000000\
 894d434150300d0a
 
+# What is recorded of the session: the channel /imu with its schema and its three messages, and /log with its two.
+schema=032c000000000000000100\
+03000000496d75\
+0a0000006a736f6e736368656d61\
+110000007b2274797065223a226f626a656374227d
+imu=0418000000000000000100010004000000\
+2f696d75040000006a736f6e00000000
+imu_1=051f00000000000000010001000000e803000000000000de03000000000000\
+7b227a223a392e387d
+imu_2=051f00000000000000010002000000f203000000000000e803000000000000\
+7b227a223a392e377d
+imu_3=051600000000000000010003000000fc03000000000000f203000000000000
+log=0432000000000000000200000004000000\
+2f6c6f67000000001e000000\
+050000006672616d650400000062617365\
+04000000756e69740100000073
+log_1=051b00000000000000020001000000ed03000000000000ed03000000000000\
+7374617274
+log_2=051a0000000000000002000200000006040000000000000604000000000000\
+73746f70
+imu_first=$schema$imu$imu_1
+
+# That the file holds these records, given as digits, between its front and its back.
+expect_records() {
+    compare "$1" "$front$2$back" "$(digits_of "$1")"
+}
+
 expect_empty_file() {
-    compare "$1" "$empty_file" "$(digits_of "$1")"
+    expect_records "$1" ''
 }
 
 expect_absent() {
@@ -68,6 +99,8 @@ feed_line='feed 1 accepted=0 refused=0 passed=0'
 file_line='file records=0 blocks=0 bytes=84 closed'
 both_lines="$feed_line end
 $file_line"
+session_lines='feed 1 accepted=5 refused=0 passed=0 end
+file records=8 blocks=0 bytes=411 closed'
 usage='mcaprec: bad words
 usage: mcaprec
   record --plain OUT FEED'
@@ -92,6 +125,9 @@ cp -- "$sample" 'a feed.mcap'
 expect 0 "$both_lines" '' "$room/a folder/a link" record --plain 'an output.mcap' 'a feed.mcap'
 expect_empty_file 'an output.mcap'
 
+expect 0 "$session_lines" '' mcaprec record --plain session-out.mcap "$session"
+expect_records session-out.mcap "$imu_first$log$log_1$imu_2$imu_3$log_2"
+
 expect 3 '' 'mcaprec: "missing.mcap": fault' mcaprec record --plain none.mcap missing.mcap
 expect_absent none.mcap
 expect 3 '' 'mcaprec: "no folder/out.mcap": fault' mcaprec record --plain 'no folder/out.mcap' "$sample"
@@ -103,34 +139,96 @@ $file_line" 'mcaprec: "cut.mcap": grammar at 25' mcaprec record --plain cut-out.
 expect_empty_file cut-out.mcap
 
 { head -c 25 -- "$sample" && printf '\005\0\0\0\0\0\0\0\0'; } >message.mcap
-expect 1 "$feed_line not-built 25
-$file_line" 'mcaprec: "message.mcap": not built at 25' mcaprec record --plain message-out.mcap message.mcap
+expect 1 "$feed_line grammar 25
+$file_line" 'mcaprec: "message.mcap": grammar at 25' mcaprec record --plain message-out.mcap message.mcap
+
+# The fourth message stands from 292 to 323.
+head -c 303 -- "$session" >cut-session.mcap
+expect 1 'feed 1 accepted=3 refused=0 passed=0 grammar 292
+file records=6 blocks=0 bytes=345 closed' 'mcaprec: "cut-session.mcap": grammar at 292' \
+    mcaprec record --plain cut-session-out.mcap cut-session.mcap
+expect_records cut-session-out.mcap "$imu_first$log$log_1$imu_2"
+
+# Behind the first message, which ends at 216: a Chunk, and the Schema of id 3 with other fields.
+{ head -c 216 -- "$session" && printf '\006\0\0\0\0\0\0\0\0'; } >chunk.mcap
+expect 1 'feed 1 accepted=1 refused=0 passed=0 not-built 216
+file records=3 blocks=0 bytes=210 closed' 'mcaprec: "chunk.mcap": not built at 216' \
+    mcaprec record --plain chunk-out.mcap chunk.mcap
+expect_records chunk-out.mcap "$imu_first"
+
+{ head -c 216 -- "$session" && printf '\003\016\0\0\0\0\0\0\0\003\0' && head -c 12 /dev/zero; } >schema.mcap
+expect 1 'feed 1 accepted=1 refused=0 passed=0 grammar 216
+file records=3 blocks=0 bytes=210 closed' 'mcaprec: "schema.mcap": grammar at 216' \
+    mcaprec record --plain schema-out.mcap schema.mcap
+expect_records schema-out.mcap "$imu_first"
+
+# The first message, which stands from 176 to 216, 8,192 times: more than the program gathers before it writes.
+dd if="$session" of=messages bs=1 skip=176 count=40 2>/dev/null
+for _ in 1 2 3 4 5 6 7 8 9 10 11 12 13; do
+    cat messages messages >doubled
+    mv doubled messages
+done
+{ head -c 176 -- "$session" && cat messages && tail -c 13 -- "$session"; } >many.mcap
+expect 0 'feed 1 accepted=8192 refused=0 passed=0 end
+file records=8194 blocks=0 bytes=327850 closed' '' mcaprec record --plain many-out.mcap many.mcap
+compare 'the length of many-out.mcap' 327850 "$(($(wc -c <many-out.mcap)))"
 
 # ---- a pipe that is filled slowly
 
 mkfifo pipe
-for size in 5 3 8 9 8 5; do
+for size in 40 3 50 100 25 100 53; do
     dd bs=1 count=$size 2>/dev/null
     sleep 0.2
-done <"$sample" >pipe &
-expect 0 "$both_lines" '' mcaprec record --plain from-pipe.mcap pipe
-expect_empty_file from-pipe.mcap
+done <"$session" >pipe &
+expect 0 "$session_lines" '' mcaprec record --plain from-pipe.mcap pipe
+expect_records from-pipe.mcap "$imu_first$log$log_1$imu_2$imu_3$log_2"
 
-# ---- an output that takes nothing
+# ---- an output that takes nothing, or a part
 
-expect 3 "$both_lines" 'mcaprec: "/dev/full": fault' mcaprec record --plain /dev/full "$sample"
+# That the file is a first part of the other one, and no more than so many bytes of it.
+expect_first_part() {
+    held=$(($(wc -c <"$1")))
+    [ "$held" -le "$3" ] || say_wrong "$1 has $held bytes"
+    head -c "$held" -- "$2" | cmp -s -- - "$1" || say_wrong "$1 is no first part of $2"
+}
+
+# What is gathered is tried at the close; what is more than that stops the recording before.
+expect 3 "$session_lines" 'mcaprec: "/dev/full": fault' mcaprec record --plain /dev/full "$session"
+stopped='feed N accepted=N refused=N passed=N ended
+file records=N blocks=N bytes=N stopped fault'
+filter='sed s/[0-9][0-9]*/N/g'
+expect 3 "$stopped" 'mcaprec: "/dev/full": fault' mcaprec record --plain /dev/full many.mcap
+filter='cat'
+
+# A file system of 1 MB: full, with room for a part of the file, and one that may only be read.
 if mount -t tmpfs -o size=1m none "$disk" 2>/dev/null; then
+    cp -- "$session" "$disk/feed.mcap"
     dd if=/dev/zero of="$disk/filling" bs=4096 count=512 2>/dev/null
     expect 3 "$both_lines" "mcaprec: \"$disk/out.mcap\": fault" mcaprec record --plain "$disk/out.mcap" "$sample"
+    expect_first_part "$disk/out.mcap" out.mcap 0
+    dd if=/dev/zero of="$disk/filling" bs=4096 count=224 2>/dev/null
+    filter='sed s/[0-9][0-9]*/N/g'
+    expect 3 "$stopped" "mcaprec: \"$disk/out.mcap\": fault" mcaprec record --plain "$disk/out.mcap" many.mcap
+    filter='cat'
+    expect_first_part "$disk/out.mcap" many-out.mcap 131072
+    [ -s "$disk/out.mcap" ] || say_wrong "$disk/out.mcap is empty"
+    if mount -o remount,ro "$disk" 2>/dev/null; then
+        expect 0 "$session_lines" '' mcaprec record --plain from-disk.mcap "$disk/feed.mcap"
+        expect_records from-disk.mcap "$imu_first$log$log_1$imu_2$imu_3$log_2"
+        expect 3 '' "mcaprec: \"$disk/new.mcap\": fault" mcaprec record --plain "$disk/new.mcap" "$sample"
+        expect_absent "$disk/new.mcap"
+    else
+        skip 'a file system that may only be read, since mounting it again is not allowed'
+    fi
 else
-    skip 'a full file system, since mounting is not allowed'
+    skip 'a full file system and one that may only be read, since mounting is not allowed'
 fi
 
 # shellcheck disable=SC2016  # the inner shell is to expand them
 expect 3 '' 'mcaprec: output: fault' sh -c 'mcaprec record --plain "$1" "$2" >/dev/full' sh printed.mcap "$sample"
 expect_empty_file printed.mcap
 
-# ---- files that may not be read: root may read all, so another user runs it
+# ---- files and folders that may not be read or written: root may do all, so another user runs it
 
 as_another() {
     if [ "$(id -u)" -eq 0 ]; then
@@ -152,8 +250,17 @@ if as_another "$root/mcaprec" >/dev/null 2>&1 </dev/null; [ $? -eq 2 ]; then
     chmod 600 locked.mcap
     compare locked.mcap before "$(cat locked.mcap)"
     expect_absent unmade.mcap
+
+    mkdir read-only
+    cp -- "$session" read-only/feed.mcap
+    chmod 555 read-only
+    expect 0 "$session_lines" '' as_another mcaprec record --plain from-folder.mcap read-only/feed.mcap
+    expect_records from-folder.mcap "$imu_first$log$log_1$imu_2$imu_3$log_2"
+    expect 3 '' 'mcaprec: "read-only/new.mcap": fault' as_another mcaprec record --plain read-only/new.mcap feed.mcap
+    expect_absent read-only/new.mcap
+    chmod 755 read-only
 else
-    skip 'files that may not be read, since no other user can run the program here'
+    skip 'files and folders that may not be read or written, since no other user can run the program here'
 fi
 
 if [ "$wrong" -ne 0 ]; then

@@ -1,0 +1,93 @@
+#!/usr/bin/env bash
+# Times `mcaprec record --plain OUT FEED` beside `cp FEED OUT` on feeds of so many MiB (64), best of five each, in one
+# run: messages of 1,000 and of 64 bytes of data, on one channel and on forty.
+# MCAPREC names another program to time in place of the launcher.
+set -e
+export LC_ALL=C
+here="$(cd "$(dirname "$0")" && pwd)"
+mib="${1:-64}"
+program="${MCAPREC:-$here/../mcaprec}"
+if ! command -v perl >/dev/null; then
+    echo "bench/record.sh: skipped, perl is not there (Debian: perl-base)"
+    exit 0
+fi
+if ! [[ "$mib" =~ ^[1-9][0-9]{0,4}$ ]]; then
+    echo "usage: bench/record.sh [MIB]" >&2
+    exit 2
+fi
+work="$(mktemp -d)"
+trap 'rm -rf "$work"' EXIT
+feed="$work/feed.mcap"
+out="$work/out.mcap"
+
+# Writes a feed of whole messages of so many bytes of data, taking turns on so many channels, and says how many.
+make_feed() {
+    perl - "$feed" "$mib" "$1" "$2" <<'END'
+use strict;
+my ($name, $mib, $size, $channels) = @ARGV;
+my $magic = "\x89MCAP0\r\n";
+sub framed { my ($op, $content) = @_; return pack('C Q<', $op, length $content) . $content; }
+sub text { my ($text) = @_; return pack('V', length $text) . $text; }
+open(my $file, '>:raw', $name) or die "$name: $!";
+print $file $magic, framed(1, text('') . text('bench'));
+for my $id (1 .. $channels) {
+    print $file framed(4, pack('v v', $id, 0) . text("/topic/$id") . text('') . pack('V', 0));
+}
+my $data = join '', map { chr($_ * 7 % 256) } 1 .. $size;
+my $count = int($mib * 1024 * 1024 / (31 + $size));
+for my $i (0 .. $count - 1) {
+    my $time = 1_700_000_000_000_000_000 + 1000 * $i;
+    print $file framed(5, pack('v V Q< Q<', 1 + $i % $channels, $i, $time, $time) . $data);
+}
+print $file framed(15, pack('V', 0));
+close $file or die "$name: $!";
+print "$count\n";
+END
+}
+
+# Runs a command five times, each with no output there, and sets `best` to the microseconds of the fastest.
+time_best() {
+    local start took
+    best=
+    for _ in 1 2 3 4 5; do
+        rm -f "$out"
+        start=${EPOCHREALTIME/./}
+        "$@" >"$work/printed"
+        took=$((${EPOCHREALTIME/./} - start))
+        if [ -z "$best" ] || [ "$took" -lt "$best" ]; then best=$took; fi
+    done
+}
+
+# The most memory that the command took, as the kernel says.
+peak_of() {
+    if [ -x /usr/bin/time ]; then
+        rm -f "$out"
+        /usr/bin/time -v -o "$work/usage" "$@" >/dev/null
+        sed -n 's/.*Maximum resident set size (kbytes): //p' "$work/usage"
+    else
+        echo '?'
+    fi
+}
+
+# The first run of the launcher may build the program.
+"$program" record --plain "$out" "$here/../samples/empty.mcap" >/dev/null
+[ -x /usr/bin/time ] || echo "peak memory: skipped, /usr/bin/time is not there (Debian: time)"
+printf '%8s %8s %9s %10s %10s %6s %12s %9s\n' data channels messages record cp ratio messages/s 'peak KiB'
+for size in 1000 64; do
+    for channels in 1 40; do
+        count="$(make_feed "$size" "$channels")"
+        time_best cp "$feed" "$out"
+        copied=$best
+        time_best "$program" record --plain "$out" "$feed"
+        if ! grep -qx "feed 1 accepted=$count refused=0 passed=0 end" "$work/printed"; then
+            cat "$work/printed"
+            echo "bench/record.sh: not all of $count messages were recorded" >&2
+            exit 1
+        fi
+        peak="$(peak_of "$program" record --plain "$out" "$feed")"
+        awk -v s="$size" -v c="$channels" -v n="$count" -v r="$best" -v k="$copied" -v p="$peak" 'BEGIN {
+            printf "%8d %8d %9d %8.3f s %8.3f s %6.2f %12.0f %9s\n", s, c, n, r / 1e6, k / 1e6, r / k, n * 1e6 / r, p }'
+    done
+done
+time_best "$program" record --plain "$out" "$here/../samples/empty.mcap"
+awk -v b="$best" 'BEGIN { printf "of each record time, on a feed without messages: %.3f s\n", b / 1e6 }'
