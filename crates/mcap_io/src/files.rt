@@ -220,6 +220,8 @@ impl<R: Files<File = File> + AllocGlobal> World for FileWorld<R> {
 
     ghost output_faults = { λ w. w.output_faults };
 
+    ghost unread = { λ _. nothing };
+
     fn source(&mut self, name: &str) -> Result<FileSource<File>, OpenRefused> {
         let Ok(file) = File::open(&self.runtime, name) else {
             self.faults = self.faults.saturating_add(1);

@@ -21,6 +21,13 @@ impl QuietSource {
     {
         QuietSource { bytes, next: 0 }
     }
+
+    /// The bytes that are left.
+    pub fn rest(&self) -> &[u8]
+        ensures { left_of self.now.bytes.items self.now.next ≡ Some result.now }
+    {
+        &self.bytes[self.next..]
+    }
 }
 
 impl Source for QuietSource {
@@ -95,6 +102,13 @@ impl MemorySource {
             reads: Calls::new(failing),
             faults: 0,
         }
+    }
+
+    /// A source of the bytes that are left, which never fails.
+    pub(crate) fn into_quiet(self) -> QuietSource
+        ensures { ⟦<QuietSource as Source>⟧.left result ≡ ⟦<MemorySource as Source>⟧.left self }
+    {
+        self.bytes
     }
 }
 

@@ -2,9 +2,9 @@
 ghost use Rattle.std.specs.Prelude.{◌≡◌, Some, OnOk, OnErr};
 ghost use Rattle.std.specs.Option.{option_copied};
 ghost use Rattle.mcap_io.specs.Outside.{OthersSame};
-ghost use Rattle.mcap_io.specs.Standing.{standing};
+ghost use Rattle.mcap_io.specs.Standing.{standing, left_unread};
 
-use crate::memory::{Calls, FailingWrite, MemoryLive, MemorySource};
+use crate::memory::{Calls, FailingWrite, MemoryLive, MemorySource, QuietSource};
 use crate::outside::{Failed, LiveStore, OpenRefused, Source, World};
 use std::alloc::{AllocError, Global};
 use std::collections::BTreeMap;
@@ -35,6 +35,8 @@ pub struct MemoryWorld {
     faults: u64,
     input_faults: u64,
     output_faults: u64,
+    // what the source that was kept last gave its bytes from
+    unread: Option<QuietSource>,
 }
 
 impl MemoryWorld {
@@ -44,6 +46,7 @@ impl MemoryWorld {
         ensures faults { ⟦<MemoryWorld as World>⟧.faults result ≡ 0 }
         ensures input_faults { ⟦<MemoryWorld as World>⟧.input_faults result ≡ 0 }
         ensures output_faults { ⟦<MemoryWorld as World>⟧.output_faults result ≡ 0 }
+        ensures unread { ⟦<MemoryWorld as World>⟧.unread result ≡ None }
         ensures openings { (result.openings.failing ≡ plan.openings) × (result.openings.made ≡ 0) }
         ensures keepings { (result.keepings.failing ≡ plan.keepings) × (result.keepings.made ≡ 0) }
         ensures reads { result.reads ≡ plan.reads }
@@ -65,6 +68,7 @@ impl MemoryWorld {
             faults: 0,
             input_faults: 0,
             output_faults: 0,
+            unread: None,
         }
     }
 
@@ -85,6 +89,16 @@ impl MemoryWorld {
     {
         match self.entries.get(name) {
             Some(bytes) => Some(bytes.as_slice()),
+            None => None,
+        }
+    }
+
+    /// What the source that was kept last has left.
+    pub fn unread(&self) -> Option<&[u8]>
+        ensures { option_copied result ≡ ⟦<MemoryWorld as World>⟧.unread self.now }
+    {
+        match &self.unread {
+            Some(source) => Some(source.rest()),
             None => None,
         }
     }
@@ -133,6 +147,8 @@ impl World for MemoryWorld {
 
     ghost output_faults = { λ w. w.output_faults };
 
+    ghost unread = { λ w. left_unread w.unread };
+
     fn source(&mut self, name: &str) -> Result<MemorySource, OpenRefused> {
         let fails = self.openings.next_fails();
         let Some(bytes) = self.entries.get(name) else {
@@ -165,6 +181,7 @@ impl World for MemoryWorld {
 
     fn keep_source(&mut self, _name: &str, it: MemorySource) -> Result<(), Failed> {
         self.input_faults = self.input_faults.saturating_add(it.faults());
+        self.unread = Some(it.into_quiet());
         if self.keepings.next_fails() {
             self.faults = self.faults.saturating_add(1);
             return Err(Failed);

@@ -130,6 +130,9 @@ pub trait World {
     /// The faults of the live stores that were kept.
     ghost output_faults: { Self → ℕ };
 
+    /// What the source that was kept last has left, where it tells.
+    ghost unread: { Self → Option (List ℕ) };
+
     /// Opens what stands under the name. A name that isn't there is a fault.
     fn source(&mut self, name: &str) -> Result<Self::Source, OpenRefused>
         ensures names { names self.new ≡ names self.old }
@@ -137,6 +140,7 @@ pub trait World {
         ensures unused { IfOk result (λ it. Self.Source.faults it ≡ 0) }
         ensures input_faults { input_faults self.new ≡ input_faults self.old }
         ensures output_faults { output_faults self.new ≡ output_faults self.old }
+        ensures unread { unread self.new ≡ unread self.old }
         ensures cause { OpenCause (faults self.old) (faults self.new) result };
 
     /// Makes an empty live store that is to stand under the name.
@@ -146,13 +150,15 @@ pub trait World {
         ensures unused { IfOk result (λ it. Self.Live.faults it ≡ 0) }
         ensures input_faults { input_faults self.new ≡ input_faults self.old }
         ensures output_faults { output_faults self.new ≡ output_faults self.old }
+        ensures unread { unread self.new ≡ unread self.old }
         ensures cause { OpenCause (faults self.old) (faults self.new) result };
 
-    /// Takes a source back.
+    /// Takes a source back, after a failure too.
     fn keep_source(&mut self, name: &str, it: Self::Source) -> Result<(), Failed>
         ensures names { names self.new ≡ names self.old }
         ensures input_faults { input_faults self.new ≡ added (input_faults self.old) (Self.Source.faults it) }
         ensures output_faults { output_faults self.new ≡ output_faults self.old }
+        ensures unread { unread self.new ≡ Self.Source.left it }
         ensures cause { HasCause (faults self.old) (faults self.new) result };
 
     /// Takes a live store back, and puts what it holds under the name.
@@ -160,6 +166,7 @@ pub trait World {
         ensures keeps { KeepsUnder (names self.old) (names self.new) name.now (Self.Live.held it) result }
         ensures input_faults { input_faults self.new ≡ input_faults self.old }
         ensures output_faults { output_faults self.new ≡ added (output_faults self.old) (Self.Live.faults it) }
+        ensures unread { unread self.new ≡ unread self.old }
         ensures cause { HasCause (faults self.old) (faults self.new) result };
 
     fn faults(&self) -> u64

@@ -116,6 +116,28 @@ fn a_world_fails_where_it_is_told_to(rt: HostRuntime) -> Result<(), Fail> {
     Ok(())
 }
 
+// Of "abc" one byte is read, and then none; the second keeping fails.
+#[test]
+fn a_world_tells_what_its_last_source_has_left(rt: HostRuntime) -> Result<(), Fail> {
+    let mut plan = plan(rt.alloc());
+    plan.keepings.push(1)?;
+    let mut world = MemoryWorld::new(rt.alloc(), plan);
+    world.put("in", b"abc")?;
+    assert!(rt; world.unread() == None);
+    let cases: [(u64, Result<(), Failed>, &[u8]); 2] = [
+        (1, Ok(()), b"bc"),
+        (0, Err(Failed), b"abc"),
+    ];
+    for (len, kept, left) in cases {
+        let mut source = world.source("in").ok().ok_or("it is there")?;
+        let mut buffer = Vec::new(rt.alloc());
+        assert!(rt; read_up_to(&mut source, &mut buffer, len) == Ok(()));
+        assert!(rt; world.keep_source("in", source) == kept, "behind {len}");
+        assert!(rt; world.unread() == Some(left), "behind {len}");
+    }
+    Ok(())
+}
+
 #[test]
 fn a_file_gives_back_what_was_kept(rt: HostRuntime) -> Result<(), Fail> {
     let mut world = FileWorld::new(&rt);
