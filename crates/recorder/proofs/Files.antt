@@ -1,12 +1,13 @@
 -- The pieces of a plain file, and what is written of it.
-use Rattle.std.proofs.Common.{◌≡◌, ℕ, zero, suc, ◌+◌, ◌≤◌, List, [], ◌∷◌, ◌++◌, length, take, drop, Option, Some, None, Ok, Err, refl, sym, ap, subst, inl, inr, ◌∙◌, append_assoc, arith}
-use Rattle.std.proofs.lemmas.List.{take-append-drop, take-append-le, append-nil, length-append}
+use Rattle.std.proofs.Common.{◌≡◌, ℕ, zero, suc, ◌+◌, ◌<◌, ◌≤◌, List, [], ◌∷◌, ◌++◌, length, take, drop, Option, Some, None, Ok, Err, refl, sym, ap, subst, inl, inr, ◌∙◌, append_assoc, arith}
+use Rattle.std.proofs.lemmas.List.{take-append-drop, append-nil, length-append}
 use Rattle.std.proofs.lemmas.Grind.{flat_map-append}
 use Rattle.std.proofs.Math.Seq.{take-append_seam}
 use Rattle.mcap_wire.specs.Layout.{le, string, framed, magic}
 use Rattle.mcap_wire.proofs.Numbers.{length-le}
 use Rattle.mcap_wire.proofs.Framing.{length-string, length-framed}
 use Rattle.rec_data.specs.declared.owned.Rec.{Rec}
+use Rattle.rec_data.specs.declared.owned.Rec.TheVariants.{Schema, Channel, Message}
 use Rattle.rec_data.specs.Records.{header_text, data_end_text, footer_text}
 use Rattle.rec_data.specs.Owned.{rec_bytes}
 use Rattle.mcap_io.specs.Outside.{Rose, Adds}
@@ -16,10 +17,10 @@ use Rattle.recorder.specs.declared.report.End.{End}
 use Rattle.recorder.specs.declared.report.End.TheVariants as ends
 use Rattle.recorder.specs.declared.report.WriterReport.{WriterReport}
 use Rattle.recorder.specs.Places.{At}
-use Rattle.recorder.specs.History.{history_bytes}
-use Rattle.recorder.specs.File.{library, front, back, file_of, IsPrefix, PieceAdded, IsPartOf, IsCutShort, AreFirstPieces, WrittenSoFar, WriterCause}
+use Rattle.recorder.specs.History.{accepted_with, history_bytes}
+use Rattle.recorder.specs.File.{library, front, back, file_of, IsPrefix, PieceAdded, IsPartOf, WrittenSoFar, WriterCause}
 use Rattle.recorder.specs.Tape.{Wrote}
-use Rattle.recorder.proofs.Places.{at_last, at_kept, at_within}
+use Rattle.recorder.proofs.Places.{at_last}
 use Rattle.recorder.specs.Recorded.{WriterRecorded}
 
 pub length-front : length (front []) ≡ 34
@@ -70,8 +71,8 @@ history_split (x ∷ xs) (suc k) r at =
 -- so a first part of the file is one of its bytes
 pub part_is_prefix : (text : List ℕ) (history : List Rec) (bytes : ℕ) → IsPartOf text history bytes → IsPrefix text (file_of [] history)
 part_is_prefix text history bytes part = elim part.pieces [
-  | inl (inl (none, first)) ↦ prefix_by text part.done part.next (history_bytes history ++ back) (file_of [] history) part.some part.split cc
-  | inl (inr (k, r, at, before, next)) ↦
+  | inl (inl (empty, none, first)) ↦ prefix_by text part.done part.next (history_bytes history ++ back) (file_of [] history) part.some part.split cc
+  | inl (inr (k, r, at, last, before, next)) ↦
       let behind = history_bytes (drop (suc k) history) ++ back in
       let whole : file_of [] history ≡ (front [] ++ history_bytes (take k history)) ++ (rec_bytes r ++ behind) =
       ap (λ (l : List ℕ). front [] ++ (l ++ back)) (history_split history k r at)
@@ -119,10 +120,15 @@ stop_leaves held middle new before now done piece stops.Memory so_far added star
 pub not_opened : (held new : Option (List ℕ)) (before now : ℕ) (stop : Stop) → PieceAdded held new before now (front []) (Err stop) → Wrote held new before now [] (Some stop) 0
 not_opened held new before now stop added = (
   stop_cause held new before before now (front []) stop (omega arith) added,
-  λ start told.
-      let nothing : Adds held held [] = λ bytes there. there ∙ ap (λ (l : List ℕ). some l) (sym (append-nil bytes)) in
-      let left = stop_leaves held held new before now [] (front []) stop nothing added start told in
-      (take left.0 (front []), left.1, record { done = []; next = front []; pieces = inl (refl, refl); some = left.0; split = refl; size = refl }),
+  record {
+    done = [];
+    next = front [];
+    pieces = inl (refl, refl, refl);
+    size = refl;
+    took =
+        let nothing : Adds held held [] = λ bytes there. there ∙ ap (λ (l : List ℕ). some l) (sym (append-nil bytes)) in
+        stop_leaves held held new before now [] (front []) stop nothing added;
+  },
 )
 
 -- the bytes of one record more
@@ -148,68 +154,35 @@ put_behind held middle new before between now history r piece stop bytes more no
     subst (λ (s : Option Stop). Wrote held new before now (history ++ r ∷ []) s (bytes + more)) (sym none)
     (put_more held middle new before between now history r piece bytes more is so_far added)
 
--- a record was refused
-put_part : (held middle new : Option (List ℕ)) (before between now : ℕ) (history : List Rec) (r : Rec) (piece : List ℕ) (bytes : ℕ) (stop : Stop) → piece ≡ rec_bytes r → Wrote held middle before between history None bytes → PieceAdded middle new between now piece (Err stop) → Wrote held new before now (history ++ r ∷ []) (Some stop) bytes
-put_part held middle new before between now history r piece bytes stop is wrote added = (
-  stop_cause middle new before between now piece stop wrote.0 added,
-  λ start told.
-      let done = front [] ++ history_bytes history in
-      let left = stop_leaves held middle new between now done piece stop wrote.1 added start told in
-      let front_is : take (length history) (history ++ r ∷ []) ≡ history = take-append_seam history (r ∷ []) in (
-        done ++ take left.0 piece,
-        left.1,
-        record {
-          done = done;
-          next = piece;
-          pieces = inr (length history, r, at_last history r [], ap (λ (l : List Rec). front [] ++ history_bytes l) (sym front_is), is);
-          some = left.0;
-          split = refl;
-          size = wrote.2;
-        },
-      ),
-)
+-- a record was refused, and so were those that come with it
+put_part : (held middle new : Option (List ℕ)) (before between now : ℕ) (history behind : List Rec) (r : Rec) (piece : List ℕ) (bytes : ℕ) (stop : Stop) → piece ≡ rec_bytes r → length behind < accepted_with r → Wrote held middle before between history None bytes → PieceAdded middle new between now piece (Err stop) → Wrote held new before now (history ++ r ∷ behind) (Some stop) bytes
+put_part held middle new before between now history behind r piece bytes stop is with_it wrote added =
+    let done = front [] ++ history_bytes history in
+    let front_is : take (length history) (history ++ r ∷ behind) ≡ history = take-append_seam history (r ∷ behind) in
+    let last : length (history ++ r ∷ behind) ≤ length history + accepted_with r = omega (arith, length-append history (r ∷ behind), with_it) in (
+      stop_cause middle new before between now piece stop wrote.0 added,
+      record {
+        done = done;
+        next = piece;
+        pieces = inr (length history, r, at_last history r behind, last, ap (λ (l : List Rec). front [] ++ history_bytes l) (sym front_is), is);
+        size = wrote.2;
+        took = stop_leaves held middle new between now done piece stop wrote.1 added;
+      },
+    )
 
-pub not_put : (held middle new : Option (List ℕ)) (before between now : ℕ) (history : List Rec) (r : Rec) (piece : List ℕ) (was : Option Stop) (bytes : ℕ) (stop : Stop) → was ≡ None → piece ≡ rec_bytes r → Wrote held middle before between history was bytes → PieceAdded middle new between now piece (Err stop) → Wrote held new before now (history ++ r ∷ []) (Some stop) bytes
-not_put held middle new before between now history r piece was bytes stop none is wrote added =
-    put_part held middle new before between now history r piece bytes stop is (subst (λ (s : Option Stop). Wrote held middle before between history s bytes) none wrote) added
+pub not_put : (held middle new : Option (List ℕ)) (before between now : ℕ) (history behind : List Rec) (r : Rec) (piece : List ℕ) (was : Option Stop) (bytes : ℕ) (stop : Stop) → was ≡ None → piece ≡ rec_bytes r → length behind < accepted_with r → Wrote held middle before between history was bytes → PieceAdded middle new between now piece (Err stop) → Wrote held new before now (history ++ r ∷ behind) (Some stop) bytes
+not_put held middle new before between now history behind r piece was bytes stop none is with_it wrote added =
+    put_part held middle new before between now history behind r piece bytes stop is with_it (subst (λ (s : Option Stop). Wrote held middle before between history s bytes) none wrote) added
 
--- ---- a tape that stopped
+-- a record comes with itself at least
+pub comes_with : (r : Rec) → 0 < accepted_with r
+comes_with (Schema id schema) = omega arith
+comes_with (Channel id schema topic encoding metadata) = omega arith
+comes_with (Message channel sequence log_time publish_time payload) = omega arith
 
--- its pieces are pieces of a longer history too
-first_pieces_longer : (history more : List Rec) (done next : List ℕ) → AreFirstPieces history done next → AreFirstPieces (history ++ more) done next
-first_pieces_longer history more done next (inl first) = inl first
-first_pieces_longer history more done next (inr (k, r, at, before, is)) =
-    let lt = at_within history k r at in
-    let front_is : take k (history ++ more) ≡ take k history = take-append-le k history more (omega arith) in
-    inr (k, r, at_kept history more k r at, before ∙ ap (λ (l : List Rec). front [] ++ history_bytes l) (sym front_is), is)
+-- ---- two records
 
-cut_short_longer : (text : List ℕ) (history more : List Rec) (bytes : ℕ) → IsCutShort text history bytes → IsCutShort text (history ++ more) bytes
-cut_short_longer text history more bytes part = record {
-  done = part.done;
-  next = part.next;
-  pieces = first_pieces_longer history more part.done part.next part.pieces;
-  some = part.some;
-  split = part.split;
-  size = part.size;
-}
-
-wrote_longer : (held new : Option (List ℕ)) (before now : ℕ) (history more : List Rec) (stop : Stop) (bytes : ℕ) → Wrote held new before now history (Some stop) bytes → Wrote held new before now (history ++ more) (Some stop) bytes
-wrote_longer held new before now history more stop bytes wrote = (
-  wrote.0,
-  λ start told.
-      let w = wrote.1 start told in
-      (w.0, w.1, cut_short_longer w.0 history more bytes w.2),
-)
-
--- two records, where the tape stopped at the first
-pub stopped_before : (held new : Option (List ℕ)) (before now : ℕ) (history : List Rec) (r q : Rec) (was : Option Stop) (stop : Stop) (bytes : ℕ) → was ≡ Some stop → Wrote held new before now (history ++ r ∷ []) was bytes → Wrote held new before now (history ++ r ∷ q ∷ []) was bytes
-stopped_before held new before now history r q was stop bytes is wrote =
-    let first : Wrote held new before now (history ++ r ∷ []) (Some stop) bytes = subst (λ (s : Option Stop). Wrote held new before now (history ++ r ∷ []) s bytes) is wrote in
-    subst (λ (s : Option Stop). Wrote held new before now (history ++ r ∷ q ∷ []) s bytes) (sym is)
-    (subst (λ (l : List Rec). Wrote held new before now l (Some stop) bytes) (append_assoc history (r ∷ []) (q ∷ []))
-    (wrote_longer held new before now (history ++ r ∷ []) (q ∷ []) stop bytes first))
-
--- and where it went on
+-- the tape went on at both
 pub both_put : (held new : Option (List ℕ)) (before now : ℕ) (history : List Rec) (r q : Rec) (stop : Option Stop) (bytes : ℕ) → Wrote held new before now ((history ++ r ∷ []) ++ q ∷ []) stop bytes → Wrote held new before now (history ++ r ∷ q ∷ []) stop bytes
 both_put held new before now history r q stop bytes wrote =
     subst (λ (l : List Rec). Wrote held new before now l stop bytes) (append_assoc history (r ∷ []) (q ∷ [])) wrote
@@ -223,6 +196,7 @@ closed_part : (held middle new : Option (List ℕ)) (before between now : ℕ) (
 closed_part held middle new before between now history records bytes stop count wrote added = record {
   records = count;
   blocks = refl;
+  bytes = (front [] ++ history_bytes history, back, inr (refl, refl), wrote.2);
   written = λ start told.
       let done = front [] ++ history_bytes history in
       let left = stop_leaves held middle new between now done back stop wrote.1 added start told in

@@ -1,5 +1,5 @@
 -- The file of a plain recording.
-use Rattle.std.specs.Prelude.{◌≡◌, ◌⊎◌, ℕ, ◌≤◌, List, [], ◌++◌, length, take, codes, Option, Result, Ok, Err}
+use Rattle.std.specs.Prelude.{◌≡◌, ◌⊎◌, ℕ, ◌+◌, ◌≤◌, List, [], ◌++◌, length, take, codes, Option, Result, Ok, Err}
 use Rattle.mcap_wire.specs.Layout.{framed, magic}
 use Rattle.rec_data.specs.Records.{header_text, data_end_text, footer_text}
 use Rattle.rec_data.specs.declared.owned.Rec.{Rec}
@@ -10,7 +10,7 @@ use Rattle.recorder.specs.declared.report.End.TheVariants as ends
 use Rattle.recorder.specs.declared.report.Stop.{Stop}
 use Rattle.recorder.specs.declared.report.Stop.TheVariants as stops
 use Rattle.recorder.specs.Places.{At}
-use Rattle.recorder.specs.History.{history_bytes}
+use Rattle.recorder.specs.History.{accepted_with, history_bytes}
 
 abbrev pub library : List ℕ
 library = codes "mcaprec 1"
@@ -39,29 +39,26 @@ PieceAdded old new before now piece (Err (stops.Fault faults)) = (before ≤ now
 PieceAdded old new before now piece (Err stops.Memory) = (before ≤ now) × (new ≡ old)
 
 -- The file is appended piece by piece: the front, each record, and the back. These bytes are whole pieces of it, and
--- this is the piece behind them, which isn't the back.
+-- this is the piece behind them at which the writer stopped, which isn't the back. Behind it nothing was accepted, but
+-- for the Channel that comes with a Schema.
 abbrev pub AreFirstPieces : List Rec → List ℕ → List ℕ → Type 0
-AreFirstPieces history done next = ((done ≡ []) × (next ≡ front []))
-    ⊎ ((k : ℕ) × (r : Rec) × At history k r × (done ≡ front [] ++ history_bytes (take k history)) × (next ≡ rec_bytes r))
+AreFirstPieces history done next = ((history ≡ []) × (done ≡ []) × (next ≡ front []))
+    ⊎ ((k : ℕ) × (r : Rec) × At history k r × (length history ≤ k + accepted_with r) × (done ≡ front [] ++ history_bytes (take k history)) × (next ≡ rec_bytes r))
 
 -- the same, or it is the back
 abbrev pub ArePieces : List Rec → List ℕ → List ℕ → Type 0
 ArePieces history done next = AreFirstPieces history done next ⊎ ((done ≡ front [] ++ history_bytes history) × (next ≡ back))
+
+-- so many bytes of the file of this history were taken in whole pieces when the writer ended so
+abbrev pub TookBytes : List Rec → End → ℕ → Type 0
+TookBytes history ends.Closed bytes = bytes ≡ length (file_of [] history)
+TookBytes history (ends.Stopped stop) bytes = (done next : List ℕ) × ArePieces history done next × (bytes ≡ length done)
 
 -- a first part of the file: whole pieces of so many bytes, and perhaps some of the next one
 pub record IsPartOf (text : List ℕ) (history : List Rec) (bytes : ℕ) : Type 0 where
   pub done : List ℕ
   pub next : List ℕ
   pub pieces : ArePieces history done next
-  pub some : ℕ
-  pub split : text ≡ done ++ take some next
-  pub size : bytes ≡ length done
-
--- the same, where the back wasn't begun
-pub record IsCutShort (text : List ℕ) (history : List Rec) (bytes : ℕ) : Type 0 where
-  pub done : List ℕ
-  pub next : List ℕ
-  pub pieces : AreFirstPieces history done next
   pub some : ℕ
   pub split : text ≡ done ++ take some next
   pub size : bytes ≡ length done

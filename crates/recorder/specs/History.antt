@@ -33,6 +33,12 @@ is_channel (Message channel sequence log_time publish_time payload) = false
 abbrev pub channel_count : List Rec → ℕ
 channel_count history = length (filter is_channel history)
 
+-- how many records are accepted at once, the first of which is this one: a Schema comes with its Channel
+abbrev pub accepted_with : Rec → ℕ
+accepted_with (Schema id schema) = 2
+accepted_with (Channel id schema topic encoding metadata) = 1
+accepted_with (Message channel sequence log_time publish_time payload) = 1
+
 -- the records' bytes, one after the other
 abbrev pub history_bytes : List Rec → List ℕ
 history_bytes history = flat_map rec_bytes history

@@ -11,7 +11,7 @@ use Rattle.recorder.specs.declared.report.Cause.TheVariants as causes
 use Rattle.recorder.specs.declared.report.Stop.{Stop}
 use Rattle.recorder.specs.Places.{At}
 use Rattle.recorder.specs.Feed.{Top, FeedRead, FeedCause}
-use Rattle.recorder.specs.File.{WrittenSoFar, WriterCause}
+use Rattle.recorder.specs.File.{TookBytes, WrittenSoFar, WriterCause}
 use Rattle.recorder.specs.Assembled.{Assembled, messages}
 
 -- there is one feed, and its report is this
@@ -46,6 +46,8 @@ pub record FeedEnded (left after : Option (List ℕ)) (before now : ℕ) (tops :
 pub record WriterRecorded (held after : Option (List ℕ)) (before now : ℕ) (history : List Rec) (w : WriterReport) : Type 0 where
   pub records : w.records ≡ length history
   pub blocks : w.blocks ≡ 0
+  pub bytes : TookBytes history w.end w.bytes
+  -- where the store tells, this stands behind what it held
   pub written : (start : List ℕ) → held ≡ Some start → (text : List ℕ) × (after ≡ Some (start ++ text)) × WrittenSoFar text history w.end w.bytes
   pub cause : WriterCause before now w.end
 

@@ -5,6 +5,8 @@ ghost use Rattle.rec_data.specs.Owned.{rec_bytes};
 ghost use Rattle.recorder.specs.File.{front, back, PieceAdded, WrittenSoFar, WriterCause};
 ghost use Rattle.recorder.specs.Tape.{Wrote};
 ghost use Rattle.recorder.specs.Recorded.{WriterRecorded};
+ghost use Rattle.recorder.specs.Feed.{SchemaFields};
+ghost use Rattle.recorder.specs.History.{schema_of, accepted_with};
 ghost use Rattle.recorder.specs.declared.report.Stop.{Stop};
 ghost use Rattle.recorder.specs.declared.report.End.TheVariants.{Stopped};
 
@@ -118,6 +120,10 @@ impl Tape {
         ensures wrote { (held : Option (List ℕ)) (before : ℕ) (history : List Rec) (r : Rec) → piece.now ≡ rec_bytes r
             → Wrote held (L.held live.old) before (L.faults live.old) history self.old.stop self.old.bytes
             → Wrote held (L.held live.new) before (L.faults live.new) (history ++ r ∷ []) self.new.stop self.new.bytes }
+        // Where the tape stops at it, those that come with the record are accepted too.
+        ensures stopped { (held : Option (List ℕ)) (before : ℕ) (history behind : List Rec) (r : Rec) (stop : Stop) → piece.now ≡ rec_bytes r → length behind < accepted_with r
+            → self.new.stop ≡ Some stop → Wrote held (L.held live.old) before (L.faults live.old) history self.old.stop self.old.bytes
+            → Wrote held (L.held live.new) before (L.faults live.new) (history ++ r ∷ behind) self.new.stop self.new.bytes }
         ensures size { self.new.bytes ≤ self.old.bytes + length piece.now }
     {
         match append_piece(live, piece) {
@@ -126,13 +132,14 @@ impl Tape {
         }
     }
 
-    /// Appends two records behind those of the history. Where the tape stops at the first one, the second isn't appended.
+    /// Appends a Schema and its Channel behind the records of the history. Where the tape stops at the first one, the
+    /// second isn't appended.
     pub(crate) fn put_both<L: LiveStore>(&mut self, live: &mut L, first: &[u8], second: &[u8])
         requires goes_on { self.old.stop ≡ None }
         requires fits { self.old.bytes + length first.now + length second.now < 2 ^ 64 }
-        ensures wrote { (held : Option (List ℕ)) (before : ℕ) (history : List Rec) (r q : Rec) → first.now ≡ rec_bytes r → second.now ≡ rec_bytes q
+        ensures wrote { (held : Option (List ℕ)) (before : ℕ) (history : List Rec) (id : ℕ) (f : SchemaFields) (q : Rec) → first.now ≡ rec_bytes (schema_of id f) → second.now ≡ rec_bytes q
             → Wrote held (L.held live.old) before (L.faults live.old) history self.old.stop self.old.bytes
-            → Wrote held (L.held live.new) before (L.faults live.new) (history ++ r ∷ q ∷ []) self.new.stop self.new.bytes }
+            → Wrote held (L.held live.new) before (L.faults live.new) (history ++ schema_of id f ∷ q ∷ []) self.new.stop self.new.bytes }
         ensures size { self.new.bytes ≤ self.old.bytes + length first.now + length second.now }
     {
         self.put(live, first);

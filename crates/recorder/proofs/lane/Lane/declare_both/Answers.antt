@@ -27,7 +27,7 @@ returns-clause-declared g c = λ tops history held before e x h at none on at_sc
     let first_size : length c.deref.result.now ≡ length c.in-Ok.pieces.0.items = ap length c.deref.ensures.value in
     let second_size : length c.deref-2.result.now ≡ length c.in-Ok.pieces.1.items = ap length c.deref-2.ensures.value in
     put_both c.args.self.now _ c.put_both.new.self tops history c.args.k e c.args.s x id w held _ before _ h.handles at none on at_schema its none_schema found refl refl
-    (c.put_both.ensures.wrote held before history (schema_of w (schema_fields x)) (channel_of id (written_of e w)) first second h.tape_stands)
+    (c.put_both.ensures.wrote held before history w (schema_fields x) (channel_of id (written_of e w)) first second h.tape_stands)
     (omega (arith, c.put_both.ensures.size, h.fits, c.in-Ok.ensures.schema.1, c.in-Ok.ensures.channel.1, first_size, second_size))
     (record {
       schemas_are = ap (λ (y : SourceSchema). set schemas c.args.s (given_schema_id y w)) same_schema;
