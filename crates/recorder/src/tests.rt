@@ -1,5 +1,7 @@
-//! What a recording hands back. What it records is tested through the program.
+//! What a recording hands back, and what only a feed of 512 GiB would show. What else is recorded is tested through the
+//! program.
 use super::*;
+use crate::feed::{Next, next_record};
 use mcap_io::{MemoryLive, MemorySource, QuietLive, QuietSource, read_up_to};
 use std::test::Fail;
 
@@ -57,6 +59,34 @@ fn the_content_of_what_is_not_built_is_left(rt: HostRuntime) -> Result<(), Fail>
     if let Some(report) = &report {
         assert_eq!(rt; report.feeds.len(), 1);
         assert_eq!(rt; report.feeds[0].end, FeedEnd::NotBuilt { offset: 25 });
+    }
+    Ok(())
+}
+
+// A Data End of 13 bytes at these offsets: it may end at 549,755,813,888, and not behind it.
+#[test]
+fn records_are_read_up_to_the_last_offset(rt: HostRuntime) -> Result<(), Fail> {
+    let alloc = rt.alloc();
+    for (offset, is_taken) in [
+        (549_755_813_874, true),
+        (549_755_813_875, true),
+        (549_755_813_876, false),
+        (549_755_813_888, false),
+    ] {
+        let bytes = b"\x0f\x04\0\0\0\0\0\0\0\0\0\0\0";
+        let mut source = QuietSource::new(Vec::from_slice(alloc, bytes)?);
+        let mut content = Vec::new(alloc);
+        match next_record(&mut source, &mut content, 0, offset) {
+            Next::Taken { op } => {
+                assert!(rt; is_taken, "at {offset}");
+                assert_eq!(rt; op, 15);
+                assert_eq!(rt; content.as_slice(), b"\0\0\0\0".as_slice());
+            }
+            Next::End { end } => {
+                assert!(rt; !is_taken, "at {offset}");
+                assert_eq!(rt; end, FeedEnd::NotBuilt { offset });
+            }
+        }
     }
     Ok(())
 }

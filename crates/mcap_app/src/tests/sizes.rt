@@ -73,15 +73,27 @@ fn the_longest_channel_is_recorded(rt: HostRuntime) -> Result<(), Fail> {
 // A Message's sequence, log_time and publish_time.
 const TIMES: &[u8] = b"\x01\0\0\0\x0a\0\0\0\0\0\0\0\x09\0\0\0\0\0\0\0";
 
-// Data of 16 MiB, as of a picture, and a message behind it.
+// A Message of 33,554,454 bytes, the longest: its data has 33,554,432. One more message stands behind it.
 #[test]
-fn a_large_message_is_recorded(rt: HostRuntime) -> Result<(), Fail> {
+fn the_longest_message_is_recorded(rt: HostRuntime) -> Result<(), Fail> {
     let alloc = rt.alloc();
-    let payload = vec![in alloc; 0xa5u8; 16_777_216]?;
-    let said = joined(alloc, &[b"\x05\x16\0\0\x01\0\0\0\0\x07\0", TIMES, &payload])?;
-    let one = joined(alloc, &[b"\x05\x16\0\0\x01\0\0\0\0\x01\0", TIMES, &payload])?;
+    let payload = vec![in alloc; 0xa5u8; 33_554_432]?;
+    let said = joined(alloc, &[b"\x05\x16\0\0\x02\0\0\0\0\x07\0", TIMES, &payload])?;
+    let one = joined(alloc, &[b"\x05\x16\0\0\x02\0\0\0\0\x01\0", TIMES, &payload])?;
     let feed = feed_of(alloc, &[CHANNEL, &said, SECOND_MESSAGE])?;
     let records: [&[u8]; 3] = [CHANNEL_1, &one, SECOND_MESSAGE_1];
     let _ran = record_feed(&rt, &feed, NOTHING, 2, &records, FeedEnd::Done)?;
+    Ok(())
+}
+
+// The same with one byte of data more isn't built: the Channel ends at 61.
+#[test]
+fn a_message_longer_by_one_byte_is_not_built(rt: HostRuntime) -> Result<(), Fail> {
+    let alloc = rt.alloc();
+    let payload = vec![in alloc; 0xa5u8; 33_554_433]?;
+    let said = joined(alloc, &[b"\x05\x17\0\0\x02\0\0\0\0\x07\0", TIMES, &payload])?;
+    let feed = feed_of(alloc, &[CHANNEL, &said, SECOND_MESSAGE])?;
+    let end = FeedEnd::NotBuilt { offset: 61 };
+    let _ran = record_feed(&rt, &feed, NOTHING, 0, NONE_RECORDED, end)?;
     Ok(())
 }
