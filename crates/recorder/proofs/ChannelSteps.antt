@@ -174,7 +174,6 @@ stands_again tops t schemas channels handled bound accepted declared refused his
   given_by = given_more tops t schemas declared history channels was.lists.declares was.given_by;
   lists = more_tops tops t handled accepted declared refused history was.lists;
   declared_below = was.declared_below;
-  declared_within = was.declared_within;
 }
 
 pub stands_new : (tops : List Top) (t : Top) (schemas : List SourceSchema) (channels : List SourceChannel) (handled bound : ℕ) (accepted : List Accepted) (declared : List DeclaredAt) (refused : List Refused) (history : List Rec) (e : SourceChannel) → Stands tops schemas channels handled bound accepted declared refused history → IsEntry t e → SchemaKnown tops e.schema_id → LacksId channels e.id → Stands (tops ++ t ∷ []) schemas (channels ++ e ∷ []) handled bound accepted declared refused history
@@ -185,7 +184,6 @@ stands_new tops t schemas channels handled bound accepted declared refused histo
   given_by = given_new tops t schemas channels declared history e was.channels_of was.lists.declares was.given_by is.fresh lacks;
   lists = more_tops tops t handled accepted declared refused history was.lists;
   declared_below = was.declared_below;
-  declared_within = was.declared_within;
 }
 
 -- ---- whether the record may stand there

@@ -158,7 +158,6 @@ schema_stands_again tops t schemas channels handled bound accepted declared refu
   given_by = given_more tops t schemas declared history channels was.lists.declares was.given_by;
   lists = more_tops tops t handled accepted declared refused history was.lists;
   declared_below = was.declared_below;
-  declared_within = was.declared_within;
 }
 
 schema_stands_new : (tops : List Top) (t : Top) (schemas : List SourceSchema) (channels : List SourceChannel) (handled bound : ℕ) (accepted : List Accepted) (declared : List DeclaredAt) (refused : List Refused) (history : List Rec) (s : SourceSchema) → Stands tops schemas channels handled bound accepted declared refused history → IsSchemaEntry t s → LacksSchema schemas s.id → Stands (tops ++ t ∷ []) (schemas ++ s ∷ []) channels handled bound accepted declared refused history
@@ -169,7 +168,6 @@ schema_stands_new tops t schemas channels handled bound accepted declared refuse
   given_by = given_by_kept (tops ++ t ∷ []) schemas s declared history channels (given_more tops t schemas declared history channels was.lists.declares was.given_by);
   lists = more_tops tops t handled accepted declared refused history was.lists;
   declared_below = was.declared_below;
-  declared_within = was.declared_within;
 }
 
 -- ---- whether the record may stand there

@@ -11,6 +11,7 @@ use Rattle.recorder.specs.declared.schemas.SourceSchema.{SourceSchema}
 use Rattle.recorder.specs.declared.channels.SourceChannel.{SourceChannel}
 use Rattle.recorder.specs.Places.{At}
 use Rattle.recorder.specs.Feed.{Top, SchemaFields, HasSchema, ChannelFields, IsMessage, is_declaration, declarations}
+use Rattle.recorder.specs.History.{message_of}
 use Rattle.recorder.specs.Assembled.{messages, IsOn, SourceShows, SameSchema, SchemaIs, IsWrittenAs, Added, Declares, Accepts, Assembled}
 use Rattle.recorder.specs.Channels.{schema_fields, SourceSchemaShows, SchemasOf, ChannelsOf, IsGivenId, GivenBy}
 use Rattle.recorder.specs.Lane.{Stands}
@@ -179,6 +180,12 @@ accepts_more tops t declared history a is = record {
 
 -- ---- what the lists and the history hold
 
+-- a recorded message stands within the history
+pub accepted_within : (tops : List Top) (handled : ℕ) (accepted : List Accepted) (declared : List DeclaredAt) (refused : List Refused) (history : List Rec) (k : ℕ) (a : Accepted) → Assembled tops handled accepted declared refused history → At accepted k a → a.place < length history
+accepted_within tops handled accepted declared refused history k a was at =
+    let by = was.accepts k a at in
+    at_within history a.place (message_of by.by.channel by.message) by.stands
+
 abbrev DeclaredIn : List Top → List Rec → List DeclaredAt → Type 0
 DeclaredIn tops history declared = (k : ℕ) (d : DeclaredAt) → At declared k d → Declares tops history d
 
@@ -201,6 +208,9 @@ more_tops tops t handled accepted declared refused history was = record {
   accepted_rise = was.accepted_rise;
   declared_rise = was.declared_rise;
   refused_rise = was.refused_rise;
+  in_turn = was.in_turn;
+  declared_within = was.declared_within;
+  declared_by_now = was.declared_by_now;
   handled_some =
       omega (arith, was.handled_some, ap length (messages_more tops t), length-append (messages tops) (messages (t ∷ [])));
   listed = was.listed;
@@ -267,5 +277,4 @@ stands_more tops t schemas channels handled bound accepted declared refused hist
   given_by = given_more tops t schemas declared history channels was.lists.declares was.given_by;
   lists = more_tops tops t handled accepted declared refused history was.lists;
   declared_below = was.declared_below;
-  declared_within = was.declared_within;
 }

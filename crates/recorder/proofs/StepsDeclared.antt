@@ -16,7 +16,7 @@ use Rattle.recorder.specs.Channels.{written_of, SchemasOf, SchemasGiven, Channel
 use Rattle.recorder.specs.Lane.{Stands}
 use Rattle.recorder.proofs.Maps.{fields_one, same_is}
 use Rattle.recorder.proofs.Places.{at_within, at_one, at_kept, at_last, at_more, has_last, each_more, pairs_more, at_set_same, at_set_other, at_set}
-use Rattle.recorder.proofs.Steps.{filter_in, on_one}
+use Rattle.recorder.proofs.Steps.{filter_in, on_one, accepted_within}
 use Rattle.recorder.proofs.StepsSchemas.{schemas_given_grown, schema_is_given}
 use Rattle.recorder.proofs.StepsTable.{filter_set, given_id, has_given, ids_apart, channels_given, declares_grown, accepts_grown, schema_is_grown, given_id_grown, given_grown, numbered_id}
 
@@ -171,8 +171,24 @@ module _ (tops : List Top) (schemas later : List SourceSchema) (channels : List 
     once = once;
     given = given_places;
     accepted_rise = was.lists.accepted_rise;
-    declared_rise = pairs_more (λ (x y : DeclaredAt). (x.index < y.index) × (x.first + x.count ≤ y.first)) declared d was.lists.declared_rise (λ j x at. (was.declared_below j x at, was.declared_within j x at));
+    declared_rise = pairs_more (λ (x y : DeclaredAt). (x.index < y.index) × (x.first + x.count ≤ y.first)) declared d was.lists.declared_rise (λ j x at. (was.declared_below j x at, was.lists.declared_within j x at));
     refused_rise = was.lists.refused_rise;
+    in_turn = λ i j x a at_x at_a. elim (at_more declared d i x at_x) [
+      | inl old ↦ was.lists.in_turn i j x a old at_a
+      | inr last ↦ (
+        λ later. absurd (omega (arith, was.lists.accepted_below j a at_a, ap (λ (y : DeclaredAt). y.index) last.1, later)),
+        λ before. omega (arith, accepted_within tops handled accepted declared refused history j a was.lists at_a, ap (λ (y : DeclaredAt). y.first) last.1),
+      )
+    ];
+    declared_within = λ j x at. elim (at_more declared d j x at) [
+      | inl old ↦ omega (arith, was.lists.declared_within j x old, length-append history more)
+      | inr last ↦
+          omega (arith, ap (λ (y : DeclaredAt). y.first) last.1, ap (λ (y : DeclaredAt). y.count) last.1, length-append history more, new.size)
+    ];
+    declared_by_now = λ j x at. elim (at_more declared d j x at) [
+      | inl old ↦ was.lists.declared_by_now j x old
+      | inr last ↦ omega (arith, ap (λ (y : DeclaredAt). y.index) last.1)
+    ];
     handled_some = was.lists.handled_some;
     listed = was.lists.listed;
     accepted_below = was.lists.accepted_below;
@@ -190,11 +206,6 @@ module _ (tops : List Top) (schemas later : List SourceSchema) (channels : List 
     declared_below = λ j x at. elim (at_more declared d j x at) [
       | inl old ↦ omega (arith, was.declared_below j x old)
       | inr last ↦ omega (arith, ap (λ (y : DeclaredAt). y.index) last.1)
-    ];
-    declared_within = λ j x at. elim (at_more declared d j x at) [
-      | inl old ↦ omega (arith, was.declared_within j x old, length-append history more)
-      | inr last ↦
-          omega (arith, ap (λ (y : DeclaredAt). y.first) last.1, ap (λ (y : DeclaredAt). y.count) last.1, length-append history more, new.size)
     ];
   }
 

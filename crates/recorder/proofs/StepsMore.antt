@@ -16,7 +16,7 @@ use Rattle.recorder.specs.Assembled.{messages, Accepts, Assembled}
 use Rattle.recorder.specs.Channels.{written_of, IsGivenId, given_schemas, given_count, GivenBy}
 use Rattle.recorder.specs.Lane.{Stands}
 use Rattle.recorder.proofs.Places.{at_within, at_kept, at_last, at_more, each_more, pairs_more}
-use Rattle.recorder.proofs.Steps.{filter_out}
+use Rattle.recorder.proofs.Steps.{filter_out, accepted_within}
 use Rattle.recorder.proofs.StepsSchemas.{has_schema_given, schemas_given_grown}
 use Rattle.recorder.proofs.StepsTable.{filter_lacks, has_given, declares_grown, accepts_kept, given_id_kept, given_kept, listed_kept, not_message}
 
@@ -35,6 +35,9 @@ refused_lists tops handled accepted declared refused history r here was some = r
   accepted_rise = was.accepted_rise;
   declared_rise = was.declared_rise;
   refused_rise = pairs_more (λ (s t : Refused). s.index < t.index) refused r was.refused_rise (λ k s at. omega (arith, was.refused_below k s at));
+  in_turn = was.in_turn;
+  declared_within = was.declared_within;
+  declared_by_now = λ k d at. omega (arith, was.declared_by_now k d at);
   handled_some = omega arith;
   listed = λ index lt. elim (cases_lt index handled) [
     | inl before ↦ elim (was.listed index before) [
@@ -65,7 +68,6 @@ bound_more tops schemas channels handled bound later accepted declared refused h
   given_by = was.given_by;
   lists = was.lists;
   declared_below = λ k d at. omega (arith, was.declared_below k d at);
-  declared_within = was.declared_within;
 }
 
 -- there is an id left where a channel has none
@@ -93,7 +95,6 @@ refused_one tops schemas channels handled accepted declared refused history caus
   given_by = was.given_by;
   lists = refused_lists tops handled accepted declared refused history (refused_at handled cause) refl was.lists some;
   declared_below = was.declared_below;
-  declared_within = was.declared_within;
 }
 
 -- ---- a message is recorded
@@ -102,8 +103,8 @@ abbrev pub accepted_at : ℕ → ℕ → Accepted
 accepted_at index place = record { index = index; place = place }
 
 -- the message stands behind the Channel of the id that its own channel was given
-message_accepts : (tops : List Top) (schemas : List SourceSchema) (handled : ℕ) (declared : List DeclaredAt) (history : List Rec) (e : SourceChannel) (t : Top) (m : MessageFields) → At (messages tops) handled t → IsMessage t e.id m → ((k : ℕ) (d : DeclaredAt) → At declared k d → d.index < handled + 1) → IsGivenId tops schemas declared history e → Accepts tops declared (history ++ message_of e.given m ∷ []) (accepted_at handled (length history))
-message_accepts tops schemas handled declared history e t m at is below given = record {
+message_accepts : (tops : List Top) (schemas : List SourceSchema) (handled : ℕ) (declared : List DeclaredAt) (history : List Rec) (e : SourceChannel) (t : Top) (m : MessageFields) → At (messages tops) handled t → IsMessage t e.id m → ((k : ℕ) (d : DeclaredAt) → At declared k d → d.index ≤ handled) → IsGivenId tops schemas declared history e → Accepts tops declared (history ++ message_of e.given m ∷ []) (accepted_at handled (length history))
+message_accepts tops schemas handled declared history e t m at is by_now given = record {
   source = e.id;
   message = m;
   top = t;
@@ -111,7 +112,7 @@ message_accepts tops schemas handled declared history e t m at is below given = 
   is = is;
   by = given.by;
   listed = given.listed;
-  before = omega (arith, below given.listed.0 given.by given.listed.1);
+  before = by_now given.listed.0 given.by given.listed.1;
   on = given.on;
   stands = subst (λ (id : ℕ). At (history ++ message_of e.given m ∷ []) (length history) (message_of id m)) (sym given.id) (at_last history (message_of e.given m) []);
 }
@@ -133,10 +134,19 @@ message_lists tops handled accepted declared refused history r was some follows 
       ];
       accepted_rise = pairs_more (λ (a b : Accepted). (a.index < b.index) × (a.place < b.place)) accepted new was.accepted_rise (λ k a at. (
         was.accepted_below k a at,
-        at_within history a.place (message_of (was.accepts k a at).by.channel (was.accepts k a at).message) (was.accepts k a at).stands,
+        accepted_within tops handled accepted declared refused history k a was at,
       ));
       declared_rise = was.declared_rise;
       refused_rise = was.refused_rise;
+      in_turn = λ j k d a at_d at_a. elim (at_more accepted new k a at_a) [
+        | inl old ↦ was.in_turn j k d a at_d old
+        | inr last ↦ (
+          λ later. omega (arith, was.declared_within j d at_d, ap (λ (x : Accepted). x.place) last.1),
+          λ before. absurd (omega (arith, was.declared_by_now j d at_d, ap (λ (x : Accepted). x.index) last.1, before)),
+        )
+      ];
+      declared_within = λ k d at. omega (arith, was.declared_within k d at, length-append history (r ∷ []));
+      declared_by_now = λ k d at. omega (arith, was.declared_by_now k d at);
       handled_some = omega arith;
       listed = λ index lt. elim (cases_lt index handled) [
         | inl before ↦ listed_kept accepted (new ∷ []) refused index (was.listed index before)
@@ -169,7 +179,7 @@ pub accepted_one : (tops : List Top) (schemas : List SourceSchema) (channels : L
 accepted_one tops schemas channels handled accepted declared refused history k e id t m was at given some at_hand is =
     let known : IsGivenId tops schemas declared history e = was.given_by.known k e at (λ none. some (sym given ∙ none)) in
     let follows : Follows history (message_of e.given m) = (known.place, written_of e e.given_schema, known.stands) in
-    let accepts = message_accepts tops schemas handled declared history e t m at_hand is was.declared_below known in
+    let accepts = message_accepts tops schemas handled declared history e t m at_hand is was.lists.declared_by_now known in
     subst (λ (i : ℕ). Stands tops schemas channels (handled + 1) (handled + 1) (accepted ++ accepted_at handled (length history) ∷ []) declared refused (history ++ message_of i m ∷ [])) given (record {
       schemas_of = was.schemas_of;
       schemas_given = schemas_given_grown history (message_of e.given m) schemas refl was.schemas_given;
@@ -177,5 +187,4 @@ accepted_one tops schemas channels handled accepted declared refused history k e
       given_by = message_given tops schemas declared history channels e.given m was.given_by;
       lists = message_lists tops handled accepted declared refused history (message_of e.given m) was.lists (at_within (messages tops) handled t at_hand) follows accepts;
       declared_below = was.declared_below;
-      declared_within = λ j d at_d. omega (arith, was.declared_within j d at_d, length-append history (message_of e.given m ∷ []));
     })

@@ -213,5 +213,4 @@ schema_known tops schemas channels handled bound accepted declared refused histo
       given_by = known_given tops schemas channels declared history s x id at none was.given_by;
       lists = was.lists;
       declared_below = was.declared_below;
-      declared_within = was.declared_within;
     }

@@ -104,6 +104,13 @@ pub record Assembled (tops : List Top) (handled : ℕ) (accepted : List Accepted
   pub accepted_rise : AllPairs (λ a b. (a.index < b.index) × (a.place < b.place)) accepted
   pub declared_rise : AllPairs (λ d e. (d.index < e.index) × (d.first + d.count ≤ e.first)) declared
   pub refused_rise : AllPairs (λ r s. r.index < s.index) refused
+  -- A declaration's records stand behind the messages before its own, and before its own and later ones; so does the
+  -- `first` of one that added none.
+  pub in_turn : (j k : ℕ) (d : DeclaredAt) (a : Accepted) → At declared j d → At accepted k a
+      → (d.index ≤ a.index → d.first + d.count ≤ a.place) × (a.index < d.index → a.place < d.first)
+  -- no declaration stands past the history's end, or is for a message behind the one at hand
+  pub declared_within : (k : ℕ) (d : DeclaredAt) → At declared k d → d.first + d.count ≤ length history
+  pub declared_by_now : (k : ℕ) (d : DeclaredAt) → At declared k d → d.index ≤ handled
   -- each of the first messages was recorded or refused, and no other
   pub handled_some : handled ≤ length (messages tops)
   pub listed : (index : ℕ) → index < handled → IsListed accepted refused index

@@ -30,7 +30,6 @@ pub record Stands (tops : List Top) (schemas : List SourceSchema) (channels : Li
   pub given_by : GivenBy tops schemas declared history channels
   pub lists : Assembled tops handled accepted declared refused history
   pub declared_below : (k : ℕ) (d : DeclaredAt) → At declared k d → d.index < bound
-  pub declared_within : (k : ℕ) (d : DeclaredAt) → At declared k d → d.first + d.count ≤ length history
 
 -- the lane goes on: what it holds fits the records that were read, and it refused messages for want of memory alone
 pub record LaneStands (lane : Lane) (tops : List Top) (history : List Rec) : Type 0 where
