@@ -1,6 +1,6 @@
 -- From the parts of a recording to what the program promises of it.
-use Rattle.std.proofs.Common.{◌≡◌, ◌⊎◌, ℕ, Bool, true, false, cond, ◌||◌, List, [], Option, Some, None, refl, sym, ap, subst, inl, inr, ◌∙◌, arith}
-use Rattle.std.proofs.lemmas.Bool.Decides.{eqb_tells}
+use Rattle.std.proofs.Common.{◌≡◌, ◌⊎◌, ℕ, Bool, true, false, cond, ◌||◌, List, [], ◌∷◌, Option, Some, None, refl, sym, ap, subst, inl, inr, ◌∙◌, arith}
+use Rattle.std.proofs.lemmas.Bool.{both_ways}
 use Rattle.mcap_io.specs.Outside.{Names}
 use Rattle.recorder.specs.declared.report.Report.{Report}
 use Rattle.recorder.specs.declared.report.FeedReport.{FeedReport}
@@ -11,9 +11,10 @@ use Rattle.mcap_app.specs.declared.answering.Failures.{Failures}
 use Rattle.rec_data.specs.declared.owned.Rec.{Rec}
 use Rattle.recorder.specs.Feed.{Top, FeedRead, Stops}
 use Rattle.recorder.specs.Recorded.{IsOnlyFeed}
-use Rattle.mcap_app.specs.Texts.{status_of}
+use Rattle.mcap_app.specs.Texts.{Trouble, no_memory, status_of}
 use Rattle.mcap_app.specs.Answer.{Failed, Answers}
 use Rattle.recorder.proofs.OneEnd.{good_read}
+use Rattle.mcap_app.proofs.Lacks.{lacks_with, lacks_without}
 use Rattle.mcap_app.proofs.Whole.{whole}
 use Rattle.mcap_app.specs.Run.{counts, AnyRose, Causes, EndOf, EndsWith, Says, Scene, scene, Records, Reported, NamesRecorded, PrintsReport, troubles_of, end_status}
 
@@ -30,51 +31,49 @@ parts feed out printing = record { feed = feed; out = out; printing = printing }
 abbrev any : Bool → Bool → Bool → Bool
 any f o p = f || (o || p)
 
+-- what holds of each three answers
+every : (P : Bool → Bool → Bool → Type 0) → P true true true → P true true false → P true false true → P true false false
+    → P false true true → P false true false → P false false true → P false false false → (a b c : Bool) → P a b c
+every P ttt ttf tft tff ftt ftf fft fff true true true = ttt
+every P ttt ttf tft tff ftt ftf fft fff true true false = ttf
+every P ttt ttf tft tff ftt ftf fft fff true false true = tft
+every P ttt ttf tft tff ftt ftf fft fff true false false = tff
+every P ttt ttf tft tff ftt ftf fft fff false true true = ftt
+every P ttt ttf tft tff ftt ftf fft fff false true false = ftf
+every P ttt ttf tft tff ftt ftf fft fff false false true = fft
+every P ttt ttf tft tff ftt ftf fft fff false false false = fff
+
+-- the status of the parts that failed, of a want of memory, and of the feed's end
+abbrev status_is : List ℕ → List ℕ → Option FeedEnd → ℕ → Bool → Bool → Bool → Bool → Type 0
+status_is out feed end number lacked f o p = status_of (troubles_of out feed end (parts f o p) lacked) ≡ cond lacked 5 (cond (any f o p) 3 number)
+
 -- the status where the end of the feed is no trouble
-silent_status : (out feed : List ℕ) (f o p : Bool) → status_of (troubles_of out feed None (parts f o p)) ≡ cond (any f o p) 3 0
-silent_status out feed true true true = refl
-silent_status out feed true true false = refl
-silent_status out feed true false true = refl
-silent_status out feed true false false = refl
-silent_status out feed false true true = refl
-silent_status out feed false true false = refl
-silent_status out feed false false true = refl
-silent_status out feed false false false = refl
+silent_status : (out feed : List ℕ) (lacked f o p : Bool) → status_is out feed None 0 lacked f o p
+silent_status out feed true = every (status_is out feed None 0 true) refl refl refl refl refl refl refl refl
+silent_status out feed false = every (status_is out feed None 0 false) refl refl refl refl refl refl refl refl
 
 -- where it breaks a rule
-grammar_status : (out feed : List ℕ) (n : ℕ) (f o p : Bool) → status_of (troubles_of out feed (Some (feed_ends.Grammar n)) (parts f o p)) ≡ cond (any f o p) 3 1
-grammar_status out feed n true true true = refl
-grammar_status out feed n true true false = refl
-grammar_status out feed n true false true = refl
-grammar_status out feed n true false false = refl
-grammar_status out feed n false true true = refl
-grammar_status out feed n false true false = refl
-grammar_status out feed n false false true = refl
-grammar_status out feed n false false false = refl
+grammar_status : (out feed : List ℕ) (n : ℕ) (lacked f o p : Bool) → status_is out feed (Some (feed_ends.Grammar n)) 1 lacked f o p
+grammar_status out feed n true = every (status_is out feed (Some (feed_ends.Grammar n)) 1 true) refl refl refl refl refl refl refl refl
+grammar_status out feed n false = every (status_is out feed (Some (feed_ends.Grammar n)) 1 false) refl refl refl refl refl refl refl refl
 
 -- where it holds what isn't recorded yet
-later_status : (out feed : List ℕ) (n : ℕ) (f o p : Bool) → status_of (troubles_of out feed (Some (feed_ends.NotBuilt n)) (parts f o p)) ≡ cond (any f o p) 3 1
-later_status out feed n true true true = refl
-later_status out feed n true true false = refl
-later_status out feed n true false true = refl
-later_status out feed n true false false = refl
-later_status out feed n false true true = refl
-later_status out feed n false true false = refl
-later_status out feed n false false true = refl
-later_status out feed n false false false = refl
+later_status : (out feed : List ℕ) (n : ℕ) (lacked f o p : Bool) → status_is out feed (Some (feed_ends.NotBuilt n)) 1 lacked f o p
+later_status out feed n true = every (status_is out feed (Some (feed_ends.NotBuilt n)) 1 true) refl refl refl refl refl refl refl refl
+later_status out feed n false = every (status_is out feed (Some (feed_ends.NotBuilt n)) 1 false) refl refl refl refl refl refl refl refl
 
 abbrev number_of : Option FeedEnd → ℕ
 number_of None = 0
 number_of (Some end) = end_status end
 
-status_of_parts : (out feed : List ℕ) (end : Option FeedEnd) (f o p : Bool) → status_of (troubles_of out feed end (parts f o p)) ≡ cond (any f o p) 3 (number_of end)
-status_of_parts out feed None f o p = silent_status out feed f o p
-status_of_parts out feed (Some feed_ends.Done) f o p = silent_status out feed f o p
-status_of_parts out feed (Some (feed_ends.Grammar n)) f o p = grammar_status out feed n f o p
-status_of_parts out feed (Some (feed_ends.NotBuilt n)) f o p = later_status out feed n f o p
-status_of_parts out feed (Some (feed_ends.Fault faults)) f o p = silent_status out feed f o p
-status_of_parts out feed (Some feed_ends.Memory) f o p = silent_status out feed f o p
-status_of_parts out feed (Some feed_ends.Ended) f o p = silent_status out feed f o p
+status_of_parts : (out feed : List ℕ) (end : Option FeedEnd) (lacked f o p : Bool) → status_is out feed end (number_of end) lacked f o p
+status_of_parts out feed None lacked f o p = silent_status out feed lacked f o p
+status_of_parts out feed (Some feed_ends.Done) lacked f o p = silent_status out feed lacked f o p
+status_of_parts out feed (Some (feed_ends.Grammar n)) lacked f o p = grammar_status out feed n lacked f o p
+status_of_parts out feed (Some (feed_ends.NotBuilt n)) lacked f o p = later_status out feed n lacked f o p
+status_of_parts out feed (Some (feed_ends.Fault faults)) lacked f o p = silent_status out feed lacked f o p
+status_of_parts out feed (Some feed_ends.Memory) lacked f o p = silent_status out feed lacked f o p
+status_of_parts out feed (Some feed_ends.Ended) lacked f o p = silent_status out feed lacked f o p
 
 -- none of them is 2
 two_is_none : (b : Bool) (end : Option FeedEnd) → cond b 3 (number_of end) ≡ 2 → ⊥
@@ -100,19 +99,15 @@ none_failed false true p none = absurd (none (inr (inl refl)))
 none_failed false false true none = absurd (none (inr (inr refl)))
 none_failed false false false none = refl
 
-failed_status : (out feed : List ℕ) (end : Option FeedEnd) (failed : Failures) → Failed failed → status_of (troubles_of out feed end failed) ≡ 3
-failed_status out feed end failed some =
-    status_of_parts out feed end failed.feed failed.out failed.printing
-    ∙ ap (λ (b : Bool). cond b 3 (number_of end)) (some_failed failed.feed failed.out failed.printing some)
-
-calm_status : (out feed : List ℕ) (end : Option FeedEnd) (failed : Failures) → (Failed failed → ⊥) → status_of (troubles_of out feed end failed) ≡ number_of end
-calm_status out feed end failed none =
-    status_of_parts out feed end failed.feed failed.out failed.printing
-    ∙ ap (λ (b : Bool). cond b 3 (number_of end)) (none_failed failed.feed failed.out failed.printing none)
-
--- an answer is 5 or isn't
-five_or_not : (answer : ℕ) → (answer ≡ 5) ⊎ (answer ≡ 5 → ⊥)
-five_or_not answer = elim (eqb_tells answer 5) [ inl five ↦ inl five.1 | inr other ↦ inr other.1 ]
+-- the status is 5, or no memory lacked and it is that of the parts that failed and of the feed's end
+five_or : (out feed : List ℕ) (end : Option FeedEnd) (failed : Failures) (lacked : Bool) (troubles : List Trouble) (answer : ℕ)
+    → (troubles ≡ troubles_of out feed end failed lacked) ⊎ (troubles ≡ no_memory ∷ []) → status_of troubles ≡ answer
+    → (answer ≡ 5) ⊎ ((lacked ≡ false) × (answer ≡ cond (any failed.feed failed.out failed.printing) 3 (number_of end)))
+five_or out feed end failed true troubles answer (inl is) status =
+    inl (sym status ∙ ap status_of is ∙ status_of_parts out feed end true failed.feed failed.out failed.printing)
+five_or out feed end failed false troubles answer (inl is) status =
+    inr (refl, sym status ∙ ap status_of is ∙ status_of_parts out feed end false failed.feed failed.out failed.printing)
+five_or out feed end failed lacked troubles answer (inr alone) status = inl (sym status ∙ ap status_of alone)
 
 -- where no count rose, no part failed
 nothing_failed : (before now : Counts) (failed : Failures) → Causes before now failed → (AnyRose before now → ⊥) → Failed failed → ⊥
@@ -130,29 +125,51 @@ only_end report end r f is here one =
     let P : Option Report → Type 0 = λ x. EndOf x end in
     subst P here is f one
 
+answered : (out feed : List ℕ) (report : Option Report) (failed : Failures) (took after : Option (List ℕ)) (errors errors_now answer : ℕ)
+    → (a : Answers out feed report failed took after errors errors_now answer)
+    → (answer ≡ 5) ⊎ ((a.lacked ≡ false) × (answer ≡ cond (any failed.feed failed.out failed.printing) 3 (number_of a.end)))
+answered out feed report failed took after errors errors_now answer a = five_or out feed a.end failed a.lacked a.troubles answer a.are a.answer_is
+
+-- a want of memory is answered by 5
+five_where_lacked : (answer other : ℕ) (lacked : Bool) → (answer ≡ 5) ⊎ ((lacked ≡ false) × (answer ≡ other)) → lacked ≡ true → answer ≡ 5
+five_where_lacked answer other lacked (inl five) is = five
+five_where_lacked answer other lacked (inr calm) is = absurd (both_ways lacked calm.0 is)
+
 pub ended : (out feed : List ℕ) (before now : Counts) (report : Option Report) (failed : Failures) (took after : Option (List ℕ)) (errors errors_now answer : ℕ)
     → Answers out feed report failed took after errors errors_now answer → Causes before now failed → (AnyRose before now → Failed failed) → EndsWith before now report answer
-ended out feed before now report failed took after errors errors_now answer a causes any_failed = record {
-  rose = λ risen. elim (five_or_not answer) [
-    | inl five ↦ inr five
-    | inr other ↦ inl (sym (a.answer_is other) ∙ failed_status out feed a.end failed (any_failed risen))
-  ];
-  calm = λ quiet r f here one. elim (five_or_not answer) [
-    | inl five ↦ inr five
-    | inr other ↦ inl (sym (a.answer_is other) ∙ calm_status out feed a.end failed (nothing_failed before now failed causes quiet) ∙ ap number_of (only_end report a.end r f a.end_is here one))
-  ];
-  no_report = λ quiet none. a.no_report none (nothing_failed before now failed causes quiet);
-  memory = a.memory;
-}
+ended out feed before now report failed took after errors errors_now answer a causes any_failed =
+    let number = number_of a.end in
+    let status = answered out feed report failed took after errors errors_now answer a in
+    record {
+      rose = λ risen. elim status [
+        | inl five ↦ inr five
+        | inr calm ↦ inl (calm.1 ∙ ap (λ (b : Bool). cond b 3 number) (some_failed failed.feed failed.out failed.printing (any_failed risen)))
+      ];
+      calm = λ quiet r f here one. elim status [
+        | inl five ↦ inr five
+        | inr calm ↦ inl (calm.1
+            ∙ ap (λ (b : Bool). cond b 3 number) (none_failed failed.feed failed.out failed.printing (nothing_failed before now failed causes quiet))
+            ∙ ap number_of (only_end report a.end r f a.end_is here one))
+      ];
+      no_report = λ quiet none. five_where_lacked answer _ a.lacked status ((lacks_without report failed a.lacked a.lacks none).0 (nothing_failed before now failed causes quiet));
+      memory = λ r f here one names. five_where_lacked answer _ a.lacked status ((lacks_with report failed a.lacked a.lacks r f here one).0 names);
+    }
 
 pub told : (out feed : List ℕ) (before now : Counts) (report : Option Report) (failed : Failures) (took after : Option (List ℕ)) (errors errors_now answer : ℕ)
-    → Answers out feed report failed took after errors errors_now answer → Causes before now failed → Says out feed report before now took after errors errors_now answer
-told out feed before now report failed took after errors errors_now answer a causes = record {
-  later = a.later;
+    → Answers out feed report failed took after errors errors_now answer → Causes before now failed → (AnyRose before now → Failed failed) → Says out feed report before now took after errors errors_now answer
+told out feed before now report failed took after errors errors_now answer a causes any_failed = record {
   end = a.end;
   end_is = a.end_is;
   failed = failed;
   causes = causes;
+  lacked = a.lacked;
+  named = lacks_with report failed a.lacked a.lacks;
+  no_report = λ none. let lacks = lacks_without report failed a.lacked a.lacks none in (
+    λ quiet. lacks.0 (nothing_failed before now failed causes quiet),
+    λ is risen. lacks.1 is (any_failed risen),
+  );
+  troubles = a.troubles;
+  are = a.are;
   answer_is = a.answer_is;
   text = a.text;
 }
@@ -194,7 +211,7 @@ recorded out feed names names_now before now took took_now told_before told_now 
       untouched = made.untouched;
       unread = made.unread;
       printed = prints;
-      said = told out feed before now report failed told_before told_now errors errors_now answer a causes;
+      said = told out feed before now report failed told_before told_now errors errors_now answer a causes any_failed;
       ended = ends;
       complete = complete feed before now names report made.history answer made.reported ends;
       whole = whole feed names before now made.history report answer made.reported ends;
@@ -203,9 +220,11 @@ recorded out feed names names_now before now took took_now told_before told_now 
 -- the status of a recording is not that of bad words
 pub not_two : (out feed : List ℕ) (old new : Scene) (report : Option Report) (answer : ℕ) → Records out feed old new report answer → answer ≡ 2 → ⊥
 not_two out feed old new report answer all two =
-    let status = all.said.answer_is (λ (five : answer ≡ 5). omega arith) ∙ two in
-    let computed = status_of_parts out feed all.said.end all.said.failed.feed all.said.failed.out all.said.failed.printing in
-    two_is_none (any all.said.failed.feed all.said.failed.out all.said.failed.printing) all.said.end (sym computed ∙ status)
+    let says = all.said in
+    elim (five_or out feed says.end says.failed says.lacked says.troubles answer says.are says.answer_is) [
+      | inl five ↦ omega (arith, five, two)
+      | inr calm ↦ two_is_none (any says.failed.feed says.failed.out says.failed.printing) says.end (sym calm.1 ∙ two)
+    ]
 
 -- what holds of counts holds of equal ones
 pub causes_of : (b before n now : Counts) (failed : Failures) → b ≡ before → n ≡ now → Causes b n failed → Causes before now failed

@@ -4,7 +4,7 @@ use Rattle.std.proofs.lemmas.List.{append-nil, take-append-le, take_more, length
 use Rattle.mcap_io.specs.Outside.{Adds, AddsPart}
 use Rattle.mcap_io.proofs.Calls.{adds-adds, adds-part, rose-second}
 use Rattle.mcap_io.specs.declared.outside.Failed.{Failed}
-use Rattle.mcap_app.specs.Printing.{Prints}
+use Rattle.mcap_app.specs.Printing.{Prints, Tells}
 use Rattle.recorder.specs.declared.report.FeedReport.{FeedReport}
 use Rattle.mcap_app.specs.Texts.{feed_line, feed_lines}
 
@@ -63,3 +63,9 @@ prints-behind old mid new a b c xs ys (Err why) later adds prints = (
   rose-second a b c later prints.1,
   let whole = adds-part old mid new xs ys 0 adds prints.2 in λ before told. let p = whole before told in (p.0, omega arith, p.2, p.3),
 )
+
+-- what tells of a text tells of an equal one
+pub tells_same : (old new : Option (List ℕ)) (before now : ℕ) (xs ys : List ℕ) → xs ≡ ys → Tells old new before now xs → Tells old new before now ys
+tells_same old new before now xs ys same tells =
+    let P : List ℕ → Type 0 = λ l. Tells old new before now l in
+    subst P same tells

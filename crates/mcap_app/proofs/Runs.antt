@@ -1,5 +1,5 @@
 -- What a recording says of the world's names and counts.
-use Rattle.std.proofs.Common.{◌≡◌, ◌⊎◌, ℕ, ◌+◌, ◌^◌, ◌<◌, ◌≤◌, List, [], ◌++◌, length, Option, Some, None, Result, Ok, Err, refl, sym, ap, subst, inl, inr, ◌∙◌, arith}
+use Rattle.std.proofs.Common.{◌≡◌, ◌⊎◌, ℕ, ◌^◌, ◌<◌, ◌≤◌, List, [], Option, Some, None, Result, Ok, Err, refl, sym, ap, subst, inl, inr, ◌∙◌, arith}
 use Rattle.std.specs.Prelude.{IsSome, false}
 use Rattle.std.proofs.lemmas.Bool.{both_ways}
 use Rattle.std.specs.Prelude.{OnErr}
@@ -16,7 +16,7 @@ use Rattle.recorder.specs.Feed.{FeedCause}
 use Rattle.recorder.specs.File.{file_of, IsPrefix, WrittenSoFar, WriterCause}
 use Rattle.recorder.specs.Recorded.{Recorded}
 use Rattle.recorder.proofs.Files.{written_prefix}
-use Rattle.mcap_app.specs.Run.{Reported, LeavesNames, Leaves, NamesRecorded}
+use Rattle.mcap_app.specs.Run.{Reported, Leaves, NamesRecorded}
 
 -- ---- counts
 

@@ -1,7 +1,7 @@
 -- What the program did: to the names of the world, to both outputs, and how it ended.
-use Rattle.std.specs.Prelude.{◌≡◌, ◌⊎◌, ℕ, ◌≤◌, List, [], ◌∷◌, ◌++◌, length, Bool, true, false, if◌then◌else◌, Option, Some, None, IsSome}
+use Rattle.std.specs.Prelude.{◌≡◌, ◌⊎◌, ◌↔◌, ℕ, List, [], ◌∷◌, ◌++◌, length, Bool, true, false, if◌then◌else◌, Option, Some, None, IsSome}
 use Rattle.std.specs.List.{list_any}
-use Rattle.mcap_io.specs.Outside.{Rose, added, Names, OthersSame, Adds, AddsPart}
+use Rattle.mcap_io.specs.Outside.{Rose, added, Names, OthersSame}
 use Rattle.recorder.specs.declared.report.Report.{Report}
 use Rattle.recorder.specs.declared.report.FeedReport.{FeedReport}
 use Rattle.recorder.specs.declared.report.FeedEnd.{FeedEnd}
@@ -17,7 +17,8 @@ use Rattle.recorder.specs.declared.report.Cause.TheVariants as causes
 use Rattle.recorder.specs.Feed.{Top, FeedRead, Stops}
 use Rattle.recorder.specs.File.{file_of, IsPrefix, WrittenSoFar}
 use Rattle.recorder.specs.Recorded.{FeedReported, IsOnlyFeed}
-use Rattle.mcap_app.specs.Texts.{Trouble, bad_words, fault, output_fault, grammar, not_built, printed, said, status_of}
+use Rattle.mcap_app.specs.Printing.{Tells}
+use Rattle.mcap_app.specs.Texts.{Trouble, bad_words, fault, output_fault, grammar, not_built, no_memory, printed, said, status_of}
 
 -- ---- counts of faults
 
@@ -68,10 +69,10 @@ end_troubles feed (Some (feed_ends.Fault faults)) = []
 end_troubles feed (Some feed_ends.Memory) = []
 end_troubles feed (Some feed_ends.Ended) = []
 
--- the troubles of a recording, in their order: of the feed, of the file, of standard output
-abbrev pub troubles_of : List ℕ → List ℕ → Option FeedEnd → Failures → List Trouble
-troubles_of out feed end failed = end_troubles feed end ++ (when failed.feed (fault feed)
-    ++ (when failed.out (fault out) ++ when failed.printing output_fault))
+-- the troubles of a recording, in their order: of the feed, of the file, of standard output, of memory
+abbrev pub troubles_of : List ℕ → List ℕ → Option FeedEnd → Failures → Bool → List Trouble
+troubles_of out feed end failed lacked = end_troubles feed end ++ (when failed.feed (fault feed)
+    ++ (when failed.out (fault out) ++ (when failed.printing output_fault ++ when lacked no_memory)))
 
 -- the end of the one feed of a report, where there is a report
 abbrev pub EndOf : Option Report → Option FeedEnd → Type 0
@@ -89,21 +90,27 @@ pub record Causes (before now : Counts) (failed : Failures) : Type 0 where
   pub printing_told : Rose before.printing now.printing → failed.printing ≡ true
   pub world_told : Rose before.world now.world → (failed.feed ≡ true) ⊎ (failed.out ≡ true)
 
--- What standard error is told of a recording: a line for the feed's end, and one for each part that failed. They
--- give the status. Nothing is promised where memory lacked, and nothing is told where this output fails.
+-- What standard error is told of a recording: a line for the feed's end, one for each part that failed, and one for
+-- a want of memory. They give the status.
 pub record Says (out feed : List ℕ) (report : Option Report) (before now : Counts) (took after : Option (List ℕ)) (errors_before errors_now : ℕ) (answer : ℕ) : Type 0 where
-  pub later : errors_before ≤ errors_now
   pub end : Option FeedEnd
   pub end_is : EndOf report end
   pub failed : Failures
   pub causes : Causes before now failed
-  pub answer_is : (answer ≡ 5 → ⊥) → status_of (troubles_of out feed end failed) ≡ answer
-  pub text : (answer ≡ 5 → ⊥) → (Rose errors_before errors_now → ⊥) → Adds took after (said (troubles_of out feed end failed))
+  -- a want of memory is told of exactly where the report names one, or isn't there though no count rose
+  pub lacked : Bool
+  pub named : (r : Report) (f : FeedReport) → report ≡ Some r → IsOnlyFeed r f → NamesMemory f r.writer.end ↔ (lacked ≡ true)
+  pub no_report : report ≡ None → (AnyRose before now → ⊥) ↔ (lacked ≡ true)
+  -- these troubles; or that memory lacked alone, where it lacked for saying more
+  pub troubles : List Trouble
+  pub are : (troubles ≡ troubles_of out feed end failed lacked) ⊎ (troubles ≡ no_memory ∷ [])
+  pub answer_is : status_of troubles ≡ answer
+  -- all of their lines were taken, or a first part where this output failed
+  pub text : Tells took after errors_before errors_now (said troubles)
 
--- What standard error is told of bad words, unless it fails
-pub record Refuses (took after : Option (List ℕ)) (errors_before errors_now : ℕ) : Type 0 where
-  pub later : errors_before ≤ errors_now
-  pub text : (Rose errors_before errors_now → ⊥) → Adds took after (said (bad_words ∷ []))
+-- what standard error is told of bad words
+abbrev pub Refuses : Option (List ℕ) → Option (List ℕ) → ℕ → ℕ → Type 0
+Refuses took after errors_before errors_now = Tells took after errors_before errors_now (said (bad_words ∷ []))
 
 -- ---- the file
 
@@ -129,7 +136,7 @@ Leaves out before now_count report history old new = (all : Names) → old ≡ S
 -- the report's lines, or a first part of them where the output failed; nothing without a report
 abbrev pub PrintsReport : Option (List ℕ) → Option (List ℕ) → ℕ → ℕ → Option Report → Type 0
 PrintsReport old new before now None = (now ≡ before) × (new ≡ old)
-PrintsReport old new before now (Some r) = (before ≤ now) × (Adds old new (printed r) ⊎ (Rose before now × AddsPart old new 0 (printed r)))
+PrintsReport old new before now (Some r) = Tells old new before now (printed r)
 
 -- ---- the report
 

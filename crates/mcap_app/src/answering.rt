@@ -1,12 +1,13 @@
 //! The answer to a recording: what standard error is told, and the status.
 ghost use Rattle.std.specs.List.{list_any};
-ghost use Rattle.std.specs.Prelude.{◌≡◌, ◌⊎◌, ◌≤◌, ◌++◌, Some, None, true, map, IfOk, OnOk, OnErr};
-ghost use Rattle.mcap_io.specs.Outside.{Rose, Adds};
-ghost use Rattle.mcap_app.specs.Texts.{trouble_of, said};
-ghost use Rattle.mcap_app.specs.Answer.{Tells, Complained, Answers, AnswersMemory, Failed};
+ghost use Rattle.std.specs.Prelude.{◌≡◌, ◌↔◌, ◌++◌, true, map, IfOk, OnOk};
+ghost use Rattle.mcap_io.specs.Outside.{Rose};
+ghost use Rattle.mcap_app.specs.Texts.{trouble_of, said, status_of};
+ghost use Rattle.mcap_app.specs.Printing.{Tells};
+ghost use Rattle.mcap_app.specs.Answer.{Answers, LacksMemory, Failed};
 ghost use Rattle.mcap_app.specs.Run.{AnyRose, Causes, EndOf, NamesMemory, Refuses, is_memory, when, troubles_of};
 
-use crate::complaint::{BAD_WORDS, Complaint, say, status};
+use crate::complaint::{BAD_WORDS, Complaint, NO_MEMORY, say, status};
 use crate::faults::{Counts, rose};
 use mcap_io::{Sink, write_all_of};
 use mcap_wire::Memory;
@@ -83,8 +84,9 @@ fn complaints_of<'a>(
     feed: &'a str,
     end: Option<FeedEnd>,
     failed: Failures,
+    lacked: bool,
 ) -> Result<Vec<Complaint<'a>>, Memory>
-    ensures { IfOk result (λ all. map trouble_of all.items ≡ troubles_of out.now feed.now end failed) }
+    ensures { IfOk result (λ all. map trouble_of all.items ≡ troubles_of out.now feed.now end failed lacked) }
 {
     let mut all = Vec::new(alloc);
     match end {
@@ -99,6 +101,7 @@ fn complaints_of<'a>(
     push_when(&mut all, failed.feed, Complaint::Fault { name: feed })?;
     push_when(&mut all, failed.out, Complaint::Fault { name: out })?;
     push_when(&mut all, failed.printing, Complaint::OutputFault)?;
+    push_when(&mut all, lacked, Complaint::NoMemory)?;
     Ok(all)
 }
 
@@ -121,7 +124,7 @@ fn has_lacked(refused: &[Refused]) -> bool
 
 // Whether the feed's report or the end of the file names a want of memory.
 fn names_memory(feed: &FeedReport, end: End) -> bool
-    ensures { NamesMemory feed.now end → result ≡ true }
+    ensures { NamesMemory feed.now end ↔ (result ≡ true) }
 {
     let lacked = has_lacked(&feed.refused);
     match (feed.end, end) {
@@ -133,7 +136,7 @@ fn names_memory(feed: &FeedReport, end: End) -> bool
 
 // Whether memory lacked: the report names it, or there is no report though nothing failed.
 fn lacks_memory(report: &Option<Report>, failed: Failures) -> bool
-    ensures { AnswersMemory report.now failed result }
+    ensures { LacksMemory report.now failed result }
 {
     match report {
         Some(report) => match report.feeds.as_slice() {
@@ -144,61 +147,50 @@ fn lacks_memory(report: &Option<Report>, failed: Failures) -> bool
     }
 }
 
-// Writes the lines of the complaints to standard error. That it fails changes nothing.
-fn tell<E: Sink>(alloc: Global, err: &mut E, complaints: &[Complaint<'_>]) -> Result<(), Memory>
-    ensures { Tells (E.took err.old) (E.took err.new) (E.faults err.old) (E.faults err.new) (said (map trouble_of complaints.now)) result }
+// Writes the text to standard error. That it fails changes nothing.
+fn tell<E: Sink>(err: &mut E, text: &[u8])
+    ensures { Tells (E.took err.old) (E.took err.new) (E.faults err.old) (E.faults err.new) text.now }
 {
-    match say(alloc, complaints) {
-        Ok(text) => {
-            match write_all_of(err, &text) {
-                Ok(()) => return Ok(()),
-                Err(_) => return Ok(()),
-            }
-        }
-        Err(_) => return Err(Memory),
+    match write_all_of(err, text) {
+        Ok(()) => {}
+        Err(_) => {}
     }
 }
 
-// Complains of a recording, and says the status that it ends with.
-fn complain<E: Sink>(
+// What standard error is to be told, and the status that goes with it.
+#[derive(Drop)]
+struct Told {
+    text: Vec<u8>,
+    status: u8,
+}
+
+// Makes the text of the complaints of a recording.
+fn compose(
     alloc: Global,
-    err: &mut E,
     out: &str,
     feed: &str,
     end: Option<FeedEnd>,
     failed: Failures,
-) -> Result<u8, Memory>
-    ensures { Complained (E.took err.old) (E.took err.new) (E.faults err.old) (E.faults err.new) (troubles_of out.now feed.now end failed) result }
+    lacked: bool,
+) -> Result<Told, Memory>
+    ensures text { IfOk result (λ told. told.text.items ≡ said (troubles_of out.now feed.now end failed lacked)) }
+    ensures status { IfOk result (λ told. told.status ≡ status_of (troubles_of out.now feed.now end failed lacked)) }
 {
-    let complaints = complaints_of(alloc, out, feed, end, failed)?;
-    match tell(alloc, err, &complaints) {
-        Ok(()) => return Ok(status(&complaints)),
-        Err(_) => return Err(Memory),
-    }
-}
-
-// Says that memory lacked. It takes none.
-fn tell_no_memory<E: Sink>(err: &mut E)
-    ensures { E.faults err.old ≤ E.faults err.new }
-{
-    match write_all_of(err, b"mcaprec: no memory\n") {
-        Ok(()) => {}
-        Err(_) => {}
-    }
+    let complaints = complaints_of(alloc, out, feed, end, failed, lacked)?;
+    let text = say(alloc, &complaints)?;
+    let status = status(&complaints);
+    Ok(Told { text, status })
 }
 
 /// Complains of words that are no command. It takes no memory.
-#[tactic(auto, unfolding(crate::specs::Texts::line_of))]
 pub fn refuse_words<E: Sink>(err: &mut E)
     ensures { Refuses (E.took err.old) (E.took err.new) (E.faults err.old) (E.faults err.new) }
 {
-    match write_all_of(err, BAD_WORDS.as_bytes()) {
-        Ok(()) => {}
-        Err(_) => {}
-    }
+    tell(err, BAD_WORDS.as_bytes());
 }
 
-/// Complains of what went wrong in a recording, and answers the status.
+/// Complains of what went wrong in a recording, and answers the status. The text is made first and written in one
+/// call; where memory lacks for making it, that memory lacked is all that is told.
 pub fn answer<E: Sink>(
     alloc: Global,
     err: &mut E,
@@ -210,12 +202,100 @@ pub fn answer<E: Sink>(
     ensures { Answers out.now feed.now report.now failed (E.took err.old) (E.took err.new) (E.faults err.old) (E.faults err.new) result }
 {
     let end = end_of(report);
-    let lacks = lacks_memory(report, failed);
-    match complain(alloc, err, out, feed, end, failed) {
-        Ok(status) if !lacks => return status,
-        _ => {
-            tell_no_memory(err);
+    let lacked = lacks_memory(report, failed);
+    match compose(alloc, out, feed, end, failed, lacked) {
+        Ok(told) => {
+            tell(err, &told.text);
+            return told.status;
+        }
+        Err(_) => {
+            tell(err, NO_MEMORY.as_bytes());
             return 5;
         }
+    }
+}
+
+#[cfg(test)]
+mod tests {
+    use super::*;
+    use mcap_io::{FailingWrite, MemorySink};
+    use recorder::WriterReport;
+    use std::alloc::AllocError;
+    use std::test::Fail;
+
+    const NO_FAILURE: Failures = Failures {
+        feed: false,
+        out: false,
+        printing: false,
+    };
+
+    const FEED_FAILURE: Failures = Failures {
+        feed: true,
+        out: false,
+        printing: false,
+    };
+
+    // A report of a feed that ended for want of memory.
+    fn lacking(alloc: Global) -> Result<Report, AllocError> {
+        let feed = FeedReport {
+            accepted: Vec::new(alloc),
+            declared: Vec::new(alloc),
+            refused: Vec::new(alloc),
+            passed: 0,
+            end: FeedEnd::Memory,
+        };
+        let writer = WriterReport {
+            records: 0,
+            blocks: 0,
+            bytes: 84,
+            end: End::Closed,
+        };
+        let feeds = vec![in alloc; feed]?;
+        Ok(Report { feeds, writer })
+    }
+
+    // The line of the feed's fault has 20 bytes.
+    #[test]
+    fn a_want_of_memory_is_told_last_and_in_one_write(rt: HostRuntime) -> Result<(), Fail> {
+        let table: [(Failures, &[FailingWrite], &str); 6] = [
+            (NO_FAILURE, &[], "mcaprec: no memory\n"),
+            (NO_FAILURE, &[FailingWrite { call: 0, taken: 5 }], "mcapr"),
+            (
+                FEED_FAILURE,
+                &[],
+                "mcaprec: \"F\": fault\nmcaprec: no memory\n",
+            ),
+            (FEED_FAILURE, &[FailingWrite { call: 0, taken: 4 }], "mcap"),
+            (
+                FEED_FAILURE,
+                &[FailingWrite { call: 0, taken: 25 }],
+                "mcaprec: \"F\": fault\nmcapr",
+            ),
+            (
+                FEED_FAILURE,
+                &[FailingWrite { call: 1, taken: 0 }],
+                "mcaprec: \"F\": fault\nmcaprec: no memory\n",
+            ),
+        ];
+        for (row, (failed, failing, want)) in table.into_iter().enumerate() {
+            let alloc = rt.alloc();
+            let report = Some(lacking(alloc)?);
+            let mut err = MemorySink::new(alloc, Vec::from_slice(alloc, failing)?);
+            let status = answer(alloc, &mut err, "OUT", "F", &report, failed);
+            assert_eq!(rt; status, 5, "row {row}");
+            assert_eq!(rt; err.bytes(), want.as_bytes(), "row {row}");
+        }
+        Ok(())
+    }
+
+    #[test]
+    fn a_report_that_is_missing_though_nothing_failed_is_a_want_of_memory(
+        rt: HostRuntime,
+    ) -> Result<(), Fail> {
+        let mut err = MemorySink::new(rt.alloc(), Vec::new(rt.alloc()));
+        let status = answer(rt.alloc(), &mut err, "OUT", "F", &None, NO_FAILURE);
+        assert_eq!(rt; status, 5);
+        assert_eq!(rt; err.bytes(), "mcaprec: no memory\n".as_bytes());
+        Ok(())
     }
 }

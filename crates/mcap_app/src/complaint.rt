@@ -12,6 +12,9 @@ use std::alloc::{AllocError, Global};
 pub(crate) const BAD_WORDS: &str =
     "mcaprec: bad words\nusage: mcaprec\n  record --plain OUT FEED\n";
 
+/// What standard error is told of a want of memory.
+pub(crate) const NO_MEMORY: &str = "mcaprec: no memory\n";
+
 /// A trouble, with the name of the file that it is about. Offsets count from the file's first byte.
 #[derive(Clone, Copy, Debug, PartialEq, Eq)]
 pub enum Complaint<'a> {
@@ -57,7 +60,7 @@ fn complaint_line(alloc: Global, complaint: &Complaint<'_>) -> Result<String, Al
             let name = quoted_name(alloc, name)?;
             format!(in alloc; "mcaprec: {name}: not built at {offset}\n")
         }
-        Complaint::NoMemory => String::from_str(alloc, "mcaprec: no memory\n"),
+        Complaint::NoMemory => String::from_str(alloc, NO_MEMORY),
     }
 }
 

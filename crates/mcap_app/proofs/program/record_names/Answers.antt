@@ -1,4 +1,4 @@
-use Rattle.std.proofs.Common.{◌≡◌, ◌∙◌, ℕ, None, sym, ap, arith}
+use Rattle.std.proofs.Common.{◌∙◌, ℕ, ap, arith}
 use Rattle.mcap_io.specs.Outside.{added}
 use Rattle.mcap_app.proofs.Runs.{added_nothing, failed_since, named, unnamed}
 use Rattle.mcap_app.specs.declared.answering.Outcome.{Outcome}
