@@ -184,37 +184,37 @@ good_status bytes tops others left end good read = elim (good_read bytes tops ot
 ]
 
 -- a good feed is recorded
-complete : (feed : List ℕ) (before now : Counts) (names : Option Names) (report : Option Report) (history : List Rec) (answer : ℕ)
-    → ((r : Report) → report ≡ Some r → Reported feed names before.inputs now.inputs before.outputs now.outputs history r) → EndsWith before now report answer
+complete : (feed : List ℕ) (before now : Counts) (names : Option Names) (left : Option (List ℕ)) (report : Option Report) (history : List Rec) (answer : ℕ)
+    → ((r : Report) → report ≡ Some r → Reported feed names left before.inputs now.inputs before.outputs now.outputs history r) → EndsWith before now report answer
     → (all : Names) (bytes : List ℕ) (tops : List Top) → names ≡ Some all → all feed ≡ Some bytes → Stops bytes tops feed_ends.Done → (AnyRose before now → ⊥) → (answer ≡ 0) ⊎ (answer ≡ 5)
-complete feed before now names None history answer reported ends all bytes tops told there good quiet = inr (ends.no_report quiet refl)
-complete feed before now names (Some r) history answer reported ends all bytes tops told there good quiet =
+complete feed before now names left None history answer reported ends all bytes tops told there good quiet = inr (ends.no_report quiet refl)
+complete feed before now names left (Some r) history answer reported ends all bytes tops told there good quiet =
     let here = reported r refl in
     let read = here.read all bytes told there in
     elim (ends.calm quiet r here.only refl here.one_feed) [
-      | inl status ↦ inl (status ∙ good_status bytes tops here.tops read.0 here.only.end good read.1)
+      | inl status ↦ inl (status ∙ good_status bytes tops here.tops left here.only.end good read)
       | inr five ↦ inr five
     ]
 
 -- all that the program promises of a recording
-pub recorded : (out feed : List ℕ) (names names_now : Option Names) (before now : Counts) (took took_now told_before told_now : Option (List ℕ)) (errors errors_now : ℕ) (report : Option Report) (failed : Failures) (answer : ℕ)
-    → NamesRecorded out feed before.world now.world before.inputs now.inputs before.outputs now.outputs names names_now report
+pub recorded : (out feed : List ℕ) (names names_now : Option Names) (left left_now : Option (List ℕ)) (before now : Counts) (took took_now told_before told_now : Option (List ℕ)) (errors errors_now : ℕ) (report : Option Report) (failed : Failures) (answer : ℕ)
+    → NamesRecorded out feed before.world now.world before.inputs now.inputs before.outputs now.outputs names names_now left_now report
     → PrintsReport took took_now before.printing now.printing report
     → Answers out feed report failed told_before told_now errors errors_now answer → Causes before now failed → (AnyRose before now → Failed failed)
-    → Records out feed (scene names before took told_before errors) (scene names_now now took_now told_now errors_now) report answer
-recorded out feed names names_now before now took took_now told_before told_now errors errors_now report failed answer made prints a causes any_failed =
+    → Records out feed (scene names left before took told_before errors) (scene names_now left_now now took_now told_now errors_now) report answer
+recorded out feed names names_now left left_now before now took took_now told_before told_now errors errors_now report failed answer made prints a causes any_failed =
     let ends = ended out feed before now report failed told_before told_now errors errors_now answer a causes any_failed in
     record {
       history = made.history;
       names = made.names;
       reported = made.reported;
       untouched = made.untouched;
-      unread = made.unread;
+      unfailed = made.unfailed;
       printed = prints;
       said = told out feed before now report failed told_before told_now errors errors_now answer a causes any_failed;
       ended = ends;
-      complete = complete feed before now names report made.history answer made.reported ends;
-      whole = whole feed names before now made.history report answer made.reported ends;
+      complete = complete feed before now names left_now report made.history answer made.reported ends;
+      whole = whole feed names left_now before now made.history report answer made.reported ends;
     }
 
 -- the status of a recording is not that of bad words

@@ -47,7 +47,7 @@ reported : (feed : List ℕ) (names : Option Names) (left after held held_after 
     (feed_before feed_now live_before live_now inputs inputs_now outputs outputs_now : ℕ) (r : Report)
     → (made : Recorded left after feed_before feed_now held held_after live_before live_now r)
     → TellsName names feed left → feed_before ≡ 0 → inputs < 2 ^ 64 → inputs_now ≡ added inputs feed_now → live_before ≡ 0 → outputs < 2 ^ 64 → outputs_now ≡ added outputs live_now
-    → Reported feed names inputs inputs_now outputs outputs_now made.history r
+    → Reported feed names after inputs inputs_now outputs outputs_now made.history r
 reported feed names left after held held_after feed_before feed_now live_before live_now inputs inputs_now outputs outputs_now r made tells unused inputs_fit inputs_is new outputs_fit outputs_is = record {
   only = made.feed;
   one_feed = made.only;
@@ -55,7 +55,8 @@ reported feed names left after held held_after feed_before feed_now live_before 
   lists = made.reported;
   records = made.writer.records;
   blocks = made.writer.blocks;
-  read = λ all bytes told is. (after, made.ended.read bytes ((tells all told).0 ∙ is));
+  bytes = made.writer.bytes;
+  read = λ all bytes told is. made.ended.read bytes ((tells all told).0 ∙ is);
   there = λ all told. (tells all told).1;
   feed_fault = λ faults is.
       let why = feed_caused feed_before feed_now made.feed.end faults made.ended.cause is in
@@ -138,9 +139,9 @@ pub added_nothing : (total sum now : ℕ) → now ≡ 0 → total < 2 ^ 64 → s
 added_nothing total sum now none fits is = omega arith
 
 -- there was no recording, and the names are as they were
-pub unnamed : (out feed : List ℕ) (names names_now : Option Names) (before now inputs inputs_now outputs outputs_now : ℕ) (report : Option Report)
-    → report ≡ None → names_now ≡ names → inputs_now ≡ inputs → outputs_now ≡ outputs → NamesRecorded out feed before now inputs inputs_now outputs outputs_now names names_now report
-unnamed out feed names names_now before now inputs inputs_now outputs outputs_now report none same inputs_same outputs_same = record {
+pub unnamed : (out feed : List ℕ) (names names_now : Option Names) (left : Option (List ℕ)) (before now inputs inputs_now outputs outputs_now : ℕ) (report : Option Report)
+    → report ≡ None → names_now ≡ names → inputs_now ≡ inputs → outputs_now ≡ outputs → NamesRecorded out feed before now inputs inputs_now outputs outputs_now names names_now left report
+unnamed out feed names names_now left before now inputs inputs_now outputs outputs_now report none same inputs_same outputs_same = record {
   history = [];
   names = λ all told. (
     all,
@@ -154,38 +155,39 @@ unnamed out feed names names_now before now inputs inputs_now outputs outputs_no
   );
   reported = λ r here. absurd (none_some r (sym none ∙ here));
   untouched = λ all now_names told told_now missing. ap (λ (there : Names). there out) (same_names now_names all (sym told_now ∙ same ∙ told));
-  unread = λ still. (inputs_same, outputs_same);
+  unfailed = λ still. (inputs_same, outputs_same);
 }
 
 -- what a recording into a new store left, with its report or without one
-pub named : (out feed : List ℕ) (names names_now : Option Names) (left after held held_after : Option (List ℕ))
+pub named : (out feed : List ℕ) (names names_now : Option Names) (unread left after held held_after : Option (List ℕ))
     (feed_before feed_now live_before live_now before now inputs inputs_now outputs outputs_now : ℕ) (report : Option Report) (result : Result Unit Failed)
     → (report ≡ None → (held_after ≡ held) × (feed_now ≡ feed_before) × (live_now ≡ live_before))
     → ((r : Report) → report ≡ Some r → Recorded left after feed_before feed_now held held_after live_before live_now r)
     → TellsName names feed left → feed_before ≡ 0 → inputs < 2 ^ 64 → inputs_now ≡ added inputs feed_now
     → ((all : Names) → names ≡ Some all → held ≡ Some []) → live_before ≡ 0 → outputs < 2 ^ 64 → outputs_now ≡ added outputs live_now
-    → KeepsUnder names names_now out held_after result → OnErr result (Rose before now)
-    → NamesRecorded out feed before now inputs inputs_now outputs outputs_now names names_now report
-named out feed names names_now left after held held_after feed_before feed_now live_before live_now before now inputs inputs_now outputs outputs_now None result same made tells unused inputs_fit inputs_is empty new outputs_fit outputs_is keeps failed = record {
+    → KeepsUnder names names_now out held_after result → OnErr result (Rose before now) → unread ≡ after
+    → NamesRecorded out feed before now inputs inputs_now outputs outputs_now names names_now unread report
+named out feed names names_now unread left after held held_after feed_before feed_now live_before live_now before now inputs inputs_now outputs outputs_now None result same made tells unused inputs_fit inputs_is empty new outputs_fit outputs_is keeps failed returned = record {
   history = [];
   names = leaves out before now None [] names names_now held_after result keeps failed
       (λ all told. ([], (same refl).0 ∙ empty all told, (file_of [] [], refl), λ r here. absurd (none_some r here), λ none. refl));
   reported = λ r here. absurd (none_some r here);
   untouched = λ all now_names told told_now missing. not_missing (all feed) (now_names out ≡ all out) (tells all told).1 missing;
-  unread = λ none. (
+  unfailed = λ none. (
     added_nothing inputs inputs_now feed_now ((same refl).1 ∙ unused) inputs_fit inputs_is,
     added_nothing outputs outputs_now live_now ((same refl).2 ∙ new) outputs_fit outputs_is,
   );
 }
-named out feed names names_now left after held held_after feed_before feed_now live_before live_now before now inputs inputs_now outputs outputs_now (Some r) result same made tells unused inputs_fit inputs_is empty new outputs_fit outputs_is keeps failed =
+named out feed names names_now unread left after held held_after feed_before feed_now live_before live_now before now inputs inputs_now outputs outputs_now (Some r) result same made tells unused inputs_fit inputs_is empty new outputs_fit outputs_is keeps failed returned =
     let all_made = made r refl in record {
       history = all_made.history;
       names = leaves out before now (Some r) all_made.history names names_now held_after result keeps failed
           (λ all told.
           let there = written_there held held_after left after feed_before feed_now live_before live_now r all_made (empty all told) in
           (there.0, there.1, there.2, λ s here. subst (λ (x : Report). WrittenSoFar there.0 all_made.history x.writer.end x.writer.bytes) (same_report r s here) there.3, λ none. absurd (none_some r (sym none))));
-      reported = λ s here. subst (λ (x : Report). Reported feed names inputs inputs_now outputs outputs_now all_made.history x) (same_report r s here)
-          (reported feed names left after held held_after feed_before feed_now live_before live_now inputs inputs_now outputs outputs_now r all_made tells unused inputs_fit inputs_is new outputs_fit outputs_is);
+      reported = λ s here. subst (λ (x : Report). Reported feed names unread inputs inputs_now outputs outputs_now all_made.history x) (same_report r s here)
+          (subst (λ (l : Option (List ℕ)). Reported feed names l inputs inputs_now outputs outputs_now all_made.history r) (sym returned)
+          (reported feed names left after held held_after feed_before feed_now live_before live_now inputs inputs_now outputs outputs_now r all_made tells unused inputs_fit inputs_is new outputs_fit outputs_is));
       untouched = λ all now_names told told_now missing. not_missing (all feed) (now_names out ≡ all out) (tells all told).1 missing;
-      unread = λ none. absurd (none_some r (sym none));
+      unfailed = λ none. absurd (none_some r (sym none));
     }

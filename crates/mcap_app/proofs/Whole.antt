@@ -53,12 +53,12 @@ lacked_at refused k x at is =
     let same : get_or refused k x ≡ x = get_or_from_slice_get refused k x x at in
     list_any_at (λ (y : Refused). is_memory y.cause) refused k x (slice_get_within refused k x at) (ap (λ (y : Refused). is_memory y.cause) same ∙ ap is_memory is)
 
-pub whole : (feed : List ℕ) (names : Option Names) (before now : Counts) (history : List Rec) (report : Option Report) (answer : ℕ)
-    → ((r : Report) → report ≡ Some r → Reported feed names before.inputs now.inputs before.outputs now.outputs history r) → EndsWith before now report answer
+pub whole : (feed : List ℕ) (names : Option Names) (left : Option (List ℕ)) (before now : Counts) (history : List Rec) (report : Option Report) (answer : ℕ)
+    → ((r : Report) → report ≡ Some r → Reported feed names left before.inputs now.inputs before.outputs now.outputs history r) → EndsWith before now report answer
     → answer ≡ 0 → (r : Report) × (report ≡ Some r) × RecordsAll r
-whole feed names before now history None answer reported came is =
+whole feed names left before now history None answer reported came is =
     absurd (let five = came.no_report (calm before now None answer came is) refl in omega arith)
-whole feed names before now history (Some r) answer reported came is =
+whole feed names left before now history (Some r) answer reported came is =
     let quiet = calm before now (Some r) answer came is in
     let here = reported r refl in
     let f = here.only in

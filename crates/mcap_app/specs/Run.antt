@@ -15,7 +15,7 @@ use Rattle.rec_data.specs.declared.owned.Rec.{Rec}
 use Rattle.recorder.specs.declared.report.Cause.{Cause}
 use Rattle.recorder.specs.declared.report.Cause.TheVariants as causes
 use Rattle.recorder.specs.Feed.{Top, FeedRead, Stops}
-use Rattle.recorder.specs.File.{file_of, IsPrefix, WrittenSoFar}
+use Rattle.recorder.specs.File.{file_of, IsPrefix, TookBytes, WrittenSoFar}
 use Rattle.recorder.specs.Recorded.{FeedReported, IsOnlyFeed}
 use Rattle.mcap_app.specs.Printing.{Tells}
 use Rattle.mcap_app.specs.Texts.{Trouble, bad_words, fault, output_fault, grammar, not_built, no_memory, printed, said, status_of}
@@ -141,15 +141,17 @@ PrintsReport old new before now (Some r) = Tells old new before now (printed r)
 -- ---- the report
 
 -- What the report says: its feed has these records, which its lists and this history fit; and each fault has its cause.
-pub record Reported (feed : List ℕ) (names : Option Names) (inputs_before inputs_now outputs_before outputs_now : ℕ) (history : List Rec) (r : Report) : Type 0 where
+pub record Reported (feed : List ℕ) (names : Option Names) (left : Option (List ℕ)) (inputs_before inputs_now outputs_before outputs_now : ℕ) (history : List Rec) (r : Report) : Type 0 where
   pub only : FeedReport
   pub one_feed : IsOnlyFeed r only
   pub tops : List Top
   pub lists : FeedReported tops history only r.writer
   pub records : r.writer.records ≡ length history
   pub blocks : r.writer.blocks ≡ 0
-  -- where the world tells its names, the records are those of the bytes under the feed's name
-  pub read : (all : Names) (bytes : List ℕ) → names ≡ Some all → all feed ≡ Some bytes → (left : Option (List ℕ)) × FeedRead bytes tops left only.end
+  -- in whole pieces of the file, wherever it was written to
+  pub bytes : TookBytes history r.writer.end r.writer.bytes
+  -- where the world tells its names, the records are those of the bytes under the feed's name that its source gave
+  pub read : (all : Names) (bytes : List ℕ) → names ≡ Some all → all feed ≡ Some bytes → FeedRead bytes tops left only.end
   -- the feed's name is there
   pub there : (all : Names) → names ≡ Some all → IsSome (all feed)
   -- a fault that is reported is one by which the count rose
@@ -157,12 +159,12 @@ pub record Reported (feed : List ℕ) (names : Option Names) (inputs_before inpu
   pub writer_fault : (faults : ℕ) → r.writer.end ≡ ends.Stopped (stops.Fault faults) → Rose outputs_before outputs_now × (outputs_now ≡ added outputs_before faults)
 
 -- what a recording did to the world's names and counts
-pub record NamesRecorded (out feed : List ℕ) (before now inputs_before inputs_now outputs_before outputs_now : ℕ) (old new : Option Names) (report : Option Report) : Type 0 where
+pub record NamesRecorded (out feed : List ℕ) (before now inputs_before inputs_now outputs_before outputs_now : ℕ) (old new : Option Names) (left : Option (List ℕ)) (report : Option Report) : Type 0 where
   pub history : List Rec
   pub names : Leaves out before now report history old new
-  pub reported : (r : Report) → report ≡ Some r → Reported feed old inputs_before inputs_now outputs_before outputs_now history r
+  pub reported : (r : Report) → report ≡ Some r → Reported feed old left inputs_before inputs_now outputs_before outputs_now history r
   pub untouched : (all now : Names) → old ≡ Some all → new ≡ Some now → all feed ≡ None → now out ≡ all out
-  pub unread : report ≡ None → (inputs_now ≡ inputs_before) × (outputs_now ≡ outputs_before)
+  pub unfailed : report ≡ None → (inputs_now ≡ inputs_before) × (outputs_now ≡ outputs_before)
 
 -- the whole feed was recorded: its Data End was read, none of its messages was refused, and the file was closed
 pub record RecordsAll (r : Report) : Type 0 where
@@ -174,16 +176,17 @@ pub record RecordsAll (r : Report) : Type 0 where
 
 -- ---- a command
 
--- what the world and both outputs tell, and how often they have failed
+-- what the world, the source that it took back last and both outputs tell, and how often they have failed
 pub record Scene : Type 0 where
   pub names : Option Names
+  pub left : Option (List ℕ)
   pub counts : Counts
   pub printed : Option (List ℕ)
   pub told : Option (List ℕ)
   pub errors : ℕ
 
-abbrev pub scene : Option Names → Counts → Option (List ℕ) → Option (List ℕ) → ℕ → Scene
-scene names counts printed told errors = record { names = names; counts = counts; printed = printed; told = told; errors = errors }
+abbrev pub scene : Option Names → Option (List ℕ) → Counts → Option (List ℕ) → Option (List ℕ) → ℕ → Scene
+scene names left counts printed told errors = record { names = names; left = left; counts = counts; printed = printed; told = told; errors = errors }
 
 -- what `record --plain` does
 pub record Records (out feed : List ℕ) (old new : Scene) (report : Option Report) (answer : ℕ) : Type 0 where
@@ -192,11 +195,11 @@ pub record Records (out feed : List ℕ) (old new : Scene) (report : Option Repo
   -- the file is that of the history, and all else stays
   pub names : Leaves out old.counts.world new.counts.world report history old.names new.names
   -- the feed and the report give the history, and what the report says has its cause
-  pub reported : (r : Report) → report ≡ Some r → Reported feed old.names old.counts.inputs new.counts.inputs old.counts.outputs new.counts.outputs history r
+  pub reported : (r : Report) → report ≡ Some r → Reported feed old.names new.left old.counts.inputs new.counts.inputs old.counts.outputs new.counts.outputs history r
   -- where the feed isn't there, the output's name holds what it held
   pub untouched : (all now : Names) → old.names ≡ Some all → new.names ≡ Some now → all feed ≡ None → now out ≡ all out
   -- without a report no source and no store failed
-  pub unread : report ≡ None → (new.counts.inputs ≡ old.counts.inputs) × (new.counts.outputs ≡ old.counts.outputs)
+  pub unfailed : report ≡ None → (new.counts.inputs ≡ old.counts.inputs) × (new.counts.outputs ≡ old.counts.outputs)
   -- standard output is told of the report
   pub printed : PrintsReport old.printed new.printed old.counts.printing new.counts.printing report
   -- standard error is told of the troubles
