@@ -78,22 +78,22 @@ const TIMES: &[u8] = b"\x01\0\0\0\x0a\0\0\0\0\0\0\0\x09\0\0\0\0\0\0\0";
 fn the_longest_message_is_recorded(rt: HostRuntime) -> Result<(), Fail> {
     let alloc = rt.alloc();
     let payload = vec![in alloc; 0xa5u8; 33_554_432]?;
-    let said = joined(alloc, &[b"\x05\x16\0\0\x02\0\0\0\0\x07\0", TIMES, &payload])?;
-    let one = joined(alloc, &[b"\x05\x16\0\0\x02\0\0\0\0\x01\0", TIMES, &payload])?;
-    let feed = feed_of(alloc, &[CHANNEL, &said, SECOND_MESSAGE])?;
-    let records: [&[u8]; 3] = [CHANNEL_1, &one, SECOND_MESSAGE_1];
-    let _ran = record_feed(&rt, &feed, NOTHING, 2, &records, FeedEnd::Done)?;
-    Ok(())
-}
-
-// The same with one byte of data more isn't built: the Channel ends at 61.
-#[test]
-fn a_message_longer_by_one_byte_is_not_built(rt: HostRuntime) -> Result<(), Fail> {
-    let alloc = rt.alloc();
-    let payload = vec![in alloc; 0xa5u8; 33_554_433]?;
-    let said = joined(alloc, &[b"\x05\x17\0\0\x02\0\0\0\0\x07\0", TIMES, &payload])?;
-    let feed = feed_of(alloc, &[CHANNEL, &said, SECOND_MESSAGE])?;
-    let end = FeedEnd::NotBuilt { offset: 61 };
-    let _ran = record_feed(&rt, &feed, NOTHING, 0, NONE_RECORDED, end)?;
+    let said = joined(alloc, &[b"\x05\x16\0\0\x02\0\0\0\0\x07\0", TIMES])?;
+    let feed = feed_of(alloc, &[CHANNEL, &said, &payload, SECOND_MESSAGE])?;
+    let one = joined(alloc, &[b"\x05\x16\0\0\x02\0\0\0\0\x01\0", TIMES])?;
+    let file = joined(
+        alloc,
+        &[FRONT, CHANNEL_1, &one, &payload, SECOND_MESSAGE_1, BACK],
+    )?;
+    let ran = run_in_memory(&rt, WORDS, &feed, NOTHING)?;
+    let wanted = Wanted {
+        status: 0,
+        has_report: true,
+        out: "feed 1 accepted=2 refused=0 passed=0 end\n\
+            file records=3 blocks=0 bytes=33554606 closed\n",
+        err: "",
+        file: &file,
+    };
+    expect(&rt, &ran, &feed, &wanted);
     Ok(())
 }
