@@ -1,6 +1,9 @@
 -- What the calls on sources, sinks, stores and worlds do to the bytes that these tell, and when one may fail.
-use Rattle.std.specs.Prelude.{◌≡◌, ◌⊎◌, ℕ, ◌+◌, ◌-◌, ◌^◌, ◌<◌, ◌≤◌, min, List, [], ◌++◌, length, take, drop, Option, Some, IsSome, Result, Ok, Err, OnErr}
+use Rattle.std.specs.Prelude.{◌≡◌, ◌⊎◌, ℕ, ◌+◌, ◌-◌, ◌^◌, ◌<◌, ◌≤◌, min, List, [], ◌∷◌, ◌++◌, length, take, drop, Bool, true, false, Option, Some, IsSome, Result, Ok, Err, OnErr}
+use Rattle.std.specs.Option.{option_map}
 use Rattle.mcap_io.specs.declared.outside.Failed.{Failed}
+use Rattle.mcap_io.specs.declared.outside.ObjectKind.{ObjectKind}
+use Rattle.mcap_io.specs.declared.outside.ObjectKind.TheVariants as kinds
 use Rattle.mcap_io.specs.declared.outside.OpenRefused.{OpenRefused}
 use Rattle.mcap_io.specs.declared.outside.OpenRefused.TheVariants as open_refusals
 use Rattle.mcap_io.specs.declared.outside.AppendRefused.{AppendRefused}
@@ -86,6 +89,34 @@ WritesAll old new before now bytes (Err short) = (before ≤ now) × Rose before
 abbrev pub AppendLeaves : Option (List ℕ) → Option (List ℕ) → List ℕ → AppendRefused → Type 0
 AppendLeaves old new bytes (append_refusals.Failed taken) = (taken ≤ length bytes) × Adds old new (take taken bytes)
 AppendLeaves old new bytes append_refusals.Memory = new ≡ old
+
+-- ---- openings
+
+-- an opening: of a source or of a live store, under which name, and whether it gave one
+pub record Opening : Type 0 where
+  pub kind : ObjectKind
+  pub name : List ℕ
+  pub given : Bool
+
+abbrev pub source_under : List ℕ → Bool → Opening
+source_under name given = record { kind = kinds.Source; name = name; given = given }
+
+abbrev pub live_under : List ℕ → Bool → Opening
+live_under name given = record { kind = kinds.Live; name = name; given = given }
+
+-- these openings were made behind the others, where they are told
+abbrev pub also_opened : Option (List Opening) → List Opening → Option (List Opening)
+also_opened opened more = option_map (λ openings. openings ++ more) opened
+
+-- an opening is told unless memory lacked for it
+abbrev pub Opens : {T : Type 0} → Option (List Opening) → Option (List Opening) → (Bool → Opening) → Result T OpenRefused → Type 0
+Opens old new opening (Ok it) = new ≡ also_opened old (opening true ∷ [])
+Opens old new opening (Err open_refusals.Failed) = new ≡ also_opened old (opening false ∷ [])
+Opens old new opening (Err open_refusals.Memory) = new ≡ old
+
+-- where openings are told, this is one of them
+abbrev pub WasMade : Option (List Opening) → Opening → Type 0
+WasMade opened opening = (openings : List Opening) → opened ≡ Some openings → (before behind : List Opening) × (openings ≡ before ++ opening ∷ behind)
 
 -- ---- worlds
 

@@ -1,7 +1,7 @@
 //! The world of files. What a file gives or keeps no clause can say, so its objects tell nothing.
 ghost use Rattle.std.specs.Prelude.{◌≡◌, ◌≤◌, ◌+◌, ◌-◌, ◌^◌, ℕ, List, length, min, [], Ok, Some, None, false, IsTrue, IsErr, IfOk, IfErr, OnOk, OnErr, ◌↔◌};
 ghost use Rattle.mcap_io.specs.Ahead.{ahead, Gives};
-ghost use Rattle.mcap_io.specs.Files.{nothing};
+ghost use Rattle.mcap_io.specs.Files.{nothing, untold};
 ghost use Rattle.mcap_io.specs.Gathered.{Stores};
 ghost use Rattle.mcap_io.specs.Outside.{HasCause, ReadGives, Adds, AppendCause, AppendLeaves, Rose};
 
@@ -219,6 +219,8 @@ impl<R: Files<File = File> + AllocGlobal> World for FileWorld<R> {
     ghost input_faults = { λ w. w.input_faults };
 
     ghost output_faults = { λ w. w.output_faults };
+
+    ghost opened = { λ _. untold };
 
     ghost unread = { λ _. nothing };
 

@@ -7,6 +7,7 @@ mod files;
 mod gather;
 mod memory;
 mod memory_world;
+mod openings;
 mod outside;
 mod stretch;
 mod writer;
@@ -16,8 +17,10 @@ pub use memory::{
     FailingWrite, MemoryLive, MemorySink, MemorySource, Piece, QuietLive, QuietSource,
 };
 pub use memory_world::{MemoryWorld, Plan};
+pub use openings::Opened;
 pub use outside::{
-    AppendRefused, Extent, Failed, LiveStore, OpenRefused, ReadRefused, Short, Sink, Source, World,
+    AppendRefused, Extent, Failed, LiveStore, ObjectKind, OpenRefused, ReadRefused, Short, Sink,
+    Source, World,
 };
 pub use stretch::{read_up_to, write_all_of};
 pub use writer::WriterSink;

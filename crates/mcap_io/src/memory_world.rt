@@ -1,11 +1,12 @@
 //! A world in memory: its names stand in a map.
-ghost use Rattle.std.specs.Prelude.{◌≡◌, Some, OnOk, OnErr};
+ghost use Rattle.std.specs.Prelude.{◌≡◌, Some, [], map, IfOk, OnOk, OnErr};
 ghost use Rattle.std.specs.Option.{option_copied};
-ghost use Rattle.mcap_io.specs.Outside.{OthersSame};
-ghost use Rattle.mcap_io.specs.Standing.{standing, left_unread};
+ghost use Rattle.mcap_io.specs.Outside.{OthersSame, OpenCause, TellsName};
+ghost use Rattle.mcap_io.specs.Standing.{standing, shown, left_unread};
 
 use crate::memory::{Calls, FailingWrite, MemoryLive, MemorySource, QuietSource};
-use crate::outside::{Failed, LiveStore, OpenRefused, Source, World};
+use crate::openings::{Opened, list, make_room};
+use crate::outside::{Failed, LiveStore, ObjectKind, OpenRefused, Source, World};
 use std::alloc::{AllocError, Global};
 use std::collections::BTreeMap;
 
@@ -35,6 +36,7 @@ pub struct MemoryWorld {
     faults: u64,
     input_faults: u64,
     output_faults: u64,
+    opened: Vec<Opened>,
     // what the source that was kept last gave its bytes from
     unread: Option<QuietSource>,
 }
@@ -47,6 +49,7 @@ impl MemoryWorld {
         ensures input_faults { ⟦<MemoryWorld as World>⟧.input_faults result ≡ 0 }
         ensures output_faults { ⟦<MemoryWorld as World>⟧.output_faults result ≡ 0 }
         ensures unread { ⟦<MemoryWorld as World>⟧.unread result ≡ None }
+        ensures opened { ⟦<MemoryWorld as World>⟧.opened result ≡ Some [] }
         ensures openings { (result.openings.failing ≡ plan.openings) × (result.openings.made ≡ 0) }
         ensures keepings { (result.keepings.failing ≡ plan.keepings) × (result.keepings.made ≡ 0) }
         ensures reads { result.reads ≡ plan.reads }
@@ -68,6 +71,7 @@ impl MemoryWorld {
             faults: 0,
             input_faults: 0,
             output_faults: 0,
+            opened: Vec::new(alloc),
             unread: None,
         }
     }
@@ -101,6 +105,55 @@ impl MemoryWorld {
             Some(source) => Some(source.rest()),
             None => None,
         }
+    }
+
+    // A source of a copy of what stands under the name.
+    fn open_source(&mut self, name: &str) -> Result<MemorySource, OpenRefused>
+        ensures tells { IfOk result (λ it. TellsName (Some (standing self.old.entries)) name.now (⟦<MemorySource as Source>⟧.left it)) }
+        ensures unused { IfOk result (λ it. ⟦<MemorySource as Source>⟧.faults it ≡ 0) }
+        ensures cause { OpenCause self.old.faults self.new.faults result }
+        ensures rest { self.new ≡ record self.old { openings = self.new.openings; faults = self.new.faults } }
+    {
+        let fails = self.openings.next_fails();
+        let Some(bytes) = self.entries.get(name) else {
+            self.faults = self.faults.saturating_add(1);
+            return Err(OpenRefused::Failed);
+        };
+        if fails {
+            self.faults = self.faults.saturating_add(1);
+            return Err(OpenRefused::Failed);
+        }
+        let Ok(copy) = Vec::from_slice(self.alloc, bytes) else {
+            return Err(OpenRefused::Memory);
+        };
+        let Ok(reads) = Vec::from_slice(self.alloc, &self.reads) else {
+            return Err(OpenRefused::Memory);
+        };
+        Ok(MemorySource::new(copy, reads))
+    }
+
+    // An empty live store.
+    fn open_live(&mut self) -> Result<MemoryLive, OpenRefused>
+        ensures tells { IfOk result (λ it. ⟦<MemoryLive as LiveStore>⟧.held it ≡ Some []) }
+        ensures unused { IfOk result (λ it. ⟦<MemoryLive as LiveStore>⟧.faults it ≡ 0) }
+        ensures cause { OpenCause self.old.faults self.new.faults result }
+        ensures rest { self.new ≡ record self.old { openings = self.new.openings; faults = self.new.faults } }
+    {
+        if self.openings.next_fails() {
+            self.faults = self.faults.saturating_add(1);
+            return Err(OpenRefused::Failed);
+        }
+        let Ok(appends) = Vec::from_slice(self.alloc, &self.appends) else {
+            return Err(OpenRefused::Memory);
+        };
+        Ok(MemoryLive::new(self.alloc, appends))
+    }
+
+    /// The openings so far, in their order. One that memory lacked for is left out.
+    pub fn opened(&self) -> &[Opened]
+        ensures { Some (map shown result.now) ≡ ⟦<MemoryWorld as World>⟧.opened self.now }
+    {
+        &self.opened
     }
 
     /// How many openings there were.
@@ -147,36 +200,42 @@ impl World for MemoryWorld {
 
     ghost output_faults = { λ w. w.output_faults };
 
+    ghost opened = { λ w. Some (map shown w.opened.items) };
+
     ghost unread = { λ w. left_unread w.unread };
 
     fn source(&mut self, name: &str) -> Result<MemorySource, OpenRefused> {
-        let fails = self.openings.next_fails();
-        let Some(bytes) = self.entries.get(name) else {
-            self.faults = self.faults.saturating_add(1);
-            return Err(OpenRefused::Failed);
+        let Ok(copy) = make_room(self.alloc, &mut self.opened, name) else {
+            return Err(OpenRefused::Memory);
         };
-        if fails {
-            self.faults = self.faults.saturating_add(1);
-            return Err(OpenRefused::Failed);
+        match self.open_source(name) {
+            Ok(source) => {
+                list(&mut self.opened, ObjectKind::Source, copy, true);
+                return Ok(source);
+            }
+            Err(OpenRefused::Failed) => {
+                list(&mut self.opened, ObjectKind::Source, copy, false);
+                return Err(OpenRefused::Failed);
+            }
+            Err(OpenRefused::Memory) => return Err(OpenRefused::Memory),
         }
-        let Ok(copy) = Vec::from_slice(self.alloc, bytes) else {
-            return Err(OpenRefused::Memory);
-        };
-        let Ok(reads) = Vec::from_slice(self.alloc, &self.reads) else {
-            return Err(OpenRefused::Memory);
-        };
-        Ok(MemorySource::new(copy, reads))
     }
 
-    fn live(&mut self, _name: &str) -> Result<MemoryLive, OpenRefused> {
-        if self.openings.next_fails() {
-            self.faults = self.faults.saturating_add(1);
-            return Err(OpenRefused::Failed);
-        }
-        let Ok(appends) = Vec::from_slice(self.alloc, &self.appends) else {
+    fn live(&mut self, name: &str) -> Result<MemoryLive, OpenRefused> {
+        let Ok(copy) = make_room(self.alloc, &mut self.opened, name) else {
             return Err(OpenRefused::Memory);
         };
-        Ok(MemoryLive::new(self.alloc, appends))
+        match self.open_live() {
+            Ok(live) => {
+                list(&mut self.opened, ObjectKind::Live, copy, true);
+                return Ok(live);
+            }
+            Err(OpenRefused::Failed) => {
+                list(&mut self.opened, ObjectKind::Live, copy, false);
+                return Err(OpenRefused::Failed);
+            }
+            Err(OpenRefused::Memory) => return Err(OpenRefused::Memory),
+        }
     }
 
     fn keep_source(&mut self, _name: &str, it: MemorySource) -> Result<(), Failed> {

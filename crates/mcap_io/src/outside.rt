@@ -1,10 +1,17 @@
 //! The traits of the outside, and the answers of their calls.
-ghost use Rattle.std.specs.Prelude.{◌≡◌, ◌<◌, ◌≤◌, ℕ, List, Option, Some, length, take, Ok, IfOk, IfErr};
-ghost use Rattle.mcap_io.specs.Outside.{Names, HasCause, OpenCause, AppendCause, ReadGives, Writes, Adds, AppendLeaves, KeepsUnder, TellsName, TellsNothingYet, added};
+ghost use Rattle.std.specs.Prelude.{◌≡◌, ◌<◌, ◌≤◌, ℕ, List, Option, Some, length, take, true, Ok, IfOk, IfErr};
+ghost use Rattle.mcap_io.specs.Outside.{Names, HasCause, OpenCause, AppendCause, ReadGives, Writes, Adds, AppendLeaves, Opening, Opens, WasMade, source_under, live_under, KeepsUnder, TellsName, TellsNothingYet, added};
 
 /// The outside failed: the count of the object has risen in that call.
 #[derive(Clone, Copy, Debug, PartialEq, Eq)]
 pub struct Failed;
+
+/// What a world opens.
+#[derive(Clone, Copy, Debug, PartialEq, Eq)]
+pub enum ObjectKind {
+    Source,
+    Live,
+}
 
 /// Why an opening was refused.
 #[derive(Clone, Copy, Debug, PartialEq, Eq)]
@@ -130,12 +137,16 @@ pub trait World {
     /// The faults of the live stores that were kept.
     ghost output_faults: { Self → ℕ };
 
+    /// The openings so far, in their order, where the world tells them. One that memory lacked for is left out.
+    ghost opened: { Self → Option (List Opening) };
+
     /// What the source that was kept last has left, where it tells.
     ghost unread: { Self → Option (List ℕ) };
 
     /// Opens what stands under the name. A name that isn't there is a fault.
     fn source(&mut self, name: &str) -> Result<Self::Source, OpenRefused>
         ensures names { names self.new ≡ names self.old }
+        ensures opened { Opens (opened self.old) (opened self.new) (source_under name.now) result }
         ensures tells { IfOk result (λ it. TellsName (names self.old) name.now (Self.Source.left it)) }
         ensures unused { IfOk result (λ it. Self.Source.faults it ≡ 0) }
         ensures input_faults { input_faults self.new ≡ input_faults self.old }
@@ -146,6 +157,7 @@ pub trait World {
     /// Makes an empty live store that is to stand under the name.
     fn live(&mut self, name: &str) -> Result<Self::Live, OpenRefused>
         ensures names { names self.new ≡ names self.old }
+        ensures opened { Opens (opened self.old) (opened self.new) (live_under name.now) result }
         ensures tells { IfOk result (λ it. TellsNothingYet (names self.old) (Self.Live.held it)) }
         ensures unused { IfOk result (λ it. Self.Live.faults it ≡ 0) }
         ensures input_faults { input_faults self.new ≡ input_faults self.old }
@@ -156,14 +168,16 @@ pub trait World {
     /// Takes a source back, after a failure too.
     fn keep_source(&mut self, name: &str, it: Self::Source) -> Result<(), Failed>
         ensures names { names self.new ≡ names self.old }
+        ensures opened { opened self.new ≡ opened self.old }
         ensures input_faults { input_faults self.new ≡ added (input_faults self.old) (Self.Source.faults it) }
         ensures output_faults { output_faults self.new ≡ output_faults self.old }
         ensures unread { unread self.new ≡ Self.Source.left it }
         ensures cause { HasCause (faults self.old) (faults self.new) result };
 
-    /// Takes a live store back, and puts what it holds under the name.
+    /// Takes a live store back, and puts what it holds under the name, which one was opened under.
     fn keep_live(&mut self, name: &str, it: Self::Live) -> Result<(), Failed>
-        ensures keeps { KeepsUnder (names self.old) (names self.new) name.now (Self.Live.held it) result }
+        ensures keeps { WasMade (opened self.old) (live_under name.now true) → KeepsUnder (names self.old) (names self.new) name.now (Self.Live.held it) result }
+        ensures opened { opened self.new ≡ opened self.old }
         ensures input_faults { input_faults self.new ≡ input_faults self.old }
         ensures output_faults { output_faults self.new ≡ added (output_faults self.old) (Self.Live.faults it) }
         ensures unread { unread self.new ≡ unread self.old }

@@ -109,6 +109,20 @@ fn a_world_fails_where_it_is_told_to(rt: HostRuntime) -> Result<(), Fail> {
     }
     assert_eq!(rt; world.bytes("in").ok_or("it is there")?, b"abc".as_slice());
     assert_eq!(rt; (world.openings(), world.keepings()), (5, 3));
+    let openings = [
+        (ObjectKind::Source, "none", false),
+        (ObjectKind::Source, "in", true),
+        (ObjectKind::Live, "out", false),
+        (ObjectKind::Live, "out", true),
+        (ObjectKind::Live, "out", true),
+    ];
+    assert_eq!(rt; world.opened().len(), 5);
+    for (made, (kind, name, given)) in world.opened().iter().zip(openings) {
+        assert_eq!(rt;
+            (made.kind, made.name.as_str(), made.given),
+            (kind, name, given)
+        );
+    }
     assert_eq!(rt;
         (world.faults(), world.input_faults(), world.output_faults()),
         (3, 1, 0)
