@@ -1,7 +1,7 @@
 -- From the parts of a recording to what the program promises of it.
 use Rattle.std.proofs.Common.{◌≡◌, ◌⊎◌, ℕ, Bool, true, false, cond, ◌||◌, List, [], ◌∷◌, Option, Some, None, refl, sym, ap, subst, inl, inr, ◌∙◌, arith}
 use Rattle.std.proofs.lemmas.Bool.{both_ways}
-use Rattle.mcap_io.specs.Outside.{Names}
+use Rattle.mcap_io.specs.Outside.{Opening, Names}
 use Rattle.recorder.specs.declared.report.Report.{Report}
 use Rattle.recorder.specs.declared.report.FeedReport.{FeedReport}
 use Rattle.recorder.specs.declared.report.FeedEnd.{FeedEnd}
@@ -197,15 +197,16 @@ complete feed before now names left (Some r) history answer reported ends all by
     ]
 
 -- all that the program promises of a recording
-pub recorded : (out feed : List ℕ) (names names_now : Option Names) (left left_now : Option (List ℕ)) (before now : Counts) (took took_now told_before told_now : Option (List ℕ)) (errors errors_now : ℕ) (report : Option Report) (failed : Failures) (answer : ℕ)
-    → NamesRecorded out feed before.world now.world before.inputs now.inputs before.outputs now.outputs names names_now left_now report
+pub recorded : (out feed : List ℕ) (names names_now : Option Names) (opened opened_now : Option (List Opening)) (left left_now : Option (List ℕ)) (before now : Counts) (took took_now told_before told_now : Option (List ℕ)) (errors errors_now : ℕ) (report : Option Report) (failed : Failures) (answer : ℕ)
+    → NamesRecorded out feed before.world now.world before.inputs now.inputs before.outputs now.outputs names names_now opened opened_now left_now report
     → PrintsReport took took_now before.printing now.printing report
     → Answers out feed report failed told_before told_now errors errors_now answer → Causes before now failed → (AnyRose before now → Failed failed)
-    → Records out feed (scene names left before took told_before errors) (scene names_now left_now now took_now told_now errors_now) report answer
-recorded out feed names names_now left left_now before now took took_now told_before told_now errors errors_now report failed answer made prints a causes any_failed =
+    → Records out feed (scene names opened left before took told_before errors) (scene names_now opened_now left_now now took_now told_now errors_now) report answer
+recorded out feed names names_now opened opened_now left left_now before now took took_now told_before told_now errors errors_now report failed answer made prints a causes any_failed =
     let ends = ended out feed before now report failed told_before told_now errors errors_now answer a causes any_failed in
     record {
       history = made.history;
+      openings = made.openings;
       names = made.names;
       reported = made.reported;
       untouched = made.untouched;

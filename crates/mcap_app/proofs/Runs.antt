@@ -1,10 +1,13 @@
 -- What a recording says of the world's names and counts.
-use Rattle.std.proofs.Common.{◌≡◌, ◌⊎◌, ℕ, ◌^◌, ◌<◌, ◌≤◌, List, [], Option, Some, None, Result, Ok, Err, refl, sym, ap, subst, inl, inr, ◌∙◌, arith}
-use Rattle.std.specs.Prelude.{IsSome, false}
+use Rattle.std.proofs.Common.{◌≡◌, ◌⊎◌, ℕ, ◌^◌, ◌<◌, ◌≤◌, List, [], ◌∷◌, ◌++◌, append_assoc, Option, Some, None, Result, Ok, Err, refl, sym, ap, subst, inl, inr, ◌∙◌, arith}
+use Rattle.std.specs.Prelude.{IsSome, true, false}
+use Rattle.std.proofs.lemmas.List.{append-nil}
 use Rattle.std.proofs.lemmas.Bool.{both_ways}
 use Rattle.std.specs.Prelude.{OnErr}
-use Rattle.mcap_io.specs.Outside.{Rose, added, Names, TellsName, KeepsUnder, Placed}
+use Rattle.mcap_io.specs.Outside.{Rose, added, Opening, source_under, live_under, also_opened, OpensNot, WasMade, Names, TellsName, KeepsUnder, Placed}
 use Rattle.mcap_io.specs.declared.outside.Failed.{Failed}
+use Rattle.mcap_io.specs.declared.outside.OpenRefused.{OpenRefused}
+use Rattle.mcap_io.specs.declared.outside.OpenRefused.TheVariants as open_refusals
 use Rattle.rec_data.specs.declared.owned.Rec.{Rec}
 use Rattle.recorder.specs.declared.report.Report.{Report}
 use Rattle.recorder.specs.declared.report.FeedEnd.{FeedEnd}
@@ -16,7 +19,7 @@ use Rattle.recorder.specs.Feed.{FeedCause}
 use Rattle.recorder.specs.File.{file_of, IsPrefix, WrittenSoFar, WriterCause}
 use Rattle.recorder.specs.Recorded.{Recorded}
 use Rattle.recorder.proofs.Files.{written_prefix}
-use Rattle.mcap_app.specs.Run.{Reported, Leaves, NamesRecorded}
+use Rattle.mcap_app.specs.Run.{Reported, Leaves, AreOpenings, OpensNames, NamesRecorded}
 
 -- ---- counts
 
@@ -138,11 +141,54 @@ not_missing (Some bytes) A there none = absurd (apart none)
 pub added_nothing : (total sum now : ℕ) → now ≡ 0 → total < 2 ^ 64 → sum ≡ added total now → sum ≡ total
 added_nothing total sum now none fits is = omega arith
 
+none_openings : (openings : List Opening) → None ≡ Some openings → ⊥
+none_openings openings e = cc
+
+same_openings : (a b : List Opening) → Some a ≡ Some b → a ≡ b
+same_openings a b e = cc
+
+-- openings behind openings
+opened_both : (opened : Option (List Opening)) (some more : List Opening) → also_opened (also_opened opened some) more ≡ also_opened opened (some ++ more)
+opened_both None some more = refl
+opened_both (Some openings) some more = ap (λ (l : List Opening). Some l) (append_assoc openings some more)
+
+-- where nothing was opened
+opened_none : (opened : Option (List Opening)) → opened ≡ also_opened opened []
+opened_none None = refl
+opened_none (Some openings) = ap (λ (l : List Opening). Some l) (sym (append-nil openings))
+
+-- the feed wasn't given
+pub no_feed : (out feed : List ℕ) (opened opened_now : Option (List Opening)) (why : OpenRefused) → OpensNot opened opened_now (source_under feed) why → OpensNames out feed None opened opened_now
+no_feed out feed opened opened_now open_refusals.Failed opens = (source_under feed false ∷ [], opens, inr (inl refl))
+no_feed out feed opened opened_now open_refusals.Memory opens = ([], opens ∙ opened_none opened, inl refl)
+
+-- the feed was given, and not the output
+pub no_output : (out feed : List ℕ) (opened middle later opened_now : Option (List Opening)) (why : OpenRefused) → middle ≡ also_opened opened (source_under feed true ∷ []) → OpensNot middle later (live_under out) why → opened_now ≡ later
+    → OpensNames out feed None opened opened_now
+no_output out feed opened middle later opened_now open_refusals.Failed first opens kept = (
+  source_under feed true ∷ live_under out false ∷ [],
+  kept ∙ opens ∙ ap (λ (o : Option (List Opening)). also_opened o (live_under out false ∷ [])) first ∙ opened_both opened (source_under feed true ∷ []) (live_under out false ∷ []),
+  inr (inr (inr (false, refl))),
+)
+no_output out feed opened middle later opened_now open_refusals.Memory first opens kept = (source_under feed true ∷ [], kept ∙ opens ∙ first, inr (inr (inl refl)))
+
+-- both were given
+pub both_opened : (out feed : List ℕ) (opened middle opened_now : Option (List Opening)) → middle ≡ also_opened opened (source_under feed true ∷ []) → opened_now ≡ also_opened middle (live_under out true ∷ [])
+    → opened_now ≡ also_opened opened (source_under feed true ∷ live_under out true ∷ [])
+both_opened out feed opened middle opened_now first second =
+    second ∙ ap (λ (o : Option (List Opening)). also_opened o (live_under out true ∷ [])) first ∙ opened_both opened (source_under feed true ∷ []) (live_under out true ∷ [])
+
+-- the last opening is one that was made
+pub was_made : (middle opened_now : Option (List Opening)) (o : Opening) → opened_now ≡ also_opened middle (o ∷ []) → WasMade opened_now o
+was_made None opened_now o is = λ openings told. absurd (none_openings openings (sym is ∙ told))
+was_made (Some before) opened_now o is = λ openings told. (before, [], same_openings openings (before ++ o ∷ []) (sym told ∙ is))
+
 -- there was no recording, and the names are as they were
-pub unnamed : (out feed : List ℕ) (names names_now : Option Names) (left : Option (List ℕ)) (before now inputs inputs_now outputs outputs_now : ℕ) (report : Option Report)
-    → report ≡ None → names_now ≡ names → inputs_now ≡ inputs → outputs_now ≡ outputs → NamesRecorded out feed before now inputs inputs_now outputs outputs_now names names_now left report
-unnamed out feed names names_now left before now inputs inputs_now outputs outputs_now report none same inputs_same outputs_same = record {
+pub unnamed : (out feed : List ℕ) (names names_now : Option Names) (opened opened_now : Option (List Opening)) (left : Option (List ℕ)) (before now inputs inputs_now outputs outputs_now : ℕ) (report : Option Report)
+    → report ≡ None → OpensNames out feed None opened opened_now → names_now ≡ names → inputs_now ≡ inputs → outputs_now ≡ outputs → NamesRecorded out feed before now inputs inputs_now outputs outputs_now names names_now opened opened_now left report
+unnamed out feed names names_now opened opened_now left before now inputs inputs_now outputs outputs_now report none opens same inputs_same outputs_same = record {
   history = [];
+  openings = subst (λ (r : Option Report). OpensNames out feed r opened opened_now) (sym none) opens;
   names = λ all told. (
     all,
     same ∙ told,
@@ -159,16 +205,17 @@ unnamed out feed names names_now left before now inputs inputs_now outputs outpu
 }
 
 -- what a recording into a new store left, with its report or without one
-pub named : (out feed : List ℕ) (names names_now : Option Names) (unread left after held held_after : Option (List ℕ))
+pub named : (out feed : List ℕ) (names names_now : Option Names) (opened opened_now : Option (List Opening)) (unread left after held held_after : Option (List ℕ))
     (feed_before feed_now live_before live_now before now inputs inputs_now outputs outputs_now : ℕ) (report : Option Report) (result : Result Unit Failed)
     → (report ≡ None → (held_after ≡ held) × (feed_now ≡ feed_before) × (live_now ≡ live_before))
     → ((r : Report) → report ≡ Some r → Recorded left after feed_before feed_now held held_after live_before live_now r)
     → TellsName names feed left → feed_before ≡ 0 → inputs < 2 ^ 64 → inputs_now ≡ added inputs feed_now
     → ((all : Names) → names ≡ Some all → held ≡ Some []) → live_before ≡ 0 → outputs < 2 ^ 64 → outputs_now ≡ added outputs live_now
-    → KeepsUnder names names_now out held_after result → OnErr result (Rose before now) → unread ≡ after
-    → NamesRecorded out feed before now inputs inputs_now outputs outputs_now names names_now unread report
-named out feed names names_now unread left after held held_after feed_before feed_now live_before live_now before now inputs inputs_now outputs outputs_now None result same made tells unused inputs_fit inputs_is empty new outputs_fit outputs_is keeps failed returned = record {
+    → KeepsUnder names names_now out held_after result → OnErr result (Rose before now) → unread ≡ after → opened_now ≡ also_opened opened (source_under feed true ∷ live_under out true ∷ [])
+    → NamesRecorded out feed before now inputs inputs_now outputs outputs_now names names_now opened opened_now unread report
+named out feed names names_now opened opened_now unread left after held held_after feed_before feed_now live_before live_now before now inputs inputs_now outputs outputs_now None result same made tells unused inputs_fit inputs_is empty new outputs_fit outputs_is keeps failed returned opens = record {
   history = [];
+  openings = (source_under feed true ∷ live_under out true ∷ [], opens, inr (inr (inr (true, refl))));
   names = leaves out before now None [] names names_now held_after result keeps failed
       (λ all told. ([], (same refl).0 ∙ empty all told, (file_of [] [], refl), λ r here. absurd (none_some r here), λ none. refl));
   reported = λ r here. absurd (none_some r here);
@@ -178,9 +225,10 @@ named out feed names names_now unread left after held held_after feed_before fee
     added_nothing outputs outputs_now live_now ((same refl).2 ∙ new) outputs_fit outputs_is,
   );
 }
-named out feed names names_now unread left after held held_after feed_before feed_now live_before live_now before now inputs inputs_now outputs outputs_now (Some r) result same made tells unused inputs_fit inputs_is empty new outputs_fit outputs_is keeps failed returned =
+named out feed names names_now opened opened_now unread left after held held_after feed_before feed_now live_before live_now before now inputs inputs_now outputs outputs_now (Some r) result same made tells unused inputs_fit inputs_is empty new outputs_fit outputs_is keeps failed returned opens =
     let all_made = made r refl in record {
       history = all_made.history;
+      openings = (source_under feed true ∷ live_under out true ∷ [], opens, refl);
       names = leaves out before now (Some r) all_made.history names names_now held_after result keeps failed
           (λ all told.
           let there = written_there held held_after left after feed_before feed_now live_before live_now r all_made (empty all told) in

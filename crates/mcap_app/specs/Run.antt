@@ -1,7 +1,7 @@
 -- What the program did: to the names of the world, to both outputs, and how it ended.
 use Rattle.std.specs.Prelude.{◌≡◌, ◌⊎◌, ◌↔◌, ℕ, List, [], ◌∷◌, ◌++◌, length, Bool, true, false, if◌then◌else◌, Option, Some, None, IsSome}
 use Rattle.std.specs.List.{list_any}
-use Rattle.mcap_io.specs.Outside.{Rose, added, Names, OthersSame}
+use Rattle.mcap_io.specs.Outside.{Rose, added, Opening, source_under, live_under, also_opened, Names, OthersSame}
 use Rattle.recorder.specs.declared.report.Report.{Report}
 use Rattle.recorder.specs.declared.report.FeedReport.{FeedReport}
 use Rattle.recorder.specs.declared.report.FeedEnd.{FeedEnd}
@@ -158,9 +158,23 @@ pub record Reported (feed : List ℕ) (names : Option Names) (left : Option (Lis
   pub feed_fault : (faults : ℕ) → only.end ≡ feed_ends.Fault faults → Rose inputs_before inputs_now × (inputs_now ≡ added inputs_before faults)
   pub writer_fault : (faults : ℕ) → r.writer.end ≡ ends.Stopped (stops.Fault faults) → Rose outputs_before outputs_now × (outputs_now ≡ added outputs_before faults)
 
+-- ---- openings
+
+-- The feed is opened, and then the output, once each; where one isn't given nothing more is opened, and there is no
+-- report. An opening that memory lacked for isn't told.
+abbrev pub AreOpenings : List ℕ → List ℕ → Option Report → List Opening → Type 0
+AreOpenings out feed (Some r) made = made ≡ source_under feed true ∷ live_under out true ∷ []
+AreOpenings out feed None made = (made ≡ []) ⊎ ((made ≡ source_under feed false ∷ []) ⊎ ((made ≡ source_under feed true ∷ [])
+    ⊎ ((given : Bool) × (made ≡ source_under feed true ∷ live_under out given ∷ []))))
+
+-- what a recording opened
+abbrev pub OpensNames : List ℕ → List ℕ → Option Report → Option (List Opening) → Option (List Opening) → Type 0
+OpensNames out feed report old new = (made : List Opening) × (new ≡ also_opened old made) × AreOpenings out feed report made
+
 -- what a recording did to the world's names and counts
-pub record NamesRecorded (out feed : List ℕ) (before now inputs_before inputs_now outputs_before outputs_now : ℕ) (old new : Option Names) (left : Option (List ℕ)) (report : Option Report) : Type 0 where
+pub record NamesRecorded (out feed : List ℕ) (before now inputs_before inputs_now outputs_before outputs_now : ℕ) (old new : Option Names) (opened opened_now : Option (List Opening)) (left : Option (List ℕ)) (report : Option Report) : Type 0 where
   pub history : List Rec
+  pub openings : OpensNames out feed report opened opened_now
   pub names : Leaves out before now report history old new
   pub reported : (r : Report) → report ≡ Some r → Reported feed old left inputs_before inputs_now outputs_before outputs_now history r
   pub untouched : (all now : Names) → old ≡ Some all → new ≡ Some now → all feed ≡ None → now out ≡ all out
@@ -179,19 +193,22 @@ pub record RecordsAll (r : Report) : Type 0 where
 -- what the world, the source that it took back last and both outputs tell, and how often they have failed
 pub record Scene : Type 0 where
   pub names : Option Names
+  pub opened : Option (List Opening)
   pub left : Option (List ℕ)
   pub counts : Counts
   pub printed : Option (List ℕ)
   pub told : Option (List ℕ)
   pub errors : ℕ
 
-abbrev pub scene : Option Names → Option (List ℕ) → Counts → Option (List ℕ) → Option (List ℕ) → ℕ → Scene
-scene names left counts printed told errors = record { names = names; left = left; counts = counts; printed = printed; told = told; errors = errors }
+abbrev pub scene : Option Names → Option (List Opening) → Option (List ℕ) → Counts → Option (List ℕ) → Option (List ℕ) → ℕ → Scene
+scene names opened left counts printed told errors = record { names = names; opened = opened; left = left; counts = counts; printed = printed; told = told; errors = errors }
 
 -- what `record --plain` does
 pub record Records (out feed : List ℕ) (old new : Scene) (report : Option Report) (answer : ℕ) : Type 0 where
   -- the records that were accepted, in order
   pub history : List Rec
+  -- these two names are opened, and nothing else
+  pub openings : OpensNames out feed report old.opened new.opened
   -- the file is that of the history, and all else stays
   pub names : Leaves out old.counts.world new.counts.world report history old.names new.names
   -- the feed and the report give the history, and what the report says has its cause

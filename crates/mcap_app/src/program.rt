@@ -45,7 +45,7 @@ fn is_failed(why: OpenRefused) -> bool
 fn record_names<W: World>(alloc: Global, out: &str, feed: &str, world: &mut W) -> Outcome
     requires inputs_fit { W.input_faults world.old < 2 ^ 64 }
     requires outputs_fit { W.output_faults world.old < 2 ^ 64 }
-    ensures recorded { NamesRecorded out.now feed.now (W.faults world.old) (W.faults world.new) (W.input_faults world.old) (W.input_faults world.new) (W.output_faults world.old) (W.output_faults world.new) (W.names world.old) (W.names world.new) (W.unread world.new) result.report }
+    ensures recorded { NamesRecorded out.now feed.now (W.faults world.old) (W.faults world.new) (W.input_faults world.old) (W.input_faults world.new) (W.output_faults world.old) (W.output_faults world.new) (W.names world.old) (W.names world.new) (W.opened world.old) (W.opened world.new) (W.unread world.new) result.report }
     ensures later { W.faults world.old ≤ W.faults world.new }
     ensures later_inputs { W.input_faults world.old ≤ W.input_faults world.new }
     ensures later_outputs { W.output_faults world.old ≤ W.output_faults world.new }
@@ -100,8 +100,8 @@ fn record_command<W: World, O: Sink, E: Sink>(
     err: &mut E,
 ) -> Ended
     ensures { Records out_name.now feed_name.now
-        (scene (W.names world.old) (W.unread world.old) (counts (W.faults world.old) (W.input_faults world.old) (W.output_faults world.old) (O.faults out.old)) (O.took out.old) (E.took err.old) (E.faults err.old))
-        (scene (W.names world.new) (W.unread world.new) (counts (W.faults world.new) (W.input_faults world.new) (W.output_faults world.new) (O.faults out.new)) (O.took out.new) (E.took err.new) (E.faults err.new))
+        (scene (W.names world.old) (W.opened world.old) (W.unread world.old) (counts (W.faults world.old) (W.input_faults world.old) (W.output_faults world.old) (O.faults out.old)) (O.took out.old) (E.took err.old) (E.faults err.old))
+        (scene (W.names world.new) (W.opened world.new) (W.unread world.new) (counts (W.faults world.new) (W.input_faults world.new) (W.output_faults world.new) (O.faults out.new)) (O.took out.new) (E.took err.new) (E.faults err.new))
         result.report result.status }
 {
     let before = Counts::of(world, out);
@@ -136,8 +136,8 @@ pub fn run<R: AllocGlobal, W: World, O: Sink, E: Sink>(
 
     // The words of a recording record.
     ensures records { (out_name feed_name : List ℕ) → IsRecord words.now out_name feed_name → Records out_name feed_name
-        (scene (W.names world.old) (W.unread world.old) (counts (W.faults world.old) (W.input_faults world.old) (W.output_faults world.old) (O.faults out.old)) (O.took out.old) (E.took err.old) (E.faults err.old))
-        (scene (W.names world.new) (W.unread world.new) (counts (W.faults world.new) (W.input_faults world.new) (W.output_faults world.new) (O.faults out.new)) (O.took out.new) (E.took err.new) (E.faults err.new))
+        (scene (W.names world.old) (W.opened world.old) (W.unread world.old) (counts (W.faults world.old) (W.input_faults world.old) (W.output_faults world.old) (O.faults out.old)) (O.took out.old) (E.took err.old) (E.faults err.old))
+        (scene (W.names world.new) (W.opened world.new) (W.unread world.new) (counts (W.faults world.new) (W.input_faults world.new) (W.output_faults world.new) (O.faults out.new)) (O.took out.new) (E.took err.new) (E.faults err.new))
         result.report result.status }
 {
     match parse_words(words) {

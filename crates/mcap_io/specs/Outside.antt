@@ -108,11 +108,14 @@ live_under name given = record { kind = kinds.Live; name = name; given = given }
 abbrev pub also_opened : Option (List Opening) → List Opening → Option (List Opening)
 also_opened opened more = option_map (λ openings. openings ++ more) opened
 
--- an opening is told unless memory lacked for it
+-- an opening that was refused is told unless memory lacked for it
+abbrev pub OpensNot : Option (List Opening) → Option (List Opening) → (Bool → Opening) → OpenRefused → Type 0
+OpensNot old new opening open_refusals.Failed = new ≡ also_opened old (opening false ∷ [])
+OpensNot old new opening open_refusals.Memory = new ≡ old
+
 abbrev pub Opens : {T : Type 0} → Option (List Opening) → Option (List Opening) → (Bool → Opening) → Result T OpenRefused → Type 0
 Opens old new opening (Ok it) = new ≡ also_opened old (opening true ∷ [])
-Opens old new opening (Err open_refusals.Failed) = new ≡ also_opened old (opening false ∷ [])
-Opens old new opening (Err open_refusals.Memory) = new ≡ old
+Opens old new opening (Err why) = OpensNot old new opening why
 
 -- where openings are told, this is one of them
 abbrev pub WasMade : Option (List Opening) → Opening → Type 0
