@@ -19,7 +19,7 @@ use Rattle.recorder.specs.Feed.{FeedCause}
 use Rattle.recorder.specs.File.{file_of, IsPrefix, WrittenSoFar, WriterCause}
 use Rattle.recorder.specs.Recorded.{Recorded}
 use Rattle.recorder.proofs.Files.{written_prefix}
-use Rattle.mcap_app.specs.Run.{Reported, Leaves, AreOpenings, OpensNames, NamesRecorded}
+use Rattle.mcap_app.specs.Run.{Reported, Leaves, OpensNames, NamesRecorded}
 
 -- ---- counts
 

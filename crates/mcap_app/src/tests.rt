@@ -1,6 +1,6 @@
 //! Whole runs over a world in memory. What is wanted is counted by hand from the MCAP specification.
 use super::*;
-use mcap_io::{FailingWrite, MemorySink, MemoryWorld, Plan};
+use mcap_io::{FailingWrite, MemorySink, MemoryWorld, ObjectKind, Plan};
 use mcap_wire::Text;
 use std::alloc::{AllocError, Global};
 use std::process::Abort;

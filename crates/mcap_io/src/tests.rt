@@ -118,10 +118,9 @@ fn a_world_fails_where_it_is_told_to(rt: HostRuntime) -> Result<(), Fail> {
     ];
     assert_eq!(rt; world.opened().len(), 5);
     for (made, (kind, name, given)) in world.opened().iter().zip(openings) {
-        assert_eq!(rt;
-            (made.kind, made.name.as_str(), made.given),
-            (kind, name, given)
-        );
+        assert_eq!(rt; made.kind, kind);
+        assert_eq!(rt; made.name.as_str(), name);
+        assert_eq!(rt; made.given, given);
     }
     assert_eq!(rt;
         (world.faults(), world.input_faults(), world.output_faults()),

@@ -399,3 +399,42 @@ fn an_append_that_fails_stops_a_file_with_a_schema(rt: HostRuntime) -> Result<()
     }
     Ok(())
 }
+
+// A line for each opening of the run's world.
+fn openings_of(alloc: Global, ran: &Ran) -> Result<String, AllocError> {
+    let mut text = String::new(alloc);
+    for opened in ran.world.opened() {
+        let kind = match opened.kind {
+            ObjectKind::Source => "source",
+            ObjectKind::Live => "live",
+        };
+        let given = if opened.given { "given" } else { "refused" };
+        let name = opened.name.as_str();
+        let line = format!(in alloc; "{kind} {name} {given}\n")?;
+        text.push_str(line.as_str())?;
+    }
+    Ok(text)
+}
+
+// The feed is opened first. Where it isn't given, OUT isn't opened.
+#[test]
+fn a_recording_opens_its_two_names(rt: HostRuntime) -> Result<(), Fail> {
+    let alloc = rt.alloc();
+    let feed = feed_of(alloc, &[CHANNEL, FIRST_MESSAGE])?;
+    let given = run_in_memory(&rt, WORDS, &feed, NOTHING)?;
+    assert_eq!(rt;
+        openings_of(alloc, &given)?.as_str(),
+        "source F given\nlive OUT given\n"
+    );
+    let refused = run_in_memory(&rt, WORDS, &feed, failing_openings(&[0]))?;
+    assert_eq!(rt;
+        openings_of(alloc, &refused)?.as_str(),
+        "source F refused\n"
+    );
+    let second = run_in_memory(&rt, WORDS, &feed, failing_openings(&[1]))?;
+    assert_eq!(rt;
+        openings_of(alloc, &second)?.as_str(),
+        "source F given\nlive OUT refused\n"
+    );
+    Ok(())
+}
