@@ -69,8 +69,8 @@ history_split (x ∷ xs) (suc k) r at =
     ∙ sym (append_assoc (rec_bytes x) (history_bytes (take k xs)) (rec_bytes r ++ history_bytes (drop (suc k) xs)))
 
 -- so a first part of the file is one of its bytes
-pub part_is_prefix : (text : List ℕ) (history : List Rec) (bytes : ℕ) → IsPartOf text history bytes → IsPrefix text (file_of [] history)
-part_is_prefix text history bytes part = elim part.pieces [
+pub part_is_prefix : (text : List ℕ) (history : List Rec) (stop : Stop) (bytes : ℕ) → IsPartOf text history stop bytes → IsPrefix text (file_of [] history)
+part_is_prefix text history stop bytes part = elim part.pieces [
   | inl (inl (empty, none, first)) ↦ prefix_by text part.done part.next (history_bytes history ++ back) (file_of [] history) part.some part.split cc
   | inl (inr (k, r, at, last, before, next)) ↦
       let behind = history_bytes (drop (suc k) history) ++ back in
@@ -86,7 +86,7 @@ part_is_prefix text history bytes part = elim part.pieces [
 
 pub written_prefix : (text : List ℕ) (history : List Rec) (end : End) (bytes : ℕ) → WrittenSoFar text history end bytes → IsPrefix text (file_of [] history)
 written_prefix text history ends.Closed bytes written = ([], append-nil text ∙ written.0)
-written_prefix text history (ends.Stopped stop) bytes written = part_is_prefix text history bytes written
+written_prefix text history (ends.Stopped stop) bytes written = part_is_prefix text history stop bytes written
 
 -- ---- a piece behind others
 
@@ -106,13 +106,13 @@ stop_cause : (held new : Option (List ℕ)) (before middle now : ℕ) (piece : L
 stop_cause held new before middle now piece (stops.Fault faults) le added = (omega (arith, added.0), later_rose before middle now le added.1, added.2)
 stop_cause held new before middle now piece stops.Memory le added = omega (arith, added.0)
 
--- and leaves whole pieces with some of it
-stop_leaves : (held middle new : Option (List ℕ)) (before now : ℕ) (done piece : List ℕ) (stop : Stop) → Adds held middle done → PieceAdded middle new before now piece (Err stop) → (start : List ℕ) → held ≡ Some start → (n : ℕ) × (new ≡ Some (start ++ (done ++ take n piece)))
+-- and leaves whole pieces with some of it, but with none where memory lacked
+stop_leaves : (held middle new : Option (List ℕ)) (before now : ℕ) (done piece : List ℕ) (stop : Stop) → Adds held middle done → PieceAdded middle new before now piece (Err stop) → (start : List ℕ) → held ≡ Some start → (n : ℕ) × (new ≡ Some (start ++ (done ++ take n piece))) × (stop ≡ stops.Memory → n ≡ 0)
 stop_leaves held middle new before now done piece (stops.Fault faults) so_far added start told =
     let part = added.3 (start ++ done) (so_far start told) in
-    (part.0, part.3 ∙ ap (λ (l : List ℕ). some l) (append_assoc start done (take part.0 piece)))
+    (part.0, part.3 ∙ ap (λ (l : List ℕ). some l) (append_assoc start done (take part.0 piece)), λ lacked. absurd cc)
 stop_leaves held middle new before now done piece stops.Memory so_far added start told =
-    (0, added.1 ∙ so_far start told ∙ ap (λ (l : List ℕ). some (start ++ l)) (sym (append-nil done)))
+    (0, added.1 ∙ so_far start told ∙ ap (λ (l : List ℕ). some (start ++ l)) (sym (append-nil done)), λ lacked. refl)
 
 -- ---- what a tape wrote
 
@@ -200,7 +200,7 @@ closed_part held middle new before between now history records bytes stop count 
   written = λ start told.
       let done = front [] ++ history_bytes history in
       let left = stop_leaves held middle new between now done back stop wrote.1 added start told in
-      (done ++ take left.0 back, left.1, record { done = done; next = back; pieces = inr (refl, refl); some = left.0; split = refl; size = wrote.2 });
+      (done ++ take left.0 back, left.1, record { done = done; next = back; pieces = inr (refl, refl); some = left.0; split = refl; lacked = left.2; size = wrote.2 });
   cause = stop_cause middle new before between now back stop wrote.0 added;
 }
 

@@ -54,19 +54,21 @@ abbrev pub TookBytes : List Rec → End → ℕ → Type 0
 TookBytes history ends.Closed bytes = bytes ≡ length (file_of [] history)
 TookBytes history (ends.Stopped stop) bytes = (done next : List ℕ) × ArePieces history done next × (bytes ≡ length done)
 
--- a first part of the file: whole pieces of so many bytes, and perhaps some of the next one
-pub record IsPartOf (text : List ℕ) (history : List Rec) (bytes : ℕ) : Type 0 where
+-- a first part of the file: whole pieces of so many bytes, and perhaps some of the next one, but none of it where
+-- memory lacked
+pub record IsPartOf (text : List ℕ) (history : List Rec) (stop : Stop) (bytes : ℕ) : Type 0 where
   pub done : List ℕ
   pub next : List ℕ
   pub pieces : ArePieces history done next
   pub some : ℕ
   pub split : text ≡ done ++ take some next
+  pub lacked : stop ≡ stops.Memory → some ≡ 0
   pub size : bytes ≡ length done
 
 -- what was written of the file of this history when the writer ended so
 abbrev pub WrittenSoFar : List ℕ → List Rec → End → ℕ → Type 0
 WrittenSoFar text history ends.Closed bytes = (text ≡ file_of [] history) × (bytes ≡ length text)
-WrittenSoFar text history (ends.Stopped stop) bytes = IsPartOf text history bytes
+WrittenSoFar text history (ends.Stopped stop) bytes = IsPartOf text history stop bytes
 
 -- The count of the store doesn't fall. The writer stops by a fault only where it rose, and carries it.
 abbrev pub WriterCause : ℕ → ℕ → End → Type 0
