@@ -90,14 +90,18 @@ part_split bytes tops rest n split =
     ap (λ (l : List ℕ). spelled tops ++ l) (sym (take-append-drop n rest))
     ∙ sym (append_assoc (spelled tops) (take n rest) (drop n rest)))
 
-all_given : (bytes : List ℕ) (tops : List Top) (rest : List ℕ) (left : Option (List ℕ)) → Reads bytes tops rest → GivesPart rest left → (given behind : List ℕ) × (bytes ≡ given ++ behind) × (left ≡ Some behind) × AllGiven given tops
-all_given bytes tops rest left so_far (n, left_is, cut) =
-    let some : Reads (magic ++ (spelled tops ++ take n rest)) tops (take n rest) = record {
-      split = refl;
-      good = so_far.good;
-      built = so_far.built;
+all_given : (bytes : List ℕ) (tops : List Top) (rest : List ℕ) (at : ℕ) (left : Option (List ℕ)) → ReadsTo bytes tops rest at → GivesPart rest (declarations tops) at left → (given behind : List ℕ) × (bytes ≡ given ++ behind) × (left ≡ Some behind) × AllGiven given tops
+all_given bytes tops rest at left so_far (n, left_is, cut) =
+    let some : ReadsTo (magic ++ (spelled tops ++ take n rest)) tops (take n rest) at = record {
+      reads = record {
+        split = refl;
+        good = so_far.reads.good;
+        built = so_far.reads.built;
+      };
+      unended = so_far.unended;
+      offset = so_far.offset;
     } in
-    (magic ++ (spelled tops ++ take n rest), drop n rest, part_split bytes tops rest n so_far.split, left_is, inr (take n rest, some, cut))
+    (magic ++ (spelled tops ++ take n rest), drop n rest, part_split bytes tops rest n so_far.reads.split, left_is, inr (take n rest, at, some, cut))
 
 -- no record could be taken
 pub ends_there : (bytes : List ℕ) (tops : List Top) (rest : List ℕ) (at : ℕ) (left : Option (List ℕ)) (end : FeedEnd) → ReadsTo bytes tops rest at → NextEnds rest (declarations tops) at left end → FeedRead bytes tops left end
@@ -114,7 +118,7 @@ ends_there bytes tops rest at left (feed_ends.NotBuilt n) so_far why =
     let here : ReadsTo bytes tops rest n = subst (λ (m : ℕ). ReadsTo bytes tops rest m) (sym why.0) so_far in
     let later : is_unbuilt (declarations tops) n (opcode rest) (declared rest) ≡ true = subst (λ (m : ℕ). is_unbuilt (declarations tops) m (opcode rest) (declared rest) ≡ true) (sym why.0) why.2 in
     (rest, here, record { head = why.1; unbuilt = later })
-ends_there bytes tops rest at left (feed_ends.Fault faults) so_far why = all_given bytes tops rest left so_far.reads why
+ends_there bytes tops rest at left (feed_ends.Fault faults) so_far why = all_given bytes tops rest at left so_far why
 ends_there bytes tops rest at left feed_ends.Memory so_far why = inr (rest, so_far.reads)
 ends_there bytes tops rest at left feed_ends.Ended so_far why = absurd why
 

@@ -11,8 +11,9 @@ use Rattle.mcap_io.specs.declared.outside.ReadRefused.{ReadRefused}
 use Rattle.mcap_io.specs.declared.outside.ReadRefused.TheVariants as reads
 use Rattle.mcap_io.specs.Outside.{StretchTaken}
 use Rattle.recorder.specs.declared.report.FeedEnd.{FeedEnd}
-use Rattle.recorder.specs.Feed.{has_head, opcode, declared, is_whole, is_later_kind, is_declaration, length_limit, is_unbuilt, FeedRead}
-use Rattle.recorder.specs.Next.{IsHead, TakesHead, TakesTop, NextEnds, Failure}
+use Rattle.recorder.specs.declared.report.FeedEnd.TheVariants as feed_ends
+use Rattle.recorder.specs.Feed.{has_head, opcode, declared, is_whole, is_later_kind, is_declaration, length_limit, is_unbuilt, IsCutOff, FeedRead}
+use Rattle.recorder.specs.Next.{IsHead, TakesHead, TakesTop, HeadEnds, NextEnds, Failure}
 use Rattle.recorder.specs.Lane.{top_of}
 
 nonzero_head : (op n : ℕ) → (op ≡ 0 → ⊥) → 9 ≤ n → (leb 9 n && not (eqb op 0)) ≡ true
@@ -79,6 +80,28 @@ few_behind rest n len len_is few =
     let size = length-take (9 + n) rest in
     lt-leb (9 + declared (take (9 + n) rest)) (length (take (9 + n) rest)) (omega arith)
 
+-- a first part with the whole head begins as the whole does
+front_begins : (rest : List ℕ) (left : Option (List ℕ)) (op len n : ℕ) (head : TakesHead rest left op len) → has_head (take (9 + n) rest) ≡ true
+front_begins rest left op len n head =
+    let part = take (9 + n) rest in
+    let first : get_or part 0 0 ≡ get_or rest 0 0 = get_or-take (9 + n) rest 0 0 (omega arith) in
+    let nonzero : get_or part 0 0 ≡ 0 → ⊥ = λ (e : get_or part 0 0 ≡ 0). head.no_zero (sym head.op_is ∙ sym first ∙ e) in
+    let size : length part ≡ min (9 + n) (length rest) = length-take (9 + n) rest in
+    let whole : length rest ≡ suc (length (le 8 len ++ head.after)) = ap length head.split in
+    let parts = length-append (le 8 len) head.after in
+    let eight = length-le 8 len in
+    let enough : 9 ≤ length part = omega arith in
+    nonzero_head (get_or part 0 0) (length part) nonzero enough
+
+-- and is recorded where the whole is
+front_built : (rest : List ℕ) (left : Option (List ℕ)) (count at op len n : ℕ) (head : TakesHead rest left op len) → is_unbuilt count at op len ≡ false → is_unbuilt count at (opcode (take (9 + n) rest)) (declared (take (9 + n) rest)) ≡ false
+front_built rest left count at op len n head built =
+    let part = take (9 + n) rest in
+    let first : opcode part ≡ op = get_or-take (9 + n) rest 0 0 (omega arith) ∙ head.op_is in
+    let more : 9 + n ≡ 1 + (8 + n) = omega arith in
+    let declares : declared part ≡ len = ap (λ (k : ℕ). declared (take k rest)) more ∙ declared_front (8 + n) rest (omega arith) ∙ head.len_is in
+    ap (λ (o : ℕ). is_unbuilt count at o (declared part)) first ∙ ap (λ (m : ℕ). is_unbuilt count at op m) declares ∙ built
+
 -- why the magic wasn't read
 pub magic_refused : (bytes : List ℕ) (old new : Option (List ℕ)) (got : List ℕ) (faults : ℕ) (why : ReadRefused) (end : FeedEnd) → old ≡ Some bytes → StretchTaken old new 8 got (Err why) → Failure faults why end → FeedRead bytes [] new end
 magic_refused bytes old new got faults reads.Failed end told taken is =
@@ -95,14 +118,34 @@ behind_head : (rest : List ℕ) (left : Option (List ℕ)) (op len : ℕ) (head 
 behind_head rest left op len head = ap (drop 9) head.split ∙ drop_at (le 8 len) head.after 8 (length-le 8 len)
 
 -- why a content wasn't read
-pub content_refused : (rest : List ℕ) (count at : ℕ) (old new : Option (List ℕ)) (op len : ℕ) (got : List ℕ) (faults : ℕ) (why : ReadRefused) (end : FeedEnd) → TakesHead rest old op len → StretchTaken old new len got (Err why) → Failure faults why end → NextEnds rest count at new end
-content_refused rest count at old new op len got faults reads.Failed end head taken is =
+pub content_refused : (rest : List ℕ) (count at : ℕ) (old new : Option (List ℕ)) (op len : ℕ) (got : List ℕ) (faults : ℕ) (why : ReadRefused) (end : FeedEnd) → TakesHead rest old op len → is_unbuilt count at op len ≡ false → StretchTaken old new len got (Err why) → Failure faults why end → NextEnds rest count at new end
+content_refused rest count at old new op len got faults reads.Failed end head built taken is =
     let lost = taken head.after head.left_after in
     let left_is : new ≡ Some (drop (9 + lost.0) rest) =
     lost.2 ∙ ap (λ (l : List ℕ). Some (drop lost.0 l)) (sym (behind_head rest old op len head)) ∙ ap Some (drop-drop lost.0 9 rest) in
-    subst (λ (e : FeedEnd). NextEnds rest count at new e) (sym is) (9 + lost.0, left_is, inr (few_behind rest lost.0 len head.len_is lost.1))
-content_refused rest count at old new op len got faults reads.Memory end head taken is =
+    let cut : IsCutOff count (take (9 + lost.0) rest) at = inr (front_begins rest old op len lost.0 head, front_built rest old count at op len lost.0 head built, few_behind rest lost.0 len head.len_is lost.1) in
+    subst (λ (e : FeedEnd). NextEnds rest count at new e) (sym is) (9 + lost.0, left_is, cut)
+content_refused rest count at old new op len got faults reads.Memory end head built taken is =
     subst (λ (e : FeedEnd). NextEnds rest count at new e) (sym is) tt
+
+-- why a head wasn't read
+pub head_refused : (rest : List ℕ) (at : ℕ) (old new : Option (List ℕ)) (got : List ℕ) (faults : ℕ) (why : ReadRefused) (end : FeedEnd) → old ≡ Some rest → StretchTaken old new 9 got (Err why) → Failure faults why end → HeadEnds rest at new end
+head_refused rest at old new got faults reads.Failed end told taken is =
+    let lost = taken rest told in
+    let size = length-take lost.0 rest in
+    let few : length (take lost.0 rest) < 9 = omega (arith, lost.1) in
+    subst (λ (e : FeedEnd). HeadEnds rest at new e) (sym is) (lost.0, lost.2, few)
+head_refused rest at old new got faults reads.Memory end told taken is =
+    subst (λ (e : FeedEnd). HeadEnds rest at new e) (sym is) tt
+
+-- and so no record could be taken
+pub headless : (rest : List ℕ) (count at : ℕ) (left : Option (List ℕ)) (end : FeedEnd) → HeadEnds rest at left end → NextEnds rest count at left end
+headless rest count at left feed_ends.Done why = absurd why
+headless rest count at left (feed_ends.Grammar n) why = (why.0, inl why.1)
+headless rest count at left (feed_ends.NotBuilt n) why = absurd why
+headless rest count at left (feed_ends.Fault faults) why = (why.0, why.1, inl why.2)
+headless rest count at left feed_ends.Memory why = tt
+headless rest count at left feed_ends.Ended why = absurd why
 
 -- ---- a whole record
 

@@ -212,10 +212,16 @@ LacksMagic bytes = (rest : List ℕ) → bytes ≡ magic ++ rest → ⊥
 abbrev pub BeginsWith : List ℕ → List Top → Type 0
 BeginsWith bytes tops = (tops ≡ []) ⊎ ((rest : List ℕ) × Reads bytes tops rest)
 
--- these are all records that are whole in the bytes which a source gave
+-- fewer bytes than a head, or a record begins there that is recorded, but isn't all there
+abbrev pub IsCutOff : ℕ → List ℕ → ℕ → Type 0
+IsCutOff count part at = (length part < 9)
+    ⊎ ((has_head part ≡ true) × (is_unbuilt count at (opcode part) (declared part) ≡ false) × (is_whole part ≡ false))
+
+-- These are all records that are whole in the bytes which a source gave. Behind them more bytes are awaited: no Data
+-- End is among them, and what stands there is cut off.
 abbrev pub AllGiven : List ℕ → List Top → Type 0
 AllGiven given tops = ((tops ≡ []) × (length given < 8))
-    ⊎ ((part : List ℕ) × Reads given tops part × ((has_head part ≡ false) ⊎ (is_whole part ≡ false)))
+    ⊎ ((part : List ℕ) × (at : ℕ) × ReadsTo given tops part at × IsCutOff (declarations tops) part at)
 
 -- The records that a reading took, what its source has left, and the end that it came to, where the source tells
 -- its bytes. Behind a Data End the rest is left.

@@ -9,7 +9,7 @@ use Rattle.recorder.specs.declared.report.FeedEnd.TheVariants as feed_ends
 use Rattle.recorder.specs.declared.feed.Next.{Next}
 use Rattle.recorder.specs.declared.feed.Next.TheVariants as next
 use Rattle.recorder.specs.declared.feed.Head.{Head}
-use Rattle.recorder.specs.Feed.{Top, ReadsTo, FeedRead, FeedCause, has_head, opcode, declared, is_unbuilt, is_whole, first_top, spelled}
+use Rattle.recorder.specs.Feed.{Top, ReadsTo, FeedRead, FeedCause, has_head, opcode, declared, is_unbuilt, is_whole, first_top, spelled, IsCutOff}
 
 -- nine bytes are the head of a record: its opcode, and the length of its content
 pub record IsHead (bytes : List ℕ) (op len : ℕ) : Type 0 where
@@ -33,9 +33,13 @@ pub record TakesHead (rest : List ℕ) (left : Option (List ℕ)) (op len : ℕ)
   pub split : rest ≡ op ∷ (le 8 len ++ after)
   pub left_after : left ≡ Some after
 
--- a first part of what was left, in which no record is whole, was taken
-abbrev pub GivesPart : List ℕ → Option (List ℕ) → Type 0
-GivesPart rest left = (n : ℕ) × (left ≡ Some (drop n rest)) × ((has_head (take n rest) ≡ false) ⊎ (is_whole (take n rest) ≡ false))
+-- less than a head of what was left was taken
+abbrev pub GivesFew : List ℕ → Option (List ℕ) → Type 0
+GivesFew rest left = (n : ℕ) × (left ≡ Some (drop n rest)) × (length (take n rest) < 9)
+
+-- a first part of what was left was taken, in which the record is cut off
+abbrev pub GivesPart : List ℕ → ℕ → ℕ → Option (List ℕ) → Type 0
+GivesPart rest count at left = (n : ℕ) × (left ≡ Some (drop n rest)) × IsCutOff count (take n rest) at
 
 -- Why no record could be taken, behind so many declarations and at that offset.
 abbrev pub NextEnds : List ℕ → ℕ → ℕ → Option (List ℕ) → FeedEnd → Type 0
@@ -43,14 +47,14 @@ NextEnds rest count at left feed_ends.Done = ⊥
 NextEnds rest count at left (feed_ends.Grammar n) = (n ≡ at) × ((has_head rest ≡ false)
     ⊎ ((has_head rest ≡ true) × (is_unbuilt count at (opcode rest) (declared rest) ≡ false) × (is_whole rest ≡ false)))
 NextEnds rest count at left (feed_ends.NotBuilt n) = (n ≡ at) × (has_head rest ≡ true) × (is_unbuilt count at (opcode rest) (declared rest) ≡ true)
-NextEnds rest count at left (feed_ends.Fault faults) = GivesPart rest left
+NextEnds rest count at left (feed_ends.Fault faults) = GivesPart rest count at left
 NextEnds rest count at left feed_ends.Memory = Unit {0}
 NextEnds rest count at left feed_ends.Ended = ⊥
 
 -- why no head could be taken
 abbrev pub HeadEnds : List ℕ → ℕ → Option (List ℕ) → FeedEnd → Type 0
 HeadEnds rest at left (feed_ends.Grammar n) = (n ≡ at) × (has_head rest ≡ false)
-HeadEnds rest at left (feed_ends.Fault faults) = GivesPart rest left
+HeadEnds rest at left (feed_ends.Fault faults) = GivesFew rest left
 HeadEnds rest at left feed_ends.Memory = Unit {0}
 HeadEnds rest at left end = ⊥
 

@@ -1,10 +1,13 @@
 use Rattle.std.proofs.Common.{◌∙◌, refl, sym, inr, arith, false}
-use Rattle.recorder.proofs.Heads.{content_refused, cut_off, top_taken, built_there}
+use Rattle.recorder.proofs.Heads.{headless, content_refused, cut_off, top_taken, built_there}
 use Rattle.recorder.proofs.feed.next_record.Goals as goal
+
+pub returns-in-Err-clause-taken : goal.returns-in-Err-clause-taken
+returns-in-Err-clause-taken g c = λ rest told. headless rest c.args.declared c.args.offset _ _ (c.in-Err.ensures.taken rest told)
 
 pub returns-in-Err-read_up_to-clause-taken : goal.returns-in-Err-read_up_to-clause-taken
 returns-in-Err-read_up_to-clause-taken g c = λ rest told.
-    content_refused rest c.args.declared c.args.offset _ _ _ _ c.read_up_to.new.buffer.items _ _ _ (c.in-Ok.ensures.taken rest told) c.in-Err-read_up_to.ensures.taken c.refused.ensures
+    content_refused rest c.args.declared c.args.offset _ _ _ _ c.read_up_to.new.buffer.items _ _ _ (c.in-Ok.ensures.taken rest told) (sym c.is_later.ensures ∙ c.if-is_later.false) c.in-Err-read_up_to.ensures.taken c.refused.ensures
 
 pub returns-then-len-head-clause-taken : goal.returns-then-len-head-clause-taken
 returns-then-len-head-clause-taken g c = λ rest told.

@@ -1,6 +1,10 @@
 use Rattle.std.proofs.Common.{◌∙◌}
-use Rattle.recorder.proofs.Heads.{head_taken}
+use Rattle.recorder.proofs.Heads.{head_taken, head_refused}
 use Rattle.recorder.proofs.feed.read_head.Goals as goal
+
+pub returns-in-Err-clause-taken : goal.returns-in-Err-clause-taken
+returns-in-Err-clause-taken g c = λ rest told.
+    head_refused rest c.args.offset _ _ c.read_up_to.new.buffer.items _ _ _ told c.in-Err.ensures.taken c.refused.ensures
 
 pub returns-in-Some-clause-taken : goal.returns-in-Some-clause-taken
 returns-in-Some-clause-taken g c = λ rest told.
