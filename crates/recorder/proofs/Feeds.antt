@@ -136,7 +136,7 @@ cause_after before mid now (feed_ends.Fault faults) later cause = (omega (arith,
 cause_after before mid now feed_ends.Memory later cause = omega arith
 cause_after before mid now feed_ends.Ended later cause = omega arith
 
--- what was read so far, for the ends by want of memory and by a stopped writer, of which FeedRead says no more
+-- what was read so far, for the end by want of memory, of which FeedRead says no more
 pub begun_with : (bytes : List ℕ) (tops : List Top) (rest : List ℕ) (at : ℕ) → ReadsTo bytes tops rest at → BeginsWith bytes tops
 begun_with bytes tops rest at so_far = inr (rest, so_far.reads)
 

@@ -134,7 +134,7 @@ message_end lane tape first more content history held held_now before now offset
     let fits : FitsBehind (first ∷ more) (top_of 5 content) = (unended, inr (inr (inr taken.0))) in
     elim taken.1 [
       | inl memory ↦ subst P (sym memory) (inr (fits, subst Q memory taken.2))
-      | inr ended ↦ subst P (sym ended) (fits, subst Q ended taken.2)
+      | inr ended ↦ subst P (sym ended) (refl, fits, subst Q ended taken.2)
     ]
 
 pub data_end_done : (lane : Lane) (tape : Tape) (first : Top) (more : List Top) (content : List ℕ) (history : List Rec) (held held_now : Option (List ℕ)) (before now offset : ℕ) → (HasDataEnd (first ∷ more) → ⊥) → GoesOn lane tape (first ∷ more) history held held_now before now → lane.handled ≤ 2 ^ 36 → IsDataEnd (top_of 15 content) → EndsAt lane tape (first ∷ more) (top_of 15 content) held held_now before now offset feed_ends.Done
@@ -231,9 +231,11 @@ ends_at lane tape tops left after held held_now faults faults_now before now at 
 ]
 ends_at lane tape tops left after held held_now faults faults_now before now at op content feed_ends.Ended next built later ends = record {
   tops = tops ++ top_of op content ∷ [];
-  read = λ bytes told. let n = next bytes told in begun_more bytes tops n.0 at after op content n.1 n.2 built ends.0;
+  read = λ bytes told.
+      let n = next bytes told in
+      (n.2.after, taken_more bytes tops n.0 at after op content n.1 n.2 built ends.1, (tops, top_of op content, refl, ends.0), n.2.left_after);
   cause = later;
-  over = ends.1;
+  over = ends.2;
 }
 
 -- no record could be taken

@@ -223,8 +223,12 @@ abbrev pub AllGiven : List ℕ → List Top → Type 0
 AllGiven given tops = ((tops ≡ []) × (length given < 8))
     ⊎ ((part : List ℕ) × (at : ℕ) × ReadsTo given tops part at × IsCutOff (declarations tops) part at)
 
+-- the last of the records is a Message
+abbrev pub LastIsMessage : List Top → Type 0
+LastIsMessage tops = (before : List Top) × (t : Top) × (tops ≡ before ++ t ∷ []) × (t.op ≡ 5)
+
 -- The records that a reading took, what its source has left, and the end that it came to, where the source tells
--- its bytes. Behind a Data End the rest is left.
+-- its bytes. Behind a Data End the rest is left, and so it is behind the Message at which the writer had stopped.
 abbrev pub FeedRead : List ℕ → List Top → Option (List ℕ) → FeedEnd → Type 0
 FeedRead bytes tops left feed_ends.Done = (rest : List ℕ) × Reads bytes tops rest × HasDataEnd tops × (left ≡ Some rest)
 FeedRead bytes tops left (feed_ends.Grammar n) = ((n ≡ 0) × (tops ≡ []) × LacksMagic bytes)
@@ -232,7 +236,7 @@ FeedRead bytes tops left (feed_ends.Grammar n) = ((n ≡ 0) × (tops ≡ []) × 
 FeedRead bytes tops left (feed_ends.NotBuilt n) = (rest : List ℕ) × ReadsTo bytes tops rest n × IsLater tops rest n
 FeedRead bytes tops left (feed_ends.Fault faults) = (given rest : List ℕ) × (bytes ≡ given ++ rest) × (left ≡ Some rest) × AllGiven given tops
 FeedRead bytes tops left feed_ends.Memory = BeginsWith bytes tops
-FeedRead bytes tops left feed_ends.Ended = BeginsWith bytes tops
+FeedRead bytes tops left feed_ends.Ended = (rest : List ℕ) × Reads bytes tops rest × LastIsMessage tops × (left ≡ Some rest)
 
 -- The count of the source doesn't fall. The end by a fault comes only where it rose, and carries it.
 abbrev pub FeedCause : ℕ → ℕ → FeedEnd → Type 0
