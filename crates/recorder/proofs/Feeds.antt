@@ -117,7 +117,7 @@ ends_there bytes tops rest at left (feed_ends.Grammar n) so_far why =
 ends_there bytes tops rest at left (feed_ends.NotBuilt n) so_far why =
     let here : ReadsTo bytes tops rest n = subst (λ (m : ℕ). ReadsTo bytes tops rest m) (sym why.0) so_far in
     let later : is_unbuilt (declarations tops) n (opcode rest) (declared rest) ≡ true = subst (λ (m : ℕ). is_unbuilt (declarations tops) m (opcode rest) (declared rest) ≡ true) (sym why.0) why.2 in
-    (rest, here, record { head = why.1; unbuilt = later })
+    (rest, here, record { head = why.1; unbuilt = later }, why.3)
 ends_there bytes tops rest at left (feed_ends.Fault faults) so_far why = all_given bytes tops rest at left so_far why
 ends_there bytes tops rest at left feed_ends.Memory so_far why = inr (rest, so_far.reads)
 ends_there bytes tops rest at left feed_ends.Ended so_far why = absurd why

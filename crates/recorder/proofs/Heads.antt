@@ -149,6 +149,10 @@ headless rest count at left feed_ends.Ended why = absurd why
 
 -- ---- a whole record
 
+-- behind a head stands what is left
+pub left_behind : (rest : List ℕ) (left : Option (List ℕ)) (op len : ℕ) (head : TakesHead rest left op len) → left ≡ Some (drop 9 rest)
+left_behind rest left op len head = head.left_after ∙ ap Some (sym (behind_head rest left op len head))
+
 -- what is recorded is decided by the head at the front
 pub built_there : (rest : List ℕ) (left : Option (List ℕ)) (count at op len : ℕ) (b : Bool) → TakesHead rest left op len → is_unbuilt count at op len ≡ b → is_unbuilt count at (opcode rest) (declared rest) ≡ b
 built_there rest left count at op len b head is =

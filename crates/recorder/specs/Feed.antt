@@ -228,12 +228,13 @@ abbrev pub LastIsMessage : List Top → Type 0
 LastIsMessage tops = (before : List Top) × (t : Top) × (tops ≡ before ++ t ∷ []) × (t.op ≡ 5)
 
 -- The records that a reading took, what its source has left, and the end that it came to, where the source tells
--- its bytes. Behind a Data End the rest is left, and so it is behind the Message at which the writer had stopped.
+-- its bytes. Behind a Data End the rest is left, and so it is behind the Message at which the writer had stopped. Of a
+-- record that isn't recorded yet the head alone was read.
 abbrev pub FeedRead : List ℕ → List Top → Option (List ℕ) → FeedEnd → Type 0
 FeedRead bytes tops left feed_ends.Done = (rest : List ℕ) × Reads bytes tops rest × HasDataEnd tops × (left ≡ Some rest)
 FeedRead bytes tops left (feed_ends.Grammar n) = ((n ≡ 0) × (tops ≡ []) × LacksMagic bytes)
     ⊎ ((rest : List ℕ) × ReadsTo bytes tops rest n × IsBroken tops rest n)
-FeedRead bytes tops left (feed_ends.NotBuilt n) = (rest : List ℕ) × ReadsTo bytes tops rest n × IsLater tops rest n
+FeedRead bytes tops left (feed_ends.NotBuilt n) = (rest : List ℕ) × ReadsTo bytes tops rest n × IsLater tops rest n × (left ≡ Some (drop 9 rest))
 FeedRead bytes tops left (feed_ends.Fault faults) = (given rest : List ℕ) × (bytes ≡ given ++ rest) × (left ≡ Some rest) × AllGiven given tops
 FeedRead bytes tops left feed_ends.Memory = BeginsWith bytes tops
 FeedRead bytes tops left feed_ends.Ended = (rest : List ℕ) × Reads bytes tops rest × LastIsMessage tops × (left ≡ Some rest)

@@ -46,7 +46,7 @@ abbrev pub NextEnds : List ℕ → ℕ → ℕ → Option (List ℕ) → FeedEnd
 NextEnds rest count at left feed_ends.Done = ⊥
 NextEnds rest count at left (feed_ends.Grammar n) = (n ≡ at) × ((has_head rest ≡ false)
     ⊎ ((has_head rest ≡ true) × (is_unbuilt count at (opcode rest) (declared rest) ≡ false) × (is_whole rest ≡ false)))
-NextEnds rest count at left (feed_ends.NotBuilt n) = (n ≡ at) × (has_head rest ≡ true) × (is_unbuilt count at (opcode rest) (declared rest) ≡ true)
+NextEnds rest count at left (feed_ends.NotBuilt n) = (n ≡ at) × (has_head rest ≡ true) × (is_unbuilt count at (opcode rest) (declared rest) ≡ true) × (left ≡ Some (drop 9 rest))
 NextEnds rest count at left (feed_ends.Fault faults) = GivesPart rest count at left
 NextEnds rest count at left feed_ends.Memory = Unit {0}
 NextEnds rest count at left feed_ends.Ended = ⊥

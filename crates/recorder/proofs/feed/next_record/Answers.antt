@@ -1,9 +1,14 @@
-use Rattle.std.proofs.Common.{◌∙◌, refl, sym, inr, arith, false}
-use Rattle.recorder.proofs.Heads.{headless, content_refused, cut_off, top_taken, built_there}
+use Rattle.std.proofs.Common.{◌∙◌, refl, sym, inr, arith, true, false}
+use Rattle.recorder.proofs.Heads.{headless, left_behind, content_refused, cut_off, top_taken, built_there}
 use Rattle.recorder.proofs.feed.next_record.Goals as goal
 
 pub returns-in-Err-clause-taken : goal.returns-in-Err-clause-taken
 returns-in-Err-clause-taken g c = λ rest told. headless rest c.args.declared c.args.offset _ _ (c.in-Err.ensures.taken rest told)
+
+pub returns-then-is_later-clause-taken : goal.returns-then-is_later-clause-taken
+returns-then-is_later-clause-taken g c = λ rest told.
+    let head = c.in-Ok.ensures.taken rest told in
+    (refl, head.begins, built_there rest _ c.args.declared c.args.offset _ _ true head (sym c.is_later.ensures ∙ c.if-is_later.true), left_behind rest _ _ _ head)
 
 pub returns-in-Err-read_up_to-clause-taken : goal.returns-in-Err-read_up_to-clause-taken
 returns-in-Err-read_up_to-clause-taken g c = λ rest told.
