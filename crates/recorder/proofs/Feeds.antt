@@ -79,9 +79,10 @@ reads_on bytes tops rest at left op content so_far t recorded fits other = recor
 }
 
 -- a record that doesn't fit behind the others breaks a rule at its offset
-pub broken_there : (bytes : List ℕ) (tops : List Top) (rest : List ℕ) (at : ℕ) (left : Option (List ℕ)) (op : ℕ) (content : List ℕ) → ReadsTo bytes tops rest at → TakesTop rest (declarations tops) at left op content → (FitsBehind tops (top_of op content) → ⊥) → (after : Option (List ℕ)) → FeedRead bytes tops after (feed_ends.Grammar at)
-broken_there bytes tops rest at left op content so_far t bad after =
-    inr (rest, so_far, inr (t.begins, t.built_there, inr (t.whole, λ (fits : FitsBehind tops (first_top rest)). bad (subst (λ (x : Top). FitsBehind tops x) t.first fits))))
+pub broken_there : (bytes : List ℕ) (tops : List Top) (rest : List ℕ) (at : ℕ) (left : Option (List ℕ)) (op : ℕ) (content : List ℕ) → ReadsTo bytes tops rest at → TakesTop rest (declarations tops) at left op content → (FitsBehind tops (top_of op content) → ⊥) → FeedRead bytes tops left (feed_ends.Grammar at)
+broken_there bytes tops rest at left op content so_far t bad =
+    let broken : IsBroken tops rest at = inr (t.begins, t.built_there, inr (t.whole, λ (fits : FitsBehind tops (first_top rest)). bad (subst (λ (x : Top). FitsBehind tops x) t.first fits))) in
+    inr (rest, so_far, broken, t.left_after ∙ ap Some t.behind)
 
 -- a first part of a reading's rest is the rest of a reading of fewer bytes
 part_split : (bytes : List ℕ) (tops : List Top) (rest : List ℕ) (n : ℕ) → bytes ≡ magic ++ (spelled tops ++ rest) → bytes ≡ (magic ++ (spelled tops ++ take n rest)) ++ drop n rest
@@ -109,11 +110,11 @@ ends_there bytes tops rest at left feed_ends.Done so_far why = absurd why
 ends_there bytes tops rest at left (feed_ends.Grammar n) so_far why =
     let here : ReadsTo bytes tops rest n = subst (λ (m : ℕ). ReadsTo bytes tops rest m) (sym why.0) so_far in
     let P : ℕ → Type 0 = λ m. IsBroken tops rest m in
-    let broken : IsBroken tops rest at = elim why.1 [
+    let broken : IsBroken tops rest at = elim why.2 [
       | inl headless ↦ inl headless
       | inr cut ↦ inr (cut.0, cut.1, inl cut.2)
     ] in
-    inr (rest, here, subst P (sym why.0) broken)
+    inr (rest, here, subst P (sym why.0) broken, why.1)
 ends_there bytes tops rest at left (feed_ends.NotBuilt n) so_far why =
     let here : ReadsTo bytes tops rest n = subst (λ (m : ℕ). ReadsTo bytes tops rest m) (sym why.0) so_far in
     let later : is_unbuilt (declarations tops) n (opcode rest) (declared rest) ≡ true = subst (λ (m : ℕ). is_unbuilt (declarations tops) m (opcode rest) (declared rest) ≡ true) (sym why.0) why.2 in

@@ -1,6 +1,6 @@
 -- The head and the content of the record at the front of what a feed has left.
 use Rattle.std.proofs.Common.{◌≡◌, ◌⊎◌, ℕ, suc, ◌+◌, ◌^◌, ◌<◌, ◌≤◌, min, Bool, true, false, not, eqb, leb, List, [], ◌∷◌, ◌++◌, length, get_or, take, drop, Option, Some, Err, refl, sym, ap, subst, inl, inr, ◌∙◌, ◌&&◌, ◌||◌, append_assoc, arith}
-use Rattle.std.specs.Prelude.{nat_le, nat_lt}
+use Rattle.std.specs.Prelude.{nat_le, nat_lt, if◌then◌else◌}
 use Rattle.std.proofs.lemmas.List.{take-append-drop, drop_at, drop-drop, drop-take, take-take, length-take, length-append, get_or-take}
 use Rattle.std.proofs.lemmas.Bool.{le-leb, lt-leb, ltb-false, or_parts}
 use Rattle.std.proofs.lemmas.Grind.{common_steps}
@@ -12,7 +12,7 @@ use Rattle.mcap_io.specs.declared.outside.ReadRefused.TheVariants as reads
 use Rattle.mcap_io.specs.Outside.{StretchTaken}
 use Rattle.recorder.specs.declared.report.FeedEnd.{FeedEnd}
 use Rattle.recorder.specs.declared.report.FeedEnd.TheVariants as feed_ends
-use Rattle.recorder.specs.Feed.{has_head, opcode, declared, is_whole, is_later_kind, is_declaration, length_limit, is_unbuilt, IsCutOff, FeedRead}
+use Rattle.recorder.specs.Feed.{has_head, opcode, declared, is_whole, is_later_kind, is_declaration, length_limit, is_unbuilt, behind_first, IsCutOff, FeedRead}
 use Rattle.recorder.specs.Next.{IsHead, TakesHead, TakesTop, HeadEnds, NextEnds, Failure}
 use Rattle.recorder.specs.Lane.{top_of}
 
@@ -141,7 +141,7 @@ head_refused rest at old new got faults reads.Memory end told taken is =
 -- and so no record could be taken
 pub headless : (rest : List ℕ) (count at : ℕ) (left : Option (List ℕ)) (end : FeedEnd) → HeadEnds rest at left end → NextEnds rest count at left end
 headless rest count at left feed_ends.Done why = absurd why
-headless rest count at left (feed_ends.Grammar n) why = (why.0, inl why.1)
+headless rest count at left (feed_ends.Grammar n) why = (why.0, why.2 ∙ ap Some (ap (λ (b : Bool). drop (if b then 9 + declared rest else 9) rest) (sym why.1)), inl why.1)
 headless rest count at left (feed_ends.NotBuilt n) why = absurd why
 headless rest count at left (feed_ends.Fault faults) why = (why.0, why.1, inl why.2)
 headless rest count at left feed_ends.Memory why = tt
@@ -152,6 +152,14 @@ headless rest count at left feed_ends.Ended why = absurd why
 -- behind a head stands what is left
 pub left_behind : (rest : List ℕ) (left : Option (List ℕ)) (op len : ℕ) (head : TakesHead rest left op len) → left ≡ Some (drop 9 rest)
 left_behind rest left op len head = head.left_after ∙ ap Some (sym (behind_head rest left op len head))
+
+-- behind its content stands what is behind the record
+pub behind_content : (rest : List ℕ) (left : Option (List ℕ)) (op len : ℕ) (head : TakesHead rest left op len) → drop len head.after ≡ behind_first rest
+behind_content rest left op len head =
+    ap (drop len) (sym (behind_head rest left op len head))
+    ∙ drop-drop len 9 rest
+    ∙ ap (λ (n : ℕ). drop (9 + n) rest) (sym head.len_is)
+    ∙ ap (λ (b : Bool). drop (if b then 9 + declared rest else 9) rest) (sym head.begins)
 
 -- what is recorded is decided by the head at the front
 pub built_there : (rest : List ℕ) (left : Option (List ℕ)) (count at op len : ℕ) (b : Bool) → TakesHead rest left op len → is_unbuilt count at op len ≡ b → is_unbuilt count at (opcode rest) (declared rest) ≡ b
@@ -188,6 +196,7 @@ top_taken rest content left left_after count at op len head is left_is long boun
       after = drop len head.after;
       split = head.split ∙ ap (λ (l : List ℕ). op ∷ (le 8 len ++ l)) parts ∙ ap (λ (l : List ℕ). op ∷ l) (sym (append_assoc (le 8 len) content (drop len head.after))) ∙ ap (λ (n : ℕ). op ∷ ((le 8 n ++ content) ++ drop len head.after)) (sym size);
       left_after = left_is;
+      behind = behind_content rest left op len head;
       begins = head.begins;
       whole = whole_there rest head.after content op len (declared rest) head.split head.len_is is size;
       built_there = built_there rest left count at op len false head built;

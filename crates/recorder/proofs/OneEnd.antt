@@ -267,7 +267,8 @@ IsDecided end = ⊥
 -- such an end of a reading is that of the feed
 pub stops_of : (bytes : List ℕ) (tops : List Top) (left : Option (List ℕ)) (end : FeedEnd) → FeedRead bytes tops left end → IsDecided end → Stops bytes tops end
 stops_of bytes tops left feed_ends.Done read decided = (read.0, read.1, read.2)
-stops_of bytes tops left (feed_ends.Grammar n) read decided = read
+stops_of bytes tops left (feed_ends.Grammar n) (inl read) decided = inl (read.0, read.1, read.2)
+stops_of bytes tops left (feed_ends.Grammar n) (inr read) decided = inr (read.0, read.1, read.2)
 stops_of bytes tops left (feed_ends.NotBuilt n) read decided = (read.0, read.1, read.2)
 stops_of bytes tops left (feed_ends.Fault faults) read decided = absurd decided
 stops_of bytes tops left feed_ends.Memory read decided = absurd decided
@@ -276,8 +277,8 @@ stops_of bytes tops left feed_ends.Ended read decided = absurd decided
 -- a good feed ends well, or by a fault, for want of memory, or since its writer stopped
 pub good_read : (bytes : List ℕ) (tops others : List Top) (left : Option (List ℕ)) (end : FeedEnd) → Stops bytes tops feed_ends.Done → FeedRead bytes others left end → (end ≡ feed_ends.Done) ⊎ ((end ≡ feed_ends.Memory) ⊎ ((end ≡ feed_ends.Ended) ⊎ ((faults : ℕ) × (end ≡ feed_ends.Fault faults))))
 good_read bytes tops others left feed_ends.Done good read = inl refl
-good_read bytes tops others left (feed_ends.Grammar n) good read = absurd (grammar_not_done bytes tops others n good read)
-good_read bytes tops others left (feed_ends.NotBuilt n) good read = absurd (not_built_not_done bytes tops others n good (read.0, read.1, read.2))
+good_read bytes tops others left (feed_ends.Grammar n) good read = absurd (grammar_not_done bytes tops others n good (stops_of bytes others left (feed_ends.Grammar n) read tt))
+good_read bytes tops others left (feed_ends.NotBuilt n) good read = absurd (not_built_not_done bytes tops others n good (stops_of bytes others left (feed_ends.NotBuilt n) read tt))
 good_read bytes tops others left (feed_ends.Fault faults) good read = inr (inr (inr (faults, refl)))
 good_read bytes tops others left feed_ends.Memory good read = inr (inl refl)
 good_read bytes tops others left feed_ends.Ended good read = inr (inr (inl refl))

@@ -209,7 +209,7 @@ ends_at lane tape tops left after held held_now faults faults_now before now at 
   tops = tops;
   read = λ bytes told.
       let n = next bytes told in
-      subst (λ (k : ℕ). FeedRead bytes tops after (feed_ends.Grammar k)) (sym ends.0) (broken_there bytes tops n.0 at after op content n.1 n.2 ends.1 after);
+      subst (λ (k : ℕ). FeedRead bytes tops after (feed_ends.Grammar k)) (sym ends.0) (broken_there bytes tops n.0 at after op content n.1 n.2 ends.1);
   cause = later;
   over = ends.2;
 }

@@ -176,6 +176,10 @@ has_head rest = nat_le 9 (length rest) && not (opcode rest == 0)
 abbrev pub is_whole : List ℕ → Bool
 is_whole rest = nat_le (9 + declared rest) (length rest)
 
+-- what stands behind the record there, or behind nine bytes where none begins
+abbrev pub behind_first : List ℕ → List ℕ
+behind_first rest = drop (if has_head rest then 9 + declared rest else 9) rest
+
 abbrev pub first_top : List ℕ → Top
 first_top rest = record { op = opcode rest; content = take (declared rest) (drop 9 rest) }
 
@@ -229,11 +233,11 @@ LastIsMessage tops = (before : List Top) × (t : Top) × (tops ≡ before ++ t �
 
 -- The records that a reading took, what its source has left, and the end that it came to, where the source tells
 -- its bytes. Behind a Data End the rest is left, and so it is behind the Message at which the writer had stopped. Of a
--- record that isn't recorded yet the head alone was read.
+-- record that isn't recorded yet the head alone was read, and nothing behind a record that breaks a rule.
 abbrev pub FeedRead : List ℕ → List Top → Option (List ℕ) → FeedEnd → Type 0
 FeedRead bytes tops left feed_ends.Done = (rest : List ℕ) × Reads bytes tops rest × HasDataEnd tops × (left ≡ Some rest)
-FeedRead bytes tops left (feed_ends.Grammar n) = ((n ≡ 0) × (tops ≡ []) × LacksMagic bytes)
-    ⊎ ((rest : List ℕ) × ReadsTo bytes tops rest n × IsBroken tops rest n)
+FeedRead bytes tops left (feed_ends.Grammar n) = ((n ≡ 0) × (tops ≡ []) × LacksMagic bytes × (left ≡ Some (drop 8 bytes)))
+    ⊎ ((rest : List ℕ) × ReadsTo bytes tops rest n × IsBroken tops rest n × (left ≡ Some (behind_first rest)))
 FeedRead bytes tops left (feed_ends.NotBuilt n) = (rest : List ℕ) × ReadsTo bytes tops rest n × IsLater tops rest n × (left ≡ Some (drop 9 rest))
 FeedRead bytes tops left (feed_ends.Fault faults) = (given rest : List ℕ) × (bytes ≡ given ++ rest) × (left ≡ Some rest) × AllGiven given tops
 FeedRead bytes tops left feed_ends.Memory = BeginsWith bytes tops

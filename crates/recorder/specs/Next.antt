@@ -9,7 +9,7 @@ use Rattle.recorder.specs.declared.report.FeedEnd.TheVariants as feed_ends
 use Rattle.recorder.specs.declared.feed.Next.{Next}
 use Rattle.recorder.specs.declared.feed.Next.TheVariants as next
 use Rattle.recorder.specs.declared.feed.Head.{Head}
-use Rattle.recorder.specs.Feed.{Top, ReadsTo, FeedRead, FeedCause, has_head, opcode, declared, is_unbuilt, is_whole, first_top, spelled, IsCutOff}
+use Rattle.recorder.specs.Feed.{Top, ReadsTo, FeedRead, FeedCause, has_head, opcode, declared, is_unbuilt, is_whole, first_top, behind_first, spelled, IsCutOff}
 
 -- nine bytes are the head of a record: its opcode, and the length of its content
 pub record IsHead (bytes : List ℕ) (op len : ℕ) : Type 0 where
@@ -44,7 +44,7 @@ GivesPart rest count at left = (n : ℕ) × (left ≡ Some (drop n rest)) × IsC
 -- Why no record could be taken, behind so many declarations and at that offset.
 abbrev pub NextEnds : List ℕ → ℕ → ℕ → Option (List ℕ) → FeedEnd → Type 0
 NextEnds rest count at left feed_ends.Done = ⊥
-NextEnds rest count at left (feed_ends.Grammar n) = (n ≡ at) × ((has_head rest ≡ false)
+NextEnds rest count at left (feed_ends.Grammar n) = (n ≡ at) × (left ≡ Some (behind_first rest)) × ((has_head rest ≡ false)
     ⊎ ((has_head rest ≡ true) × (is_unbuilt count at (opcode rest) (declared rest) ≡ false) × (is_whole rest ≡ false)))
 NextEnds rest count at left (feed_ends.NotBuilt n) = (n ≡ at) × (has_head rest ≡ true) × (is_unbuilt count at (opcode rest) (declared rest) ≡ true) × (left ≡ Some (drop 9 rest))
 NextEnds rest count at left (feed_ends.Fault faults) = GivesPart rest count at left
@@ -53,7 +53,7 @@ NextEnds rest count at left feed_ends.Ended = ⊥
 
 -- why no head could be taken
 abbrev pub HeadEnds : List ℕ → ℕ → Option (List ℕ) → FeedEnd → Type 0
-HeadEnds rest at left (feed_ends.Grammar n) = (n ≡ at) × (has_head rest ≡ false)
+HeadEnds rest at left (feed_ends.Grammar n) = (n ≡ at) × (has_head rest ≡ false) × (left ≡ Some (drop 9 rest))
 HeadEnds rest at left (feed_ends.Fault faults) = GivesFew rest left
 HeadEnds rest at left feed_ends.Memory = Unit {0}
 HeadEnds rest at left end = ⊥
@@ -71,6 +71,7 @@ pub record TakesTop (rest : List ℕ) (count at : ℕ) (left : Option (List ℕ)
   pub after : List ℕ
   pub split : rest ≡ framed op content ++ after
   pub left_after : left ≡ Some after
+  pub behind : after ≡ behind_first rest
   pub begins : has_head rest ≡ true
   pub whole : is_whole rest ≡ true
   pub built_there : is_unbuilt count at (opcode rest) (declared rest) ≡ false

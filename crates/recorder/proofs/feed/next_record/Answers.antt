@@ -1,5 +1,5 @@
-use Rattle.std.proofs.Common.{◌∙◌, refl, sym, inr, arith, true, false}
-use Rattle.recorder.proofs.Heads.{headless, left_behind, content_refused, cut_off, top_taken, built_there}
+use Rattle.std.proofs.Common.{◌∙◌, Some, refl, sym, ap, inr, arith, true, false}
+use Rattle.recorder.proofs.Heads.{headless, left_behind, behind_content, content_refused, cut_off, top_taken, built_there}
 use Rattle.recorder.proofs.feed.next_record.Goals as goal
 
 pub returns-in-Err-clause-taken : goal.returns-in-Err-clause-taken
@@ -19,7 +19,7 @@ returns-then-len-head-clause-taken g c = λ rest told.
     let head = c.in-Ok.ensures.taken rest told in
     let content = c.in-Ok-read_up_to.ensures.taken head.after head.left_after in
     let built = built_there rest _ c.args.declared c.args.offset _ _ false head (sym c.is_later.ensures ∙ c.if-is_later.false) in
-    (refl, inr (head.begins, built, cut_off rest c.read_up_to.new.buffer.items _ _ _ head content.given (omega arith)))
+    (refl, content.after ∙ ap Some (behind_content rest _ _ _ head), inr (head.begins, built, cut_off rest c.read_up_to.new.buffer.items _ _ _ head content.given (omega arith)))
 
 pub returns-clause-taken : goal.returns-clause-taken
 returns-clause-taken g c = λ rest told.

@@ -13,8 +13,7 @@ returns-then-not-is_header-clause-taken g c = (
       let t = c.in-Taken.ensures.taken front.0 front.1 in
       let content = c.next_record.new.buffer.items in
       broken_there bytes [] front.0 8 _ c.in-Taken.op content so_far t
-      (λ header. c.is_header.ensures.is_not c.if-not-is_header.true (subst (λ (l : List ℕ). IsHeader (top_of c.in-Taken.op l)) (sym c.deref.ensures.value) header))
-      (g.S.Source.left c.next_record.new.source),
+      (λ header. c.is_header.ensures.is_not c.if-not-is_header.true (subst (λ (l : List ℕ). IsHeader (top_of c.in-Taken.op l)) (sym c.deref.ensures.value) header)),
 )
 
 pub returns-in-Taken-clause-taken : goal.returns-in-Taken-clause-taken
