@@ -7,7 +7,7 @@ use Rattle.mcap_wire.proofs.Numbers.{length-le}
 use Rattle.mcap_io.proofs.Calls.{rose-second}
 use Rattle.recorder.specs.declared.report.FeedEnd.{FeedEnd}
 use Rattle.recorder.specs.declared.report.FeedEnd.TheVariants as feed_ends
-use Rattle.recorder.specs.Feed.{Top, top_bytes, spelled, FitsBehind, HasDataEnd, IsBuilt, declarations, is_unbuilt, opcode, declared, first_top, Reads, ReadsTo, IsBroken, BeginsWith, AllGiven, FeedRead, FeedCause}
+use Rattle.recorder.specs.Feed.{Top, top_bytes, spelled, FitsBehind, HasDataEnd, IsBuilt, declarations, is_unbuilt, opcode, declared, first_top, Reads, ReadsTo, IsBroken, AllGiven, MemoryLeaves, FeedRead, FeedCause}
 use Rattle.recorder.specs.Next.{TakesTop, GivesPart, NextEnds}
 use Rattle.recorder.specs.Lane.{top_of}
 use Rattle.recorder.proofs.Places.{at_none, each_more}
@@ -120,7 +120,12 @@ ends_there bytes tops rest at left (feed_ends.NotBuilt n) so_far why =
     let later : is_unbuilt (declarations tops) n (opcode rest) (declared rest) ≡ true = subst (λ (m : ℕ). is_unbuilt (declarations tops) m (opcode rest) (declared rest) ≡ true) (sym why.0) why.2 in
     (rest, here, record { head = why.1; unbuilt = later }, why.3)
 ends_there bytes tops rest at left (feed_ends.Fault faults) so_far why = all_given bytes tops rest at left so_far why
-ends_there bytes tops rest at left feed_ends.Memory so_far why = inr (rest, so_far.reads)
+ends_there bytes tops rest at left feed_ends.Memory so_far why =
+    let leaves : MemoryLeaves (declarations tops) rest at left = elim why [
+      | inl all ↦ inl all
+      | inr head ↦ inr (head.0, head.1, inl head.2)
+    ] in
+    inr (rest, at, so_far, leaves)
 ends_there bytes tops rest at left feed_ends.Ended so_far why = absurd why
 
 -- the record that was taken is a Data End
@@ -137,11 +142,12 @@ cause_after before mid now (feed_ends.Fault faults) later cause = (omega (arith,
 cause_after before mid now feed_ends.Memory later cause = omega arith
 cause_after before mid now feed_ends.Ended later cause = omega arith
 
--- what was read so far, for the end by want of memory, of which FeedRead says no more
-pub begun_with : (bytes : List ℕ) (tops : List Top) (rest : List ℕ) (at : ℕ) → ReadsTo bytes tops rest at → BeginsWith bytes tops
-begun_with bytes tops rest at so_far = inr (rest, so_far.reads)
+-- memory lacked at a record that isn't one of those that were read
+pub memory_at : (bytes : List ℕ) (tops : List Top) (rest : List ℕ) (at : ℕ) (left : Option (List ℕ)) (op : ℕ) (content : List ℕ) → ReadsTo bytes tops rest at → TakesTop rest (declarations tops) at left op content → FeedRead bytes tops left feed_ends.Memory
+memory_at bytes tops rest at left op content so_far t =
+    inr (rest, at, so_far, inr (t.begins, t.built_there, inr (t.whole, t.left_after ∙ ap Some t.behind)))
 
--- the same behind one record more
-pub begun_more : (bytes : List ℕ) (tops : List Top) (rest : List ℕ) (at : ℕ) (left : Option (List ℕ)) (op : ℕ) (content : List ℕ) → ReadsTo bytes tops rest at → (t : TakesTop rest (declarations tops) at left op content) → is_unbuilt (declarations tops) at op (length content) ≡ false → FitsBehind tops (top_of op content) → BeginsWith bytes (tops ++ top_of op content ∷ [])
-begun_more bytes tops rest at left op content so_far t recorded fits =
-    inr (t.after, taken_more bytes tops rest at left op content so_far t recorded fits)
+-- and behind a Message that is
+pub memory_behind : (bytes : List ℕ) (tops : List Top) (rest : List ℕ) (at : ℕ) (left : Option (List ℕ)) (op : ℕ) (content : List ℕ) → ReadsTo bytes tops rest at → TakesTop rest (declarations tops) at left op content → is_unbuilt (declarations tops) at op (length content) ≡ false → FitsBehind tops (top_of op content) → op ≡ 5 → FeedRead bytes (tops ++ top_of op content ∷ []) left feed_ends.Memory
+memory_behind bytes tops rest at left op content so_far t recorded fits is =
+    inr (t.after, at + 9 + length content, reads_on bytes tops rest at left op content so_far t recorded fits (λ fifteen. omega (arith, is, fifteen)), inl t.left_after)

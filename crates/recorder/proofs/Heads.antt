@@ -111,11 +111,20 @@ magic_refused bytes old new got faults reads.Failed end told taken is =
     subst (λ (e : FeedEnd). FeedRead bytes [] new e) (sym is)
     (take lost.0 bytes, drop lost.0 bytes, sym (take-append-drop lost.0 bytes), lost.2, inl (refl, few))
 magic_refused bytes old new got faults reads.Memory end told taken is =
-    subst (λ (e : FeedEnd). FeedRead bytes [] new e) (sym is) (inl refl)
+    subst (λ (e : FeedEnd). FeedRead bytes [] new e) (sym is) (inl (refl, taken ∙ told))
 
 -- what is behind the head
 behind_head : (rest : List ℕ) (left : Option (List ℕ)) (op len : ℕ) (head : TakesHead rest left op len) → drop 9 rest ≡ head.after
 behind_head rest left op len head = ap (drop 9) head.split ∙ drop_at (le 8 len) head.after 8 (length-le 8 len)
+
+-- behind a head stands what is left
+pub left_behind : (rest : List ℕ) (left : Option (List ℕ)) (op len : ℕ) (head : TakesHead rest left op len) → left ≡ Some (drop 9 rest)
+left_behind rest left op len head = head.left_after ∙ ap Some (sym (behind_head rest left op len head))
+
+-- what is recorded is decided by the head at the front
+pub built_there : (rest : List ℕ) (left : Option (List ℕ)) (count at op len : ℕ) (b : Bool) → TakesHead rest left op len → is_unbuilt count at op len ≡ b → is_unbuilt count at (opcode rest) (declared rest) ≡ b
+built_there rest left count at op len b head is =
+    ap (λ (o : ℕ). is_unbuilt count at o (declared rest)) head.op_is ∙ ap (λ (n : ℕ). is_unbuilt count at op n) head.len_is ∙ is
 
 -- why a content wasn't read
 pub content_refused : (rest : List ℕ) (count at : ℕ) (old new : Option (List ℕ)) (op len : ℕ) (got : List ℕ) (faults : ℕ) (why : ReadRefused) (end : FeedEnd) → TakesHead rest old op len → is_unbuilt count at op len ≡ false → StretchTaken old new len got (Err why) → Failure faults why end → NextEnds rest count at new end
@@ -126,7 +135,7 @@ content_refused rest count at old new op len got faults reads.Failed end head bu
     let cut : IsCutOff count (take (9 + lost.0) rest) at = inr (front_begins rest old op len lost.0 head, front_built rest old count at op len lost.0 head built, few_behind rest lost.0 len head.len_is lost.1) in
     subst (λ (e : FeedEnd). NextEnds rest count at new e) (sym is) (9 + lost.0, left_is, cut)
 content_refused rest count at old new op len got faults reads.Memory end head built taken is =
-    subst (λ (e : FeedEnd). NextEnds rest count at new e) (sym is) tt
+    subst (λ (e : FeedEnd). NextEnds rest count at new e) (sym is) (inr (head.begins, built_there rest old count at op len false head built, taken ∙ left_behind rest old op len head))
 
 -- why a head wasn't read
 pub head_refused : (rest : List ℕ) (at : ℕ) (old new : Option (List ℕ)) (got : List ℕ) (faults : ℕ) (why : ReadRefused) (end : FeedEnd) → old ≡ Some rest → StretchTaken old new 9 got (Err why) → Failure faults why end → HeadEnds rest at new end
@@ -136,7 +145,7 @@ head_refused rest at old new got faults reads.Failed end told taken is =
     let few : length (take lost.0 rest) < 9 = omega (arith, lost.1) in
     subst (λ (e : FeedEnd). HeadEnds rest at new e) (sym is) (lost.0, lost.2, few)
 head_refused rest at old new got faults reads.Memory end told taken is =
-    subst (λ (e : FeedEnd). HeadEnds rest at new e) (sym is) tt
+    subst (λ (e : FeedEnd). HeadEnds rest at new e) (sym is) (taken ∙ told)
 
 -- and so no record could be taken
 pub headless : (rest : List ℕ) (count at : ℕ) (left : Option (List ℕ)) (end : FeedEnd) → HeadEnds rest at left end → NextEnds rest count at left end
@@ -144,14 +153,10 @@ headless rest count at left feed_ends.Done why = absurd why
 headless rest count at left (feed_ends.Grammar n) why = (why.0, why.2 ∙ ap Some (ap (λ (b : Bool). drop (if b then 9 + declared rest else 9) rest) (sym why.1)), inl why.1)
 headless rest count at left (feed_ends.NotBuilt n) why = absurd why
 headless rest count at left (feed_ends.Fault faults) why = (why.0, why.1, inl why.2)
-headless rest count at left feed_ends.Memory why = tt
+headless rest count at left feed_ends.Memory why = inl why
 headless rest count at left feed_ends.Ended why = absurd why
 
 -- ---- a whole record
-
--- behind a head stands what is left
-pub left_behind : (rest : List ℕ) (left : Option (List ℕ)) (op len : ℕ) (head : TakesHead rest left op len) → left ≡ Some (drop 9 rest)
-left_behind rest left op len head = head.left_after ∙ ap Some (sym (behind_head rest left op len head))
 
 -- behind its content stands what is behind the record
 pub behind_content : (rest : List ℕ) (left : Option (List ℕ)) (op len : ℕ) (head : TakesHead rest left op len) → drop len head.after ≡ behind_first rest
@@ -160,11 +165,6 @@ behind_content rest left op len head =
     ∙ drop-drop len 9 rest
     ∙ ap (λ (n : ℕ). drop (9 + n) rest) (sym head.len_is)
     ∙ ap (λ (b : Bool). drop (if b then 9 + declared rest else 9) rest) (sym head.begins)
-
--- what is recorded is decided by the head at the front
-pub built_there : (rest : List ℕ) (left : Option (List ℕ)) (count at op len : ℕ) (b : Bool) → TakesHead rest left op len → is_unbuilt count at op len ≡ b → is_unbuilt count at (opcode rest) (declared rest) ≡ b
-built_there rest left count at op len b head is =
-    ap (λ (o : ℕ). is_unbuilt count at o (declared rest)) head.op_is ∙ ap (λ (n : ℕ). is_unbuilt count at op n) head.len_is ∙ is
 
 -- a record that is recorded ends near enough to the front
 pub near_front : (count at op len : ℕ) → is_unbuilt count at op len ≡ false → at + 9 + len ≤ 2 ^ 39

@@ -10,7 +10,7 @@ use Rattle.recorder.specs.Feed.{Top, HasDataEnd, IsDataEnd, SchemaFits, ChannelF
 use Rattle.recorder.specs.Next.{TakesTop, NextEnds, TakesHeader, HeaderTaken}
 use Rattle.recorder.specs.Lane.{top_of, LaneStands, TapeStands, GoesOn, IsOver, SchemaTaken, ChannelTaken, MessageTaken, EndsAt, RecordTaken, LaneRead}
 use Rattle.recorder.proofs.Steps.{messages_same, more_tops}
-use Rattle.recorder.proofs.Feeds.{ended_last, ended_more, taken_more, reads_on, broken_there, ends_there, begun_with, begun_more, cause_after}
+use Rattle.recorder.proofs.Feeds.{ended_last, ended_more, taken_more, reads_on, broken_there, ends_there, memory_at, memory_behind, cause_after}
 
 -- ---- where a lane that goes on ends
 
@@ -133,7 +133,7 @@ message_end lane tape first more content history held held_now before now offset
     let Q : FeedEnd → Type 0 = λ e. IsOver lane tape ((first ∷ more) ++ top_of 5 content ∷ []) held held_now before now e in
     let fits : FitsBehind (first ∷ more) (top_of 5 content) = (unended, inr (inr (inr taken.0))) in
     elim taken.1 [
-      | inl memory ↦ subst P (sym memory) (inr (fits, subst Q memory taken.2))
+      | inl memory ↦ subst P (sym memory) (inr (refl, fits, subst Q memory taken.2))
       | inr ended ↦ subst P (sym ended) (refl, fits, subst Q ended taken.2)
     ]
 
@@ -218,13 +218,13 @@ ends_at lane tape tops left after held held_now faults faults_now before now at 
 ends_at lane tape tops left after held held_now faults faults_now before now at op content feed_ends.Memory next built later ends = elim ends [
   | inl over ↦ record {
     tops = tops;
-    read = λ bytes told. let n = next bytes told in begun_with bytes tops n.0 at n.1;
+    read = λ bytes told. let n = next bytes told in memory_at bytes tops n.0 at after op content n.1 n.2;
     cause = later;
     over = over;
   }
-  | inr (fits, over) ↦ record {
+  | inr (is, fits, over) ↦ record {
     tops = tops ++ top_of op content ∷ [];
-    read = λ bytes told. let n = next bytes told in begun_more bytes tops n.0 at after op content n.1 n.2 built fits;
+    read = λ bytes told. let n = next bytes told in memory_behind bytes tops n.0 at after op content n.1 n.2 built fits is;
     cause = later;
     over = over;
   }

@@ -212,9 +212,12 @@ IsBroken tops rest at = (has_head rest ≡ false)
 abbrev pub LacksMagic : List ℕ → Type 0
 LacksMagic bytes = (rest : List ℕ) → bytes ≡ magic ++ rest → ⊥
 
--- the feed begins with these records, or none of it was read
-abbrev pub BeginsWith : List ℕ → List Top → Type 0
-BeginsWith bytes tops = (tops ≡ []) ⊎ ((rest : List ℕ) × Reads bytes tops rest)
+-- What a want of memory leaves: the rest; or what stands behind the head of a record that is recorded, or behind the
+-- whole of it.
+abbrev pub MemoryLeaves : ℕ → List ℕ → ℕ → Option (List ℕ) → Type 0
+MemoryLeaves count rest at left = (left ≡ Some rest)
+    ⊎ ((has_head rest ≡ true) × (is_unbuilt count at (opcode rest) (declared rest) ≡ false)
+    × ((left ≡ Some (drop 9 rest)) ⊎ ((is_whole rest ≡ true) × (left ≡ Some (behind_first rest)))))
 
 -- fewer bytes than a head, or a record begins there that is recorded, but isn't all there
 abbrev pub IsCutOff : ℕ → List ℕ → ℕ → Type 0
@@ -240,7 +243,8 @@ FeedRead bytes tops left (feed_ends.Grammar n) = ((n ≡ 0) × (tops ≡ []) × 
     ⊎ ((rest : List ℕ) × ReadsTo bytes tops rest n × IsBroken tops rest n × (left ≡ Some (behind_first rest)))
 FeedRead bytes tops left (feed_ends.NotBuilt n) = (rest : List ℕ) × ReadsTo bytes tops rest n × IsLater tops rest n × (left ≡ Some (drop 9 rest))
 FeedRead bytes tops left (feed_ends.Fault faults) = (given rest : List ℕ) × (bytes ≡ given ++ rest) × (left ≡ Some rest) × AllGiven given tops
-FeedRead bytes tops left feed_ends.Memory = BeginsWith bytes tops
+FeedRead bytes tops left feed_ends.Memory = ((tops ≡ []) × (left ≡ Some bytes))
+    ⊎ ((rest : List ℕ) × (at : ℕ) × ReadsTo bytes tops rest at × MemoryLeaves (declarations tops) rest at left)
 FeedRead bytes tops left feed_ends.Ended = (rest : List ℕ) × Reads bytes tops rest × LastIsMessage tops × (left ≡ Some rest)
 
 -- The count of the source doesn't fall. The end by a fault comes only where it rose, and carries it.

@@ -115,7 +115,7 @@ abbrev pub EndsAt : Lane → Tape → List Top → Top → Option (List ℕ) →
 EndsAt lane tape tops t held held_now before now offset feed_ends.Done = (t.op ≡ 15) × FitsBehind tops t × IsOver lane tape (tops ++ t ∷ []) held held_now before now feed_ends.Done
 EndsAt lane tape tops t held held_now before now offset (feed_ends.Grammar n) = (n ≡ offset) × (FitsBehind tops t → ⊥) × IsOver lane tape tops held held_now before now (feed_ends.Grammar n)
 EndsAt lane tape tops t held held_now before now offset feed_ends.Memory = IsOver lane tape tops held held_now before now feed_ends.Memory
-    ⊎ (FitsBehind tops t × IsOver lane tape (tops ++ t ∷ []) held held_now before now feed_ends.Memory)
+    ⊎ ((t.op ≡ 5) × FitsBehind tops t × IsOver lane tape (tops ++ t ∷ []) held held_now before now feed_ends.Memory)
 EndsAt lane tape tops t held held_now before now offset feed_ends.Ended = (t.op ≡ 5) × FitsBehind tops t × IsOver lane tape (tops ++ t ∷ []) held held_now before now feed_ends.Ended
 EndsAt lane tape tops t held held_now before now offset end = ⊥
 

@@ -48,14 +48,15 @@ NextEnds rest count at left (feed_ends.Grammar n) = (n ≡ at) × (left ≡ Some
     ⊎ ((has_head rest ≡ true) × (is_unbuilt count at (opcode rest) (declared rest) ≡ false) × (is_whole rest ≡ false)))
 NextEnds rest count at left (feed_ends.NotBuilt n) = (n ≡ at) × (has_head rest ≡ true) × (is_unbuilt count at (opcode rest) (declared rest) ≡ true) × (left ≡ Some (drop 9 rest))
 NextEnds rest count at left (feed_ends.Fault faults) = GivesPart rest count at left
-NextEnds rest count at left feed_ends.Memory = Unit {0}
+NextEnds rest count at left feed_ends.Memory = (left ≡ Some rest)
+    ⊎ ((has_head rest ≡ true) × (is_unbuilt count at (opcode rest) (declared rest) ≡ false) × (left ≡ Some (drop 9 rest)))
 NextEnds rest count at left feed_ends.Ended = ⊥
 
 -- why no head could be taken
 abbrev pub HeadEnds : List ℕ → ℕ → Option (List ℕ) → FeedEnd → Type 0
 HeadEnds rest at left (feed_ends.Grammar n) = (n ≡ at) × (has_head rest ≡ false) × (left ≡ Some (drop 9 rest))
 HeadEnds rest at left (feed_ends.Fault faults) = GivesFew rest left
-HeadEnds rest at left feed_ends.Memory = Unit {0}
+HeadEnds rest at left feed_ends.Memory = left ≡ Some rest
 HeadEnds rest at left end = ⊥
 
 abbrev pub HeadTaken : List ℕ → ℕ → Option (List ℕ) → Result Head FeedEnd → Type 0
