@@ -7,7 +7,7 @@ use Rattle.mcap_wire.proofs.Numbers.{length-le}
 use Rattle.mcap_io.proofs.Calls.{rose-second}
 use Rattle.recorder.specs.declared.report.FeedEnd.{FeedEnd}
 use Rattle.recorder.specs.declared.report.FeedEnd.TheVariants as feed_ends
-use Rattle.recorder.specs.Feed.{Top, top_bytes, spelled, FitsBehind, HasDataEnd, IsBuilt, declarations, is_unbuilt, opcode, declared, first_top, Reads, ReadsTo, IsBroken, AllGiven, MemoryLeaves, FeedRead, FeedCause}
+use Rattle.recorder.specs.Feed.{Top, top_bytes, spelled, FitsBehind, HasDataEnd, IsBuilt, is_declaration, declarations, is_unbuilt, opcode, declared, first_top, Reads, ReadsTo, IsBroken, AllGiven, MemoryLeaves, FeedRead, FeedCause}
 use Rattle.recorder.specs.Next.{TakesTop, GivesPart, NextEnds}
 use Rattle.recorder.specs.Lane.{top_of}
 use Rattle.recorder.proofs.Places.{at_none, each_more}
@@ -142,10 +142,11 @@ cause_after before mid now (feed_ends.Fault faults) later cause = (omega (arith,
 cause_after before mid now feed_ends.Memory later cause = omega arith
 cause_after before mid now feed_ends.Ended later cause = omega arith
 
--- memory lacked at a record that isn't one of those that were read
-pub memory_at : (bytes : List ℕ) (tops : List Top) (rest : List ℕ) (at : ℕ) (left : Option (List ℕ)) (op : ℕ) (content : List ℕ) → ReadsTo bytes tops rest at → TakesTop rest (declarations tops) at left op content → FeedRead bytes tops left feed_ends.Memory
-memory_at bytes tops rest at left op content so_far t =
-    inr (rest, at, so_far, inr (t.begins, t.built_there, inr (t.whole, t.left_after ∙ ap Some t.behind)))
+-- memory lacked at a schema or a channel, which isn't one of the records that were read
+pub memory_at : (bytes : List ℕ) (tops : List Top) (rest : List ℕ) (at : ℕ) (left : Option (List ℕ)) (op : ℕ) (content : List ℕ) → ReadsTo bytes tops rest at → TakesTop rest (declarations tops) at left op content → is_declaration op ≡ true → FeedRead bytes tops left feed_ends.Memory
+memory_at bytes tops rest at left op content so_far t is =
+    let kind : is_declaration (opcode rest) ≡ true = ap (λ (x : Top). is_declaration x.op) t.first ∙ is in
+    inr (rest, at, so_far, inr (t.begins, t.built_there, inr (kind, t.whole, t.left_after ∙ ap Some t.behind)))
 
 -- and behind a Message that is
 pub memory_behind : (bytes : List ℕ) (tops : List Top) (rest : List ℕ) (at : ℕ) (left : Option (List ℕ)) (op : ℕ) (content : List ℕ) → ReadsTo bytes tops rest at → TakesTop rest (declarations tops) at left op content → is_unbuilt (declarations tops) at op (length content) ≡ false → FitsBehind tops (top_of op content) → op ≡ 5 → FeedRead bytes (tops ++ top_of op content ∷ []) left feed_ends.Memory

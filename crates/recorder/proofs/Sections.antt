@@ -90,9 +90,12 @@ schema_bad was lane tape first more content history held held_now before now off
 pub schema_end : (was lane : Lane) (tape : Tape) (first : Top) (more : List Top) (content : List ℕ) (history : List Rec) (held held_now : Option (List ℕ)) (before now offset : ℕ) (end : FeedEnd) → GoesOn was tape (first ∷ more) history held held_now before now → lane.records ≡ was.records → lane.handled ≡ was.handled → was.handled ≤ 2 ^ 36 → SchemaTaken lane (first ∷ more) history content (puts.End end) → EndsAt lane tape (first ∷ more) (top_of 3 content) held held_now before now offset end
 schema_end was lane tape first more content history held held_now before now offset end goes same handled few taken =
     subst (λ (e : FeedEnd). EndsAt lane tape (first ∷ more) (top_of 3 content) held held_now before now offset e) (sym taken.0)
-    (inl (over_here lane tape (first ∷ more) history held held_now before now feed_ends.Memory
-    (after_declaration was lane tape (first ∷ more) (first ∷ more) history held held_now before now goes taken.1 same)
-    (omega arith) (λ is. absurd cc)))
+    (inl (
+      refl,
+      over_here lane tape (first ∷ more) history held held_now before now feed_ends.Memory
+          (after_declaration was lane tape (first ∷ more) (first ∷ more) history held held_now before now goes taken.1 same)
+          (omega arith) (λ is. absurd cc),
+    ))
 
 pub channel_done : (was lane : Lane) (tape : Tape) (first : Top) (more : List Top) (content : List ℕ) (history : List Rec) (held held_now : Option (List ℕ)) (before now offset : ℕ) → (HasDataEnd (first ∷ more) → ⊥) → GoesOn was tape (first ∷ more) history held held_now before now → lane.records ≡ was.records → ChannelTaken lane (first ∷ more) history content puts.Done → RecordTaken lane tape (first ∷ more) (top_of 4 content) held held_now before now offset (Ok tt)
 channel_done was lane tape first more content history held held_now before now offset unended goes same taken = (
@@ -111,9 +114,12 @@ channel_bad was lane tape first more content history held held_now before now of
 pub channel_end : (was lane : Lane) (tape : Tape) (first : Top) (more : List Top) (content : List ℕ) (history : List Rec) (held held_now : Option (List ℕ)) (before now offset : ℕ) (end : FeedEnd) → GoesOn was tape (first ∷ more) history held held_now before now → lane.records ≡ was.records → lane.handled ≡ was.handled → was.handled ≤ 2 ^ 36 → ChannelTaken lane (first ∷ more) history content (puts.End end) → EndsAt lane tape (first ∷ more) (top_of 4 content) held held_now before now offset end
 channel_end was lane tape first more content history held held_now before now offset end goes same handled few taken =
     subst (λ (e : FeedEnd). EndsAt lane tape (first ∷ more) (top_of 4 content) held held_now before now offset e) (sym taken.0)
-    (inl (over_here lane tape (first ∷ more) history held held_now before now feed_ends.Memory
-    (after_declaration was lane tape (first ∷ more) (first ∷ more) history held held_now before now goes taken.1 same)
-    (omega arith) (λ is. absurd cc)))
+    (inl (
+      refl,
+      over_here lane tape (first ∷ more) history held held_now before now feed_ends.Memory
+          (after_declaration was lane tape (first ∷ more) (first ∷ more) history held held_now before now goes taken.1 same)
+          (omega arith) (λ is. absurd cc),
+    ))
 
 pub message_done : (lane : Lane) (tape : Tape) (first : Top) (more : List Top) (content : List ℕ) (history : List Rec) (held held_now : Option (List ℕ)) (before now offset : ℕ) → (HasDataEnd (first ∷ more) → ⊥) → MessageTaken lane tape (first ∷ more) content held held_now before now history puts.Done → RecordTaken lane tape (first ∷ more) (top_of 5 content) held held_now before now offset (Ok tt)
 message_done lane tape first more content history held held_now before now offset unended taken = (
@@ -216,9 +222,9 @@ ends_at lane tape tops left after held held_now faults faults_now before now at 
 ends_at lane tape tops left after held held_now faults faults_now before now at op content (feed_ends.NotBuilt m) next built later ends = absurd ends
 ends_at lane tape tops left after held held_now faults faults_now before now at op content (feed_ends.Fault count) next built later ends = absurd ends
 ends_at lane tape tops left after held held_now faults faults_now before now at op content feed_ends.Memory next built later ends = elim ends [
-  | inl over ↦ record {
+  | inl (is, over) ↦ record {
     tops = tops;
-    read = λ bytes told. let n = next bytes told in memory_at bytes tops n.0 at after op content n.1 n.2;
+    read = λ bytes told. let n = next bytes told in memory_at bytes tops n.0 at after op content n.1 n.2 is;
     cause = later;
     over = over;
   }

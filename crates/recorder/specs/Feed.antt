@@ -213,11 +213,11 @@ abbrev pub LacksMagic : List ℕ → Type 0
 LacksMagic bytes = (rest : List ℕ) → bytes ≡ magic ++ rest → ⊥
 
 -- What a want of memory leaves: the rest; or what stands behind the head of a record that is recorded, or behind the
--- whole of it.
+-- whole of a schema or a channel.
 abbrev pub MemoryLeaves : ℕ → List ℕ → ℕ → Option (List ℕ) → Type 0
 MemoryLeaves count rest at left = (left ≡ Some rest)
     ⊎ ((has_head rest ≡ true) × (is_unbuilt count at (opcode rest) (declared rest) ≡ false)
-    × ((left ≡ Some (drop 9 rest)) ⊎ ((is_whole rest ≡ true) × (left ≡ Some (behind_first rest)))))
+    × ((left ≡ Some (drop 9 rest)) ⊎ ((is_declaration (opcode rest) ≡ true) × (is_whole rest ≡ true) × (left ≡ Some (behind_first rest)))))
 
 -- fewer bytes than a head, or a record begins there that is recorded, but isn't all there
 abbrev pub IsCutOff : ℕ → List ℕ → ℕ → Type 0

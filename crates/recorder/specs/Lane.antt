@@ -1,5 +1,5 @@
 -- Where a lane stands, and where it ends.
-use Rattle.std.specs.Prelude.{◌≡◌, ◌⊎◌, ℕ, ◌+◌, ◌*◌, ◌^◌, ◌<◌, ◌≤◌, List, ◌∷◌, [], ◌++◌, length, Option, Some, Result, Ok, Err}
+use Rattle.std.specs.Prelude.{◌≡◌, ◌⊎◌, ℕ, ◌+◌, ◌*◌, ◌^◌, ◌<◌, ◌≤◌, true, List, ◌∷◌, [], ◌++◌, length, Option, Some, Result, Ok, Err}
 use Rattle.rec_data.specs.declared.owned.Rec.{Rec}
 use Rattle.recorder.specs.declared.report.Accepted.{Accepted}
 use Rattle.recorder.specs.declared.report.DeclaredAt.{DeclaredAt}
@@ -16,7 +16,7 @@ use Rattle.recorder.specs.declared.lane.Put.TheVariants as puts
 use Rattle.recorder.specs.declared.tape.Tape.{Tape}
 use Rattle.recorder.specs.Tape.{Wrote}
 use Rattle.recorder.specs.Places.{At}
-use Rattle.recorder.specs.Feed.{Top, SchemaFits, ChannelFits, MessageFits, FitsBehind, FeedRead, FeedCause, declarations}
+use Rattle.recorder.specs.Feed.{Top, SchemaFits, ChannelFits, MessageFits, FitsBehind, FeedRead, FeedCause, is_declaration, declarations}
 use Rattle.recorder.specs.History.{schema_count, channel_count}
 use Rattle.recorder.specs.Assembled.{Assembled, messages}
 use Rattle.recorder.specs.Channels.{SchemasOf, SchemasGiven, ChannelsOf, GivenBy}
@@ -110,11 +110,11 @@ MessageTaken lane tape tops content held held_now before now history (puts.End e
     × IsOver lane tape (tops ++ top_of 5 content ∷ []) held held_now before now end
 
 -- the record that ended the lane: a Data End; or it may not stand there and isn't one of the feed's records; or it is
--- a message; or memory lacked at a channel
+-- a message; or memory lacked at a schema or a channel
 abbrev pub EndsAt : Lane → Tape → List Top → Top → Option (List ℕ) → Option (List ℕ) → ℕ → ℕ → ℕ → FeedEnd → Type 0
 EndsAt lane tape tops t held held_now before now offset feed_ends.Done = (t.op ≡ 15) × FitsBehind tops t × IsOver lane tape (tops ++ t ∷ []) held held_now before now feed_ends.Done
 EndsAt lane tape tops t held held_now before now offset (feed_ends.Grammar n) = (n ≡ offset) × (FitsBehind tops t → ⊥) × IsOver lane tape tops held held_now before now (feed_ends.Grammar n)
-EndsAt lane tape tops t held held_now before now offset feed_ends.Memory = IsOver lane tape tops held held_now before now feed_ends.Memory
+EndsAt lane tape tops t held held_now before now offset feed_ends.Memory = ((is_declaration t.op ≡ true) × IsOver lane tape tops held held_now before now feed_ends.Memory)
     ⊎ ((t.op ≡ 5) × FitsBehind tops t × IsOver lane tape (tops ++ t ∷ []) held held_now before now feed_ends.Memory)
 EndsAt lane tape tops t held held_now before now offset feed_ends.Ended = (t.op ≡ 5) × FitsBehind tops t × IsOver lane tape (tops ++ t ∷ []) held held_now before now feed_ends.Ended
 EndsAt lane tape tops t held held_now before now offset end = ⊥
