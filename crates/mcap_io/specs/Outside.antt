@@ -1,5 +1,5 @@
 -- What the calls on sources, sinks, stores and worlds do to the bytes that these tell, and when one may fail.
-use Rattle.std.specs.Prelude.{◌≡◌, ◌⊎◌, ℕ, ◌+◌, ◌-◌, ◌^◌, ◌<◌, ◌≤◌, min, List, [], ◌∷◌, ◌++◌, length, take, drop, Bool, true, false, Option, Some, IsSome, Result, Ok, Err, OnErr}
+use Rattle.std.specs.Prelude.{◌≡◌, ◌⊎◌, ℕ, ◌+◌, ◌-◌, ◌^◌, ◌<◌, ◌≤◌, min, List, [], ◌∷◌, ◌++◌, length, take, drop, Bool, true, false, Option, Some, IsSome, Result, Ok, Err, OnOk, OnErr}
 use Rattle.std.specs.Option.{option_map}
 use Rattle.mcap_io.specs.declared.outside.Failed.{Failed}
 use Rattle.mcap_io.specs.declared.outside.ObjectKind.{ObjectKind}
@@ -22,25 +22,27 @@ Rose before now = min (before + 1) (2 ^ 64 - 1) ≤ now
 abbrev pub added : ℕ → ℕ → ℕ
 added a b = min (a + b) (2 ^ 64 - 1)
 
--- the count doesn't fall, and a failure comes only where it rose
+-- the count stands still where the call went well, and a failure comes only where it rose
 pub record HasCause {T : Type 0} (before now : ℕ) (result : Result T Failed) : Type 0 where
   pub later : before ≤ now
+  pub still : OnOk result (now ≡ before)
   pub failed : OnErr result (Rose before now)
 
+-- the same of an opening, of an append and of the reading of a stretch: want of memory leaves the count as it was
 abbrev pub OpenCause : {T : Type 0} → ℕ → ℕ → Result T OpenRefused → Type 0
-OpenCause before now (Ok it) = before ≤ now
+OpenCause before now (Ok it) = now ≡ before
 OpenCause before now (Err open_refusals.Failed) = (before ≤ now) × Rose before now
-OpenCause before now (Err open_refusals.Memory) = before ≤ now
+OpenCause before now (Err open_refusals.Memory) = now ≡ before
 
 abbrev pub AppendCause : {T : Type 0} → ℕ → ℕ → Result T AppendRefused → Type 0
-AppendCause before now (Ok it) = before ≤ now
+AppendCause before now (Ok it) = now ≡ before
 AppendCause before now (Err (append_refusals.Failed taken)) = (before ≤ now) × Rose before now
-AppendCause before now (Err append_refusals.Memory) = before ≤ now
+AppendCause before now (Err append_refusals.Memory) = now ≡ before
 
 abbrev pub ReadCause : {T : Type 0} → ℕ → ℕ → Result T ReadRefused → Type 0
-ReadCause before now (Ok it) = before ≤ now
+ReadCause before now (Ok it) = now ≡ before
 ReadCause before now (Err read_refusals.Failed) = (before ≤ now) × Rose before now
-ReadCause before now (Err read_refusals.Memory) = before ≤ now
+ReadCause before now (Err read_refusals.Memory) = now ≡ before
 
 -- ---- sources
 
@@ -80,9 +82,9 @@ abbrev pub Writes : Option (List ℕ) → Option (List ℕ) → List ℕ → Res
 Writes old new bytes (Ok n) = Adds old new (take n bytes)
 Writes old new bytes (Err why) = AddsPart old new 0 bytes
 
--- all of a piece was taken, or the count rose and a first part was, at least as much as is said
+-- all of a piece was taken and the count stood still, or the count rose and a first part was, at least as much as is said
 abbrev pub WritesAll : Option (List ℕ) → Option (List ℕ) → ℕ → ℕ → List ℕ → Result Unit Short → Type 0
-WritesAll old new before now bytes (Ok it) = (before ≤ now) × Adds old new bytes
+WritesAll old new before now bytes (Ok it) = (now ≡ before) × Adds old new bytes
 WritesAll old new before now bytes (Err short) = (before ≤ now) × Rose before now × (short.taken ≤ length bytes) × AddsPart old new short.taken bytes
 
 -- what a refused append leaves: the first bytes that it says, or all as it was

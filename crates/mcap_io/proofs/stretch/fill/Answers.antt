@@ -1,5 +1,5 @@
 -- One read more goes on from what was filled; a read that gives nothing ends the input.
-use Rattle.std.proofs.Common.{◌+◌, ◌-◌, ◌≤◌, ◌<◌, length, drop, arith, length-take, length-drop}
+use Rattle.std.proofs.Common.{◌∙◌, ◌+◌, ◌-◌, ◌≤◌, ◌<◌, length, drop, arith, length-take, length-drop}
 use borrow.Rule.Slice.PartMut.{same_len_mid}
 use Rattle.mcap_io.proofs.Filling.{filled-more, filled-all}
 use Rattle.mcap_io.proofs.stretch.fill.Goals as goal
@@ -23,7 +23,7 @@ fill-preserved g c =
     let within : filled + n ≤ length out = omega (arith, c.read.auto.out, fits, c.fill.invariant.bound, length-take (length out - filled) (drop filled out), length-drop filled out) in
     record {
       bound = omega (arith, whole, within);
-      later = omega (arith, c.fill.invariant.later, c.in-Ok.ensures.cause.later);
+      still = c.in-Ok.ensures.cause.still ∙ c.fill.invariant.still;
       so_far = λ rest told.
           filled-more rest _ c.read.new.out (g.S.Source.left c.fill.source) _ _ _ _ c.fill.invariant.bound fits (c.fill.invariant.so_far rest told) c.in-Ok.ensures.gives;
     }

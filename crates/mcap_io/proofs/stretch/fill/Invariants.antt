@@ -5,7 +5,7 @@ use Rattle.mcap_io.proofs.stretch.fill.Given as goal
 abbrev pub invariant-fill : goal.invariant-fill
 invariant-fill g l = record {
   bound : l.filled ≤ length l.out;
-  later : g.S.Source.faults l.fn.source ≤ g.S.Source.faults l.source;
+  still : g.S.Source.faults l.source ≡ g.S.Source.faults l.fn.source;
   so_far : (rest : List ℕ) → g.S.Source.left l.fn.source ≡ Some rest → FilledSoFar rest (g.S.Source.left l.source) l.out l.filled;
 }
 

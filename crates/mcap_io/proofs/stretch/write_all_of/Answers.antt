@@ -1,5 +1,5 @@
 -- One write more goes on from what was written; a failed one adds a part of what was left of the piece.
-use Rattle.std.proofs.Common.{◌-◌, length, drop, arith, length-take, length-drop}
+use Rattle.std.proofs.Common.{◌∙◌, ◌-◌, length, drop, arith, length-take, length-drop}
 use Rattle.mcap_io.proofs.Filling.{written-more, written-part}
 use Rattle.mcap_io.proofs.Calls.{rose-second}
 use Rattle.mcap_io.proofs.stretch.write_all_of.Goals as goal
@@ -10,15 +10,15 @@ pieces-preserved g c =
     let taken = c.pieces.taken in
     record {
       bound = omega (arith, c.pieces.invariant.bound, c.in-Ok.ensures.bound, length-take (length bytes - taken) (drop taken bytes), length-drop taken bytes);
-      later = omega (arith, c.pieces.invariant.later, c.in-Ok.ensures.cause.later);
+      still = c.in-Ok.ensures.cause.still ∙ c.pieces.invariant.still;
       so_far = written-more _ _ _ _ _ _ c.pieces.invariant.so_far c.in-Ok.ensures.takes;
     }
 
 pub returns-in-Err : goal.returns-in-Err
 returns-in-Err g c =
     let cause = c.in-Err.ensures.cause in (
-      omega (arith, c.pieces.invariant.later, cause.later),
-      rose-second _ _ _ c.pieces.invariant.later cause.failed,
+      omega (arith, c.pieces.invariant.still, cause.later),
+      rose-second _ _ _ (omega (arith, c.pieces.invariant.still)) cause.failed,
       c.pieces.invariant.bound,
       written-part _ _ _ _ _ c.pieces.invariant.bound c.pieces.invariant.so_far c.in-Err.ensures.takes,
     )
