@@ -198,7 +198,7 @@ complete feed before now names left (Some r) history answer reported ends all by
 
 -- all that the program promises of a recording
 pub recorded : (out feed : List ℕ) (names names_now : Option Names) (opened opened_now : Option (List Opening)) (left left_now : Option (List ℕ)) (before now : Counts) (took took_now told_before told_now : Option (List ℕ)) (errors errors_now : ℕ) (report : Option Report) (failed : Failures) (answer : ℕ)
-    → NamesRecorded out feed before.world now.world before.inputs now.inputs before.outputs now.outputs names names_now opened opened_now left_now report
+    → NamesRecorded out feed before.world now.world before.inputs now.inputs before.outputs now.outputs names names_now opened opened_now left left_now report
     → PrintsReport took took_now before.printing now.printing report
     → Answers out feed report failed told_before told_now errors errors_now answer → Causes before now failed → (AnyRose before now → Failed failed)
     → Records out feed (scene names opened left before took told_before errors) (scene names_now opened_now left_now now took_now told_now errors_now) report answer
@@ -211,6 +211,7 @@ recorded out feed names names_now opened opened_now left left_now before now too
       reported = made.reported;
       untouched = made.untouched;
       unfailed = made.unfailed;
+      unread = made.unread;
       printed = prints;
       said = told out feed before now report failed told_before told_now errors errors_now answer a causes any_failed;
       ended = ends;

@@ -184,9 +184,9 @@ was_made None opened_now o is = λ openings told. absurd (none_openings openings
 was_made (Some before) opened_now o is = λ openings told. (before, [], same_openings openings (before ++ o ∷ []) (sym told ∙ is))
 
 -- there was no recording, and the names are as they were
-pub unnamed : (out feed : List ℕ) (names names_now : Option Names) (opened opened_now : Option (List Opening)) (left : Option (List ℕ)) (before now inputs inputs_now outputs outputs_now : ℕ) (report : Option Report)
-    → report ≡ None → OpensNames out feed None opened opened_now → names_now ≡ names → inputs_now ≡ inputs → outputs_now ≡ outputs → NamesRecorded out feed before now inputs inputs_now outputs outputs_now names names_now opened opened_now left report
-unnamed out feed names names_now opened opened_now left before now inputs inputs_now outputs outputs_now report none opens same inputs_same outputs_same = record {
+pub unnamed : (out feed : List ℕ) (names names_now : Option Names) (opened opened_now : Option (List Opening)) (left_before left : Option (List ℕ)) (before now inputs inputs_now outputs outputs_now : ℕ) (report : Option Report)
+    → report ≡ None → OpensNames out feed None opened opened_now → names_now ≡ names → inputs_now ≡ inputs → outputs_now ≡ outputs → ((all : Names) → names ≡ Some all → (left ≡ left_before) ⊎ (left ≡ all feed)) → NamesRecorded out feed before now inputs inputs_now outputs outputs_now names names_now opened opened_now left_before left report
+unnamed out feed names names_now opened opened_now left_before left before now inputs inputs_now outputs outputs_now report none opens same inputs_same outputs_same untaken = record {
   history = [];
   openings = subst (λ (r : Option Report). OpensNames out feed r opened opened_now) (sym none) opens;
   names = λ all told. (
@@ -202,18 +202,19 @@ unnamed out feed names names_now opened opened_now left before now inputs inputs
   reported = λ r here. absurd (none_some r (sym none ∙ here));
   untouched = λ all now_names told told_now missing. ap (λ (there : Names). there out) (same_names now_names all (sym told_now ∙ same ∙ told));
   unfailed = λ still. (inputs_same, outputs_same);
+  unread = λ still. untaken;
 }
 
 -- what a recording into a new store left, with its report or without one
-pub named : (out feed : List ℕ) (names names_now : Option Names) (opened opened_now : Option (List Opening)) (unread left after held held_after : Option (List ℕ))
+pub named : (out feed : List ℕ) (names names_now : Option Names) (opened opened_now : Option (List Opening)) (unread_before unread left after held held_after : Option (List ℕ))
     (feed_before feed_now live_before live_now before now inputs inputs_now outputs outputs_now : ℕ) (report : Option Report) (result : Result Unit Failed)
-    → (report ≡ None → (held_after ≡ held) × (feed_now ≡ feed_before) × (live_now ≡ live_before))
+    → (report ≡ None → (held_after ≡ held) × (feed_now ≡ feed_before) × (live_now ≡ live_before) × (after ≡ left))
     → ((r : Report) → report ≡ Some r → Recorded left after feed_before feed_now held held_after live_before live_now r)
     → TellsName names feed left → feed_before ≡ 0 → inputs < 2 ^ 64 → inputs_now ≡ added inputs feed_now
     → ((all : Names) → names ≡ Some all → held ≡ Some []) → live_before ≡ 0 → outputs < 2 ^ 64 → outputs_now ≡ added outputs live_now
     → KeepsUnder names names_now out held_after result → OnErr result (Rose before now) → unread ≡ after → opened_now ≡ also_opened opened (source_under feed true ∷ live_under out true ∷ [])
-    → NamesRecorded out feed before now inputs inputs_now outputs outputs_now names names_now opened opened_now unread report
-named out feed names names_now opened opened_now unread left after held held_after feed_before feed_now live_before live_now before now inputs inputs_now outputs outputs_now None result same made tells unused inputs_fit inputs_is empty new outputs_fit outputs_is keeps failed returned opens = record {
+    → NamesRecorded out feed before now inputs inputs_now outputs outputs_now names names_now opened opened_now unread_before unread report
+named out feed names names_now opened opened_now unread_before unread left after held held_after feed_before feed_now live_before live_now before now inputs inputs_now outputs outputs_now None result same made tells unused inputs_fit inputs_is empty new outputs_fit outputs_is keeps failed returned opens = record {
   history = [];
   openings = (source_under feed true ∷ live_under out true ∷ [], opens, inr (inr (inr (true, refl))));
   names = leaves out before now None [] names names_now held_after result keeps failed
@@ -224,8 +225,9 @@ named out feed names names_now opened opened_now unread left after held held_aft
     added_nothing inputs inputs_now feed_now ((same refl).1 ∙ unused) inputs_fit inputs_is,
     added_nothing outputs outputs_now live_now ((same refl).2 ∙ new) outputs_fit outputs_is,
   );
+  unread = λ none all told. inr (returned ∙ (same refl).3 ∙ (tells all told).0);
 }
-named out feed names names_now opened opened_now unread left after held held_after feed_before feed_now live_before live_now before now inputs inputs_now outputs outputs_now (Some r) result same made tells unused inputs_fit inputs_is empty new outputs_fit outputs_is keeps failed returned opens =
+named out feed names names_now opened opened_now unread_before unread left after held held_after feed_before feed_now live_before live_now before now inputs inputs_now outputs outputs_now (Some r) result same made tells unused inputs_fit inputs_is empty new outputs_fit outputs_is keeps failed returned opens =
     let all_made = made r refl in record {
       history = all_made.history;
       openings = (source_under feed true ∷ live_under out true ∷ [], opens, refl);
@@ -238,4 +240,5 @@ named out feed names names_now opened opened_now unread left after held held_aft
           (reported feed names left after held held_after feed_before feed_now live_before live_now inputs inputs_now outputs outputs_now r all_made tells unused inputs_fit inputs_is new outputs_fit outputs_is));
       untouched = λ all now_names told told_now missing. not_missing (all feed) (now_names out ≡ all out) (tells all told).1 missing;
       unfailed = λ none. absurd (none_some r (sym none));
+      unread = λ none. absurd (none_some r (sym none));
     }

@@ -172,13 +172,14 @@ abbrev pub OpensNames : List ℕ → List ℕ → Option Report → Option (List
 OpensNames out feed report old new = (made : List Opening) × (new ≡ also_opened old made) × AreOpenings out feed report made
 
 -- what a recording did to the world's names and counts
-pub record NamesRecorded (out feed : List ℕ) (before now inputs_before inputs_now outputs_before outputs_now : ℕ) (old new : Option Names) (opened opened_now : Option (List Opening)) (left : Option (List ℕ)) (report : Option Report) : Type 0 where
+pub record NamesRecorded (out feed : List ℕ) (before now inputs_before inputs_now outputs_before outputs_now : ℕ) (old new : Option Names) (opened opened_now : Option (List Opening)) (left_before left : Option (List ℕ)) (report : Option Report) : Type 0 where
   pub history : List Rec
   pub openings : OpensNames out feed report opened opened_now
   pub names : Leaves out before now report history old new
   pub reported : (r : Report) → report ≡ Some r → Reported feed old left inputs_before inputs_now outputs_before outputs_now history r
   pub untouched : (all now : Names) → old ≡ Some all → new ≡ Some now → all feed ≡ None → now out ≡ all out
   pub unfailed : report ≡ None → (inputs_now ≡ inputs_before) × (outputs_now ≡ outputs_before)
+  pub unread : report ≡ None → (all : Names) → old ≡ Some all → (left ≡ left_before) ⊎ (left ≡ all feed)
 
 -- the whole feed was recorded: its Data End was read, none of its messages was refused, and the file was closed
 pub record RecordsAll (r : Report) : Type 0 where
@@ -217,6 +218,8 @@ pub record Records (out feed : List ℕ) (old new : Scene) (report : Option Repo
   pub untouched : (all now : Names) → old.names ≡ Some all → new.names ≡ Some now → all feed ≡ None → now out ≡ all out
   -- without a report no source and no store failed
   pub unfailed : report ≡ None → (new.counts.inputs ≡ old.counts.inputs) × (new.counts.outputs ≡ old.counts.outputs)
+  -- and nothing of the feed was read
+  pub unread : report ≡ None → (all : Names) → old.names ≡ Some all → (new.left ≡ old.left) ⊎ (new.left ≡ all feed)
   -- standard output is told of the report
   pub printed : PrintsReport old.printed new.printed old.counts.printing new.counts.printing report
   -- standard error is told of the troubles

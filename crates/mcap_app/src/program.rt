@@ -45,7 +45,7 @@ fn is_failed(why: OpenRefused) -> bool
 fn record_names<W: World>(alloc: Global, out: &str, feed: &str, world: &mut W) -> Outcome
     requires inputs_fit { W.input_faults world.old < 2 ^ 64 }
     requires outputs_fit { W.output_faults world.old < 2 ^ 64 }
-    ensures recorded { NamesRecorded out.now feed.now (W.faults world.old) (W.faults world.new) (W.input_faults world.old) (W.input_faults world.new) (W.output_faults world.old) (W.output_faults world.new) (W.names world.old) (W.names world.new) (W.opened world.old) (W.opened world.new) (W.unread world.new) result.report }
+    ensures recorded { NamesRecorded out.now feed.now (W.faults world.old) (W.faults world.new) (W.input_faults world.old) (W.input_faults world.new) (W.output_faults world.old) (W.output_faults world.new) (W.names world.old) (W.names world.new) (W.opened world.old) (W.opened world.new) (W.unread world.old) (W.unread world.new) result.report }
     ensures later { W.faults world.old ≤ W.faults world.new }
     ensures later_inputs { W.input_faults world.old ≤ W.input_faults world.new }
     ensures later_outputs { W.output_faults world.old ≤ W.output_faults world.new }

@@ -9,7 +9,7 @@ returns g c =
     same_counts c.of-before.result _ _ _ _ c.of-before.ensures.world c.of-before.ensures.inputs c.of-before.ensures.outputs c.of-before.ensures.printing in
     let now : c.of-now.result ≡ counts (g.W.World.faults c.record_names-outcome.new.world) (g.W.World.input_faults c.record_names-outcome.new.world) (g.W.World.output_faults c.record_names-outcome.new.world) (g.O.Sink.faults c.print_outcome.new.out) =
     same_counts c.of-now.result _ _ _ _ c.of-now.ensures.world c.of-now.ensures.inputs c.of-now.ensures.outputs c.of-now.ensures.printing in
-    recorded c.args.out_name.now c.args.feed_name.now _ _ _ _ (g.W.World.unread c.args.world.now) _ _ _ _ _ _ _ _ _ _ c.failed_parts-failed.result _
+    recorded c.args.out_name.now c.args.feed_name.now _ _ _ _ _ _ _ _ _ _ _ _ _ _ _ c.failed_parts-failed.result _
     c.record_names-outcome.ensures.recorded
     c.print_outcome.ensures
     c.answer-status.ensures
