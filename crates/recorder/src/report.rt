@@ -25,13 +25,13 @@ pub enum FeedEnd {
     Done,
     /// The record at the offset breaks a rule of the format.
     Grammar { offset: u64 },
-    /// The record at the offset is of a kind or a size that isn't recorded yet.
+    /// The record at the offset isn't recorded yet.
     NotBuilt { offset: u64 },
     /// The source failed; `faults` is its count of faults.
     Fault { faults: u64 },
     /// Memory lacked.
     Memory,
-    /// The recording was stopped.
+    /// A message came after the writer had stopped, and was refused.
     Ended,
 }
 
@@ -55,7 +55,7 @@ pub struct DeclaredAt {
 /// Why a message was not recorded.
 #[derive(Clone, Copy, Debug, PartialEq, Eq)]
 pub enum Cause {
-    /// The recording was stopped at that number of records.
+    /// The writer had stopped; `at` is the number of records.
     Stopped { at: u64, stop: Stop },
     /// Memory lacked.
     Memory,
