@@ -26,7 +26,7 @@ pub enum Complaint<'a> {
     OutputFault,
     /// The record at the offset breaks a rule of the format.
     Grammar { name: &'a str, offset: u64 },
-    /// The record at the offset is of a kind or a size that isn't recorded yet.
+    /// The record at the offset isn't recorded yet.
     NotBuilt { name: &'a str, offset: u64 },
     /// Memory lacked.
     NoMemory,
