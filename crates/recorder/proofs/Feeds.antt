@@ -1,10 +1,9 @@
 -- How the records of a feed follow one another, and where its reading ends.
-use Rattle.std.proofs.Common.{◌≡◌, ◌⊎◌, ℕ, ◌+◌, ◌≤◌, true, false, List, [], ◌∷◌, ◌++◌, length, take, drop, Option, Some, refl, sym, ap, subst, inl, inr, ◌∙◌, append_assoc, arith}
+use Rattle.std.proofs.Common.{◌≡◌, ◌⊎◌, ℕ, ◌+◌, true, false, List, [], ◌∷◌, ◌++◌, length, take, drop, Option, Some, refl, sym, ap, subst, inl, inr, ◌∙◌, append_assoc, arith}
 use Rattle.std.proofs.lemmas.List.{take-append-drop, append-nil, length-append}
 use Rattle.std.proofs.lemmas.Grind.{flat_map-append}
 use Rattle.mcap_wire.specs.Layout.{le, framed, magic}
 use Rattle.mcap_wire.proofs.Numbers.{length-le}
-use Rattle.mcap_io.proofs.Calls.{rose-second}
 use Rattle.recorder.specs.declared.report.FeedEnd.{FeedEnd}
 use Rattle.recorder.specs.declared.report.FeedEnd.TheVariants as feed_ends
 use Rattle.recorder.specs.Feed.{Top, top_bytes, spelled, FitsBehind, HasDataEnd, IsBuilt, is_declaration, declarations, is_unbuilt, opcode, declared, first_top, Reads, ReadsTo, IsBroken, AllGiven, MemoryLeaves, FeedRead, FeedCause}
@@ -133,14 +132,9 @@ pub done_there : (bytes : List ℕ) (tops : List Top) (rest : List ℕ) (at : �
 done_there bytes tops rest at left content so_far t recorded fits =
     (t.after, taken_more bytes tops rest at left 15 content so_far t recorded fits, ended_last tops (top_of 15 content) refl, t.left_after)
 
--- calls before one that came to an end leave its cause
-pub cause_after : (before mid now : ℕ) (end : FeedEnd) → before ≤ mid → FeedCause mid now end → FeedCause before now end
-cause_after before mid now feed_ends.Done later cause = omega arith
-cause_after before mid now (feed_ends.Grammar n) later cause = omega arith
-cause_after before mid now (feed_ends.NotBuilt n) later cause = omega arith
-cause_after before mid now (feed_ends.Fault faults) later cause = (omega (arith, cause.0), rose-second before mid now later cause.1, cause.2)
-cause_after before mid now feed_ends.Memory later cause = omega arith
-cause_after before mid now feed_ends.Ended later cause = omega arith
+-- calls before one that came to an end, by which the count stood still, leave its cause
+pub cause_after : (before mid now : ℕ) (end : FeedEnd) → mid ≡ before → FeedCause mid now end → FeedCause before now end
+cause_after before mid now end still cause = subst (λ (n : ℕ). FeedCause n now end) still cause
 
 -- memory lacked at a schema or a channel, which isn't one of the records that were read
 pub memory_at : (bytes : List ℕ) (tops : List Top) (rest : List ℕ) (at : ℕ) (left : Option (List ℕ)) (op : ℕ) (content : List ℕ) → ReadsTo bytes tops rest at → TakesTop rest (declarations tops) at left op content → is_declaration op ≡ true → FeedRead bytes tops left feed_ends.Memory

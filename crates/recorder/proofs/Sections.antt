@@ -202,57 +202,57 @@ so_far_more lane tape first more left after held held_now before now at op conte
 }
 
 -- the lane ended at the record
-pub ends_at : (lane : Lane) (tape : Tape) (tops : List Top) (left after : Option (List ℕ)) (held held_now : Option (List ℕ)) (faults faults_now before now at op : ℕ) (content : List ℕ) (end : FeedEnd) → StandsNext left after tops at op content → is_unbuilt (declarations tops) at op (length content) ≡ false → faults ≤ faults_now → EndsAt lane tape tops (top_of op content) held held_now before now at end → LaneRead lane tape left after faults faults_now held held_now before now end
-ends_at lane tape tops left after held held_now faults faults_now before now at op content feed_ends.Done next built later ends = record {
+pub ends_at : (lane : Lane) (tape : Tape) (tops : List Top) (left after : Option (List ℕ)) (held held_now : Option (List ℕ)) (faults faults_now before now at op : ℕ) (content : List ℕ) (end : FeedEnd) → StandsNext left after tops at op content → is_unbuilt (declarations tops) at op (length content) ≡ false → faults_now ≡ faults → EndsAt lane tape tops (top_of op content) held held_now before now at end → LaneRead lane tape left after faults faults_now held held_now before now end
+ends_at lane tape tops left after held held_now faults faults_now before now at op content feed_ends.Done next built still ends = record {
   tops = tops ++ top_of op content ∷ [];
   read = λ bytes told.
       let n = next bytes told in
       (n.2.after, taken_more bytes tops n.0 at after op content n.1 n.2 built ends.1, ended_last tops (top_of op content) ends.0, n.2.left_after);
-  cause = later;
+  cause = still;
   over = ends.2;
 }
-ends_at lane tape tops left after held held_now faults faults_now before now at op content (feed_ends.Grammar m) next built later ends = record {
+ends_at lane tape tops left after held held_now faults faults_now before now at op content (feed_ends.Grammar m) next built still ends = record {
   tops = tops;
   read = λ bytes told.
       let n = next bytes told in
       subst (λ (k : ℕ). FeedRead bytes tops after (feed_ends.Grammar k)) (sym ends.0) (broken_there bytes tops n.0 at after op content n.1 n.2 ends.1);
-  cause = later;
+  cause = still;
   over = ends.2;
 }
-ends_at lane tape tops left after held held_now faults faults_now before now at op content (feed_ends.NotBuilt m) next built later ends = absurd ends
-ends_at lane tape tops left after held held_now faults faults_now before now at op content (feed_ends.Fault count) next built later ends = absurd ends
-ends_at lane tape tops left after held held_now faults faults_now before now at op content feed_ends.Memory next built later ends = elim ends [
+ends_at lane tape tops left after held held_now faults faults_now before now at op content (feed_ends.NotBuilt m) next built still ends = absurd ends
+ends_at lane tape tops left after held held_now faults faults_now before now at op content (feed_ends.Fault count) next built still ends = absurd ends
+ends_at lane tape tops left after held held_now faults faults_now before now at op content feed_ends.Memory next built still ends = elim ends [
   | inl (is, over) ↦ record {
     tops = tops;
     read = λ bytes told. let n = next bytes told in memory_at bytes tops n.0 at after op content n.1 n.2 is;
-    cause = later;
+    cause = still;
     over = over;
   }
   | inr (is, fits, over) ↦ record {
     tops = tops ++ top_of op content ∷ [];
     read = λ bytes told. let n = next bytes told in memory_behind bytes tops n.0 at after op content n.1 n.2 built fits is;
-    cause = later;
+    cause = still;
     over = over;
   }
 ]
-ends_at lane tape tops left after held held_now faults faults_now before now at op content feed_ends.Ended next built later ends = record {
+ends_at lane tape tops left after held held_now faults faults_now before now at op content feed_ends.Ended next built still ends = record {
   tops = tops ++ top_of op content ∷ [];
   read = λ bytes told.
       let n = next bytes told in
       (n.2.after, taken_more bytes tops n.0 at after op content n.1 n.2 built ends.1, (tops, top_of op content, refl, ends.0), n.2.left_after);
-  cause = later;
+  cause = still;
   over = ends.2;
 }
 
 -- no record could be taken
-pub stops_there : (lane : Lane) (tape : Tape) (left middle after : Option (List ℕ)) (held held_now : Option (List ℕ)) (faults faults_then faults_now before now at : ℕ) (end : FeedEnd) → SoFar lane tape left middle held held_now before now at → lane.handled ≤ 2 ^ 36 + 1 → ((rest : List ℕ) → middle ≡ Some rest → NextEnds rest lane.declarations at after end) → faults ≤ faults_then → FeedCause faults_then faults_now end → (end ≡ feed_ends.Ended → ⊥) → LaneRead lane tape left after faults faults_now held held_now before now end
-stops_there lane tape left middle after held held_now faults faults_then faults_now before now at end s few next later cause unstopped = record {
+pub stops_there : (lane : Lane) (tape : Tape) (left middle after : Option (List ℕ)) (held held_now : Option (List ℕ)) (faults faults_then faults_now before now at : ℕ) (end : FeedEnd) → SoFar lane tape left middle held held_now before now at → lane.handled ≤ 2 ^ 36 + 1 → ((rest : List ℕ) → middle ≡ Some rest → NextEnds rest lane.declarations at after end) → faults_then ≡ faults → FeedCause faults_then faults_now end → (end ≡ feed_ends.Ended → ⊥) → LaneRead lane tape left after faults faults_now held held_now before now end
+stops_there lane tape left middle after held held_now faults faults_then faults_now before now at end s few next still cause unstopped = record {
   tops = s.first ∷ s.more;
   read = λ bytes told.
       let r = s.told bytes told in
       ends_there bytes (s.first ∷ s.more) r.0 at after end r.2
       (subst (λ (n : ℕ). NextEnds r.0 n at after end) s.goes.lane_stands.declarations (next r.0 r.1));
-  cause = cause_after faults faults_then faults_now end later cause;
+  cause = cause_after faults faults_then faults_now end still cause;
   over = over_here lane tape (s.first ∷ s.more) s.history held held_now before now end s.goes few unstopped;
 }
 

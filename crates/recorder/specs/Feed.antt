@@ -247,10 +247,10 @@ FeedRead bytes tops left feed_ends.Memory = ((tops ≡ []) × (left ≡ Some byt
     ⊎ ((rest : List ℕ) × (at : ℕ) × ReadsTo bytes tops rest at × MemoryLeaves (declarations tops) rest at left)
 FeedRead bytes tops left feed_ends.Ended = (rest : List ℕ) × Reads bytes tops rest × LastIsMessage tops × (left ≡ Some rest)
 
--- The count of the source doesn't fall. The end by a fault comes only where it rose, and carries it.
+-- The count of the source's faults stands still but at the end by a fault, which carries it and comes only where it rose.
 abbrev pub FeedCause : ℕ → ℕ → FeedEnd → Type 0
 FeedCause before now (feed_ends.Fault faults) = (before ≤ now) × Rose before now × (faults ≡ now)
-FeedCause before now end = before ≤ now
+FeedCause before now end = now ≡ before
 
 -- ---- the end of a feed
 

@@ -63,8 +63,9 @@ abbrev pub HeadTaken : List ℕ → ℕ → Option (List ℕ) → Result Head Fe
 HeadTaken rest at left (Ok head) = TakesHead rest left head.op head.len
 HeadTaken rest at left (Err end) = HeadEnds rest at left end
 
+-- the count stands still but at a fault, by which it rose
 abbrev pub HeadCause : {T : Type 0} → ℕ → ℕ → Result T FeedEnd → Type 0
-HeadCause before now (Ok it) = before ≤ now
+HeadCause before now (Ok it) = now ≡ before
 HeadCause before now (Err end) = FeedCause before now end
 
 -- a record was taken from the front, its content, and the bytes behind it are left
@@ -82,8 +83,9 @@ abbrev pub NextTaken : List ℕ → ℕ → ℕ → Option (List ℕ) → List �
 NextTaken rest count at left content (next.Taken op) = TakesTop rest count at left op content
 NextTaken rest count at left content (next.End end) = NextEnds rest count at left end
 
+-- the count stands still but at a fault, by which it rose
 abbrev pub NextCause : ℕ → ℕ → Next → Type 0
-NextCause before now (next.Taken op) = before ≤ now
+NextCause before now (next.Taken op) = now ≡ before
 NextCause before now (next.End end) = FeedCause before now end
 
 -- a record that was taken is recorded, and so ends near enough to the feed's front
@@ -116,9 +118,9 @@ pub record TakesHeader (bytes : List ℕ) (header : Top) (left : Option (List �
   pub left_after : left ≡ Some rest
   pub reads : ReadsTo bytes (header ∷ []) rest offset
 
--- a Header of any source; of one that tells, it is the first record
+-- a Header of any source, whose count stands still; of one that tells, it is the first record
 pub record HeaderStands (before now : ℕ) (left after : Option (List ℕ)) (offset : ℕ) : Type 0 where
-  pub later : before ≤ now
+  pub still : now ≡ before
   pub header : Top
   pub kind : header.op ≡ 1
   pub place : offset ≡ 8 + length (spelled (header ∷ []))

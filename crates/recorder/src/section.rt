@@ -82,7 +82,7 @@ fn read_section<S: Source, L: LiveStore>(
         × GoesOn lane.old tape.old (header ∷ []) [] held (L.held live.old) before (L.faults live.old) }
     ensures { (header : Top) (held : Option (List ℕ)) (before faults : ℕ) (left : Option (List ℕ)) → header.op ≡ 1
         → ((bytes : List ℕ) → left ≡ Some bytes → TakesHeader bytes header (S.left source.old) start)
-        → faults ≤ S.faults source.old
+        → S.faults source.old ≡ faults
         → GoesOn lane.old tape.old (header ∷ []) [] held (L.held live.old) before (L.faults live.old)
         → LaneRead lane.new tape.new left (S.left source.new) faults (S.faults source.new) held (L.held live.new) before (L.faults live.new) result }
 {

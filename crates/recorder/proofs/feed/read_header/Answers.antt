@@ -6,7 +6,7 @@ use Rattle.recorder.proofs.feed.read_header.Goals as goal
 
 pub returns-then-not-is_header-clause-taken : goal.returns-then-not-is_header-clause-taken
 returns-then-not-is_header-clause-taken g c = (
-  omega (arith, c.in-Ok.ensures.cause, c.in-Taken.ensures.cause),
+  c.in-Taken.ensures.cause ∙ c.in-Ok.ensures.cause,
   λ bytes told.
       let front = c.in-Ok.ensures.taken bytes told in
       let so_far = begun bytes front.0 front.2 in
@@ -25,7 +25,7 @@ returns-in-Taken-clause-taken g c =
     let size : c.len.result ≡ length content = c.len.ensures ∙ c.next_record.new.buffer.ok.0 in
     let there : 17 + c.len.result ≡ 8 + 9 + length content = omega arith in
     record {
-      later = omega (arith, c.in-Ok.ensures.cause, c.in-Taken.ensures.cause);
+      still = c.in-Taken.ensures.cause ∙ c.in-Ok.ensures.cause;
       header = top_of op content;
       kind = header.kind;
       place = there ∙ place;

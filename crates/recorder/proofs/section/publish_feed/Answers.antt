@@ -11,7 +11,7 @@ read_section-requires-clause-begins g c =
 pub returns-in-Ok : goal.returns-in-Ok
 returns-in-Ok g c = λ held before wrote.
     let h = c.in-Ok.ensures.taken in
-    c.read_section.ensures h.header held before (g.S.Source.faults c.args.source.now) (g.S.Source.left c.args.source.now) h.kind h.taken h.later
+    c.read_section.ensures h.header held before (g.S.Source.faults c.args.source.now) (g.S.Source.left c.args.source.now) h.kind h.taken h.still
     (goes_first _ _ _ held _ before _ (c.requires.stands h.header h.kind) wrote c.requires.size)
 
 pub returns-in-Err : goal.returns-in-Err

@@ -1,5 +1,5 @@
 -- Each record goes on or ends the lane.
-use Rattle.std.proofs.Common.{◌≡◌, ℕ, ◌+◌, false, ◌∷◌, length, vec_len, None, ap, subst, ◌∙◌, arith}
+use Rattle.std.proofs.Common.{◌≡◌, ℕ, ◌+◌, false, ◌∷◌, length, vec_len, None, refl, ap, subst, ◌∙◌, arith}
 use Rattle.recorder.specs.Feed.{is_unbuilt}
 use Rattle.recorder.proofs.Sections.{SoFar, so_far_begins, stands_next, so_far_more, ends_at, stops_there}
 use Rattle.recorder.proofs.section.read_section.Goals as goal
@@ -8,7 +8,7 @@ pub records-init : goal.records-init
 records-init g c = record {
   within = c.requires.start;
   few = omega (arith, c.requires.unread);
-  later = omega arith;
+  still = refl;
   so_far = λ header held before left kind taken goes. so_far_begins _ _ header left _ held _ before _ c.args.start kind goes taken;
 }
 
@@ -24,7 +24,7 @@ take_record-requires-clause-fits g c =
     (c.records.invariant.so_far b.0 b.1 b.2 None b.3 (λ bytes told. absurd cc) b.4).goes.fits
 
 pub returns-in-Err : goal.returns-in-Err
-returns-in-Err g c = λ header held before faults left kind taken later goes.
+returns-in-Err g c = λ header held before faults left kind taken still goes.
     let s = c.records.invariant.so_far header held before left kind taken goes in
     let at = c.records.offset in
     let op = c.in-Taken.op in
@@ -32,7 +32,7 @@ returns-in-Err g c = λ header held before faults left kind taken later goes.
     let next = stands_next c.records.lane c.records.tape left _ _ held _ before _ at op content s c.in-Taken.ensures.taken in
     let built = subst (λ (n : ℕ). is_unbuilt n at op (length content) ≡ false) s.goes.lane_stands.declarations c.in-Taken.ensures.fits.0 in
     ends_at _ _ (s.first ∷ s.more) left _ held _ faults _ before _ at op content c.in-Err.end next built
-    (omega (arith, later, c.records.invariant.later, c.in-Taken.ensures.cause))
+    (c.in-Taken.ensures.cause ∙ c.records.invariant.still ∙ still)
     (c.in-Err.ensures.taken s.first s.more s.history held before s.unended s.goes)
 
 pub records-preserved : goal.records-preserved
@@ -45,7 +45,7 @@ records-preserved g c =
     record {
       within = omega (arith, c.in-Taken.ensures.fits.1);
       few = omega (arith, c.records.invariant.few, c.take_record.ensures.handled);
-      later = omega (arith, c.records.invariant.later, c.in-Taken.ensures.cause);
+      still = c.in-Taken.ensures.cause ∙ c.records.invariant.still;
       so_far = λ header held before left kind taken goes.
           let s = c.records.invariant.so_far header held before left kind taken goes in
           let next = stands_next c.records.lane c.records.tape left _ _ held _ before _ at op content s c.in-Taken.ensures.taken in
@@ -55,8 +55,8 @@ records-preserved g c =
     }
 
 pub returns-in-End : goal.returns-in-End
-returns-in-End g c = λ header held before faults left kind taken later goes.
+returns-in-End g c = λ header held before faults left kind taken still goes.
     let s = c.records.invariant.so_far header held before left kind taken goes in
     stops_there c.records.lane c.records.tape left _ _ held _ faults _ _ before _ c.records.offset c.in-End.end s
     (omega (arith, c.records.invariant.few, c.records.invariant.within)) c.in-End.ensures.taken
-    (omega (arith, later, c.records.invariant.later)) c.in-End.ensures.cause c.in-End.ensures.unstopped
+    (c.records.invariant.still ∙ still) c.in-End.ensures.cause c.in-End.ensures.unstopped

@@ -10,7 +10,7 @@ abbrev pub invariant-records : goal.invariant-records
 invariant-records g l = record {
   within : l.offset ≤ 2 ^ 39;
   few : 9 * l.lane.handled ≤ l.offset;
-  later : g.S.Source.faults l.fn.source ≤ g.S.Source.faults l.source;
+  still : g.S.Source.faults l.source ≡ g.S.Source.faults l.fn.source;
   so_far : (header : Top) (held : Option (List ℕ)) (before : ℕ) (left : Option (List ℕ)) → header.op ≡ 1
       → ((bytes : List ℕ) → left ≡ Some bytes → TakesHeader bytes header (g.S.Source.left l.fn.source) l.fn.start)
       → GoesOn l.fn.lane l.fn.tape (header ∷ []) [] held (g.L.LiveStore.held l.fn.live) before (g.L.LiveStore.faults l.fn.live)
