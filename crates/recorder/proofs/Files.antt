@@ -90,8 +90,8 @@ written_prefix text history (ends.Stopped stop) bytes written = part_is_prefix t
 
 -- ---- a piece behind others
 
-later_rose : (before middle now : ℕ) → before ≤ middle → Rose middle now → Rose before now
-later_rose before middle now le rose = omega arith
+later_rose : (before middle now : ℕ) → middle ≡ before → Rose middle now → Rose before now
+later_rose before middle now still rose = omega arith
 
 abbrev some : List ℕ → Option (List ℕ)
 some l = Some l
@@ -102,9 +102,9 @@ adds_both held middle new done piece first second = λ start told.
     second (start ++ done) (first start told) ∙ ap (λ (l : List ℕ). some l) (append_assoc start done piece)
 
 -- a refused piece gives the cause of a stop
-stop_cause : (held new : Option (List ℕ)) (before middle now : ℕ) (piece : List ℕ) (stop : Stop) → before ≤ middle → PieceAdded held new middle now piece (Err stop) → WriterCause before now (ends.Stopped stop)
-stop_cause held new before middle now piece (stops.Fault faults) le added = (omega (arith, added.0), later_rose before middle now le added.1, added.2)
-stop_cause held new before middle now piece stops.Memory le added = omega (arith, added.0)
+stop_cause : (held new : Option (List ℕ)) (before middle now : ℕ) (piece : List ℕ) (stop : Stop) → middle ≡ before → PieceAdded held new middle now piece (Err stop) → WriterCause before now (ends.Stopped stop)
+stop_cause held new before middle now piece (stops.Fault faults) still added = (omega (arith, added.0), later_rose before middle now still added.1, added.2)
+stop_cause held new before middle now piece stops.Memory still added = added.0 ∙ still
 
 -- and leaves whole pieces with some of it, but with none where memory lacked
 stop_leaves : (held middle new : Option (List ℕ)) (before now : ℕ) (done piece : List ℕ) (stop : Stop) → Adds held middle done → PieceAdded middle new before now piece (Err stop) → (start : List ℕ) → held ≡ Some start → (n : ℕ) × (new ≡ Some (start ++ (done ++ take n piece))) × (stop ≡ stops.Memory → n ≡ 0)
@@ -119,7 +119,7 @@ stop_leaves held middle new before now done piece stops.Memory so_far added star
 -- the front was refused
 pub not_opened : (held new : Option (List ℕ)) (before now : ℕ) (stop : Stop) → PieceAdded held new before now (front []) (Err stop) → Wrote held new before now [] (Some stop) 0
 not_opened held new before now stop added = (
-  stop_cause held new before before now (front []) stop (omega arith) added,
+  stop_cause held new before before now (front []) stop refl added,
   record {
     done = [];
     next = front [];
@@ -143,7 +143,7 @@ put_more held middle new before between now history r piece bytes more is wrote 
     let done = front [] ++ history_bytes history in
     let all : front [] ++ history_bytes (history ++ r ∷ []) ≡ done ++ piece = bytes_more history r ∙ ap (λ (l : List ℕ). done ++ l) (sym is) in
     let size = length-append done piece in (
-      omega (arith, wrote.0, added.0),
+      added.0 ∙ wrote.0,
       subst (λ (l : List ℕ). Adds held new l) (sym all) (adds_both held middle new done piece wrote.1 added.1),
       omega (arith, wrote.2, added.2, ap length all),
     )

@@ -31,12 +31,12 @@ file_of profile history = front profile ++ (history_bytes history ++ back)
 abbrev pub IsPrefix : List ℕ → List ℕ → Type 0
 IsPrefix some whole = (rest : List ℕ) × (some ++ rest ≡ whole)
 
--- what one piece did to a store: all of it stands there, or the store failed and a first part of it does, or
--- memory lacked and nothing changed
+-- What one piece did to a store: all of it stands there, or the store failed and a first part of it does, or memory
+-- lacked and nothing changed. The count of faults stands still but where the store failed, by which it rose.
 abbrev pub PieceAdded : Option (List ℕ) → Option (List ℕ) → ℕ → ℕ → List ℕ → Result ℕ Stop → Type 0
-PieceAdded old new before now piece (Ok bytes) = (before ≤ now) × Adds old new piece × (bytes ≡ length piece)
+PieceAdded old new before now piece (Ok bytes) = (now ≡ before) × Adds old new piece × (bytes ≡ length piece)
 PieceAdded old new before now piece (Err (stops.Fault faults)) = (before ≤ now) × Rose before now × (faults ≡ now) × AddsPart old new 0 piece
-PieceAdded old new before now piece (Err stops.Memory) = (before ≤ now) × (new ≡ old)
+PieceAdded old new before now piece (Err stops.Memory) = (now ≡ before) × (new ≡ old)
 
 -- The file is appended piece by piece: the front, each record, and the back. These bytes are whole pieces of it, and
 -- this is the piece behind them at which the writer stopped, which isn't the back. Behind it nothing was accepted, but
@@ -70,7 +70,7 @@ abbrev pub WrittenSoFar : List ℕ → List Rec → End → ℕ → Type 0
 WrittenSoFar text history ends.Closed bytes = (text ≡ file_of [] history) × (bytes ≡ length text)
 WrittenSoFar text history (ends.Stopped stop) bytes = IsPartOf text history stop bytes
 
--- The count of the store doesn't fall. The writer stops by a fault only where it rose, and carries it.
+-- The count of the store stands still but where the writer stopped by a fault: there it rose, and the end carries it.
 abbrev pub WriterCause : ℕ → ℕ → End → Type 0
 WriterCause before now (ends.Stopped (stops.Fault faults)) = (before ≤ now) × Rose before now × (faults ≡ now)
-WriterCause before now end = before ≤ now
+WriterCause before now end = now ≡ before
