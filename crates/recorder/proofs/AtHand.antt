@@ -125,6 +125,7 @@ no_room lane tape tops history held held_now before now h few =
       lists = h.handles.stands.lists;
       records = h.handles.records;
       all = λ other. absurd (other refl);
+      near = omega (arith, h.handles.at_hand);
       causes = λ k r at. inl (h.handles.causes k r at);
       ended = λ ended. absurd (apart ended);
     }) h.tape_stands h.fits few

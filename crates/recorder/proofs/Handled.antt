@@ -72,6 +72,7 @@ refused_last old new tops history at why stop h l here stopped =
       lists = (refused_stands old new (causes.Stopped at why) tops history h l).lists;
       records = l.records ∙ h.records;
       all = λ other. l.handled ∙ h.at_hand;
+      near = omega (arith, l.handled, h.at_hand);
       causes = λ k r there. elim (at_more old.refused.items x k r (subst (λ (rs : List Refused). At rs k r) l.refused there)) [
         | inl before ↦ inl (h.causes k r before)
         | inr last ↦ inr (refl, subst (λ (y : Refused). IsLast y new.handled history stop) (sym last.1) is_last)

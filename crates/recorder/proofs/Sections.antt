@@ -22,6 +22,7 @@ over_here lane tape tops history held held_now before now end goes few unstopped
     lists = goes.lane_stands.stands.lists;
     records = goes.lane_stands.records;
     all = λ _. goes.lane_stands.all;
+    near = omega (arith, goes.lane_stands.all);
     causes = λ k r at. inl (goes.lane_stands.causes k r at);
     ended = λ is. absurd (unstopped is);
   };
@@ -37,6 +38,7 @@ over_done lane tape tops t history held held_now before now goes few is = record
     lists = more_tops tops t _ _ _ _ _ goes.lane_stands.stands.lists;
     records = goes.lane_stands.records;
     all = λ _. goes.lane_stands.all ∙ sym (ap length (messages_same tops t (λ five. omega arith)));
+    near = let same = ap length (messages_same tops t (λ five. omega arith)) in omega (arith, goes.lane_stands.all, same);
     causes = λ k r at. inl (goes.lane_stands.causes k r at);
     ended = λ is_ended. absurd cc;
   };

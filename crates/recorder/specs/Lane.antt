@@ -50,12 +50,13 @@ pub record IsLast (r : Refused) (handled : ℕ) (history : List Rec) (stop : Opt
   pub cause : r.cause ≡ causes.Stopped (length history) why
   pub stopped : stop ≡ Some why
 
--- The lane is over. All messages were handled, but for want of memory; one was refused since the writer had stopped
--- exactly where this ended the lane.
+-- The lane is over. All messages were handled, but perhaps the last one, where memory lacked; one was refused since the
+-- writer had stopped exactly where this ended the lane.
 pub record LaneOver (lane : Lane) (tops : List Top) (history : List Rec) (stop : Option Stop) (end : FeedEnd) : Type 0 where
   pub lists : Assembled tops lane.handled lane.accepted.items lane.declared.items lane.refused.items history
   pub records : lane.records ≡ length history
   pub all : (end ≡ feed_ends.Memory → ⊥) → lane.handled ≡ length (messages tops)
+  pub near : length (messages tops) ≤ lane.handled + 1
   pub causes : (k : ℕ) (r : Refused) → At lane.refused.items k r → (r.cause ≡ causes.Memory) ⊎ ((end ≡ feed_ends.Ended) × IsLast r lane.handled history stop)
   pub ended : end ≡ feed_ends.Ended → (k : ℕ) × (r : Refused) × At lane.refused.items k r × IsLast r lane.handled history stop
 

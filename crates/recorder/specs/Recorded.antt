@@ -1,5 +1,5 @@
 -- What a recording of one feed did to its source and to its store.
-use Rattle.std.specs.Prelude.{◌≡◌, ◌⊎◌, ℕ, ◌+◌, List, [], ◌∷◌, ◌++◌, length, Option, Some}
+use Rattle.std.specs.Prelude.{◌≡◌, ◌⊎◌, ℕ, ◌+◌, ◌≤◌, List, [], ◌∷◌, ◌++◌, length, Option, Some}
 use Rattle.rec_data.specs.declared.owned.Rec.{Rec}
 use Rattle.recorder.specs.declared.report.Report.{Report}
 use Rattle.recorder.specs.declared.report.FeedReport.{FeedReport}
@@ -32,6 +32,8 @@ pub record FeedReported (tops : List Top) (history : List Rec) (f : FeedReport) 
   pub lists : Assembled tops handled f.accepted.items f.declared.items f.refused.items history
   -- all messages that were read, but where memory lacked
   pub all : (f.end ≡ feed_ends.Memory → ⊥) → handled ≡ length (messages tops)
+  -- all messages that were read but perhaps the last one, where memory lacked
+  pub near : length (messages tops) ≤ handled + 1
   -- for want of memory, or since the writer had stopped, which ended the feed
   pub causes : (k : ℕ) (x : Refused) → At f.refused.items k x → (x.cause ≡ causes.Memory) ⊎ ((f.end ≡ feed_ends.Ended) × IsLastRefusal x handled w)
   pub ended : f.end ≡ feed_ends.Ended → (k : ℕ) × (x : Refused) × At f.refused.items k x × IsLastRefusal x handled w

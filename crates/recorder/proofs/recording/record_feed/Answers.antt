@@ -31,6 +31,7 @@ reported lane tops history stop end w count stopped over = record {
   handled = lane.handled;
   lists = over.lists;
   all = over.all;
+  near = over.near;
   causes = λ k x at. elim (over.causes k x at) [
     | inl memory ↦ inl memory
     | inr (ended, last) ↦ inr (ended, last_refusal x lane.handled history stop w count stopped last)
