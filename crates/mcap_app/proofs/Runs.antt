@@ -27,6 +27,23 @@ use Rattle.mcap_app.specs.Run.{Reported, Leaves, OpensNames, NamesRecorded}
 kept_fault : (before now total sum : ℕ) → before ≡ 0 → Rose before now → total < 2 ^ 64 → sum ≡ added total now → Rose total sum
 kept_fault before now total sum start rose fits is = omega arith
 
+-- a count to which nothing is added stays
+pub added_nothing : (total sum now : ℕ) → now ≡ 0 → total < 2 ^ 64 → sum ≡ added total now → sum ≡ total
+added_nothing total sum now none fits is = omega arith
+
+feed_still : (before now : ℕ) (end : FeedEnd) → FeedCause before now end → ((faults : ℕ) → end ≡ feed_ends.Fault faults → ⊥) → now ≡ before
+feed_still before now feed_ends.Done cause calm = cause
+feed_still before now (feed_ends.Grammar n) cause calm = cause
+feed_still before now (feed_ends.NotBuilt n) cause calm = cause
+feed_still before now (feed_ends.Fault faults) cause calm = absurd (calm faults refl)
+feed_still before now feed_ends.Memory cause calm = cause
+feed_still before now feed_ends.Ended cause calm = cause
+
+writer_still : (before now : ℕ) (end : End) → WriterCause before now end → ((faults : ℕ) → end ≡ ends.Stopped (stops.Fault faults) → ⊥) → now ≡ before
+writer_still before now ends.Closed cause calm = cause
+writer_still before now (ends.Stopped (stops.Fault faults)) cause calm = absurd (calm faults refl)
+writer_still before now (ends.Stopped stops.Memory) cause calm = cause
+
 feed_caused : (before now : ℕ) (end : FeedEnd) (faults : ℕ) → FeedCause before now end → end ≡ feed_ends.Fault faults → Rose before now × (faults ≡ now)
 feed_caused before now end faults cause is =
     let P : FeedEnd → Type 0 = λ e. FeedCause before now e in
@@ -67,6 +84,8 @@ reported feed names left after held held_after feed_before feed_now live_before 
   writer_fault = λ faults is.
       let why = writer_caused live_before live_now r.writer.end faults made.writer.cause is in
       (kept_fault live_before live_now outputs outputs_now new why.0 outputs_fit outputs_is, outputs_is ∙ ap (added outputs) (sym why.1));
+  feed_calm = λ calm. added_nothing inputs inputs_now feed_now (feed_still feed_before feed_now made.feed.end made.ended.cause calm ∙ unused) inputs_fit inputs_is;
+  writer_calm = λ calm. added_nothing outputs outputs_now live_now (writer_still live_before live_now r.writer.end made.writer.cause calm ∙ new) outputs_fit outputs_is;
 }
 
 -- ---- the names
@@ -136,10 +155,6 @@ not_missing (Some bytes) A there none = absurd (apart none)
   where
     apart : Some bytes ≡ None → ⊥
     apart e = cc
-
--- a count to which nothing is added stays
-pub added_nothing : (total sum now : ℕ) → now ≡ 0 → total < 2 ^ 64 → sum ≡ added total now → sum ≡ total
-added_nothing total sum now none fits is = omega arith
 
 none_openings : (openings : List Opening) → None ≡ Some openings → ⊥
 none_openings openings e = cc

@@ -154,9 +154,11 @@ pub record Reported (feed : List ℕ) (names : Option Names) (left : Option (Lis
   pub read : (all : Names) (bytes : List ℕ) → names ≡ Some all → all feed ≡ Some bytes → FeedRead bytes tops left only.end
   -- the feed's name is there
   pub there : (all : Names) → names ≡ Some all → IsSome (all feed)
-  -- a fault that is reported is one by which the count rose
+  -- a fault that is reported is one by which the count rose; where none is reported it stands still
   pub feed_fault : (faults : ℕ) → only.end ≡ feed_ends.Fault faults → Rose inputs_before inputs_now × (inputs_now ≡ added inputs_before faults)
   pub writer_fault : (faults : ℕ) → r.writer.end ≡ ends.Stopped (stops.Fault faults) → Rose outputs_before outputs_now × (outputs_now ≡ added outputs_before faults)
+  pub feed_calm : ((faults : ℕ) → only.end ≡ feed_ends.Fault faults → ⊥) → inputs_now ≡ inputs_before
+  pub writer_calm : ((faults : ℕ) → r.writer.end ≡ ends.Stopped (stops.Fault faults) → ⊥) → outputs_now ≡ outputs_before
 
 -- ---- openings
 

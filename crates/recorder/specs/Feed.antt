@@ -145,12 +145,12 @@ is_declaration op = (op == 3) || (op == 4)
 abbrev pub declarations : List Top → ℕ
 declarations tops = length (filter (λ t. is_declaration t.op) tops)
 
--- the longest content that is read yet, of a Message and of another record
+-- the longest content that is recorded, of a Message and of another record
 abbrev pub length_limit : ℕ → ℕ
 length_limit op = if op == 5 then 33554454 else 500000
 
--- by its kind, by its length, behind a thousand others of schemas and channels, or since it would end too far from
--- the feed's front
+-- a record of that kind and length, at that offset and behind so many schemas and channels, isn't recorded yet: by its
+-- kind, by its length, behind a thousand others, or since it would end too far from the feed's front
 abbrev pub is_unbuilt : ℕ → ℕ → ℕ → ℕ → Bool
 is_unbuilt declared_before at op len = is_later_kind op || ((is_declaration op && nat_le 1000 declared_before)
     || (nat_lt (length_limit op) len || nat_lt 549755813888 (at + 9 + len)))
@@ -212,20 +212,21 @@ IsBroken tops rest at = (has_head rest ≡ false)
 abbrev pub LacksMagic : List ℕ → Type 0
 LacksMagic bytes = (rest : List ℕ) → bytes ≡ magic ++ rest → ⊥
 
--- What a want of memory leaves: the rest; or what stands behind the head of a record that is recorded, or behind the
--- whole of a schema or a channel.
+-- What a want of memory leaves, behind so many schemas and channels, at that offset: the rest; or what stands behind
+-- the head of a record that is recorded, or behind the whole of a schema or a channel.
 abbrev pub MemoryLeaves : ℕ → List ℕ → ℕ → Option (List ℕ) → Type 0
 MemoryLeaves count rest at left = (left ≡ Some rest)
     ⊎ ((has_head rest ≡ true) × (is_unbuilt count at (opcode rest) (declared rest) ≡ false)
     × ((left ≡ Some (drop 9 rest)) ⊎ ((is_declaration (opcode rest) ≡ true) × (is_whole rest ≡ true) × (left ≡ Some (behind_first rest)))))
 
--- fewer bytes than a head, or a record begins there that is recorded, but isn't all there
+-- Behind so many schemas and channels, at that offset: fewer bytes than a head, or a record begins there that is
+-- recorded, but isn't all there.
 abbrev pub IsCutOff : ℕ → List ℕ → ℕ → Type 0
 IsCutOff count part at = (length part < 9)
     ⊎ ((has_head part ≡ true) × (is_unbuilt count at (opcode part) (declared part) ≡ false) × (is_whole part ≡ false))
 
 -- These are all records that are whole in the bytes which a source gave. Behind them more bytes are awaited: no Data
--- End is among them, and what stands there is cut off.
+-- End is among them, and what stands there is cut off, or the magic itself is.
 abbrev pub AllGiven : List ℕ → List Top → Type 0
 AllGiven given tops = ((tops ≡ []) × (length given < 8))
     ⊎ ((part : List ℕ) × (at : ℕ) × ReadsTo given tops part at × IsCutOff (declarations tops) part at)
