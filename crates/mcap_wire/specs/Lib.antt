@@ -10,3 +10,4 @@ pub mod ArrayBytes
 pub mod ArrayPlaces
 pub mod Contents
 pub mod Marks
+pub mod Sameness

@@ -42,4 +42,11 @@ impl Bytes {
     {
         self.bytes.as_slice()
     }
+
+    /// The vector that it took over, given back with its room.
+    pub fn into_vec(self) -> Vec<u8>
+        ensures { result.items ≡ self }
+    {
+        self.bytes
+    }
 }

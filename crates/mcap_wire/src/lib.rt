@@ -14,6 +14,7 @@ mod pair_list;
 mod pairs;
 mod reading;
 mod room;
+mod sameness;
 mod texts;
 mod writing;
 

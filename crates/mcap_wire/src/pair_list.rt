@@ -70,6 +70,16 @@ impl Model for Pairs {
 }
 
 impl Pairs {
+    /// A copy of a map.
+    pub fn copied(alloc: Global, pairs: &Pairs) -> Result<Pairs, Memory>
+        ensures { IfOk result (λ copy. copy ≡ pairs.now) }
+    {
+        match PairsRef::of(pairs.as_slice()).copy(alloc) {
+            Ok(pairs) => Ok(Pairs { pairs }),
+            Err(memory) => Err(memory),
+        }
+    }
+
     /// A copy of a map, its keys in ascending order. Pairs that are in order already are only copied.
     pub fn sorted(alloc: Global, pairs: &PairsRef<'_>) -> Result<Pairs, Memory>
         ensures { IfOk result (λ sorted. IsPermutation pairs.now sorted) }

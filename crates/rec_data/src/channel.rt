@@ -11,6 +11,7 @@ use mcap_wire::{
     Memory, Pairs, PairsRef, Text, add_head, add_pairs, add_text, add_u16, make_room, take_pairs,
     take_text, take_u16,
 };
+use std::alloc::Global;
 
 /// A stream of messages: its id, the id of the schema of its messages (0 where they have none), its topic, the encoding of
 /// its messages, and a map of texts about it.
@@ -24,12 +25,46 @@ pub struct Channel<'a> {
 }
 
 /// A channel that is to be written, without its ids, and the schema of its messages, if they have one.
-#[derive(Debug, Drop)]
+#[derive(Debug, Drop, PartialEq, Eq, Hash)]
 pub struct ChannelDef {
     pub topic: Text,
     pub message_encoding: Text,
     pub metadata: Pairs,
     pub schema: Option<SchemaDef>,
+}
+
+impl ChannelDef {
+    /// A copy of a channel.
+    pub fn copied(alloc: Global, channel: &ChannelDef) -> Result<ChannelDef, Memory>
+        ensures { IfOk result (λ copy. copy ≡ channel.now) }
+    {
+        let Ok(topic) = Text::copied(alloc, channel.topic.as_str()) else {
+            return Err(Memory);
+        };
+        let Ok(message_encoding) = Text::copied(alloc, channel.message_encoding.as_str()) else {
+            return Err(Memory);
+        };
+        let Ok(metadata) = Pairs::copied(alloc, &channel.metadata) else {
+            return Err(Memory);
+        };
+        match &channel.schema {
+            None => return Ok(ChannelDef {
+                topic,
+                message_encoding,
+                metadata,
+                schema: None,
+            }),
+            Some(schema) => match SchemaDef::copied(alloc, schema) {
+                Ok(schema) => return Ok(ChannelDef {
+                    topic,
+                    message_encoding,
+                    metadata,
+                    schema: Some(schema),
+                }),
+                Err(memory) => return Err(memory),
+            },
+        }
+    }
 }
 
 impl<'a> Channel<'a> {

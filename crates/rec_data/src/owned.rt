@@ -1,5 +1,6 @@
 //! Records that own what they hold: Schema, Channel and Message.
-ghost use Rattle.std.specs.Prelude.{◌≡◌, ◌++◌, length, OnOk, OnErr};
+ghost use Rattle.std.specs.Prelude.{◌≡◌, ◌≤◌, ◌++◌, length, vec_capacity, OnOk, OnErr};
+ghost use Rattle.mcap_wire.specs.Writing.{LacksRoom};
 ghost use Rattle.rec_data.specs.Owned.{rec_bytes, LengthsFit, ContentRead, FramedRead};
 
 use crate::channel::Channel;
@@ -41,11 +42,14 @@ pub enum RecRefused {
 }
 
 impl Rec {
-    /// Appends the whole record. Where memory lacks the vector keeps its bytes.
+    /// Appends the whole record. Memory is lacking only where the vector has no room for it, and then the vector keeps its
+    /// bytes.
     pub fn frame(&self, out: &mut Vec<u8>) -> Result<(), Memory>
         requires { LengthsFit self.now }
         ensures ok { OnOk result (out.new.items ≡ out.old.items ++ rec_bytes self.now) }
         ensures err { OnErr result (out.new.items ≡ out.old.items) }
+        ensures full { OnErr result (LacksRoom out.old (length (rec_bytes self.now))) }
+        ensures capacity { vec_capacity out.old ≤ vec_capacity out.new }
     {
         match self {
             Rec::Schema { id, schema } => {

@@ -9,6 +9,7 @@ use mcap_wire::{
     Bytes, Memory, Text, add_bytes32, add_head, add_text, add_u16, make_room, take_bytes32,
     take_text, take_u16,
 };
+use std::alloc::Global;
 
 /// The definition of the data of messages: its id, which channels name, its name, the encoding of the definition, and the
 /// definition itself. That the id isn't 0 is no part of the layout.
@@ -21,11 +22,33 @@ pub struct Schema<'a> {
 }
 
 /// A schema that is to be written, without its id.
-#[derive(Debug, Drop)]
+#[derive(Debug, Drop, PartialEq, Eq, Hash)]
 pub struct SchemaDef {
     pub name: Text,
     pub encoding: Text,
     pub payload: Bytes,
+}
+
+impl SchemaDef {
+    /// A copy of a schema.
+    pub fn copied(alloc: Global, schema: &SchemaDef) -> Result<SchemaDef, Memory>
+        ensures { IfOk result (λ copy. copy ≡ schema.now) }
+    {
+        let Ok(name) = Text::copied(alloc, schema.name.as_str()) else {
+            return Err(Memory);
+        };
+        let Ok(encoding) = Text::copied(alloc, schema.encoding.as_str()) else {
+            return Err(Memory);
+        };
+        let Ok(payload) = Bytes::copied(alloc, schema.payload.as_slice()) else {
+            return Err(Memory);
+        };
+        return Ok(SchemaDef {
+            name,
+            encoding,
+            payload,
+        });
+    }
 }
 
 impl<'a> Schema<'a> {

@@ -1,5 +1,5 @@
 use super::*;
-use mcap_wire::{Bytes, Cut, Text, Why, cut};
+use mcap_wire::{Bytes, Cut, Pairs, Text, Why, cut};
 use std::test::Fail;
 
 // A Header with the profile "ros2" and the library "wire".
@@ -366,6 +366,34 @@ fn a_schema_is_owned_until_it_is_written(rt: HostRuntime) -> Result<(), Fail> {
         payload: def.payload.as_slice(),
     };
     assert_eq!(rt; Schema::parse(&SCHEMA_RECORD[9..]), Ok(schema));
+    Ok(())
+}
+
+#[test]
+fn a_copy_of_a_channel_is_equal_and_one_without_the_schema_is_not(
+    rt: HostRuntime,
+) -> Result<(), Fail> {
+    let alloc = rt.alloc();
+    let channel = Channel::parse(&CHANNEL_RECORD[9..])?;
+    let schema = Schema::parse(&SCHEMA_RECORD[9..])?;
+    let mut def = ChannelDef {
+        topic: Text::copied(alloc, channel.topic)?,
+        message_encoding: Text::copied(alloc, channel.message_encoding)?,
+        metadata: Pairs::sorted(alloc, &channel.metadata)?,
+        schema: Some(SchemaDef {
+            name: Text::copied(alloc, schema.name)?,
+            encoding: Text::copied(alloc, schema.encoding)?,
+            payload: Bytes::copied(alloc, schema.payload)?,
+        }),
+    };
+    let copy = ChannelDef::copied(alloc, &def)?;
+    assert_eq!(rt; copy, def);
+    def.schema = None;
+    assert!(rt; copy != def);
+    assert_eq!(rt;
+        Bytes::copied(alloc, schema.payload)?.into_vec().as_slice(),
+        schema.payload
+    );
     Ok(())
 }
 
