@@ -1,6 +1,7 @@
 #!/bin/sh
-# Writes the sample feeds of this folder anew: empty.mcap, a feed without messages, and session.mcap, with five
-# messages on two channels, one of which has a schema.
+# Writes the samples of this folder anew: empty.mcap, a feed without messages; session.mcap, a feed with five messages
+# on two channels, one of which has a schema; and one.mcap, a whole file with one message in one chunk, which
+# docs/DEFINITIONS.md reads byte by byte.
 set -eu
 cd -- "$(dirname -- "$0")"
 content=$(mktemp)
@@ -65,3 +66,38 @@ log() {
     message 2 2 1030 1030 stop
     data_end
 } >session.mcap
+
+# The channel 1 and the message on it, 27 and 32 bytes.
+channel() { { number 2 1 && number 2 0 && text /a && text '' && number 4 0; } | record 4; }
+records() {
+    channel
+    { number 2 1 && number 4 1 && number 8 10 && number 8 9 && number 1 170; } | record 5
+}
+
+# Opcode, start and length of a group of the summary.
+summary_offset() { { number 1 "$1" && number 8 "$2" && number 8 "$3"; } | record 14; }
+
+# The CRCs are those that zlib's crc32 gives, of the records and of the summary up to the Footer's own.
+{
+    inner=$(mktemp)
+    records >"$inner"
+    magic && header 'mcaprec 1'
+    {
+        number 8 10 && number 8 10 && number 8 59 && number 4 $((0xd8bb91a8)) && text ''
+        number 8 59 && cat -- "$inner" && rm -f -- "$inner"
+    } | record 6
+    { number 2 1 && number 4 16 && number 8 10 && number 8 27; } | record 7
+    data_end
+    channel
+    {
+        number 8 1 && number 2 0 && number 4 1 && number 4 0 && number 4 0 && number 4 1
+        number 8 10 && number 8 10 && number 4 10 && number 2 1 && number 8 1
+    } | record 11
+    {
+        number 8 10 && number 8 10 && number 8 34 && number 8 108 && number 4 10 && number 2 1 && number 8 142
+        number 8 31 && text '' && number 8 59 && number 8 59
+    } | record 8
+    summary_offset 4 186 27 && summary_offset 11 213 65 && summary_offset 8 278 83
+    { number 8 186 && number 8 361 && number 4 $((0xcc25c6ad)); } | record 2
+    magic
+} >one.mcap
