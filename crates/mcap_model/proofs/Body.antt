@@ -1,0 +1,105 @@
+-- What stands in front of the Data End of a file that can be written.
+use Rattle.std.proofs.Common.{◌≡◌, ℕ, ◌^◌, ◌<◌, List, [], ◌∷◌, ◌++◌, length, take, map, refl, sym, ap, subst, ◌∙◌, append_assoc, arith}
+use Rattle.std.specs.Prelude.{IsUtf8}
+use Rattle.std.specs.List.{flat_map}
+use Rattle.std.proofs.lemmas.List.{append-nil, length-append}
+use Rattle.std.proofs.lemmas.Grind.{flat_map-append}
+use Rattle.rec_data.specs.declared.owned.Rec.{Rec}
+use Rattle.rec_data.proofs.Contents.{header_shown}
+use Rattle.mcap_model.specs.declared.options.FileOptions.{FileOptions}
+use Rattle.mcap_model.specs.Places.{At, Each}
+use Rattle.mcap_model.specs.Tops.{Top, top_bytes, spelled, offset_behind, flattened, flat}
+use Rattle.mcap_model.specs.Fields.{IsHeader}
+use Rattle.mcap_model.specs.History.{rec_top}
+use Rattle.mcap_model.specs.Blocks.{Piece, block, alone, pieces_of, chunk_bytes, logged_channels}
+use Rattle.mcap_model.specs.File.{library, noted, file_of}
+use Rattle.mcap_model.specs.Laws.{IsReadBack, IsNumberedRec, index_top, IsExtra, EntriesFit, CanBeWritten}
+use Rattle.mcap_model.proofs.Lists.{each_joined, cut_flat}
+use Rattle.mcap_model.proofs.Edges.{header_top, end_top, ascii}
+use Rattle.mcap_model.proofs.Section.{piece_recs, piece_tops, pieces_hold, PieceIsSound, IsRight, piece_flat, extra_right, piece_right, each_parts, each_flat, pieces_flat, extras_flat, block_has, block_within}
+use Rattle.mcap_model.proofs.Files.{body_tops, section_tops, summary_at, summary_tops, summary_foot, written_tops, file_spelled, length-spelled_append, length-file}
+
+-- what is asked of records and extras where they are written, or where they are read
+pub record CanStand (options : FileOptions) (extras : List Top) (history : List Rec) : Type 0 where
+  pub profile : IsUtf8 options.profile
+  pub profile_fits : length options.profile < 2 ^ 32
+  pub records_fit : Each IsReadBack history
+  pub numbered : Each IsNumberedRec history
+  pub extras_meet : Each IsExtra extras
+  pub entries_fit : (n : ℕ) (records : List Rec) → At (pieces_of options.chunk history) n (block records) → EntriesFit records
+  pub size_fits : length (file_of options extras history) < 2 ^ 64
+
+pub standing : (options : FileOptions) (extras : List Top) (history : List Rec) → CanBeWritten options extras history → CanStand options extras history
+standing options extras history written = record {
+  profile = written.profile;
+  profile_fits = written.profile_fits;
+  records_fit = written.records_fit;
+  numbered = written.numbered;
+  extras_meet = written.extras_meet;
+  entries_fit = λ n records at. let has = block_has (pieces_of options.chunk history) n records at in written.entries_fit has.0 records has.1;
+  size_fits = written.size_fits;
+}
+
+module _ (options : FileOptions) (extras : List Top) (history : List Rec) (written : CanStand options extras history) where
+  pub header_is : IsHeader (header_top options.profile)
+  header_is = record { kind = refl; profile = options.profile; library = library; layout = header_shown options.profile library written.profile_fits (omega arith) written.profile ascii }
+
+  -- the records up to the Data End are shorter than the file
+  pub section_within : offset_behind (section_tops options extras history ++ end_top ∷ []) < 2 ^ 64
+  section_within =
+      let tail = summary_tops options.chunk (noted options extras history) (summary_at options extras history) ++ summary_foot options.chunk (noted options extras history) (summary_at options extras history) ∷ [] in
+      let all = length-file (file_of options extras history) (written_tops options extras history) (file_spelled options extras history) in
+      let parts = length-spelled_append (section_tops options extras history ++ end_top ∷ []) tail in
+      let same : length (spelled ((section_tops options extras history ++ end_top ∷ []) ++ tail)) ≡ length (spelled (written_tops options extras history)) = ap (λ (l : List Top). length (spelled l)) (append_assoc (section_tops options extras history) (end_top ∷ []) tail) in
+      let size = written.size_fits in
+      omega (arith, all, parts, same, size)
+
+  body_within : length (spelled (body_tops options extras history)) < 2 ^ 64
+  body_within =
+      let room = section_within in
+      omega (arith, room, length-spelled_append (section_tops options extras history) (end_top ∷ []), length-append (top_bytes (header_top options.profile)) (spelled (body_tops options extras history)))
+
+  -- the records of a piece are shorter than the file
+  pub piece_within : (n : ℕ) (p : Piece) → At (pieces_of options.chunk history) n p → length (spelled (piece_tops p)) < 2 ^ 64
+  piece_within n p at =
+      let ps = pieces_of options.chunk history in
+      let cut = cut_flat piece_tops ps n p at in
+      let room = body_within in
+      let size : length (spelled (flat_map piece_tops ps)) ≡ length (spelled (flat_map piece_tops (take n ps) ++ (piece_tops p ++ flat_map piece_tops cut.0))) = ap (λ (l : List Top). length (spelled l)) cut.1 in
+      omega (
+        arith,
+        room,
+        size,
+        length-spelled_append (flat_map piece_tops ps) extras,
+        length-spelled_append (flat_map piece_tops (take n ps)) (piece_tops p ++ flat_map piece_tops cut.0),
+        length-spelled_append (piece_tops p) (flat_map piece_tops cut.0),
+      )
+
+  pub pieces_sound : (n : ℕ) (p : Piece) → At (pieces_of options.chunk history) n p → PieceIsSound p
+  pieces_sound n (alone r) at = tt
+  pieces_sound n (block records) at =
+      let room = piece_within n (block records) at in
+      (omega (arith, room, block_within records, length-append (chunk_bytes records) (spelled (map (index_top records) (logged_channels records)))), (let fit = written.entries_fit in fit n records at))
+
+  pub pieces_back : (n : ℕ) (p : Piece) → At (pieces_of options.chunk history) n p → Each IsReadBack (piece_recs p)
+  pieces_back = each_parts IsReadBack piece_recs (pieces_of options.chunk history) (subst (Each IsReadBack) (sym (pieces_hold options.chunk history)) written.records_fit)
+
+  pub pieces_numbered : (n : ℕ) (p : Piece) → At (pieces_of options.chunk history) n p → Each IsNumberedRec (piece_recs p)
+  pieces_numbered = each_parts IsNumberedRec piece_recs (pieces_of options.chunk history) (subst (Each IsNumberedRec) (sym (pieces_hold options.chunk history)) written.numbered)
+
+  pub body_right : Each IsRight (body_tops options extras history)
+  body_right = each_joined IsRight (flat_map piece_tops (pieces_of options.chunk history)) extras
+      (each_flat IsRight piece_tops (pieces_of options.chunk history) (λ n p at. piece_right p (pieces_back n p at) (pieces_numbered n p at) (pieces_sound n p at)))
+      (λ n t at. extra_right t (written.extras_meet n t at))
+
+  -- their flat records are the history
+  pub body_flat : flat (body_tops options extras history) ≡ map rec_top history
+  body_flat =
+      let ps = pieces_of options.chunk history in
+      let flat_pieces = pieces_flat ps (λ n p at. piece_flat p (pieces_back n p at) (pieces_numbered n p at) (pieces_sound n p at)) in
+      flat_map-append flattened (flat_map piece_tops ps) extras
+      ∙ ap (λ (l : List Top). flat (flat_map piece_tops ps) ++ l) (extras_flat extras written.extras_meet)
+      ∙ append-nil (flat (flat_map piece_tops ps)) ∙ flat_pieces ∙ ap (map rec_top) (pieces_hold options.chunk history)
+
+  pub section_flat : flat (section_tops options extras history) ≡ map rec_top history
+  section_flat = body_flat

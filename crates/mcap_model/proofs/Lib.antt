@@ -1,0 +1,65 @@
+pub mod Places
+pub mod Lists
+pub mod Readings
+pub mod Halting
+pub mod Sizes
+pub mod Unpacking
+pub mod ReadBack
+pub mod Histories
+pub mod Edges
+pub mod Shape
+pub mod Meets
+pub mod WrittenChunks
+pub mod Logged
+pub mod ShownBack
+pub mod ExtraIndexes
+pub mod Distinct
+pub mod Rising
+pub mod Cutting
+pub mod Flat
+pub mod Readouts
+pub mod Smallest
+pub mod Broken
+pub mod Section
+pub mod Files
+pub mod Body
+pub mod Groups
+pub mod Standing
+pub mod BlockIndexes
+pub mod Front
+pub mod Copies
+pub mod Tails
+pub mod StatisticsRight
+pub mod SummaryRules
+pub mod IndexRules
+pub mod Scanned
+pub mod Validity
+pub mod WholeFiles
+pub mod Prefixes
+pub mod Ranges
+pub mod OneMessage
+pub mod Flaws
+pub mod Indexing
+pub mod Repeats
+pub mod Logging
+pub mod Fronts
+pub mod Order
+pub mod Recovered
+pub mod Growth
+pub mod Premises
+pub mod Bits
+pub mod Maps
+pub mod Firsts
+pub mod Agreeing
+pub mod TablePlaces
+pub mod Attachments
+pub mod Spans
+pub mod Walks
+pub mod Inside
+pub mod Judging
+mod TakenRecords
+mod ShownMessages
+mod NamedTopics
+mod Replays
+mod PlacesApart
+pub mod Pieces

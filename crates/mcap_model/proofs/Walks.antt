@@ -1,0 +1,83 @@
+-- The records inside a chunk, one after the other.
+use Rattle.std.proofs.Common.{◌≡◌, ◌≢◌, ℕ, zero, suc, ◌+◌, ◌-◌, ◌^◌, ◌<◌, ◌≤◌, Bool, true, false, not, ◌&&◌, eqb, List, [], ◌∷◌, ◌++◌, length, take, drop, refl, sym, ap, ◌∙◌, arith}
+use Rattle.std.specs.Prelude.{if◌then◌else◌}
+use Rattle.std.proofs.lemmas.Bool.{and_from, not_from_false, ne_eqb, lt-leb}
+use Rattle.std.proofs.lemmas.List.{drop_at, drop-drop, length-append, length-drop, length-take}
+use Rattle.mcap_wire.specs.Layout.{number, part}
+use Rattle.mcap_wire.specs.Reading.{NumberAt, Stands}
+use Rattle.mcap_wire.proofs.Fields.{number_there}
+use Rattle.mcap_model.specs.Tops.{Top, top_bytes, opcode, declared_length, has_head, is_whole, first_top, behind_first, begins_record, first_records, records_in}
+use Rattle.mcap_model.specs.Laws.{IsFound}
+use Rattle.mcap_model.proofs.Readings.{Begun, begun, length-top}
+use Rattle.mcap_model.specs.Made.{top}
+use Rattle.mcap_model.proofs.Bits.{last_false}
+
+none_begins : (n : ℕ) (rest : List ℕ) → begins_record rest ≡ false → first_records n rest ≡ []
+none_begins zero rest none = refl
+none_begins (suc n) rest none = ap (λ (b : Bool). if b then first_top rest ∷ first_records n (behind_first rest) else []) none
+
+begins_found : (rest : List ℕ) (t : Top) → Begun rest t → (t.op ≡ 0 → ⊥) → begins_record rest ≡ true
+begins_found rest t front valid =
+    let op : not (eqb (opcode rest) 0) ≡ true = not_from_false (eqb (opcode rest) 0) (ne_eqb (opcode rest) 0 (λ (e : opcode rest ≡ 0). valid (sym front.op_is ∙ e))) in
+    and_from (has_head rest) (not (eqb (opcode rest) 0) && is_whole rest) front.head (and_from (not (eqb (opcode rest) 0)) (is_whole rest) op front.whole)
+
+left_behind : (rest : List ℕ) (t : Top) (behind : List ℕ) → rest ≡ top_bytes t ++ behind → Begun rest t → behind_first rest ≡ behind
+left_behind rest t behind is front =
+    ap (λ (n : ℕ). drop (9 + n) rest) front.len_is ∙ ap (drop (9 + length t.content)) is ∙ drop_at (top_bytes t) behind (9 + length t.content) (length-top t)
+
+nothing_begins : (bytes : List ℕ) → length bytes ≤ 0 → begins_record bytes ≡ false
+nothing_begins [] few = refl
+nothing_begins (b ∷ bs) few = absurd (omega (arith, few))
+
+-- more steps than bytes find nothing more
+enough : (n m : ℕ) (bytes : List ℕ) → length bytes ≤ n → length bytes ≤ m → first_records n bytes ≡ first_records m bytes
+enough zero m bytes few other = sym (none_begins m bytes (nothing_begins bytes few))
+enough (suc n) zero bytes few other = none_begins (suc n) bytes (nothing_begins bytes other)
+enough (suc n) (suc m) bytes few other =
+    let size = length-drop (9 + declared_length bytes) bytes in
+    ap (λ (l : List Top). if begins_record bytes then first_top bytes ∷ l else []) (enough n m (behind_first bytes) (omega (arith, size, few)) (omega (arith, size, other)))
+
+pub found_next : (rest : List ℕ) (t : Top) (behind : List ℕ) → rest ≡ top_bytes t ++ behind → IsFound t → records_in rest ≡ t ∷ records_in behind
+unfolding records_in
+found_next rest t behind is found =
+    let front = begun rest t behind is found.short in
+    let there = begins_found rest t front found.valid in
+    let size : length rest ≡ suc (8 + length t.content + length behind) = omega (arith, ap length is, length-append (top_bytes t) behind, length-top t) in
+    let n = 8 + length t.content + length behind in
+    ap (λ (k : ℕ). first_records k rest) size
+    ∙ ap (λ (b : Bool). if b then first_top rest ∷ first_records n (behind_first rest) else []) there
+    ∙ ap (λ (x : Top). x ∷ first_records n (behind_first rest)) front.first
+    ∙ ap (λ (l : List ℕ). t ∷ first_records n l) (left_behind rest t behind is front)
+    ∙ ap (λ (l : List Top). t ∷ l) (enough n (length behind) behind (omega arith) (omega arith))
+
+pub none_next : (rest : List ℕ) → begins_record rest ≡ false → records_in rest ≡ []
+unfolding records_in
+none_next rest none = none_begins (length rest) rest none
+
+-- the declared content passes the end
+pub no_record : (bytes : List ℕ) (at len end : ℕ) → NumberAt 8 bytes (at + 1) len end → length bytes < end + len → begins_record (drop at bytes) ≡ false
+no_record bytes at len end there short =
+    let rest = drop at bytes in
+    let declares : declared_length rest ≡ len = ap (λ (l : List ℕ). number (take 8 l)) (drop-drop 1 at bytes) ∙ number_there 8 bytes (at + 1) len end there in
+    let size = length-drop at bytes in
+    let cut : is_whole rest ≡ false = lt-leb (9 + declared_length rest) (length rest) (omega (arith, declares, size, there.size, short)) in
+    last_false (has_head rest) (not (eqb (opcode rest) 0)) (is_whole rest) cut
+
+-- a record that stands there
+pub record StandsNext (bytes : List ℕ) (at op from to : ℕ) : Type 0 where
+  pub split : drop at bytes ≡ top_bytes (top op (part from to bytes)) ++ drop to bytes
+  pub found : IsFound (top op (part from to bytes))
+  pub first : records_in (drop at bytes) ≡ top op (part from to bytes) ∷ records_in (drop to bytes)
+  pub behind : to ≡ at + length (top_bytes (top op (part from to bytes)))
+
+pub stands_next : (bytes : List ℕ) (at op from to : ℕ) → Stands bytes at op from to → op ≢ 0 → to < 2 ^ 64 → StandsNext bytes at op from to
+stands_next bytes at op from to stands valid small =
+    let t = top op (part from to bytes) in
+    let size : length (part from to bytes) ≡ to - from = omega (arith, length-take (to - from) (drop from bytes), length-drop from bytes, stands.ends) in
+    let found : IsFound t = record { valid = valid; short = omega (arith, size, small) } in
+    record {
+      split = stands.framed_there;
+      found = found;
+      first = found_next (drop at bytes) t (drop to bytes) stands.framed_there found;
+      behind = omega (arith, length-top t, size, stands.head, stands.begins);
+    }

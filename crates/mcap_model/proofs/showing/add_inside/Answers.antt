@@ -1,0 +1,19 @@
+use Rattle.mcap_model.specs.Walk.{walk_at, walk_rest}
+use Rattle.mcap_model.proofs.ShownMessages.{inside_none, inside_message, inside_other, inside_all}
+use Rattle.mcap_model.proofs.showing.add_inside.Goals as goal
+
+pub records-preserved-in-Ok : goal.records-preserved-in-Ok
+records-preserved-in-Ok c =
+    inside_message c.args.records.now c.args.offset (walk_at c.records.walk) (walk_at c.next.new.self) (walk_rest c.records.walk) (walk_rest c.next.new.self) c.args.shown.now.items c.records.shown.items c.add_message.new.shown.items c.in-Some.inner
+    c.records.invariant c.in-Some.ensures c.if-inner-eq-MESSAGE.true c.in-Ok.ensures
+
+pub records-preserved : goal.records-preserved
+records-preserved c =
+    inside_other c.args.records.now c.args.offset (walk_at c.records.walk) (walk_at c.next.new.self) (walk_rest c.records.walk) (walk_rest c.next.new.self) c.args.shown.now.items c.records.shown.items c.in-Some.inner
+    c.records.invariant c.in-Some.ensures c.if-inner-eq-MESSAGE.false
+
+pub records-init : goal.records-init
+records-init c = inside_none c.args.records.now c.args.offset (walk_at c.new-walk.result) (walk_rest c.new-walk.result) c.args.shown.now.items c.new-walk.ensures.at c.new-walk.ensures.rest
+
+pub returns : goal.returns
+returns c = inside_all c.args.records.now c.args.offset (walk_at c.records.walk) (walk_rest c.records.walk) c.args.shown.now.items c.records.shown.items c.records.invariant c.in_default.ensures.0

@@ -1,0 +1,51 @@
+-- How a record of the top level is judged behind those before it.
+use Rattle.std.specs.Prelude.{◌≡◌, ℕ, List, ◌∷◌, [], ◌++◌, Bool, true, false}
+use Rattle.mcap_model.specs.Tops.{Top, flat}
+use Rattle.mcap_model.specs.Fields.{IsHeader}
+use Rattle.mcap_model.specs.Rules.{V3, V5, V6, V7, V8, V10, Breaks}
+use Rattle.mcap_model.specs.Kept.{NamesCompression}
+use Rattle.mcap_model.specs.declared.tables.Tables.{Tables}
+use Rattle.mcap_model.specs.declared.tables.Ruling.{Ruling}
+use Rattle.mcap_model.specs.declared.tables.Ruling.TheVariants as rulings
+use Rattle.mcap_model.specs.declared.tops.Judged.{Judged}
+use Rattle.mcap_model.specs.declared.tops.Judged.TheVariants as judged
+use Rattle.mcap_model.specs.Declarations.{TablesOf}
+
+-- a ruling is one on a record of the top level
+abbrev pub as_judged : Ruling → Judged
+as_judged rulings.Fits = judged.Fits
+as_judged (rulings.Breaks rule) = judged.Breaks rule
+as_judged rulings.Memory = judged.Memory
+
+-- it fits where the test says so, and else breaks that rule
+abbrev pub kept_or_breaks : Bool → ℕ → Judged
+kept_or_breaks true rule = judged.Fits
+kept_or_breaks false rule = judged.Breaks rule
+
+-- the record names no compression
+abbrev pub IsPlain : Top → Type 0
+IsPlain t = (name : List ℕ) → NamesCompression t name → ⊥
+
+-- the record keeps the rules behind those before it
+pub record Keeps (tops : List Top) (t : Top) : Type 0 where
+  pub v3 : V3 tops t
+  pub v5 : V5 tops t
+  pub v6 : V6 t
+  pub v7 : V7 tops t
+  pub v8 : V8 t
+  pub v10 : V10 t
+  pub plain : IsPlain t
+
+-- The record fits, and these are the tables of the records with it; or it breaks a rule; or it is a compressed chunk.
+abbrev pub JudgedAs : List Top → Top → Tables → Judged → Type 0
+JudgedAs tops t tables judged.Fits = Keeps tops t × TablesOf (flat (tops ++ t ∷ [])) tables
+JudgedAs tops t tables (judged.Breaks rule) = ((tops ≡ [] → ⊥) → IsPlain t) × Breaks tops t rule
+JudgedAs tops t tables (judged.Compressed name) = (tops ≡ [] → ⊥) × NamesCompression t name
+JudgedAs tops t tables judged.Memory = Unit {0}
+
+-- the first record is a Header
+abbrev pub FirstJudged : Top → Judged → Type 0
+FirstJudged t judged.Fits = IsHeader t
+FirstJudged t (judged.Breaks rule) = (rule ≡ 3) × (IsHeader t → ⊥)
+FirstJudged t (judged.Compressed name) = ⊥
+FirstJudged t judged.Memory = ⊥

@@ -1,0 +1,171 @@
+-- What the plain scan and the plain replay come to, and their steps.
+use Rattle.std.specs.Prelude.{◌≡◌, ◌⊎◌, ℕ, ◌+◌, ◌<◌, ◌≤◌, List, [], ◌∷◌, ◌++◌, length, drop, filter, Bool, true, ◌&&◌, ◌==◌, nat_le, nat_lt, nat_eq, Option, Some, None, Result, Ok, Err, AllPairs, slice_index_or}
+use Rattle.std.specs.List.{list_any, AllZip}
+use Rattle.std.specs.Cmp.Lexicographic.{pointwise}
+use Rattle.mcap_wire.specs.declared.faults.Cut.{Cut}
+use Rattle.mcap_wire.specs.Layout.{part}
+use Rattle.mcap_model.specs.declared.replay.Place.{Place}
+use Rattle.mcap_model.specs.declared.replay.Range.{Range}
+use Rattle.mcap_model.specs.declared.replay.Shown.{Shown}
+use Rattle.mcap_model.specs.declared.replay.Topic.{Topic}
+use Rattle.mcap_model.specs.declared.replay.Replayed.{Replayed}
+use Rattle.mcap_model.specs.declared.refusals.PlainRefused.{PlainRefused}
+use Rattle.mcap_model.specs.declared.refusals.PlainRefused.TheVariants as refusals
+use Rattle.mcap_model.specs.declared.table.Declared.{Declared}
+use Rattle.mcap_model.specs.declared.tables.Tables.{Tables}
+use Rattle.mcap_model.specs.Places.{At, Each, Has}
+use Rattle.mcap_model.specs.Tops.{Top, Tops, Placed, placed_inside, placed_one, records_in, top_bytes, offset_behind, flat}
+use Rattle.mcap_model.specs.Fields.{IsMessage, ChannelFields, IsChannel}
+use Rattle.mcap_model.specs.Rules.{V6, V8, HasDataEnd}
+use Rattle.mcap_model.specs.Kept.{reading_limits, Fits, Good, at_end, grammar, compressed, beyond, NamesCompression, Halts}
+use Rattle.mcap_model.specs.Scan.{Seen, Scan, is_message_top}
+use Rattle.mcap_model.specs.Declarations.{TablesOf}
+use Rattle.mcap_model.specs.Made.{top}
+use Rattle.mcap_model.specs.Showing.{Shows}
+use denote.Ref.{Bor}
+
+-- ---- the scan
+
+-- no two messages have the same place
+abbrev pub PlacesDiffer : List Shown → Type 0
+PlacesDiffer shown = AllPairs (λ s r. s.place ≡ r.place → ⊥) shown
+
+-- the file is read to its Data End, and its messages are shown, each at a place of its own
+pub record IsScanned (bytes : List ℕ) (all : Replayed) : Type 0 where
+  pub tops : List Top
+  pub end : ℕ
+  pub messages : List Seen
+  pub halts : Halts reading_limits bytes tops (at_end end)
+  pub scan : Scan tops messages
+  pub shows : Shows all messages
+  pub differ : PlacesDiffer all.shown.items
+
+-- the reading of the file halts before, at that offset and for that reason
+abbrev pub IsRefused : List ℕ → PlainRefused → Type 0
+IsRefused bytes (refusals.Grammar offset) = (tops : List Top) × (rule : ℕ) × Halts reading_limits bytes tops (grammar offset rule)
+IsRefused bytes (refusals.Compressed offset) = (tops : List Top) × (name : List ℕ) × Halts reading_limits bytes tops (compressed offset name)
+IsRefused bytes (refusals.Limit offset) = (tops : List Top) × Halts reading_limits bytes tops (beyond offset)
+IsRefused bytes refusals.Memory = Unit {0}
+
+abbrev pub PlainScanned : List ℕ → Result Replayed PlainRefused → Type 0
+PlainScanned bytes (Ok all) = IsScanned bytes all
+PlainScanned bytes (Err why) = IsRefused bytes why
+
+-- ---- a record more
+
+-- the records before that offset are good, with no Data End among them, and these are their tables
+pub record ReadTo (bytes : List ℕ) (at : ℕ) (tables : Tables) (tops : List Top) : Type 0 where
+  pub place : at ≡ offset_behind tops
+  pub stands : Tops bytes tops (drop at bytes)
+  pub good : Good reading_limits tops
+  pub unended : HasDataEnd tops → ⊥
+  pub tables_are : TablesOf (flat tops) tables
+
+-- the record that was cut
+abbrev pub cut_top : List ℕ → Cut → Top
+cut_top bytes c = top c.op (part c.from c.to bytes)
+
+-- the record there fits, and these are the tables with it
+pub record TakesRecord (bytes : List ℕ) (at : ℕ) (tops : List Top) (tables : Tables) (c : Cut) : Type 0 where
+  pub fits : Fits reading_limits tops (cut_top bytes c)
+  pub split : drop at bytes ≡ top_bytes (cut_top bytes c) ++ drop c.to bytes
+  pub begins : c.from ≤ c.to
+  pub ends : c.to ≤ length bytes
+  pub behind : c.to ≡ at + length (top_bytes (cut_top bytes c))
+  pub tables_are : TablesOf (flat (tops ++ cut_top bytes c ∷ [])) tables
+
+abbrev pub RecordTaken : List ℕ → ℕ → List Top → Tables → Result Cut PlainRefused → Type 0
+RecordTaken bytes at tops tables (Ok c) = TakesRecord bytes at tops tables c
+RecordTaken bytes at tops tables (Err why) = IsRefused bytes why
+
+-- ---- the messages of a record
+
+-- the message at a place is shown so
+pub record IsShown (p : Placed) (s : Shown) : Type 0 where
+  pub place : p.place ≡ s.place
+  pub is : IsMessage p.top s.channel (record { sequence = s.sequence; log_time = s.log_time; publish_time = s.publish_time; payload = s.payload })
+
+-- the messages of these records are added
+pub record AddsThose (records : List Placed) (old new : List Shown) : Type 0 where
+  pub more : List Shown
+  pub added : new ≡ old ++ more
+  pub shows : AllZip IsShown (filter (λ p. is_message_top p.top) records) more
+
+abbrev pub AddsMessage : Place → List ℕ → List Shown → List Shown → Type 0
+AddsMessage place content old new = V6 (top 5 content) → AddsThose (record { place = place; top = top 5 content } ∷ []) old new
+
+abbrev pub AddsInside : ℕ → List ℕ → List Shown → List Shown → Type 0
+AddsInside offset records old new = Each V6 (records_in records) → AddsThose (placed_inside offset 0 (records_in records)) old new
+
+-- a record that keeps the rules on layouts and on chunks, and names no compression
+abbrev pub AddsMessages : ℕ → Top → List Shown → List Shown → Type 0
+AddsMessages offset t old new = V6 t → V8 t → ((name : List ℕ) → NamesCompression t name → ⊥) → AddsThose (placed_one offset t) old new
+
+-- ---- topics
+
+-- a channel of that id was declared with that topic
+pub record IsNamed (channels : List Declared) (id : ℕ) (topic : List ℕ) : Type 0 where
+  pub place : ℕ
+  pub declared : Declared
+  pub shown : ChannelFields
+  pub at : At channels place declared
+  pub id_is : declared.id ≡ id
+  pub is : IsChannel (top 4 declared.content) id shown
+  pub topic_is : shown.topic ≡ topic
+
+-- what is declared are Channels, of one content for each id
+pub record DeclareChannels (channels : List Declared) : Type 0 where
+  pub are : (k : ℕ) (d : Declared) → At channels k d → (f : ChannelFields) × IsChannel (top 4 d.content) d.id f
+  pub apart : (j k : ℕ) (d e : Declared) → At channels j d → At channels k e → d.id ≡ e.id → d ≡ e
+
+-- the topic of the channel of that id, which was declared, is added
+abbrev pub AddsTopic : List Declared → ℕ → List Topic → List Topic → Type 0
+AddsTopic channels id old new = DeclareChannels channels → ((k : ℕ) × (d : Declared) × At channels k d × (d.id ≡ id)) → (topic : List ℕ) × IsNamed channels id topic × (new ≡ old ++ (record { channel = id; topic = topic }) ∷ [])
+
+-- one entry for each channel of the messages, in ascending order of ids, with the topic that was declared
+pub record HaveTopics (channels : List Declared) (shown : List Shown) (topics : List Topic) : Type 0 where
+  pub rises : AllPairs (λ t u. t.channel < u.channel) topics
+  pub are : (t : Topic) → Has topics t → IsNamed channels t.channel t.topic × ((s : Shown) × Has shown s × (s.channel ≡ t.channel))
+  pub all : (s : Shown) → Has shown s → (topic : List ℕ) × Has topics (record { channel = s.channel; topic = topic })
+
+-- the channel of each message was declared
+abbrev pub AreDeclared : List Declared → List Shown → Type 0
+AreDeclared channels shown = (s : Shown) → Has shown s → (k : ℕ) × (d : Declared) × At channels k d × (d.id ≡ s.channel)
+
+abbrev pub AreNamed : List Declared → List Shown → List Topic → Type 0
+AreNamed channels shown topics = DeclareChannels channels → AreDeclared channels shown → HaveTopics channels shown topics
+
+-- ---- the replay
+
+-- one of the messages is on that channel
+abbrev pub is_used : List Shown → ℕ → Bool
+is_used shown channel = list_any (λ s. s.channel == channel) shown
+
+abbrev pub is_before : Option ℕ → ℕ → Bool
+is_before None time = true
+is_before (Some end) time = nat_lt time end
+
+-- whether the range has the time
+abbrev pub is_within : Range → ℕ → Bool
+is_within range time = nat_le range.start time && is_before range.end time
+
+abbrev pub asked_topic : Option (Bor (List ℕ)) → Option (List ℕ)
+asked_topic None = None
+asked_topic (Some topic) = Some topic.now
+
+-- whether the channel has the topic that is asked for, if any
+abbrev pub is_named : List Topic → ℕ → Option (List ℕ) → Bool
+is_named topics channel None = true
+is_named topics channel (Some asked) = list_any (λ t. (t.channel == channel) && pointwise nat_eq t.topic asked) topics
+
+-- whether the message is asked for
+abbrev pub is_chosen : List Topic → Range → Option (List ℕ) → Shown → Bool
+is_chosen topics range topic s = is_within range s.log_time && is_named topics s.channel topic
+
+-- a message doesn't come behind another: by log time, then by place
+abbrev pub NotBehind : Shown → Shown → Type 0
+NotBehind s r = (s.log_time < r.log_time) ⊎ ((s.log_time ≡ r.log_time) × ((s.place.top < r.place.top) ⊎ ((s.place.top ≡ r.place.top) × (s.place.inner ≤ r.place.inner))))
+
+-- none comes behind the next
+abbrev pub InOrder : List Shown → Type 0
+InOrder shown = (k : ℕ) (d : Shown) → k + 1 < length shown → NotBehind (slice_index_or shown k d) (slice_index_or shown (k + 1) d)

@@ -1,0 +1,27 @@
+-- What is kept of a file that may be broken, as a profile, extras and a history.
+use Rattle.std.specs.Prelude.{◌≡◌, ℕ, List, [], ◌∷◌, filter, Bool, ◌==◌, ◌||◌}
+use Rattle.rec_data.specs.declared.owned.Rec.{Rec}
+use Rattle.mcap_model.specs.Tops.{Top}
+use Rattle.mcap_model.specs.Fields.{IsHeader}
+use Rattle.mcap_model.specs.Kept.{Kept, reading_limits}
+use Rattle.mcap_model.specs.History.{without_repeats}
+use Rattle.mcap_model.specs.Written.{AreFlatRecords}
+
+-- an Attachment or a Metadata
+abbrev pub is_extra : Top → Bool
+is_extra t = (t.op == 9) || (t.op == 12)
+
+-- the profile of the Header, or none where there is no record
+abbrev pub ProfileIs : List Top → List ℕ → Type 0
+ProfileIs [] profile = profile ≡ []
+ProfileIs (t ∷ ts) profile = (header : IsHeader t) × (header.profile ≡ profile)
+
+pub record Repaired (bytes profile : List ℕ) (extras : List Top) (history : List Rec) : Type 0 where
+  pub tops : List Top
+  pub kept : Kept reading_limits bytes tops
+  pub profile_is : ProfileIs tops profile
+  pub extras_are : extras ≡ filter is_extra tops
+  -- its Schemas, Channels and Messages, but for an id's further declarations
+  pub flattened : List Rec
+  pub are_flattened : AreFlatRecords tops flattened
+  pub history_is : history ≡ without_repeats flattened

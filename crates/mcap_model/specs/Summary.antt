@@ -1,0 +1,109 @@
+-- The summary of a file: its text, from what was noted of the records, the blocks and the extras.
+use Rattle.std.specs.Prelude.{ℕ, ◌+◌, List, [], ◌∷◌, ◌++◌, length, map, filter, take, min, Bool, true, false, ◌==◌}
+use Rattle.std.specs.List.{flat_map}
+use Rattle.mcap_wire.specs.Layout.{number, framed, magic, part}
+use Rattle.mcap_wire.specs.Reading.{text_length, text_bytes, bytes_length}
+use Rattle.mcap_crc.specs.Remainder.{remainder}
+use Rattle.rec_data.specs.declared.owned.Rec.{Rec}
+use Rattle.rec_data.specs.Owned.{rec_text}
+use Rattle.rec_data.specs.Records.{footer_text}
+use Rattle.rec_index.specs.Records.{chunk_index_text, attachment_index_text, statistics_text, metadata_index_text, summary_offset_text}
+use Rattle.mcap_model.specs.Tops.{Top, top_bytes}
+use Rattle.mcap_model.specs.History.{is_schema, is_channel, history_bytes, without_repeats}
+use Rattle.mcap_model.specs.Blocks.{least, greatest, logged, log_times, logged_channels, index_bytes, indexes_bytes, chunk_bytes}
+
+-- What a summary is made of: the records in their order, each block's offset and records, and each extra's offset and
+-- record.
+pub record Noted : Type 0 where
+  pub records : List Rec
+  pub blocks : List (ℕ × List Rec)
+  pub extras : List (ℕ × Top)
+
+-- ---- the contents of its records
+
+abbrev pub schemas_of : List Rec → List Rec
+schemas_of records = filter is_schema (without_repeats records)
+
+abbrev pub channels_of : List Rec → List Rec
+channels_of records = filter is_channel (without_repeats records)
+
+-- a count as it is written in four bytes
+abbrev pub capped : ℕ → ℕ
+capped n = min n 4294967295
+
+-- how many of the messages are on a channel
+abbrev pub messages_on : List Rec → ℕ → ℕ
+messages_on records channel = length (filter (λ e. e.channel == channel) (logged records))
+
+abbrev pub of_kind : ℕ → List (ℕ × Top) → List (ℕ × Top)
+of_kind op extras = filter (λ e. e.1.op == op) extras
+
+abbrev pub statistics_content : Noted → List ℕ
+statistics_content n =
+    statistics_text (length (logged n.records)) (length (schemas_of n.records)) (capped (length (channels_of n.records)))
+    (capped (length (of_kind 9 n.extras))) (capped (length (of_kind 12 n.extras))) (capped (length n.blocks))
+    (least (log_times n.records)) (greatest (log_times n.records))
+    (map (λ id. (id, messages_on n.records id)) (logged_channels n.records))
+
+-- the offset of the Message Index of each channel, where the first one stands at that offset
+abbrev pub index_offsets : List Rec → ℕ → List ℕ → List (ℕ × ℕ)
+index_offsets records at [] = []
+index_offsets records at (id ∷ ids) = (id, at) ∷ index_offsets records (at + length (index_bytes records id)) ids
+
+abbrev pub chunk_index_content : ℕ × List Rec → List ℕ
+chunk_index_content block =
+    let records = block.1 in
+    let size = length (chunk_bytes records) in
+    chunk_index_text (least (log_times records)) (greatest (log_times records)) block.0 size
+    (index_offsets records (block.0 + size) (logged_channels records)) (length (indexes_bytes records (logged_channels records)))
+    [] (length (history_bytes records)) (length (history_bytes records))
+
+-- An Attachment's two times stand in front of its name, its media type and its data, each behind its length.
+abbrev pub attachment_index_content : ℕ × Top → List ℕ
+attachment_index_content extra =
+    let content = extra.1.content in
+    let media = 20 + text_length content 16 in
+    attachment_index_text extra.0 (length (top_bytes extra.1)) (number (part 0 8 content)) (number (part 8 16 content))
+    (bytes_length 8 content (media + 4 + text_length content media)) (text_bytes content 16) (text_bytes content media)
+
+abbrev pub metadata_index_content : ℕ × Top → List ℕ
+metadata_index_content extra = metadata_index_text extra.0 (length (top_bytes extra.1)) (text_bytes extra.1.content 0)
+
+-- ---- its groups
+
+-- the records of one opcode, which stand together
+pub record Group : Type 0 where
+  pub op : ℕ
+  pub contents : List (List ℕ)
+
+abbrev pub group_bytes : Group → List ℕ
+group_bytes g = flat_map (framed g.op) g.contents
+
+abbrev pub has_some : {X : Type 0} → List X → Bool
+has_some [] = false
+has_some (x ∷ xs) = true
+
+-- the groups that are there
+abbrev pub groups_of : Noted → List Group
+groups_of n = filter (λ g. has_some g.contents) (
+    record { op = 3; contents = map rec_text (schemas_of n.records) }
+    ∷ record { op = 4; contents = map rec_text (channels_of n.records) }
+    ∷ record { op = 11; contents = statistics_content n ∷ [] }
+    ∷ record { op = 8; contents = map chunk_index_content n.blocks }
+    ∷ record { op = 10; contents = map attachment_index_content (of_kind 9 n.extras) }
+    ∷ record { op = 13; contents = map metadata_index_content (of_kind 12 n.extras) } ∷ [])
+
+-- a Summary Offset for each group, the first of which stands at that offset
+abbrev pub offset_contents : ℕ → List Group → List (List ℕ)
+offset_contents at [] = []
+offset_contents at (g ∷ gs) = summary_offset_text g.op at (length (group_bytes g)) ∷ offset_contents (at + length (group_bytes g)) gs
+
+-- The summary at that offset, its Summary Offsets, the Footer and the magic. The Footer's CRC is that of all before it,
+-- and of the Footer's front with the two offsets.
+unfoldable pub summary_text : Noted → ℕ → List ℕ
+summary_text n at =
+    let groups = flat_map group_bytes (groups_of n) in
+    let offsets = flat_map (framed 14) (offset_contents at (groups_of n)) in
+    let behind = at + length groups in
+    let front = take 25 (framed 2 (footer_text at behind 0)) in
+    groups ++ (offsets ++ (framed 2 (footer_text at behind (remainder (groups ++ (offsets ++ front)))) ++ magic))

@@ -1,0 +1,20 @@
+//! What a check of a file comes to.
+
+/// How many records of each kind a file has.
+#[derive(Clone, Copy, Debug, PartialEq, Eq)]
+pub struct Counts {
+    pub messages: u64,
+    pub channels: u64,
+    pub schemas: u64,
+    pub chunks: u64,
+    pub attachments: u64,
+    pub metadata: u64,
+}
+
+/// A file is valid and fully indexed; it is valid; or the rule of that number fails at that offset.
+#[derive(Clone, Copy, Debug, PartialEq, Eq)]
+pub enum Verdict {
+    Indexed { counts: Counts },
+    Plain { counts: Counts },
+    Flawed { rule: u8, offset: u64 },
+}

@@ -1,0 +1,42 @@
+//! What an MCAP file is: its records and rules, what a reading keeps of it and where it halts, its messages and their
+//! replay, the file of a list of records, and what repairing keeps of one. `judge` says whether a record may stand behind
+//! those before it; `scan_plain` and `replay_plain` are the plain, slow programs whose contracts are the definitions.
+#![tactic(auto)]
+
+mod block;
+mod checked;
+mod chunks;
+mod contents;
+mod ends;
+mod entries;
+mod inner;
+pub mod laws;
+mod options;
+mod plain;
+mod refusals;
+mod replay;
+mod replaying;
+mod same;
+mod showing;
+mod table;
+mod tables;
+mod taking;
+mod times;
+mod topics;
+mod tops;
+
+pub use block::{Block, IndexPart};
+pub use checked::{Counts, Verdict};
+pub use ends::{End, Stop};
+pub use entries::Entry;
+pub use inner::{Inner, InnerWalk};
+pub use options::FileOptions;
+pub use plain::scan_plain;
+pub use refusals::PlainRefused;
+pub use replay::{Place, Range, Replayed, Shown, Topic};
+pub use replaying::replay_plain;
+pub use tables::Tables;
+pub use tops::{Judged, judge, judge_first};
+
+#[cfg(test)]
+mod tests;

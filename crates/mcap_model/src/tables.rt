@@ -1,0 +1,117 @@
+//! What a scanner knows of the declarations so far.
+ghost use Rattle.std.specs.Prelude.{◌≡◌, ◌⊎◌, ◌↔◌, ℕ, List, [], IsTrue, Some, None};
+ghost use Rattle.mcap_model.specs.Tops.{Top};
+ghost use Rattle.mcap_model.specs.Declarations.{Takes, TablesOf, Hears, SomeFirst};
+ghost use Rattle.mcap_model.specs.Made.{top};
+
+use crate::same::{is_same_channel, is_same_schema};
+use crate::table::Table;
+use rec_data::{Channel, Message, Schema};
+use std::alloc::Global;
+
+/// Whether a record may stand where it does.
+#[derive(Clone, Copy)]
+pub(crate) enum Ruling {
+    Fits,
+    /// It breaks the rule of that number.
+    Breaks { rule: u8 },
+    /// Memory lacked.
+    Memory,
+}
+
+/// The first Schema and the first Channel of each id.
+#[derive(Drop)]
+pub struct Tables {
+    pub schemas: Table,
+    pub channels: Table,
+}
+
+impl Tables {
+    pub fn new(alloc: Global) -> Tables
+        ensures schemas { result.schemas ≡ [] }
+        ensures channels { result.channels ≡ [] }
+    {
+        Tables {
+            schemas: Table::new(alloc),
+            channels: Table::new(alloc),
+        }
+    }
+
+    /// Takes a Schema.
+    pub(crate) fn take_schema(&mut self, alloc: Global, content: &[u8]) -> Ruling
+        ensures { Takes self.old self.new (top 3 content.now) result }
+    {
+        let schema = match Schema::parse(content) {
+            Ok(schema) => schema,
+            Err(_) => return Ruling::Breaks { rule: 6 },
+        };
+        if schema.id == 0 {
+            return Ruling::Breaks { rule: 6 };
+        }
+        match self.schemas.find(schema.id) {
+            Some(first) => {
+                if first == content {
+                    return Ruling::Fits;
+                }
+                if is_same_schema(first, &schema) {
+                    return Ruling::Fits;
+                }
+                return Ruling::Breaks { rule: 7 };
+            }
+            None => match self.schemas.add(alloc, schema.id, content) {
+                Ok(()) => return Ruling::Fits,
+                Err(_) => return Ruling::Memory,
+            },
+        }
+    }
+
+    // Whether a Channel's schema is there, where it has one.
+    fn has_schema(&self, id: u16) -> bool
+        ensures { IsTrue result ↔ ((id ≡ 0) ⊎ SomeFirst self.now.schemas id) }
+    {
+        id == 0 || self.schemas.find(id).is_some()
+    }
+
+    /// Takes a Channel.
+    pub(crate) fn take_channel(&mut self, alloc: Global, content: &[u8]) -> Ruling
+        ensures { Takes self.old self.new (top 4 content.now) result }
+    {
+        let channel = match Channel::parse(content) {
+            Ok(channel) => channel,
+            Err(_) => return Ruling::Breaks { rule: 6 },
+        };
+        if !self.has_schema(channel.schema_id) {
+            return Ruling::Breaks { rule: 7 };
+        }
+        match self.channels.find(channel.id) {
+            Some(first) => {
+                if first == content {
+                    return Ruling::Fits;
+                }
+                match is_same_channel(alloc, first, &channel) {
+                    Ok(true) => return Ruling::Fits,
+                    Ok(false) => return Ruling::Breaks { rule: 7 },
+                    Err(_) => return Ruling::Memory,
+                }
+            }
+            None => match self.channels.add(alloc, channel.id, content) {
+                Ok(()) => return Ruling::Fits,
+                Err(_) => return Ruling::Memory,
+            },
+        }
+    }
+
+    /// The log time of a Message, or the rule that it breaks.
+    pub(crate) fn take_message(&self, content: &[u8]) -> Result<u64, u8>
+        ensures { (records : List Top) → TablesOf records self.now → Hears records (top 5 content.now) result }
+    {
+        let message = match Message::parse(content) {
+            Ok(message) => message,
+            Err(_) => return Err(6),
+        };
+        match self.channels.find(message.channel_id) {
+            Some(_) => return Ok(message.log_time),
+            None => return Err(7),
+        }
+    }
+}

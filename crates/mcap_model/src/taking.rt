@@ -1,0 +1,94 @@
+//! Taking the next record of a file that lies in memory.
+ghost use Rattle.std.specs.Prelude.{◌≡◌, ◌↔◌, ◌≤◌, List, length, drop, true, IsTrue};
+ghost use Rattle.mcap_model.specs.Tops.{Top, flat, offset_behind, declared_length};
+ghost use Rattle.mcap_model.specs.Rules.{V1, HasDataEnd};
+ghost use Rattle.mcap_model.specs.Kept.{reading_limits, is_beyond as passes, HasOpcode};
+ghost use Rattle.mcap_model.specs.Declarations.{TablesOf};
+ghost use Rattle.mcap_model.specs.Made.{top};
+ghost use Rattle.mcap_model.specs.Judging.{JudgedAs};
+ghost use Rattle.mcap_model.specs.Plain.{ReadTo, RecordTaken};
+
+use crate::refusals::PlainRefused;
+use crate::tables::Tables;
+use crate::tops::{Judged, judge, judge_first};
+use mcap_wire::{CONTENT_LIMIT, Cut, MAGIC, cut, take_u64};
+use std::alloc::Global;
+
+/// The length of a record's head: the opcode and the content's length.
+const HEAD_LENGTH: u64 = 9;
+
+/// The last offset at which a record may end: 1 TiB.
+const FILE_LIMIT: u64 = 1_099_511_627_776;
+
+/// The offset of the first record.
+pub(crate) const FIRST_OFFSET: usize = 8;
+
+// Whether a record of that length at that offset has a content or an end past its limit.
+fn is_beyond(offset: u64, len: u64) -> bool
+    ensures { result ≡ passes reading_limits offset len }
+{
+    len > CONTENT_LIMIT || offset.saturating_add(HEAD_LENGTH).saturating_add(len) > FILE_LIMIT
+}
+
+// Whether a valid head stands at the offset, and its record passes a limit.
+fn passes_limit(bytes: &[u8], at: usize) -> bool
+    requires { at ≤ length bytes.now }
+    ensures { IsTrue result ↔ (HasOpcode (drop at bytes.now) × (passes reading_limits at (declared_length (drop at bytes.now)) ≡ true)) }
+{
+    if at == bytes.len() {
+        return false;
+    }
+    match take_u64(bytes, at + 1) {
+        Ok((len, _)) => {
+            if bytes[at] == 0 {
+                return false;
+            }
+            return is_beyond(at as u64, len);
+        }
+        Err(_) => return false,
+    }
+}
+
+// Judges the record at the offset.
+fn judge_at(alloc: Global, tables: &mut Tables, at: usize, op: u8, content: &[u8]) -> Judged
+    ensures { (tops : List Top) → (HasDataEnd tops → ⊥) → at ≡ offset_behind tops → TablesOf (flat tops) tables.old → JudgedAs tops (top op content.now) tables.new result }
+{
+    if at == FIRST_OFFSET {
+        return judge_first(op, content);
+    }
+    return judge(alloc, tables, op, content);
+}
+
+/// Takes the record at the offset.
+pub(crate) fn take_record(
+    alloc: Global,
+    tables: &mut Tables,
+    bytes: &[u8],
+    at: usize,
+) -> Result<Cut, PlainRefused>
+    requires { at ≤ length bytes.now }
+    ensures { (tops : List Top) → ReadTo bytes.now at tables.old tops → RecordTaken bytes.now at tops tables.new result }
+{
+    let offset = at as u64;
+    if passes_limit(bytes, at) {
+        return Err(PlainRefused::Limit { offset });
+    }
+    let cut = match cut(bytes, at) {
+        Ok(cut) => cut,
+        Err(_) => return Err(PlainRefused::Grammar { offset }),
+    };
+    let content = &bytes[cut.from as usize..cut.to as usize];
+    match judge_at(alloc, tables, at, cut.op, content) {
+        Judged::Fits => return Ok(cut),
+        Judged::Breaks { rule: _ } => return Err(PlainRefused::Grammar { offset }),
+        Judged::Compressed { name: _ } => return Err(PlainRefused::Compressed { offset }),
+        Judged::Memory => return Err(PlainRefused::Memory),
+    }
+}
+
+/// Whether the bytes begin with the magic.
+pub(crate) fn has_magic(bytes: &[u8]) -> bool
+    ensures { IsTrue result ↔ V1 bytes.now }
+{
+    bytes.starts_with(&MAGIC)
+}
