@@ -1,0 +1,309 @@
+//! The table of ids.
+ghost use Rattle.std.specs.Prelude.{◌≡◌, ◌+◌, ◌<◌, ◌≤◌, ◌++◌, [], length, IfOk, IfErr, IfSome, OnOk, OnErr, option_to_list};
+ghost use Rattle.rec_data.specs.declared.channel.ChannelDef.{ChannelDef};
+ghost use Rattle.indexmap.specs.IndexSet.{spare};
+ghost use Rattle.id_table.specs.Ids.{Ids};
+ghost use Rattle.id_table.specs.Given.{Lacks, LacksTo, EachOnce, Found, FoundAt, Offers, OffersTo, fresh, fresh_to, IsFullTo, Declares, Refuses, IsLast, IsLastTo, without_given, without_given_to, PlaceGives, GivesOrFull};
+
+use crate::given::{Given, GivenIds, IdRefused};
+use indexmap::IndexSet;
+use mcap_wire::Memory;
+use rec_data::{ChannelDef, SchemaDef};
+use std::alloc::Global;
+use std::marker::Model;
+
+// How many ids of a kind there are: those of two bytes but for 0.
+const MAX_IDS: usize = 65535;
+
+/// Ids by content. Contracts see the contents of schemas and of channels in the order of their ids, from 1 on. Two channels
+/// are equal where their schemas, topics, encodings and maps are, since a map keeps its keys in ascending order.
+#[derive(Drop)]
+pub struct IdTable {
+    alloc: Global,
+    schemas: IndexSet<SchemaDef>,
+    channels: IndexSet<ChannelDef>,
+}
+
+impl Model for IdTable {
+    ghost use Rattle.id_table.specs.Ids.{Ids};
+
+    ghost Value = { Ids };
+
+    ghost use Rattle.id_table.specs.Table.{ids_of, IsBounded};
+
+    ghost view = { ids_of };
+
+    ghost invariant = { IsBounded };
+}
+
+impl IdTable {
+    /// A table in which no id is given.
+    pub fn new(alloc: Global) -> Result<IdTable, Memory>
+        ensures { IfOk result (λ t. (t.schemas ≡ []) × (t.channels ≡ [])) }
+    {
+        Ok(IdTable {
+            alloc,
+            schemas: IndexSet::new(alloc),
+            channels: IndexSet::new(alloc),
+        })
+    }
+
+    /// The id of a channel, if its content has one. It takes no memory.
+    pub fn find(&self, d: &ChannelDef) -> Option<u16>
+        ensures found { Found self.now.channels d.now result }
+        ensures once { EachOnce self.now.channels }
+    {
+        match place_of_channel(&self.channels, d) {
+            Some(i) => return Some((i + 1) as u16),
+            None => return None,
+        }
+    }
+
+    /// The ids of a channel and of its schema. New contents get the next ids, and contents that have ids are never refused.
+    /// The table is unchanged where ids are refused.
+    pub fn declare(&mut self, d: &ChannelDef) -> Result<GivenIds, IdRefused>
+        ensures ok { IfOk result (λ g. Declares self.old d.now g self.new) }
+        ensures err { OnErr result (self.new ≡ self.old) }
+        ensures why { IfErr result (Refuses self.old d.now) }
+    {
+        let schema = match given_to_schema(&self.schemas, &d.schema) {
+            Ok(given) => given,
+            Err(refused) => return Err(refused),
+        };
+        let channel = match given_to_channel(&self.channels, d) {
+            Some(given) => given,
+            None => return Err(IdRefused::TooManyChannels),
+        };
+        // All that may be refused comes before the first change.
+        let kept_schema = match keep_schema(self.alloc, &mut self.schemas, &d.schema, schema) {
+            Ok(kept) => kept,
+            Err(_) => return Err(IdRefused::Memory),
+        };
+        let kept_channel = match keep_channel(self.alloc, &mut self.channels, d, channel) {
+            Ok(kept) => kept,
+            Err(_) => return Err(IdRefused::Memory),
+        };
+        enter_schema(&mut self.schemas, kept_schema);
+        enter_channel(&mut self.channels, kept_channel);
+        return Ok(GivenIds { schema, channel });
+    }
+
+    /// How many schemas have ids.
+    pub fn schemas(&self) -> u32
+        ensures count { result ≡ length self.now.schemas }
+        ensures few { result ≤ 65535 }
+        ensures once { EachOnce self.now.schemas }
+    {
+        count_of_schemas(&self.schemas) as u32
+    }
+
+    /// How many channels have ids.
+    pub fn channels(&self) -> u32
+        ensures count { result ≡ length self.now.channels }
+        ensures few { result ≤ 65535 }
+        ensures once { EachOnce self.now.channels }
+    {
+        count_of_channels(&self.channels) as u32
+    }
+
+    /// Takes back those of these ids that are new, which are the last ones of their kinds. Behind the `declare` that gave
+    /// them the table is as it was before. It takes no memory.
+    pub fn take_back(&mut self, g: &GivenIds)
+        requires schema { IsLastTo self.old.schemas g.now.schema }
+        requires channel { IsLast self.old.channels g.now.channel }
+        ensures schemas { self.new.schemas ≡ without_given_to self.old.schemas g.now.schema }
+        ensures channels { self.new.channels ≡ without_given self.old.channels g.now.channel }
+        ensures restores { (before : Ids) (d : ChannelDef) → Declares before d g.now self.old → self.new ≡ before }
+    {
+        drop_schema(&mut self.schemas, g.schema);
+        drop_channel(&mut self.channels, g.channel);
+    }
+}
+
+// The index of a schema in the order of ids.
+fn place_of_schema(set: &IndexSet<SchemaDef>, schema: &SchemaDef) -> Option<usize>
+    ensures found { FoundAt set.now.keys schema.now result }
+    ensures once { EachOnce set.now.keys }
+{
+    let _len = set.len();
+    set.get_index_of(schema)
+}
+
+// The index of a channel in the order of ids.
+fn place_of_channel(set: &IndexSet<ChannelDef>, channel: &ChannelDef) -> Option<usize>
+    ensures found { FoundAt set.now.keys channel.now result }
+    ensures once { EachOnce set.now.keys }
+{
+    let _len = set.len();
+    set.get_index_of(channel)
+}
+
+// The number of schemas; the set tells that they differ.
+fn count_of_schemas(set: &IndexSet<SchemaDef>) -> usize
+    ensures len { result ≡ length set.now.keys }
+    ensures once { EachOnce set.now.keys }
+{
+    set.len()
+}
+
+// The number of channels; the set tells that they differ.
+fn count_of_channels(set: &IndexSet<ChannelDef>) -> usize
+    ensures len { result ≡ length set.now.keys }
+    ensures once { EachOnce set.now.keys }
+{
+    set.len()
+}
+
+// The id of a content that stands at a place or nowhere, or none where all are given.
+fn given(place: Option<usize>, count: usize) -> Option<Given>
+    requires some { count ≤ 65535 }
+    requires within { IfSome place (λ i. i < count) }
+    ensures { PlaceGives place count result }
+{
+    match place {
+        Some(i) => return Some(Given::Known((i + 1) as u16)),
+        None => {
+            if count >= MAX_IDS {
+                return None;
+            }
+            return Some(Given::New((count + 1) as u16));
+        }
+    }
+}
+
+// The id for the schema of a channel, if it has one.
+fn given_to_schema(
+    set: &IndexSet<SchemaDef>,
+    schema: &Option<SchemaDef>,
+) -> Result<Option<Given>, IdRefused>
+    requires { length set.now.keys ≤ 65535 }
+    ensures ok { IfOk result (λ g. OffersTo set.now.keys schema.now g) }
+    ensures room { OnOk result (IsFullTo set.now.keys schema.now → ⊥) }
+    ensures err { IfErr result (λ e. (e ≡ IdRefused.TooManySchemas) × IsFullTo set.now.keys schema.now) }
+{
+    match schema {
+        None => return Ok(None),
+        Some(schema) => match given(place_of_schema(set, schema), set.len()) {
+            Some(given) => return Ok(Some(given)),
+            None => return Err(IdRefused::TooManySchemas),
+        },
+    }
+}
+
+// The id for a channel, or none where all are given.
+fn given_to_channel(set: &IndexSet<ChannelDef>, channel: &ChannelDef) -> Option<Given>
+    requires { length set.now.keys ≤ 65535 }
+    ensures { GivesOrFull set.now.keys channel.now result }
+{
+    given(place_of_channel(set, channel), set.len())
+}
+
+// A copy of a schema whose id is new, for which the set has room.
+fn keep_schema(
+    alloc: Global,
+    set: &mut IndexSet<SchemaDef>,
+    schema: &Option<SchemaDef>,
+    given: Option<Given>,
+) -> Result<Option<SchemaDef>, Memory>
+    requires { OffersTo set.old.keys schema.now given }
+    ensures same { set.new.keys ≡ set.old.keys }
+    ensures kept { IfOk result (λ kept. kept ≡ fresh_to schema.now given) }
+    ensures room { IfOk result (λ kept. IfSome kept (λ _. 0 < spare set.new)) }
+    ensures needed { OnErr result (LacksTo set.old.keys schema.now) }
+{
+    let Some(schema) = schema else {
+        return Ok(None);
+    };
+    let Some(Given::New(_)) = given else {
+        return Ok(None);
+    };
+    match set.reserve(1) {
+        Ok(()) => {}
+        Err(_) => return Err(Memory),
+    }
+    match SchemaDef::copied(alloc, schema) {
+        Ok(copy) => return Ok(Some(copy)),
+        Err(memory) => return Err(memory),
+    }
+}
+
+// A copy of a channel whose id is new, for which the set has room.
+fn keep_channel(
+    alloc: Global,
+    set: &mut IndexSet<ChannelDef>,
+    channel: &ChannelDef,
+    given: Given,
+) -> Result<Option<ChannelDef>, Memory>
+    requires { Offers set.old.keys channel.now given }
+    ensures same { set.new.keys ≡ set.old.keys }
+    ensures kept { IfOk result (λ kept. kept ≡ fresh channel.now given) }
+    ensures room { IfOk result (λ kept. IfSome kept (λ _. 0 < spare set.new)) }
+    ensures needed { OnErr result (Lacks set.old.keys channel.now) }
+{
+    match given {
+        Given::Known(_) => return Ok(None),
+        Given::New(_) => {}
+    }
+    match set.reserve(1) {
+        Ok(()) => {}
+        Err(_) => return Err(Memory),
+    }
+    match ChannelDef::copied(alloc, channel) {
+        Ok(copy) => return Ok(Some(copy)),
+        Err(memory) => return Err(memory),
+    }
+}
+
+// Adds a schema, for which there is room.
+fn enter_schema(set: &mut IndexSet<SchemaDef>, kept: Option<SchemaDef>)
+    requires { IfSome kept (λ s. (0 < spare set.old) × Lacks set.old.keys s) }
+    ensures { set.new.keys ≡ set.old.keys ++ option_to_list kept }
+{
+    match kept {
+        None => {}
+        Some(schema) => match set.insert(schema) {
+            Ok(_) => {}
+            Err(_) => unreachable!(),
+        },
+    }
+}
+
+// Adds a channel, for which there is room.
+fn enter_channel(set: &mut IndexSet<ChannelDef>, kept: Option<ChannelDef>)
+    requires { IfSome kept (λ s. (0 < spare set.old) × Lacks set.old.keys s) }
+    ensures { set.new.keys ≡ set.old.keys ++ option_to_list kept }
+{
+    match kept {
+        None => {}
+        Some(channel) => match set.insert(channel) {
+            Ok(_) => {}
+            Err(_) => unreachable!(),
+        },
+    }
+}
+
+// Drops the last schema, where its id was new.
+fn drop_schema(set: &mut IndexSet<SchemaDef>, given: Option<Given>)
+    requires { IsLastTo set.old.keys given }
+    ensures { set.new.keys ≡ without_given_to set.old.keys given }
+{
+    match given {
+        Some(Given::New(_)) => {
+            let _last = set.pop();
+        }
+        _ => {}
+    }
+}
+
+// Drops the last channel, where its id was new.
+fn drop_channel(set: &mut IndexSet<ChannelDef>, given: Given)
+    requires { IsLast set.old.keys given }
+    ensures { set.new.keys ≡ without_given set.old.keys given }
+{
+    match given {
+        Given::New(_) => {
+            let _last = set.pop();
+        }
+        Given::Known(_) => {}
+    }
+}
