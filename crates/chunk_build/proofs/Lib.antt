@@ -1,0 +1,5 @@
+mod RowLemmas
+mod Marks
+mod Growing
+mod Blocks
+mod Putting

@@ -1,0 +1,73 @@
+-- What framed records are logged as.
+use Rattle.std.proofs.Common.{◌≡◌, ℕ, ◌-◌, ◌≤◌, List, length, get_or, take, drop, Option, Some, None, refl, sym, ap, subst, ◌∙◌, arith}
+use Rattle.std.proofs.lemmas.List.{take_rest, drop_at}
+use Rattle.mcap_wire.specs.Layout.{le}
+use Rattle.mcap_wire.proofs.Numbers.{length-le}
+use Rattle.mcap_wire.proofs.Framing.{length-framed}
+use Rattle.rec_data.specs.declared.owned.Rec.{Rec}
+use Rattle.rec_data.specs.declared.owned.Rec.TheVariants.{Schema, Channel, Message}
+use Rattle.rec_data.specs.Owned.{rec_opcode, rec_text, rec_bytes}
+use Rattle.rec_data.specs.Records.{ShowsMessage}
+use Rattle.rec_data.proofs.Contents.{message_decided}
+use Rattle.rec_data.proofs.OwnedLengths.{length-message_text}
+use Rattle.chunk_build.specs.declared.building.Mark.{Mark}
+use Rattle.chunk_build.specs.Building.{mark_of, IsLong}
+use Rattle.chunk_build.specs.Chunker.{AreFramed}
+
+abbrev pub some_mark : ℕ → ℕ → Option Mark
+some_mark channel time = Some (record { channel = channel; time = time })
+
+-- every record is long enough for what it is
+pub rec_long : (r : Rec) → IsLong (length (rec_bytes r)) (mark_of r)
+rec_long (Schema id schema) = omega (arith, length-framed 3 (rec_text (Schema id schema)))
+rec_long (Channel id schema topic encoding metadata) = omega (arith, length-framed 4 (rec_text (Channel id schema topic encoding metadata)))
+rec_long (Message channel sequence log_time publish_time payload) =
+    omega (arith, length-framed 5 (rec_text (Message channel sequence log_time publish_time payload)), length-message_text channel sequence log_time publish_time payload)
+
+pub bytes_long : (bytes : List ℕ) (r : Rec) → AreFramed bytes r → IsLong (length bytes) (mark_of r)
+bytes_long bytes r is = subst (λ (l : List ℕ). IsLong (length l) (mark_of r)) (sym is.spelled) (rec_long r)
+
+pub has_head : (bytes : List ℕ) (r : Rec) → AreFramed bytes r → 9 ≤ length bytes
+has_head bytes r is = let size = ap (λ (l : List ℕ). length l) is.spelled in omega (arith, size, length-framed (rec_opcode r) (rec_text r))
+
+-- the content behind the head
+pub content_is : (bytes : List ℕ) (r : Rec) → AreFramed bytes r → take (length bytes - 9) (drop 9 bytes) ≡ rec_text r
+content_is bytes r is =
+    let text = rec_text r in
+    take_rest bytes 9
+    ∙ ap (λ (l : List ℕ). drop 9 l) is.spelled
+    ∙ drop_at (le 8 (length text)) text 8 (length-le 8 (length text))
+
+first_is : (bytes : List ℕ) (r : Rec) → AreFramed bytes r → get_or bytes 0 0 ≡ rec_opcode r
+first_is bytes r is = ap (λ (l : List ℕ). get_or l 0 0) is.spelled
+
+-- a record that doesn't begin with the opcode of a Message is none
+pub no_mark : (bytes : List ℕ) (r : Rec) → AreFramed bytes r → (get_or bytes 0 0 ≡ 5 → ⊥) → mark_of r ≡ None
+no_mark bytes (Schema id schema) is other = refl
+no_mark bytes (Channel id schema topic encoding metadata) is other = refl
+no_mark bytes (Message channel sequence log_time publish_time payload) is other =
+    absurd (other (first_is bytes (Message channel sequence log_time publish_time payload) is))
+
+-- one that does is the Message that its content shows
+pub one_mark : (bytes : List ℕ) (r : Rec) (channel sequence log_time publish_time : ℕ) (payload : List ℕ) → AreFramed bytes r → get_or bytes 0 0 ≡ 5
+    → ShowsMessage (take (length bytes - 9) (drop 9 bytes)) channel sequence log_time publish_time payload
+    → some_mark channel log_time ≡ mark_of r
+one_mark bytes (Schema id schema) channel sequence log_time publish_time payload is first shown =
+    absurd (omega (arith, first, first_is bytes (Schema id schema) is))
+one_mark bytes (Channel id schema topic encoding metadata) channel sequence log_time publish_time payload is first shown =
+    absurd (omega (arith, first, first_is bytes (Channel id schema topic encoding metadata) is))
+one_mark bytes (Message channel' sequence' log_time' publish_time' payload') channel sequence log_time publish_time payload is first shown =
+    let r = Message channel' sequence' log_time' publish_time' payload' in
+    let own = subst (λ (l : List ℕ). ShowsMessage l channel' sequence' log_time' publish_time' payload') (sym (content_is bytes r is)) is.shown.1 in
+    let same = message_decided (take (length bytes - 9) (drop 9 bytes)) channel sequence log_time publish_time payload channel' sequence' log_time' publish_time' payload' shown own in
+    ap (λ (n : ℕ). some_mark n log_time) same.0 ∙ ap (λ (n : ℕ). some_mark channel' n) same.2
+
+-- a Message's content shows it, where the record begins with the opcode of a Message
+pub some_message : (bytes : List ℕ) (r : Rec) → AreFramed bytes r → get_or bytes 0 0 ≡ 5
+    → ((channel sequence log_time publish_time : ℕ) (payload : List ℕ) → ShowsMessage (take (length bytes - 9) (drop 9 bytes)) channel sequence log_time publish_time payload → ⊥) → ⊥
+some_message bytes (Schema id schema) is first none = omega (arith, first, first_is bytes (Schema id schema) is)
+some_message bytes (Channel id schema topic encoding metadata) is first none = omega (arith, first, first_is bytes (Channel id schema topic encoding metadata) is)
+some_message bytes (Message channel sequence log_time publish_time payload) is first none =
+    let r = Message channel sequence log_time publish_time payload in
+    none channel sequence log_time publish_time payload
+    (subst (λ (l : List ℕ). ShowsMessage l channel sequence log_time publish_time payload) (sym (content_is bytes r is)) is.shown.1)

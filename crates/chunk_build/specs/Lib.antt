@@ -1,0 +1,6 @@
+pub mod Rows
+pub mod Opened
+pub mod Building
+pub mod Chunking
+pub mod Held
+pub mod Chunker

@@ -1,0 +1,63 @@
+-- The rows of an open chunk: for each channel the entries of its Message Index.
+use Rattle.std.specs.Prelude.{◌≡◌, ℕ, ◌+◌, ◌<◌, ◌≤◌, ◌/◌, List, [], ◌∷◌, ◌++◌, length, map, filter, Bool, ◌==◌, nat_lt, if◌then◌else◌, slice_index_or, Result, Ok, Err, AllPairs}
+use Rattle.std.specs.List.{flat_map}
+use Rattle.mcap_wire.specs.Layout.{le, framed}
+use Rattle.mcap_wire.specs.Writing.{HasRoom}
+use Rattle.mcap_model.specs.declared.block.IndexPart.{IndexPart}
+use Rattle.mcap_model.specs.Summary.{has_some}
+use Rattle.chunk_build.specs.declared.row.Row.{Row}
+
+-- ---- rows as pairs of a channel and the bytes of its entries
+
+abbrev pub row_pair : Row → ℕ × List ℕ
+row_pair row = (row.channel, row.entries.items)
+
+abbrev pub has_entries : ℕ × List ℕ → Bool
+has_entries row = has_some row.1
+
+-- the rows that have an entry
+abbrev pub rows_in : List Row → List (ℕ × List ℕ)
+rows_in rows = filter has_entries (map row_pair rows)
+
+-- the channels ascend
+abbrev pub RowsRise : List Row → Type 0
+RowsRise rows = AllPairs (λ (a b : Row). a.channel < b.channel) rows
+
+-- the row of a channel, or where it is to stand
+abbrev pub FoundRow : List Row → ℕ → Result ℕ ℕ → Type 0
+FoundRow rows channel (Ok i) = (i < length rows) × ((d : Row) → (slice_index_or rows i d).channel ≡ channel)
+FoundRow rows channel (Err i) = (i ≤ length rows) × ((k : ℕ) (d : Row) → k < i → (slice_index_or rows k d).channel < channel)
+    × ((k : ℕ) (d : Row) → i ≤ k → k < length rows → channel < (slice_index_or rows k d).channel)
+
+-- a row of that channel with room for an entry
+pub record HasRow (rows : List Row) (i channel : ℕ) : Type 0 where
+  pub within : i < length rows
+  pub same : (d : Row) → (slice_index_or rows i d).channel ≡ channel
+  pub room : (d : Row) → HasRoom (slice_index_or rows i d).entries 16
+
+-- rows in ascending order, and an entry more on a channel
+abbrev pub with_entry : List (ℕ × List ℕ) → ℕ → List ℕ → List (ℕ × List ℕ)
+with_entry [] id entry = (id, entry) ∷ []
+with_entry (row ∷ rows) id entry =
+    if nat_lt id row.0 then (id, entry) ∷ row ∷ rows
+    else if id == row.0 then (row.0, row.1 ++ entry) ∷ rows
+    else row ∷ with_entry rows id entry
+
+-- ---- their Message Indexes
+
+-- the framed Message Index of a row
+abbrev pub row_bytes : ℕ × List ℕ → List ℕ
+row_bytes row = framed 7 (le 2 row.0 ++ (le 4 (length row.1) ++ row.1))
+
+abbrev pub rows_bytes : List (ℕ × List ℕ) → List ℕ
+rows_bytes rows = flat_map row_bytes rows
+
+-- how many bytes that is
+abbrev pub rows_size : List (ℕ × List ℕ) → ℕ
+rows_size [] = 0
+rows_size (row ∷ rows) = 15 + length row.1 + rows_size rows
+
+-- where they start and what they hold, where the first one stands at that offset
+abbrev pub rows_parts : ℕ → List (ℕ × List ℕ) → List IndexPart
+rows_parts at [] = []
+rows_parts at (row ∷ rows) = record { channel = row.0; offset = at; count = length row.1 / 16 } ∷ rows_parts (at + (15 + length row.1)) rows

@@ -1,0 +1,323 @@
+//! The open chunk: its records stand where they will in the block, behind room for the head of the Chunk.
+ghost use Rattle.std.specs.Prelude.{◌≡◌, ◌+◌, ◌*◌, ◌^◌, ◌<◌, ◌≤◌, ◌++◌, ◌==◌, ℕ, [], length, drop, min, if◌then◌else◌, vec_len, vec_capacity, IfOk, OnOk, Option, Some, None};
+ghost use Rattle.mcap_wire.specs.Layout.{framed};
+ghost use Rattle.mcap_wire.specs.Writing.{HasRoom};
+ghost use Rattle.mcap_crc.specs.Remainder.{remainder};
+ghost use Rattle.rec_index.specs.Records.{chunk_text};
+ghost use Rattle.chunk_build.specs.Rows.{HasRow};
+ghost use Rattle.chunk_build.specs.Opened.{opened, with_message, IsBuilt};
+ghost use Rattle.chunk_build.specs.Building.{seen, IsSound, RowReady, CanClose, IsReady, noted, StandsBehind, CanCloseBy, Settles};
+
+use crate::row::{Row, add_entry, add_indexes, clear, row_for};
+use mcap_crc::crc_of;
+use mcap_model::{Block, IndexPart};
+use mcap_wire::{Bytes, Memory, add_head, add_u32, add_u64, make_room};
+use rec_index::CHUNK;
+use std::alloc::Global;
+use std::mem;
+
+/// The bytes in front of a chunk's records: opcode and length, two times, the records' size and CRC, the length of an empty
+/// compression, and the records' length (MCAP specification, "Chunk").
+pub(crate) const HEAD: usize = 49;
+
+/// The most room that is made for a chunk and its indexes before its records come.
+const FIRST_ROOM: u64 = 1_048_576;
+
+/// The open chunk: the records' bytes behind room for the head, a vector whose room a later chunk may take, a row for each
+/// channel, the size of the Message Indexes, the least and the greatest log time, and the numbers of messages and of declarations.
+#[derive(Debug, Drop)]
+pub(crate) struct Building {
+    pub(crate) bytes: Vec<u8>,
+    pub(crate) spare: Vec<u8>,
+    pub(crate) rows: Vec<Row>,
+    pub(crate) index: u64,
+    pub(crate) start: u64,
+    pub(crate) end: u64,
+    pub(crate) messages: u64,
+    pub(crate) declared: u64,
+}
+
+/// The channel and the log time of a message.
+#[derive(Clone, Copy, Debug, PartialEq, Eq)]
+pub(crate) struct Mark {
+    pub(crate) channel: u16,
+    pub(crate) time: u64,
+}
+
+/// What is ready for a record, so that it is put with no refusal: the place of its channel's row, and what closes the chunk
+/// behind it, where it closes.
+#[derive(Debug, Drop)]
+pub(crate) struct Ready {
+    pub(crate) row: usize,
+    pub(crate) closing: Option<Closing>,
+}
+
+/// Room for a chunk's head, and for the places of its Message Indexes.
+#[derive(Debug, Drop)]
+pub(crate) struct Closing {
+    pub(crate) head: Vec<u8>,
+    pub(crate) parts: Vec<IndexPart>,
+}
+
+/// An open chunk without a record.
+pub(crate) fn begin(alloc: Global) -> Building
+    ensures none { seen result ≡ opened [] }
+    ensures sound { IsSound result }
+{
+    Building {
+        bytes: Vec::new(alloc),
+        spare: Vec::new(alloc),
+        rows: Vec::new(alloc),
+        index: 0,
+        start: 0,
+        end: 0,
+        messages: 0,
+        declared: 0,
+    }
+}
+
+/// Keeps a vector for the next chunk, if its room is larger than that of the one that is kept.
+pub(crate) fn keep_room(chunk: &mut Building, room: Vec<u8>)
+    requires { IsSound chunk.old }
+    ensures same { seen chunk.new ≡ seen chunk.old }
+    ensures sound { IsSound chunk.new }
+    ensures bytes { chunk.new.bytes ≡ chunk.old.bytes }
+{
+    if room.capacity() > chunk.spare.capacity() {
+        chunk.spare = room;
+    }
+}
+
+// Takes the vector that is kept, if its room is larger.
+fn take_room(bytes: &mut Vec<u8>, spare: &mut Vec<u8>)
+    requires { length bytes.old.items < 49 }
+    ensures { length bytes.new.items < 49 }
+{
+    if bytes.capacity() < spare.capacity() {
+        mem::swap(bytes, spare);
+        bytes.clear();
+    }
+}
+
+// Makes room for the head in front of the first record, and some for the records and the Message Indexes.
+fn begin_chunk(bytes: &mut Vec<u8>, spare: &mut Vec<u8>, size: u64) -> Result<(), Memory>
+    requires { size ≤ 67108864 }
+    ensures same { drop 49 bytes.new.items ≡ drop 49 bytes.old.items }
+    ensures begun { OnOk result (49 ≤ length bytes.new.items) }
+{
+    if bytes.len() >= HEAD {
+        return Ok(());
+    }
+    take_room(bytes, spare);
+    make_room(bytes, HEAD + (size + size / 4).min(FIRST_ROOM) as usize)?;
+    match bytes.resize(HEAD, 0) {
+        Ok(()) => return Ok(()),
+        Err(_) => return Err(Memory),
+    }
+}
+
+// The row for a record.
+fn row_of(alloc: Global, chunk: &mut Building, mark: Option<Mark>) -> Result<usize, Memory>
+    requires { IsSound chunk.old }
+    ensures same { seen chunk.new ≡ seen chunk.old }
+    ensures sound { IsSound chunk.new }
+    ensures bytes { chunk.new.bytes ≡ chunk.old.bytes }
+    ensures row { IfOk result (λ row. RowReady chunk.new.rows.items mark row) }
+{
+    match mark {
+        None => return Ok(0),
+        Some(mark) => return row_for(alloc, &mut chunk.rows, mark.channel),
+    }
+}
+
+/// Makes all room that is needed to close a chunk.
+pub(crate) fn closing_for(alloc: Global, chunk: &Building) -> Result<Closing, Memory>
+    ensures { IfOk result (λ closing. CanClose chunk.now closing) }
+{
+    let Ok(head) = Vec::with_capacity(alloc, HEAD) else {
+        return Err(Memory);
+    };
+    let Ok(parts) = Vec::with_capacity(alloc, chunk.rows.len()) else {
+        return Err(Memory);
+    };
+    return Ok(Closing { head, parts });
+}
+
+/// Makes all room for a record of so many bytes. What the chunk holds stays.
+pub(crate) fn prepare(
+    alloc: Global,
+    chunk: &mut Building,
+    size: u64,
+    len: u64,
+    mark: Option<Mark>,
+) -> Result<Ready, Memory>
+    requires sound { IsSound chunk.old }
+    requires small { chunk.old.index < 2 ^ 31 }
+    requires size { size ≤ 67108864 }
+    ensures same { seen chunk.new ≡ seen chunk.old }
+    ensures sound { IsSound chunk.new }
+    ensures ready { IfOk result (λ ready. IsReady size len mark chunk.new ready) }
+{
+    let row = row_of(alloc, chunk, mark)?;
+    begin_chunk(&mut chunk.bytes, &mut chunk.spare, size)?;
+    let records = (chunk.bytes.len() - HEAD) as u64;
+    if records < size && len < size - records {
+        make_room(&mut chunk.bytes, len as usize)?;
+        return Ok(Ready { row, closing: None });
+    }
+    let closing = closing_for(alloc, chunk)?;
+    let indexes = chunk.index as usize + 31;
+    make_room(&mut chunk.bytes, indexes.saturating_add(len as usize))?;
+    return Ok(Ready {
+        row,
+        closing: Some(closing),
+    });
+}
+
+// Counts a message whose bytes stand at the end, from that offset of the records on.
+fn note_message(chunk: &mut Building, offset: u64, mark: Mark, row: usize)
+    requires sound { IsSound chunk.old }
+    requires row { HasRow chunk.old.rows.items row mark.channel }
+    requires before { 31 * chunk.old.messages + chunk.old.declared ≤ offset }
+    requires behind { offset + 31 ≤ length (drop 49 chunk.old.bytes.items) }
+    ensures noted { seen chunk.new ≡ with_message (seen chunk.old) offset mark.channel mark.time }
+    ensures sound { IsSound chunk.new }
+    ensures bytes { chunk.new.bytes ≡ chunk.old.bytes }
+    ensures rows { length chunk.new.rows.items ≡ length chunk.old.rows.items }
+    ensures index { chunk.new.index ≤ chunk.old.index + 31 }
+{
+    // The length bounds the counts.
+    let _len = chunk.bytes.len();
+    chunk.index += add_entry(&mut chunk.rows, row, mark.channel, mark.time, offset);
+    chunk.start = first_time(chunk.messages, chunk.start, mark.time);
+    chunk.end = chunk.end.max(mark.time);
+    chunk.messages += 1;
+}
+
+// The least log time with one more.
+fn first_time(messages: u64, start: u64, time: u64) -> u64
+    ensures { result ≡ (if messages == 0 then time else min start time) }
+{
+    if messages == 0 { time } else { start.min(time) }
+}
+
+// Counts a record whose bytes stand at the end.
+fn note(chunk: &mut Building, offset: u64, mark: Option<Mark>, row: usize)
+    requires sound { IsSound chunk.old }
+    requires row { RowReady chunk.old.rows.items mark row }
+    requires before { 31 * chunk.old.messages + chunk.old.declared ≤ offset }
+    requires behind { StandsBehind offset (length (drop 49 chunk.old.bytes.items)) mark }
+    ensures noted { seen chunk.new ≡ noted (seen chunk.old) offset mark }
+    ensures sound { IsSound chunk.new }
+    ensures bytes { chunk.new.bytes ≡ chunk.old.bytes }
+    ensures rows { length chunk.new.rows.items ≡ length chunk.old.rows.items }
+    ensures index { chunk.new.index ≤ chunk.old.index + 31 }
+{
+    // The length bounds the counts.
+    let _len = chunk.bytes.len();
+    match mark {
+        None => chunk.declared += 1,
+        Some(mark) => note_message(chunk, offset, mark, row),
+    }
+}
+
+/// Counts a record whose bytes stand at the end, and closes the chunk where it is to be closed.
+pub(crate) fn settle(
+    alloc: Global,
+    chunk: &mut Building,
+    offset: u64,
+    mark: Option<Mark>,
+    ready: Ready,
+) -> Option<Block>
+    requires sound { IsSound chunk.old }
+    requires begun { 49 ≤ length chunk.old.bytes.items }
+    requires row { RowReady chunk.old.rows.items mark ready.row }
+    requires before { 31 * chunk.old.messages + chunk.old.declared ≤ offset }
+    requires behind { StandsBehind offset (length (drop 49 chunk.old.bytes.items)) mark }
+    requires closing { CanCloseBy chunk.old ready.closing }
+    requires small { chunk.old.index < 2 ^ 31 }
+    ensures settled { Settles (noted (seen chunk.old) offset mark) ready.closing result (seen chunk.new) }
+    ensures sound { IsSound chunk.new }
+{
+    let Ready { row, closing } = ready;
+    note(chunk, offset, mark, row);
+    match closing {
+        None => return None,
+        Some(closing) => return Some(close(alloc, chunk, closing)),
+    }
+}
+
+// Writes the head of a chunk of these records.
+fn add_chunk_head(head: &mut Vec<u8>, start: u64, end: u64, records: &[u8])
+    requires room { HasRoom head.old 49 }
+    requires empty { head.old.items ≡ [] }
+    ensures framed { head.new.items ++ records.now ≡ framed 6 (chunk_text start end (length records.now) (remainder records.now) [] records.now) }
+    ensures len { length head.new.items ≡ 49 }
+{
+    let len = records.len() as u64;
+    add_head(head, CHUNK, 40 + len);
+    add_u64(head, start);
+    add_u64(head, end);
+    add_u64(head, len);
+    add_u32(head, crc_of(records));
+    add_u32(head, 0);
+    add_u64(head, len);
+}
+
+// Writes bytes over the front of others.
+fn write_front(bytes: &mut Vec<u8>, front: &[u8])
+    requires { length front.now ≤ length bytes.old.items }
+    ensures items { bytes.new.items ≡ front.now ++ drop (length front.now) bytes.old.items }
+    ensures capacity { vec_capacity bytes.new ≡ vec_capacity bytes.old }
+{
+    write_over(bytes.as_mut_slice(), front);
+}
+
+fn write_over(bytes: &mut [u8], front: &[u8])
+    requires { length front.now ≤ length bytes.old }
+    ensures { bytes.new ≡ front.now ++ drop (length front.now) bytes.old }
+{
+    bytes[..front.len()].copy_from_slice(front);
+}
+
+/// Closes the chunk, for which all room is made. The head is written in front, and the Message Indexes behind. An open chunk
+/// without a record is left.
+pub(crate) fn close(alloc: Global, chunk: &mut Building, closing: Closing) -> Block
+    requires sound { IsSound chunk.old }
+    requires begun { 49 ≤ length chunk.old.bytes.items }
+    requires small { chunk.old.index < 2 ^ 32 }
+    requires room { HasRoom chunk.old.bytes chunk.old.index }
+    requires closing { CanClose chunk.old closing }
+    ensures built { IsBuilt (seen chunk.old) result }
+    ensures none { seen chunk.new ≡ opened [] }
+    ensures sound { IsSound chunk.new }
+{
+    let Closing {
+        mut head,
+        mut parts,
+    } = closing;
+    let chunk_length = chunk.bytes.len() as u64;
+    add_chunk_head(&mut head, chunk.start, chunk.end, &chunk.bytes[HEAD..]);
+    write_front(&mut chunk.bytes, head.as_slice());
+    add_indexes(chunk.rows.as_slice(), &mut chunk.bytes, &mut parts);
+    let start_time = chunk.start;
+    let end_time = chunk.end;
+    let messages = chunk.messages;
+    let declared = chunk.declared;
+    clear(&mut chunk.rows);
+    chunk.index = 0;
+    chunk.start = 0;
+    chunk.end = 0;
+    chunk.messages = 0;
+    chunk.declared = 0;
+    let bytes = mem::replace(&mut chunk.bytes, Vec::new(alloc));
+    Block {
+        bytes: Bytes::new(bytes),
+        chunk_length,
+        start_time,
+        end_time,
+        messages,
+        declared,
+        indexes: parts,
+    }
+}

@@ -1,0 +1,12 @@
+//! The blocks of a recording: Schemas, Channels and Messages are gathered into chunks of a size, and each closed Chunk is given
+//! with its Message Indexes behind it (MCAP specification, "Chunk", "Message Index").
+#![tactic(auto)]
+
+mod building;
+mod chunker;
+mod row;
+
+pub use chunker::Chunker;
+
+#[cfg(test)]
+mod tests;
