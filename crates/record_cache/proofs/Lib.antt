@@ -1,0 +1,4 @@
+pub mod Readback
+pub mod Kept
+pub mod ReadOnce
+pub mod Walking
