@@ -9,7 +9,8 @@ use Rattle.recorder.specs.declared.report.FeedEnd.TheVariants as feed_ends
 use Rattle.mcap_app.specs.declared.faults.Counts.{Counts}
 use Rattle.mcap_app.specs.declared.answering.Failures.{Failures}
 use Rattle.rec_data.specs.declared.owned.Rec.{Rec}
-use Rattle.recorder.specs.Feed.{Top, FeedRead, Stops}
+use Rattle.mcap_model.specs.Tops.{Top}
+use Rattle.recorder.specs.Feed.{FeedRead, Stops}
 use Rattle.recorder.specs.Recorded.{IsOnlyFeed}
 use Rattle.mcap_app.specs.Texts.{Trouble, no_memory, status_of}
 use Rattle.mcap_app.specs.Answer.{Failed, Answers}

@@ -12,11 +12,12 @@ use Rattle.rec_data.specs.declared.owned.Rec.{Rec}
 use Rattle.recorder.specs.declared.report.Report.{Report}
 use Rattle.recorder.specs.declared.report.FeedEnd.{FeedEnd}
 use Rattle.recorder.specs.declared.report.FeedEnd.TheVariants as feed_ends
-use Rattle.recorder.specs.declared.report.End.{End}
-use Rattle.recorder.specs.declared.report.End.TheVariants as ends
-use Rattle.recorder.specs.declared.report.Stop.TheVariants as stops
+use Rattle.mcap_model.specs.declared.ends.End.{End}
+use Rattle.mcap_model.specs.declared.ends.End.TheVariants as ends
+use Rattle.mcap_model.specs.declared.ends.Stop.TheVariants as stops
 use Rattle.recorder.specs.Feed.{FeedCause}
-use Rattle.recorder.specs.File.{file_of, IsPrefix, WrittenSoFar, WriterCause}
+use Rattle.mcap_model.specs.File.{file_of, IsPrefix}
+use Rattle.recorder.specs.File.{plain, WrittenSoFar, WriterCause}
 use Rattle.recorder.specs.Recorded.{Recorded}
 use Rattle.recorder.proofs.Files.{written_prefix}
 use Rattle.mcap_app.specs.Run.{Reported, Leaves, OpensNames, NamesRecorded}
@@ -42,6 +43,7 @@ feed_still before now feed_ends.Ended cause calm = cause
 writer_still : (before now : ℕ) (end : End) → WriterCause before now end → ((faults : ℕ) → end ≡ ends.Stopped (stops.Fault faults) → ⊥) → now ≡ before
 writer_still before now ends.Closed cause calm = cause
 writer_still before now (ends.Stopped (stops.Fault faults)) cause calm = absurd (calm faults refl)
+writer_still before now (ends.Stopped (stops.Limit blocks bytes)) cause calm = absurd cause
 writer_still before now (ends.Stopped stops.Memory) cause calm = cause
 
 feed_caused : (before now : ℕ) (end : FeedEnd) (faults : ℕ) → FeedCause before now end → end ≡ feed_ends.Fault faults → Rose before now × (faults ≡ now)
@@ -55,6 +57,9 @@ writer_caused before now end faults cause is =
     let P : End → Type 0 = λ e. WriterCause before now e in
     let why = subst P is cause in
     (why.1, why.2)
+
+not_limited : (before now : ℕ) (end : End) (blocks bytes : ℕ) → WriterCause before now end → end ≡ ends.Stopped (stops.Limit blocks bytes) → ⊥
+not_limited before now end blocks bytes cause is = let P : End → Type 0 = λ e. WriterCause before now e in subst P is cause
 
 -- a failure since a later moment is one since an earlier one
 pub failed_since : (before middle now : ℕ) (result : Result Unit Failed) → before ≤ middle → OnErr result (Rose middle now) → OnErr result (Rose before now)
@@ -86,6 +91,7 @@ reported feed names left after held held_after feed_before feed_now live_before 
       (kept_fault live_before live_now outputs outputs_now new why.0 outputs_fit outputs_is, outputs_is ∙ ap (added outputs) (sym why.1));
   feed_calm = λ calm. added_nothing inputs inputs_now feed_now (feed_still feed_before feed_now made.feed.end made.ended.cause calm ∙ unused) inputs_fit inputs_is;
   writer_calm = λ calm. added_nothing outputs outputs_now live_now (writer_still live_before live_now r.writer.end made.writer.cause calm ∙ new) outputs_fit outputs_is;
+  unlimited = λ blocks size is. not_limited live_before live_now r.writer.end blocks size made.writer.cause is;
 }
 
 -- ---- the names
@@ -94,8 +100,8 @@ abbrev some : List ℕ → Option (List ℕ)
 some l = Some l
 
 -- what a keeping left under the name is what it held, or the object's bytes
-placed_part : (all now : Names) (out text : List ℕ) (history : List Rec) (result : Result Unit Failed) → Placed all now out text result → IsPrefix text (file_of [] history)
-    → (now out ≡ all out) ⊎ ((text : List ℕ) × (now out ≡ Some text) × IsPrefix text (file_of [] history))
+placed_part : (all now : Names) (out text : List ℕ) (history : List Rec) (result : Result Unit Failed) → Placed all now out text result → IsPrefix text (file_of plain [] history)
+    → (now out ≡ all out) ⊎ ((text : List ℕ) × (now out ≡ Some text) × IsPrefix text (file_of plain [] history))
 placed_part all now out text history (Ok it) is front = inr (text, is, front)
 placed_part all now out text history (Err why) (inl is) front = inr (text, is, front)
 placed_part all now out text history (Err why) (inr same) front = inl same
@@ -114,7 +120,7 @@ placed_nothing all now out text (Err why) (inr same) none = inl same
 
 leaves : (out : List ℕ) (before after : ℕ) (report : Option Report) (history : List Rec) (names names_now : Option Names) (held : Option (List ℕ)) (result : Result Unit Failed)
     → KeepsUnder names names_now out held result → OnErr result (Rose before after)
-    → ((all : Names) → names ≡ Some all → (text : List ℕ) × (held ≡ Some text) × IsPrefix text (file_of [] history)
+    → ((all : Names) → names ≡ Some all → (text : List ℕ) × (held ≡ Some text) × IsPrefix text (file_of plain [] history)
     × ((r : Report) → report ≡ Some r → WrittenSoFar text history r.writer.end r.writer.bytes) × (report ≡ None → text ≡ []))
     → Leaves out before after report history names names_now
 leaves out before after report history names names_now held result keeps failed holds = λ all told.
@@ -134,7 +140,7 @@ leaves out before after report history names names_now held result keeps failed 
 -- a store that was new holds what was written of the file
 written_there : (held held_after : Option (List ℕ)) (left after : Option (List ℕ)) (feed_before feed_now live_before live_now : ℕ) (r : Report)
     → (made : Recorded left after feed_before feed_now held held_after live_before live_now r) → held ≡ Some []
-    → (text : List ℕ) × (held_after ≡ Some text) × IsPrefix text (file_of [] made.history) × WrittenSoFar text made.history r.writer.end r.writer.bytes
+    → (text : List ℕ) × (held_after ≡ Some text) × IsPrefix text (file_of plain [] made.history) × WrittenSoFar text made.history r.writer.end r.writer.bytes
 written_there held held_after left after feed_before feed_now live_before live_now r made empty =
     let there = made.writer.written [] empty in
     (there.0, there.1, written_prefix there.0 made.history r.writer.end r.writer.bytes there.2, there.2)
@@ -233,7 +239,7 @@ named out feed names names_now opened opened_now unread_before unread left after
   history = [];
   openings = (source_under feed true ∷ live_under out true ∷ [], opens, inr (inr (inr (true, refl))));
   names = leaves out before now None [] names names_now held_after result keeps failed
-      (λ all told. ([], (same refl).0 ∙ empty all told, (file_of [] [], refl), λ r here. absurd (none_some r here), λ none. refl));
+      (λ all told. ([], (same refl).0 ∙ empty all told, (file_of plain [] [], refl), λ r here. absurd (none_some r here), λ none. refl));
   reported = λ r here. absurd (none_some r here);
   untouched = λ all now_names told told_now missing. not_missing (all feed) (now_names out ≡ all out) (tells all told).1 missing;
   unfailed = λ none. (

@@ -9,13 +9,13 @@ use Rattle.recorder.specs.declared.report.Report.{Report}
 use Rattle.recorder.specs.declared.report.FeedReport.{FeedReport}
 use Rattle.recorder.specs.declared.report.FeedEnd.{FeedEnd}
 use Rattle.recorder.specs.declared.report.FeedEnd.TheVariants as feed_ends
-use Rattle.recorder.specs.declared.report.End.{End}
-use Rattle.recorder.specs.declared.report.End.TheVariants as ends
-use Rattle.recorder.specs.declared.report.Stop.{Stop}
-use Rattle.recorder.specs.declared.report.Stop.TheVariants as stops
+use Rattle.mcap_model.specs.declared.ends.End.{End}
+use Rattle.mcap_model.specs.declared.ends.End.TheVariants as ends
+use Rattle.mcap_model.specs.declared.ends.Stop.{Stop}
+use Rattle.mcap_model.specs.declared.ends.Stop.TheVariants as stops
 use Rattle.recorder.specs.declared.report.Refused.{Refused}
 use Rattle.recorder.specs.declared.report.Cause.TheVariants as causes
-use Rattle.recorder.specs.Places.{At}
+use Rattle.mcap_model.specs.Places.{At}
 use Rattle.recorder.specs.Recorded.{IsOnlyFeed}
 use Rattle.mcap_app.specs.declared.faults.Counts.{Counts}
 use Rattle.mcap_app.specs.Run.{AnyRose, EndsWith, NamesMemory, Reported, RecordsAll, end_status, is_memory}
@@ -28,9 +28,10 @@ no_memory : (before now : Counts) (r : Report) (f : FeedReport) (answer : ℕ) �
 no_memory before now r f answer ends is one names = let five = ends.memory r f refl one names in omega arith
 
 -- a writer that stopped failed, which shows, or lacked memory
-not_stopped : (why : Stop) (w : End) (before now : ℕ) (A : Type 0) → w ≡ ends.Stopped why → ((faults : ℕ) → w ≡ ends.Stopped (stops.Fault faults) → A) → (w ≡ ends.Stopped stops.Memory → A) → A
-not_stopped (stops.Fault faults) w before now A is failed lacked = failed faults is
-not_stopped stops.Memory w before now A is failed lacked = lacked is
+not_stopped : (why : Stop) (w : End) (before now : ℕ) (A : Type 0) → w ≡ ends.Stopped why → ((faults : ℕ) → w ≡ ends.Stopped (stops.Fault faults) → A) → ((blocks bytes : ℕ) → w ≡ ends.Stopped (stops.Limit blocks bytes) → A) → (w ≡ ends.Stopped stops.Memory → A) → A
+not_stopped (stops.Fault faults) w before now A is failed limited lacked = failed faults is
+not_stopped (stops.Limit blocks bytes) w before now A is failed limited lacked = limited blocks bytes is
+not_stopped stops.Memory w before now A is failed limited lacked = lacked is
 
 closed_end : (w : End) → ((why : Stop) → w ≡ ends.Stopped why → ⊥) → w ≡ ends.Closed
 closed_end ends.Closed none = refl
@@ -64,7 +65,7 @@ whole feed names left before now history (Some r) answer reported came is =
     let f = here.only in
     let memory = no_memory before now r f answer came is here.one_feed in
     let stopped : (why : Stop) → r.writer.end ≡ ends.Stopped why → ⊥ = λ why stops_so.
-    not_stopped why r.writer.end 0 0 ⊥ stops_so (λ faults failed. quiet (inr (inr (inl (here.writer_fault faults failed).0)))) (λ lacked. memory (inr (inl lacked))) in
+    not_stopped why r.writer.end 0 0 ⊥ stops_so (λ faults failed. quiet (inr (inr (inl (here.writer_fault faults failed).0)))) here.unlimited (λ lacked. memory (inr (inl lacked))) in
     let status : end_status f.end ≡ 0 = elim (came.calm quiet r f refl here.one_feed) [ inl same ↦ sym same ∙ is | inr five ↦ absurd (omega arith) ] in
     let ended : f.end ≡ feed_ends.Ended → ⊥ = λ e. let last = here.lists.ended e in stopped last.3.why last.3.stopped in (
       r,

@@ -6,16 +6,18 @@ use Rattle.recorder.specs.declared.report.Report.{Report}
 use Rattle.recorder.specs.declared.report.FeedReport.{FeedReport}
 use Rattle.recorder.specs.declared.report.FeedEnd.{FeedEnd}
 use Rattle.recorder.specs.declared.report.FeedEnd.TheVariants as feed_ends
-use Rattle.recorder.specs.declared.report.End.{End}
-use Rattle.recorder.specs.declared.report.End.TheVariants as ends
-use Rattle.recorder.specs.declared.report.Stop.TheVariants as stops
+use Rattle.mcap_model.specs.declared.ends.End.{End}
+use Rattle.mcap_model.specs.declared.ends.End.TheVariants as ends
+use Rattle.mcap_model.specs.declared.ends.Stop.TheVariants as stops
 use Rattle.mcap_app.specs.declared.faults.Counts.{Counts}
 use Rattle.mcap_app.specs.declared.answering.Failures.{Failures}
 use Rattle.rec_data.specs.declared.owned.Rec.{Rec}
 use Rattle.recorder.specs.declared.report.Cause.{Cause}
 use Rattle.recorder.specs.declared.report.Cause.TheVariants as causes
-use Rattle.recorder.specs.Feed.{Top, FeedRead, Stops}
-use Rattle.recorder.specs.File.{file_of, IsPrefix, TookBytes, WrittenSoFar}
+use Rattle.mcap_model.specs.Tops.{Top}
+use Rattle.recorder.specs.Feed.{FeedRead, Stops}
+use Rattle.mcap_model.specs.File.{file_of, IsPrefix}
+use Rattle.recorder.specs.File.{plain, TookBytes, WrittenSoFar}
 use Rattle.recorder.specs.Recorded.{FeedReported, IsOnlyFeed}
 use Rattle.mcap_app.specs.Printing.{Tells}
 use Rattle.mcap_app.specs.Texts.{Trouble, bad_words, fault, output_fault, grammar, not_built, no_memory, printed, said, status_of}
@@ -119,7 +121,7 @@ pub record LeavesNames (out : List ℕ) (before now_count : ℕ) (report : Optio
   -- all names but the output's hold what they held
   pub others : OthersSame all now out
   -- whatever fails, the output holds what it held or a first part of the file
-  pub part : (now out ≡ all out) ⊎ ((text : List ℕ) × (now out ≡ Some text) × IsPrefix text (file_of [] history))
+  pub part : (now out ≡ all out) ⊎ ((text : List ℕ) × (now out ≡ Some text) × IsPrefix text (file_of plain [] history))
   -- with a report, what was written is the whole file if the writer closed it, else a first part; and the output holds
   -- it, or what it held, where an opening or a keeping failed
   pub file : (r : Report) → report ≡ Some r → (text : List ℕ) × WrittenSoFar text history r.writer.end r.writer.bytes
@@ -159,6 +161,8 @@ pub record Reported (feed : List ℕ) (names : Option Names) (left : Option (Lis
   pub writer_fault : (faults : ℕ) → r.writer.end ≡ ends.Stopped (stops.Fault faults) → Rose outputs_before outputs_now × (outputs_now ≡ added outputs_before faults)
   pub feed_calm : ((faults : ℕ) → only.end ≡ feed_ends.Fault faults → ⊥) → inputs_now ≡ inputs_before
   pub writer_calm : ((faults : ℕ) → r.writer.end ≡ ends.Stopped (stops.Fault faults) → ⊥) → outputs_now ≡ outputs_before
+  -- no limit stops the writer
+  pub unlimited : (blocks size : ℕ) → r.writer.end ≡ ends.Stopped (stops.Limit blocks size) → ⊥
 
 -- ---- openings
 

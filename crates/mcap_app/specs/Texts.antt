@@ -10,9 +10,9 @@ use Rattle.recorder.specs.declared.report.FeedReport.{FeedReport}
 use Rattle.recorder.specs.declared.report.WriterReport.{WriterReport}
 use Rattle.recorder.specs.declared.report.FeedEnd.{FeedEnd}
 use Rattle.recorder.specs.declared.report.FeedEnd.TheVariants as feed_ends
-use Rattle.recorder.specs.declared.report.End.{End}
-use Rattle.recorder.specs.declared.report.End.TheVariants as ends
-use Rattle.recorder.specs.declared.report.Stop.TheVariants as stops
+use Rattle.mcap_model.specs.declared.ends.End.{End}
+use Rattle.mcap_model.specs.declared.ends.End.TheVariants as ends
+use Rattle.mcap_model.specs.declared.ends.Stop.TheVariants as stops
 
 -- ---- standard output
 
@@ -27,6 +27,7 @@ feed_end_text feed_ends.Ended = codes "ended"
 abbrev pub end_text : End → List ℕ
 end_text ends.Closed = codes "closed"
 end_text (ends.Stopped (stops.Fault faults)) = codes "stopped fault"
+end_text (ends.Stopped (stops.Limit blocks bytes)) = codes "stopped limit"
 end_text (ends.Stopped stops.Memory) = codes "stopped memory"
 
 -- feed J accepted=A refused=R passed=P E

@@ -10,8 +10,9 @@ ghost use Rattle.mcap_app.specs.Run.{AnyRose, Causes, EndOf, NamesMemory, Refuse
 use crate::complaint::{BAD_WORDS, Complaint, NO_MEMORY, say, status};
 use crate::faults::{Counts, rose};
 use mcap_io::{Sink, write_all_of};
+use mcap_model::{End, Stop};
 use mcap_wire::Memory;
-use recorder::{Cause, End, FeedEnd, FeedReport, Refused, Report, Stop};
+use recorder::{Cause, FeedEnd, FeedReport, Refused, Report};
 use std::alloc::Global;
 
 /// What a recording came to: its report, and which of its names couldn't be opened or kept.

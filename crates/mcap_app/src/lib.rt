@@ -11,10 +11,11 @@ mod words;
 
 pub use complaint::{Complaint, say, status};
 pub use faults::{Counts, rose};
+pub use mcap_model::{End, Stop};
 pub use print::print_report;
 pub use program::{Ended, run};
 pub use recorder::{
-    Accepted, Cause, DeclaredAt, End, FeedEnd, FeedReport, Refused, Report, Stop, WriterReport,
+    Accepted, Cause, DeclaredAt, FeedEnd, FeedReport, Refused, Report, WriterReport,
 };
 pub use words::{BadWords, Command, parse_words};
 

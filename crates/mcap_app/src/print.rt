@@ -5,7 +5,8 @@ ghost use Rattle.mcap_app.specs.Printing.{Prints};
 
 use crate::line::{LINE_ROOM, Line};
 use mcap_io::{Failed, Sink, write_all_of};
-use recorder::{End, FeedEnd, FeedReport, Report, Stop, WriterReport};
+use mcap_model::{End, Stop};
+use recorder::{FeedEnd, FeedReport, Report, WriterReport};
 
 // Puts the end of a feed behind the line.
 fn push_feed_end(line: &mut Line, end: FeedEnd)
@@ -59,6 +60,9 @@ fn line_of_file(writer: &WriterReport) -> Line
         End::Stopped {
             stop: Stop::Fault { .. },
         } => "stopped fault",
+        End::Stopped {
+            stop: Stop::Limit { .. },
+        } => "stopped limit",
         End::Stopped { stop: Stop::Memory } => "stopped memory",
     };
     let mut line = Line::new();
@@ -186,12 +190,20 @@ mod tests {
     #[test]
     fn the_file_says_how_it_ended(rt: HostRuntime) -> Result<(), Fail> {
         let fault = Stop::Fault { faults: 1 };
+        let limit = Stop::Limit {
+            blocks: 1,
+            bytes: 173,
+        };
         let memory = Stop::Memory;
         let table = [
             (End::Closed, "file records=3 blocks=1 bytes=173 closed\n"),
             (
                 End::Stopped { stop: fault },
                 "file records=3 blocks=1 bytes=173 stopped fault\n",
+            ),
+            (
+                End::Stopped { stop: limit },
+                "file records=3 blocks=1 bytes=173 stopped limit\n",
             ),
             (
                 End::Stopped { stop: memory },

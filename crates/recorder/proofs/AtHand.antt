@@ -9,14 +9,17 @@ use Rattle.recorder.specs.declared.lane.Lane.{Lane}
 use Rattle.recorder.specs.declared.lane.Put.{Put}
 use Rattle.recorder.specs.declared.lane.Put.TheVariants as puts
 use Rattle.recorder.specs.declared.tape.Tape.{Tape}
-use Rattle.recorder.specs.Places.{At}
-use Rattle.recorder.specs.Feed.{Top, MessageFields, IsMessage, HasChannel, MessageFits}
+use Rattle.mcap_model.specs.Places.{At}
+use Rattle.mcap_model.specs.Tops.{Top}
+use Rattle.mcap_model.specs.Fields.{MessageFields, IsMessage}
+use Rattle.mcap_model.specs.Rules.{HasChannel}
+use Rattle.recorder.specs.Feed.{MessageFits}
 use Rattle.recorder.specs.Assembled.{messages, IsOn}
 use Rattle.recorder.specs.Channels.{ChannelsOf, FindsId}
 use Rattle.recorder.specs.Lane.{LaneStands, LaneOver, TapeStands, TapeFits, IsOver, top_of, MessageTaken}
 use Rattle.recorder.specs.Handling.{Handles, AtHand, RefusedFor, PublishedAs}
-use Rattle.recorder.proofs.Maps.{message_once}
-use Rattle.recorder.proofs.Places.{at_last}
+use Rattle.mcap_model.proofs.Maps.{message_once}
+use Rattle.mcap_model.proofs.Places.{at_last}
 use Rattle.recorder.proofs.Steps.{messages_one, declarations_same, stands_more}
 
 abbrev hand_of : List Top → List ℕ → List Top

@@ -19,13 +19,17 @@ use Rattle.recorder.specs.declared.schemas.SourceSchema.{SourceSchema}
 use Rattle.recorder.specs.declared.channels.SourceChannel.{SourceChannel}
 use Rattle.std.specs.declared.alloc.Global.{Global}
 use Rattle.recorder.specs.declared.lane.Lane.{Lane}
-use Rattle.recorder.specs.Places.{At}
-use Rattle.recorder.specs.Feed.{Top, HasSchema, ChannelFields, SameChannel, IsChannel, ChannelFits}
-use Rattle.recorder.specs.Assembled.{IsOn, SourceShows, Declares}
+use Rattle.mcap_model.specs.Places.{At}
+use Rattle.mcap_model.specs.Tops.{Top}
+use Rattle.mcap_model.specs.Fields.{ChannelFields, SameChannel, IsChannel}
+use Rattle.mcap_model.specs.Rules.{HasSchema}
+use Rattle.recorder.specs.Feed.{ChannelFits}
+use Rattle.mcap_model.specs.Written.{SourceShows}
+use Rattle.recorder.specs.Assembled.{IsOn, Declares}
 use Rattle.recorder.specs.Channels.{schema_fields, SchemasOf, FindsSchema, fields_of, FieldsFit, ChannelsOf, given_count, GivenBy}
 use Rattle.recorder.specs.Lane.{Stands, LaneStands}
-use Rattle.recorder.proofs.Maps.{same_is, same_sym, same_trans, shows_once}
-use Rattle.recorder.proofs.Places.{at_within, at_kept, at_last, at_more, pairs_more}
+use Rattle.mcap_model.proofs.Maps.{same_is, same_sym, same_trans, shows_once}
+use Rattle.mcap_model.proofs.Places.{at_within, at_kept, at_last, at_more, pairs_more}
 use Rattle.recorder.proofs.Steps.{on_one, on_within, on_less, shows_more, messages_same, declarations_one, declarations_grow, more_tops, given_more, schemas_more, channel_schema_more}
 
 -- ---- the table

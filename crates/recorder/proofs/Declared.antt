@@ -9,14 +9,14 @@ use Rattle.recorder.specs.declared.lane.Lane.{Lane}
 use Rattle.recorder.specs.declared.lane.Declared.{Declared}
 use Rattle.recorder.specs.declared.lane.Declared.TheVariants as made
 use Rattle.recorder.specs.declared.tape.Tape.{Tape}
-use Rattle.recorder.specs.Places.{At}
-use Rattle.recorder.specs.Feed.{Top}
-use Rattle.recorder.specs.History.{schema_of, is_schema, schema_count, channel_of, is_channel, channel_count}
+use Rattle.mcap_model.specs.Places.{At}
+use Rattle.mcap_model.specs.Tops.{Top}
+use Rattle.mcap_model.specs.History.{schema_of, is_schema, schema_count, channel_of, is_channel, channel_count}
 use Rattle.recorder.specs.Assembled.{IsOn}
 use Rattle.recorder.specs.Channels.{schema_fields, written_of, SchemaGiven, FindsSameSchema, FindsSame}
 use Rattle.recorder.specs.Lane.{TapeStands, TapeFits}
 use Rattle.recorder.specs.Handling.{Handles, HasId, AtHand, KnownFor, DeclaredFor}
-use Rattle.recorder.proofs.Places.{at_within, at_set_same}
+use Rattle.mcap_model.proofs.Places.{at_within, at_set_same}
 use Rattle.recorder.proofs.StepsTable.{given_id}
 use Rattle.recorder.proofs.StepsSchemas.{given_schema_id, schema_known}
 use Rattle.recorder.proofs.StepsDeclared.{declared_at, declared_known, declared_new}

@@ -6,10 +6,12 @@ use Rattle.mcap_wire.specs.Layout.{le, framed, magic}
 use Rattle.mcap_wire.proofs.Numbers.{length-le}
 use Rattle.recorder.specs.declared.report.FeedEnd.{FeedEnd}
 use Rattle.recorder.specs.declared.report.FeedEnd.TheVariants as feed_ends
-use Rattle.recorder.specs.Feed.{Top, top_bytes, spelled, FitsBehind, HasDataEnd, IsBuilt, is_declaration, declarations, is_unbuilt, opcode, declared, first_top, Reads, ReadsTo, IsBroken, AllGiven, MemoryLeaves, FeedRead, FeedCause}
+use Rattle.mcap_model.specs.Tops.{Top, top_bytes, spelled, opcode, declared_length, first_top}
+use Rattle.mcap_model.specs.Rules.{HasDataEnd}
+use Rattle.recorder.specs.Feed.{FitsBehind, IsBuilt, is_declaration, declarations, is_unbuilt, Reads, ReadsTo, IsBroken, AllGiven, MemoryLeaves, FeedRead, FeedCause}
 use Rattle.recorder.specs.Next.{TakesTop, GivesPart, NextEnds}
 use Rattle.recorder.specs.Lane.{top_of}
-use Rattle.recorder.proofs.Places.{at_none, each_more}
+use Rattle.mcap_model.proofs.Places.{at_none, each_more}
 
 pub length-framed : (op : ℕ) (content : List ℕ) → length (framed op content) ≡ 9 + length content
 length-framed op content =
@@ -116,7 +118,7 @@ ends_there bytes tops rest at left (feed_ends.Grammar n) so_far why =
     inr (rest, here, subst P (sym why.0) broken, why.1)
 ends_there bytes tops rest at left (feed_ends.NotBuilt n) so_far why =
     let here : ReadsTo bytes tops rest n = subst (λ (m : ℕ). ReadsTo bytes tops rest m) (sym why.0) so_far in
-    let later : is_unbuilt (declarations tops) n (opcode rest) (declared rest) ≡ true = subst (λ (m : ℕ). is_unbuilt (declarations tops) m (opcode rest) (declared rest) ≡ true) (sym why.0) why.2 in
+    let later : is_unbuilt (declarations tops) n (opcode rest) (declared_length rest) ≡ true = subst (λ (m : ℕ). is_unbuilt (declarations tops) m (opcode rest) (declared_length rest) ≡ true) (sym why.0) why.2 in
     (rest, here, record { head = why.1; unbuilt = later }, why.3)
 ends_there bytes tops rest at left (feed_ends.Fault faults) so_far why = all_given bytes tops rest at left so_far why
 ends_there bytes tops rest at left feed_ends.Memory so_far why =

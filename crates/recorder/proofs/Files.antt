@@ -1,6 +1,6 @@
 -- The pieces of a plain file, and what is written of it.
-use Rattle.std.proofs.Common.{◌≡◌, ℕ, zero, suc, ◌+◌, ◌<◌, ◌≤◌, List, [], ◌∷◌, ◌++◌, length, take, drop, Option, Some, None, Ok, Err, refl, sym, ap, subst, inl, inr, ◌∙◌, append_assoc, arith}
-use Rattle.std.proofs.lemmas.List.{take-append-drop, append-nil, length-append}
+use Rattle.std.proofs.Common.{◌≡◌, ℕ, zero, suc, ◌+◌, ◌<◌, ◌≤◌, List, [], ◌∷◌, ◌++◌, length, map, take, Option, Some, None, Ok, Err, refl, sym, ap, subst, inl, inr, ◌∙◌, append_assoc, arith}
+use Rattle.std.proofs.lemmas.List.{append-nil, length-append}
 use Rattle.std.proofs.lemmas.Grind.{flat_map-append}
 use Rattle.std.proofs.Math.Seq.{take-append_seam}
 use Rattle.mcap_wire.specs.Layout.{le, string, framed, magic}
@@ -11,16 +11,22 @@ use Rattle.rec_data.specs.declared.owned.Rec.TheVariants.{Schema, Channel, Messa
 use Rattle.rec_data.specs.Records.{header_text, data_end_text, footer_text}
 use Rattle.rec_data.specs.Owned.{rec_bytes}
 use Rattle.mcap_io.specs.Outside.{Rose, Adds}
-use Rattle.recorder.specs.declared.report.Stop.{Stop}
-use Rattle.recorder.specs.declared.report.Stop.TheVariants as stops
-use Rattle.recorder.specs.declared.report.End.{End}
-use Rattle.recorder.specs.declared.report.End.TheVariants as ends
+use Rattle.mcap_model.specs.declared.ends.Stop.{Stop}
+use Rattle.mcap_model.specs.declared.ends.Stop.TheVariants as stops
+use Rattle.mcap_model.specs.declared.ends.End.{End}
+use Rattle.mcap_model.specs.declared.ends.End.TheVariants as ends
+use Rattle.mcap_model.specs.Places.{At}
+use Rattle.mcap_model.specs.History.{history_bytes}
+use Rattle.mcap_model.specs.Blocks.{alone, Cuts, no_cuts, last_piece, pieces_of, piece_bytes}
+use Rattle.mcap_model.specs.File.{library, front, data_end, file_of, IsPrefix}
+use Rattle.mcap_model.specs.Pieces.{joined, pieces_before, StoppedAt}
+use Rattle.mcap_model.proofs.Places.{at_none, at_last}
+use Rattle.mcap_model.proofs.Lists.{some_same}
+use Rattle.mcap_model.proofs.Edges.{cuts_alone}
+use Rattle.mcap_model.proofs.Pieces.{joined_map, pieces_make_files, stops_leave_prefixes}
 use Rattle.recorder.specs.declared.report.WriterReport.{WriterReport}
-use Rattle.recorder.specs.Places.{At}
-use Rattle.recorder.specs.History.{accepted_with, history_bytes}
-use Rattle.recorder.specs.File.{library, front, back, file_of, IsPrefix, PieceAdded, IsPartOf, WrittenSoFar, WriterCause}
+use Rattle.recorder.specs.File.{plain, plain_pieces, plain_back, PieceAdded, accepted_with, IsPartOf, WrittenSoFar, WriterCause}
 use Rattle.recorder.specs.Tape.{Wrote}
-use Rattle.recorder.proofs.Places.{at_last}
 use Rattle.recorder.specs.Recorded.{WriterRecorded}
 
 pub length-front : length (front []) ≡ 34
@@ -32,10 +38,10 @@ length-front =
     let both = length-append (string []) (string library) in
     omega arith
 
-pub length-back : length back ≡ 50
-unfolding back
+pub length-back : length plain_back ≡ 50
+unfolding data_end
 length-back =
-    let data_end = length-framed 15 (data_end_text 0) in
+    let end = length-framed 15 (data_end_text 0) in
     let crc = length-le 4 0 in
     let footer = length-framed 2 (footer_text 0 0 0) in
     let numbers = length-append (le 8 0) (le 8 0 ++ le 4 0) in
@@ -45,46 +51,73 @@ length-back =
     let all = length-append (framed 15 (data_end_text 0)) (framed 2 (footer_text 0 0 0) ++ magic) in
     omega arith
 
+-- ---- the pieces
+
+abbrev some : List ℕ → Option (List ℕ)
+some l = Some l
+
+alone_bytes : (history : List Rec) → map piece_bytes (map alone history) ≡ map rec_bytes history
+alone_bytes [] = refl
+alone_bytes (r ∷ rs) = ap (λ (l : List (List ℕ)). rec_bytes r ∷ l) (alone_bytes rs)
+
+pieces_alone : (history : List Rec) → map piece_bytes (pieces_of None history) ≡ map rec_bytes history
+pieces_alone history =
+    ap (λ (c : Cuts). map piece_bytes (c.pieces ++ last_piece c.waiting)) (cuts_alone no_cuts history)
+    ∙ ap (map piece_bytes) (append-nil (map alone history))
+    ∙ alone_bytes history
+
+-- the front, each record, and the back
+pieces_are : (history : List Rec) → plain_pieces history ≡ front [] ∷ (map rec_bytes history ++ plain_back ∷ [])
+pieces_are history = ap (λ (l : List (List ℕ)). front [] ∷ (l ++ plain_back ∷ [])) (pieces_alone history)
+
+abbrev whole_piece : List ℕ → List ℕ
+whole_piece piece = piece
+
+-- so the file is the front, the records and the back
+pub file_is : (history : List Rec) → file_of plain [] history ≡ front [] ++ (history_bytes history ++ plain_back)
+file_is history =
+    sym (pieces_make_files plain [] history)
+    ∙ ap joined (pieces_are history)
+    ∙ ap (λ (l : List ℕ). front [] ++ l) (flat_map-append whole_piece (map rec_bytes history) (plain_back ∷ [])
+    ∙ ap (λ (l : List ℕ). l ++ (plain_back ++ [])) (joined_map rec_bytes history)
+    ∙ ap (λ (l : List ℕ). history_bytes history ++ l) (append-nil plain_back))
+
+records_before : (history : List Rec) (k : ℕ) (last : List ℕ) → k ≤ length history → joined (take k (map rec_bytes history ++ last ∷ [])) ≡ history_bytes (take k history)
+records_before [] zero last within = refl
+records_before [] (suc k) last within = absurd (omega (arith, within))
+records_before (r ∷ rs) zero last within = refl
+records_before (r ∷ rs) (suc k) last within = ap (λ (l : List ℕ). rec_bytes r ++ l) (records_before rs k last (omega (arith, within)))
+
+-- the pieces before a record
+before_record : (history : List Rec) (k : ℕ) → k ≤ length history → pieces_before (plain_pieces history) (suc k) ≡ front [] ++ history_bytes (take k history)
+before_record history k within =
+    ap (λ (ps : List (List ℕ)). pieces_before ps (suc k)) (pieces_are history)
+    ∙ ap (λ (l : List ℕ). front [] ++ l) (records_before history k plain_back within)
+
+record_at : (history : List Rec) (k : ℕ) (r : Rec) (last : List ℕ) → At history k r → At (map rec_bytes history ++ last ∷ []) k (rec_bytes r)
+record_at [] k r last at = absurd (at_none k r at)
+record_at (x ∷ xs) zero r last at = ap (λ (y : Rec). some (rec_bytes y)) (some_same x r at)
+record_at (x ∷ xs) (suc k) r last at = record_at xs k r last at
+
+last_at : (history : List Rec) (last : List ℕ) → At (map rec_bytes history ++ last ∷ []) (length history) last
+last_at [] last = refl
+last_at (x ∷ xs) last = last_at xs last
+
+-- the piece at a place
+piece_at : (history : List Rec) (k : ℕ) (r : Rec) → At history k r → At (plain_pieces history) (suc k) (rec_bytes r)
+piece_at history k r at = subst (λ (ps : List (List ℕ)). At ps (suc k) (rec_bytes r)) (sym (pieces_are history)) (record_at history k r plain_back at)
+
+back_at : (history : List Rec) → At (plain_pieces history) (suc (length history)) plain_back
+back_at history = subst (λ (ps : List (List ℕ)). At ps (suc (length history)) plain_back) (sym (pieces_are history)) (last_at history plain_back)
+
 -- ---- a first part of the file
 
--- whole pieces and some of the next one are a first part of what these pieces begin
-prefix_by : (text done next behind whole : List ℕ) (n : ℕ) → text ≡ done ++ take n next → whole ≡ done ++ (next ++ behind) → IsPrefix text whole
-prefix_by text done next behind whole n split is = (
-  drop n next ++ behind,
-  ap (λ (l : List ℕ). l ++ (drop n next ++ behind)) split
-      ∙ append_assoc done (take n next) (drop n next ++ behind)
-      ∙ ap (λ (l : List ℕ). done ++ l) (sym (append_assoc (take n next) (drop n next) behind)
-      ∙ ap (λ (l : List ℕ). l ++ behind) (take-append-drop n next))
-      ∙ sym is,
-)
+pub part_is_prefix : (text : List ℕ) (history : List Rec) (stop : Stop) (bytes : ℕ) → IsPartOf text history stop bytes → IsPrefix text (file_of plain [] history)
+part_is_prefix text history stop bytes part =
+    let first = stops_leave_prefixes (plain_pieces history) part.place stop text bytes part.stopped in
+    (first.0, first.1 ∙ pieces_make_files plain [] history)
 
--- the bytes of a history before one of its records, of it, and behind it
-history_split : (history : List Rec) (k : ℕ) (r : Rec) → At history k r → history_bytes history ≡ history_bytes (take k history) ++ (rec_bytes r ++ history_bytes (drop (suc k) history))
-history_split [] k r at = absurd cc
-history_split (x ∷ xs) zero r at =
-    let same : x ≡ r = cc in
-    ap (λ (y : Rec). rec_bytes y ++ history_bytes xs) same
-history_split (x ∷ xs) (suc k) r at =
-    ap (λ (l : List ℕ). rec_bytes x ++ l) (history_split xs k r at)
-    ∙ sym (append_assoc (rec_bytes x) (history_bytes (take k xs)) (rec_bytes r ++ history_bytes (drop (suc k) xs)))
-
--- so a first part of the file is one of its bytes
-pub part_is_prefix : (text : List ℕ) (history : List Rec) (stop : Stop) (bytes : ℕ) → IsPartOf text history stop bytes → IsPrefix text (file_of [] history)
-part_is_prefix text history stop bytes part = elim part.pieces [
-  | inl (inl (empty, none, first)) ↦ prefix_by text part.done part.next (history_bytes history ++ back) (file_of [] history) part.some part.split cc
-  | inl (inr (k, r, at, last, before, next)) ↦
-      let behind = history_bytes (drop (suc k) history) ++ back in
-      let whole : file_of [] history ≡ (front [] ++ history_bytes (take k history)) ++ (rec_bytes r ++ behind) =
-      ap (λ (l : List ℕ). front [] ++ (l ++ back)) (history_split history k r at)
-      ∙ simp append_assoc in
-      prefix_by text part.done part.next behind (file_of [] history) part.some part.split cc
-  | inr (before, next) ↦ prefix_by text part.done part.next [] (file_of [] history) part.some part.split
-      (let whole : file_of [] history ≡ (front [] ++ history_bytes history) ++ (back ++ []) =
-      sym (append_assoc (front []) (history_bytes history) back) ∙ ap (λ (l : List ℕ). (front [] ++ history_bytes history) ++ l) (sym (append-nil back)) in
-      cc)
-]
-
-pub written_prefix : (text : List ℕ) (history : List Rec) (end : End) (bytes : ℕ) → WrittenSoFar text history end bytes → IsPrefix text (file_of [] history)
+pub written_prefix : (text : List ℕ) (history : List Rec) (end : End) (bytes : ℕ) → WrittenSoFar text history end bytes → IsPrefix text (file_of plain [] history)
 written_prefix text history ends.Closed bytes written = ([], append-nil text ∙ written.0)
 written_prefix text history (ends.Stopped stop) bytes written = part_is_prefix text history stop bytes written
 
@@ -92,9 +125,6 @@ written_prefix text history (ends.Stopped stop) bytes written = part_is_prefix t
 
 later_rose : (before middle now : ℕ) → middle ≡ before → Rose middle now → Rose before now
 later_rose before middle now still rose = omega arith
-
-abbrev some : List ℕ → Option (List ℕ)
-some l = Some l
 
 -- what stands behind the start when a piece was added behind others
 pub adds_both : (held middle new : Option (List ℕ)) (done piece : List ℕ) → Adds held middle done → Adds middle new piece → Adds held new (done ++ piece)
@@ -104,15 +134,25 @@ adds_both held middle new done piece first second = λ start told.
 -- a refused piece gives the cause of a stop
 stop_cause : (held new : Option (List ℕ)) (before middle now : ℕ) (piece : List ℕ) (stop : Stop) → middle ≡ before → PieceAdded held new middle now piece (Err stop) → WriterCause before now (ends.Stopped stop)
 stop_cause held new before middle now piece (stops.Fault faults) still added = (omega (arith, added.0), later_rose before middle now still added.1, added.2)
+stop_cause held new before middle now piece (stops.Limit blocks bytes) still added = absurd added
 stop_cause held new before middle now piece stops.Memory still added = added.0 ∙ still
 
--- and leaves whole pieces with some of it, but with none where memory lacked
-stop_leaves : (held middle new : Option (List ℕ)) (before now : ℕ) (done piece : List ℕ) (stop : Stop) → Adds held middle done → PieceAdded middle new before now piece (Err stop) → (start : List ℕ) → held ≡ Some start → (n : ℕ) × (new ≡ Some (start ++ (done ++ take n piece))) × (stop ≡ stops.Memory → n ≡ 0)
-stop_leaves held middle new before now done piece (stops.Fault faults) so_far added start told =
-    let part = added.3 (start ++ done) (so_far start told) in
-    (part.0, part.3 ∙ ap (λ (l : List ℕ). some l) (append_assoc start done (take part.0 piece)), λ lacked. absurd cc)
-stop_leaves held middle new before now done piece stops.Memory so_far added start told =
-    (0, added.1 ∙ so_far start told ∙ ap (λ (l : List ℕ). some (start ++ l)) (sym (append-nil done)), λ lacked. refl)
+-- and leaves whole pieces with some of it, but with none unless the store failed
+stop_leaves : (held middle new : Option (List ℕ)) (before now : ℕ) (pieces : List (List ℕ)) (place : ℕ) (piece : List ℕ) (stop : Stop) (bytes : ℕ) → At pieces place piece → Adds held middle (pieces_before pieces place) → bytes ≡ length (pieces_before pieces place) → PieceAdded middle new before now piece (Err stop) → (start : List ℕ) → held ≡ Some start → (text : List ℕ) × (new ≡ Some (start ++ text)) × StoppedAt pieces place stop text bytes
+stop_leaves held middle new before now pieces place piece (stops.Fault faults) bytes at so_far size added start told =
+    let done = pieces_before pieces place in
+    let part = added.3 (start ++ done) (so_far start told) in (
+      done ++ take part.0 piece,
+      part.3 ∙ ap (λ (l : List ℕ). some l) (append_assoc start done (take part.0 piece)),
+      record { next = piece; at = at; some = part.0; split = refl; unfailed = λ calm. absurd (calm faults refl); size = size },
+    )
+stop_leaves held middle new before now pieces place piece (stops.Limit blocks limit) bytes at so_far size added start told = absurd added
+stop_leaves held middle new before now pieces place piece stops.Memory bytes at so_far size added start told =
+    let done = pieces_before pieces place in (
+      done,
+      added.1 ∙ so_far start told,
+      record { next = piece; at = at; some = 0; split = sym (append-nil done); unfailed = λ calm. refl; size = size },
+    )
 
 -- ---- what a tape wrote
 
@@ -121,13 +161,12 @@ pub not_opened : (held new : Option (List ℕ)) (before now : ℕ) (stop : Stop)
 not_opened held new before now stop added = (
   stop_cause held new before before now (front []) stop refl added,
   record {
-    done = [];
-    next = front [];
-    pieces = inl (refl, refl, refl);
+    place = 0;
+    stops_there = inl (refl, refl);
     size = refl;
     took =
         let nothing : Adds held held [] = λ bytes there. there ∙ ap (λ (l : List ℕ). some l) (sym (append-nil bytes)) in
-        stop_leaves held held new before now [] (front []) stop nothing added;
+        stop_leaves held held new before now (plain_pieces []) 0 (front []) stop 0 refl nothing refl added;
   },
 )
 
@@ -157,16 +196,21 @@ put_behind held middle new before between now history r piece stop bytes more no
 -- a record was refused, and so were those that come with it
 put_part : (held middle new : Option (List ℕ)) (before between now : ℕ) (history behind : List Rec) (r : Rec) (piece : List ℕ) (bytes : ℕ) (stop : Stop) → piece ≡ rec_bytes r → length behind < accepted_with r → Wrote held middle before between history None bytes → PieceAdded middle new between now piece (Err stop) → Wrote held new before now (history ++ r ∷ behind) (Some stop) bytes
 put_part held middle new before between now history behind r piece bytes stop is with_it wrote added =
-    let done = front [] ++ history_bytes history in
-    let front_is : take (length history) (history ++ r ∷ behind) ≡ history = take-append_seam history (r ∷ behind) in
-    let last : length (history ++ r ∷ behind) ≤ length history + accepted_with r = omega (arith, length-append history (r ∷ behind), with_it) in (
+    let all = history ++ r ∷ behind in
+    let size = length-append history (r ∷ behind) in
+    let last : length all ≤ length history + accepted_with r = omega (arith, size, with_it) in
+    let there = at_last history r behind in
+    let done : pieces_before (plain_pieces all) (suc (length history)) ≡ front [] ++ history_bytes history =
+    before_record all (length history) (omega (arith, size)) ∙ ap (λ (l : List Rec). front [] ++ history_bytes l) (take-append_seam history (r ∷ behind)) in
+    let bytes_are = wrote.2 ∙ ap length (sym done) in
+    let at = subst (λ (p : List ℕ). At (plain_pieces all) (suc (length history)) p) (sym is) (piece_at all (length history) r there) in
+    let so_far = subst (λ (l : List ℕ). Adds held middle l) (sym done) wrote.1 in (
       stop_cause middle new before between now piece stop wrote.0 added,
       record {
-        done = done;
-        next = piece;
-        pieces = inr (length history, r, at_last history r behind, last, ap (λ (l : List Rec). front [] ++ history_bytes l) (sym front_is), is);
-        size = wrote.2;
-        took = stop_leaves held middle new between now done piece stop wrote.1 added;
+        place = suc (length history);
+        stops_there = inr (length history, r, there, last, refl);
+        size = bytes_are;
+        took = stop_leaves held middle new between now (plain_pieces all) (suc (length history)) piece stop bytes at so_far bytes_are added;
       },
     )
 
@@ -187,23 +231,54 @@ pub both_put : (held new : Option (List ℕ)) (before now : ℕ) (history : List
 both_put held new before now history r q stop bytes wrote =
     subst (λ (l : List Rec). Wrote held new before now l stop bytes) (append_assoc history (r ∷ []) (q ∷ [])) wrote
 
--- the report of a tape that can't close
+-- ---- what closes the file
+
 abbrev report_of : ℕ → ℕ → End → WriterReport
 report_of records bytes end = record { records = records; blocks = 0; bytes = bytes; end = end }
 
--- the back was refused
-closed_part : (held middle new : Option (List ℕ)) (before between now : ℕ) (history : List Rec) (records bytes : ℕ) (stop : Stop) → records ≡ length history → Wrote held middle before between history None bytes → PieceAdded middle new between now back (Err stop) → WriterRecorded held new before now history (report_of records bytes (ends.Stopped stop))
-closed_part held middle new before between now history records bytes stop count wrote added = record {
-  records = count;
-  blocks = refl;
-  bytes = (front [] ++ history_bytes history, back, inr (refl, refl), wrote.2);
-  written = λ start told.
-      let done = front [] ++ history_bytes history in
-      let left = stop_leaves held middle new between now done back stop wrote.1 added start told in
-      (done ++ take left.0 back, left.1, record { done = done; next = back; pieces = inr (refl, refl); some = left.0; split = refl; lacked = left.2; size = wrote.2 });
-  cause = stop_cause middle new before between now back stop wrote.0 added;
-}
+all_taken : (history : List Rec) → take (length history) history ≡ history
+all_taken [] = refl
+all_taken (r ∷ rs) = ap (λ (l : List Rec). r ∷ l) (all_taken rs)
 
-pub not_closed : (held middle new : Option (List ℕ)) (before between now : ℕ) (history : List Rec) (records : ℕ) (was : Option Stop) (bytes : ℕ) (stop : Stop) → was ≡ None → records ≡ length history → Wrote held middle before between history was bytes → PieceAdded middle new between now back (Err stop) → WriterRecorded held new before now history (report_of records bytes (ends.Stopped stop))
+-- the pieces before the back
+before_back : (history : List Rec) → pieces_before (plain_pieces history) (suc (length history)) ≡ front [] ++ history_bytes history
+before_back history = before_record history (length history) (omega arith) ∙ ap (λ (l : List Rec). front [] ++ history_bytes l) (all_taken history)
+
+-- the back was appended
+closed_whole : (held middle new : Option (List ℕ)) (before between now : ℕ) (history : List Rec) (records bytes more : ℕ) → records ≡ length history → Wrote held middle before between history None bytes → PieceAdded middle new between now plain_back (Ok more) → WriterRecorded held new before now history (report_of records (bytes + more) ends.Closed)
+closed_whole held middle new before between now history records bytes more count wrote added =
+    let done = front [] ++ history_bytes history in
+    let all : file_of plain [] history ≡ done ++ plain_back = file_is history ∙ sym (append_assoc (front []) (history_bytes history) plain_back) in
+    let size : bytes + more ≡ length (file_of plain [] history) = omega (arith, wrote.2, added.2, length-append done plain_back, ap length all) in
+    record {
+      records = count;
+      blocks = refl;
+      bytes = size;
+      written = λ start told. (file_of plain [] history, subst (λ (l : List ℕ). Adds held new l) (sym all) (adds_both held middle new done plain_back wrote.1 added.1) start told, (refl, size));
+      cause = added.0 ∙ wrote.0;
+    }
+
+pub closed : (held middle new : Option (List ℕ)) (before between now : ℕ) (history : List Rec) (records : ℕ) (was : Option Stop) (bytes more : ℕ) → was ≡ None → records ≡ length history → Wrote held middle before between history was bytes → PieceAdded middle new between now plain_back (Ok more) → WriterRecorded held new before now history (report_of records (bytes + more) ends.Closed)
+closed held middle new before between now history records was bytes more none count wrote added =
+    closed_whole held middle new before between now history records bytes more count (subst (λ (s : Option Stop). Wrote held middle before between history s bytes) none wrote) added
+
+-- the back was refused
+closed_part : (held middle new : Option (List ℕ)) (before between now : ℕ) (history : List Rec) (records bytes : ℕ) (stop : Stop) → records ≡ length history → Wrote held middle before between history None bytes → PieceAdded middle new between now plain_back (Err stop) → WriterRecorded held new before now history (report_of records bytes (ends.Stopped stop))
+closed_part held middle new before between now history records bytes stop count wrote added =
+    let place = suc (length history) in
+    let done = before_back history in
+    let size = wrote.2 ∙ ap length (sym done) in
+    let so_far = subst (λ (l : List ℕ). Adds held middle l) (sym done) wrote.1 in
+    record {
+      records = count;
+      blocks = refl;
+      bytes = (place, inr refl, size);
+      written = λ start told.
+          let left = stop_leaves held middle new between now (plain_pieces history) place plain_back stop bytes (back_at history) so_far size added start told in
+          (left.0, left.1, record { place = place; ended = inr refl; stopped = left.2 });
+      cause = stop_cause middle new before between now plain_back stop wrote.0 added;
+    }
+
+pub not_closed : (held middle new : Option (List ℕ)) (before between now : ℕ) (history : List Rec) (records : ℕ) (was : Option Stop) (bytes : ℕ) (stop : Stop) → was ≡ None → records ≡ length history → Wrote held middle before between history was bytes → PieceAdded middle new between now plain_back (Err stop) → WriterRecorded held new before now history (report_of records bytes (ends.Stopped stop))
 not_closed held middle new before between now history records was bytes stop none count wrote added =
     closed_part held middle new before between now history records bytes stop count (subst (λ (s : Option Stop). Wrote held middle before between history s bytes) none wrote) added

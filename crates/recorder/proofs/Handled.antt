@@ -5,19 +5,20 @@ use Rattle.rec_data.specs.declared.owned.Rec.{Rec}
 use Rattle.recorder.specs.declared.report.Refused.{Refused}
 use Rattle.recorder.specs.declared.report.Cause.{Cause}
 use Rattle.recorder.specs.declared.report.Cause.TheVariants as causes
-use Rattle.recorder.specs.declared.report.Stop.{Stop}
+use Rattle.mcap_model.specs.declared.ends.Stop.{Stop}
 use Rattle.recorder.specs.declared.report.FeedEnd.TheVariants as feed_ends
 use Rattle.recorder.specs.declared.lane.Lane.{Lane}
-use Rattle.recorder.specs.Places.{At}
+use Rattle.mcap_model.specs.Places.{At}
 use Rattle.recorder.specs.declared.lane.Put.{Put}
 use Rattle.recorder.specs.declared.lane.Put.TheVariants as puts
 use Rattle.recorder.specs.declared.tape.Tape.{Tape}
-use Rattle.recorder.specs.Feed.{Top, MessageFields, IsMessage}
-use Rattle.recorder.specs.History.{message_of, is_schema, schema_count, is_channel, channel_count}
+use Rattle.mcap_model.specs.Tops.{Top}
+use Rattle.mcap_model.specs.Fields.{MessageFields, IsMessage}
+use Rattle.mcap_model.specs.History.{message_of, is_schema, schema_count, is_channel, channel_count}
 use Rattle.recorder.specs.Assembled.{messages}
 use Rattle.recorder.specs.Lane.{Stands, LaneStands, LaneOver, IsLast, TapeStands, TapeFits}
 use Rattle.recorder.specs.Handling.{Handles, HasId, RefusedFor, PublishedAs}
-use Rattle.recorder.proofs.Places.{at_last, at_more}
+use Rattle.mcap_model.proofs.Places.{at_last, at_more}
 use Rattle.recorder.proofs.Steps.{filter_out}
 use Rattle.recorder.proofs.StepsMore.{refused_at, accepted_at, refused_one, accepted_one}
 

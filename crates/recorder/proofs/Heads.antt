@@ -12,7 +12,8 @@ use Rattle.mcap_io.specs.declared.outside.ReadRefused.TheVariants as reads
 use Rattle.mcap_io.specs.Outside.{StretchTaken}
 use Rattle.recorder.specs.declared.report.FeedEnd.{FeedEnd}
 use Rattle.recorder.specs.declared.report.FeedEnd.TheVariants as feed_ends
-use Rattle.recorder.specs.Feed.{has_head, opcode, declared, is_whole, is_later_kind, is_declaration, length_limit, is_unbuilt, behind_first, IsCutOff, FeedRead}
+use Rattle.mcap_model.specs.Tops.{opcode, declared_length, is_whole}
+use Rattle.recorder.specs.Feed.{has_opcode, is_later_kind, is_declaration, length_limit, is_unbuilt, behind_taken, IsCutOff, FeedRead}
 use Rattle.recorder.specs.Next.{IsHead, TakesHead, TakesTop, HeadEnds, NextEnds, Failure}
 use Rattle.recorder.specs.Lane.{top_of}
 
@@ -45,7 +46,7 @@ head_taken (r ∷ rs) bytes left op len is left_is head =
     }
 
 -- fewer than nine bytes, or opcode 0: no record begins there
-pub no_head : (rest bytes : List ℕ) → bytes ≡ take 9 rest → (length bytes < 9) ⊎ ((length bytes ≡ 9) × (get_or bytes 0 0 ≡ 0)) → has_head rest ≡ false
+pub no_head : (rest bytes : List ℕ) → bytes ≡ take 9 rest → (length bytes < 9) ⊎ ((length bytes ≡ 9) × (get_or bytes 0 0 ≡ 0)) → has_opcode rest ≡ false
 no_head rest bytes is (inl short) =
     let size : length bytes ≡ min 9 (length rest) = ap length is ∙ length-take 9 rest in
     let few : length rest < 9 = omega arith in
@@ -68,20 +69,20 @@ cut_off rest content left op len head is short =
 -- ---- a source that failed, or memory that lacked
 
 -- a first part has the length that the whole declares
-declared_front : (k : ℕ) (rest : List ℕ) → 8 ≤ k → declared (take (1 + k) rest) ≡ declared rest
+declared_front : (k : ℕ) (rest : List ℕ) → 8 ≤ k → declared_length (take (1 + k) rest) ≡ declared_length rest
 declared_front k rest enough =
     ap (λ (l : List ℕ). number (take 8 l)) (drop-take 1 k rest) ∙ ap number (take-take 8 k (drop 1 rest) enough)
 
 -- the head was given, and less than the content
-few_behind : (rest : List ℕ) (n len : ℕ) → declared rest ≡ len → n < len → is_whole (take (9 + n) rest) ≡ false
+few_behind : (rest : List ℕ) (n len : ℕ) → declared_length rest ≡ len → n < len → is_whole (take (9 + n) rest) ≡ false
 few_behind rest n len len_is few =
     let more : 9 + n ≡ 1 + (8 + n) = omega arith in
-    let declares : declared (take (9 + n) rest) ≡ len = ap (λ (k : ℕ). declared (take k rest)) more ∙ declared_front (8 + n) rest (omega arith) ∙ len_is in
+    let declares : declared_length (take (9 + n) rest) ≡ len = ap (λ (k : ℕ). declared_length (take k rest)) more ∙ declared_front (8 + n) rest (omega arith) ∙ len_is in
     let size = length-take (9 + n) rest in
-    lt-leb (9 + declared (take (9 + n) rest)) (length (take (9 + n) rest)) (omega arith)
+    lt-leb (9 + declared_length (take (9 + n) rest)) (length (take (9 + n) rest)) (omega arith)
 
 -- a first part with the whole head begins as the whole does
-front_begins : (rest : List ℕ) (left : Option (List ℕ)) (op len n : ℕ) (head : TakesHead rest left op len) → has_head (take (9 + n) rest) ≡ true
+front_begins : (rest : List ℕ) (left : Option (List ℕ)) (op len n : ℕ) (head : TakesHead rest left op len) → has_opcode (take (9 + n) rest) ≡ true
 front_begins rest left op len n head =
     let part = take (9 + n) rest in
     let first : get_or part 0 0 ≡ get_or rest 0 0 = get_or-take (9 + n) rest 0 0 (omega arith) in
@@ -94,13 +95,13 @@ front_begins rest left op len n head =
     nonzero_head (get_or part 0 0) (length part) nonzero enough
 
 -- and is recorded where the whole is
-front_built : (rest : List ℕ) (left : Option (List ℕ)) (count at op len n : ℕ) (head : TakesHead rest left op len) → is_unbuilt count at op len ≡ false → is_unbuilt count at (opcode (take (9 + n) rest)) (declared (take (9 + n) rest)) ≡ false
+front_built : (rest : List ℕ) (left : Option (List ℕ)) (count at op len n : ℕ) (head : TakesHead rest left op len) → is_unbuilt count at op len ≡ false → is_unbuilt count at (opcode (take (9 + n) rest)) (declared_length (take (9 + n) rest)) ≡ false
 front_built rest left count at op len n head built =
     let part = take (9 + n) rest in
     let first : opcode part ≡ op = get_or-take (9 + n) rest 0 0 (omega arith) ∙ head.op_is in
     let more : 9 + n ≡ 1 + (8 + n) = omega arith in
-    let declares : declared part ≡ len = ap (λ (k : ℕ). declared (take k rest)) more ∙ declared_front (8 + n) rest (omega arith) ∙ head.len_is in
-    ap (λ (o : ℕ). is_unbuilt count at o (declared part)) first ∙ ap (λ (m : ℕ). is_unbuilt count at op m) declares ∙ built
+    let declares : declared_length part ≡ len = ap (λ (k : ℕ). declared_length (take k rest)) more ∙ declared_front (8 + n) rest (omega arith) ∙ head.len_is in
+    ap (λ (o : ℕ). is_unbuilt count at o (declared_length part)) first ∙ ap (λ (m : ℕ). is_unbuilt count at op m) declares ∙ built
 
 -- why the magic wasn't read
 pub magic_refused : (bytes : List ℕ) (old new : Option (List ℕ)) (got : List ℕ) (faults : ℕ) (why : ReadRefused) (end : FeedEnd) → old ≡ Some bytes → StretchTaken old new 8 got (Err why) → Failure faults why end → FeedRead bytes [] new end
@@ -122,9 +123,9 @@ pub left_behind : (rest : List ℕ) (left : Option (List ℕ)) (op len : ℕ) (h
 left_behind rest left op len head = head.left_after ∙ ap Some (sym (behind_head rest left op len head))
 
 -- what is recorded is decided by the head at the front
-pub built_there : (rest : List ℕ) (left : Option (List ℕ)) (count at op len : ℕ) (b : Bool) → TakesHead rest left op len → is_unbuilt count at op len ≡ b → is_unbuilt count at (opcode rest) (declared rest) ≡ b
+pub built_there : (rest : List ℕ) (left : Option (List ℕ)) (count at op len : ℕ) (b : Bool) → TakesHead rest left op len → is_unbuilt count at op len ≡ b → is_unbuilt count at (opcode rest) (declared_length rest) ≡ b
 built_there rest left count at op len b head is =
-    ap (λ (o : ℕ). is_unbuilt count at o (declared rest)) head.op_is ∙ ap (λ (n : ℕ). is_unbuilt count at op n) head.len_is ∙ is
+    ap (λ (o : ℕ). is_unbuilt count at o (declared_length rest)) head.op_is ∙ ap (λ (n : ℕ). is_unbuilt count at op n) head.len_is ∙ is
 
 -- why a content wasn't read
 pub content_refused : (rest : List ℕ) (count at : ℕ) (old new : Option (List ℕ)) (op len : ℕ) (got : List ℕ) (faults : ℕ) (why : ReadRefused) (end : FeedEnd) → TakesHead rest old op len → is_unbuilt count at op len ≡ false → StretchTaken old new len got (Err why) → Failure faults why end → NextEnds rest count at new end
@@ -150,7 +151,7 @@ head_refused rest at old new got faults reads.Memory end told taken is =
 -- and so no record could be taken
 pub headless : (rest : List ℕ) (count at : ℕ) (left : Option (List ℕ)) (end : FeedEnd) → HeadEnds rest at left end → NextEnds rest count at left end
 headless rest count at left feed_ends.Done why = absurd why
-headless rest count at left (feed_ends.Grammar n) why = (why.0, why.2 ∙ ap Some (ap (λ (b : Bool). drop (if b then 9 + declared rest else 9) rest) (sym why.1)), inl why.1)
+headless rest count at left (feed_ends.Grammar n) why = (why.0, why.2 ∙ ap Some (ap (λ (b : Bool). drop (if b then 9 + declared_length rest else 9) rest) (sym why.1)), inl why.1)
 headless rest count at left (feed_ends.NotBuilt n) why = absurd why
 headless rest count at left (feed_ends.Fault faults) why = (why.0, why.1, inl why.2)
 headless rest count at left feed_ends.Memory why = inl why
@@ -159,12 +160,12 @@ headless rest count at left feed_ends.Ended why = absurd why
 -- ---- a whole record
 
 -- behind its content stands what is behind the record
-pub behind_content : (rest : List ℕ) (left : Option (List ℕ)) (op len : ℕ) (head : TakesHead rest left op len) → drop len head.after ≡ behind_first rest
+pub behind_content : (rest : List ℕ) (left : Option (List ℕ)) (op len : ℕ) (head : TakesHead rest left op len) → drop len head.after ≡ behind_taken rest
 behind_content rest left op len head =
     ap (drop len) (sym (behind_head rest left op len head))
     ∙ drop-drop len 9 rest
     ∙ ap (λ (n : ℕ). drop (9 + n) rest) (sym head.len_is)
-    ∙ ap (λ (b : Bool). drop (if b then 9 + declared rest else 9) rest) (sym head.begins)
+    ∙ ap (λ (b : Bool). drop (if b then 9 + declared_length rest else 9) rest) (sym head.begins)
 
 -- a record that is recorded ends near enough to the front
 pub near_front : (count at op len : ℕ) → is_unbuilt count at op len ≡ false → at + 9 + len ≤ 2 ^ 39
@@ -191,14 +192,14 @@ pub top_taken : (rest content : List ℕ) (left left_after : Option (List ℕ)) 
 top_taken rest content left left_after count at op len head is left_is long bound built =
     let size : length content ≡ len = omega arith in
     let parts : head.after ≡ content ++ drop len head.after = sym (take-append-drop len head.after) ∙ ap (λ (l : List ℕ). l ++ drop len head.after) (sym is) in
-    let inside : take (declared rest) (drop 9 rest) ≡ content = ap (λ (n : ℕ). take n (drop 9 rest)) head.len_is ∙ ap (take len) (behind_head rest left op len head) ∙ sym is in
+    let inside : take (declared_length rest) (drop 9 rest) ≡ content = ap (λ (n : ℕ). take n (drop 9 rest)) head.len_is ∙ ap (take len) (behind_head rest left op len head) ∙ sym is in
     record {
       after = drop len head.after;
       split = head.split ∙ ap (λ (l : List ℕ). op ∷ (le 8 len ++ l)) parts ∙ ap (λ (l : List ℕ). op ∷ l) (sym (append_assoc (le 8 len) content (drop len head.after))) ∙ ap (λ (n : ℕ). op ∷ ((le 8 n ++ content) ++ drop len head.after)) (sym size);
       left_after = left_is;
       behind = behind_content rest left op len head;
       begins = head.begins;
-      whole = whole_there rest head.after content op len (declared rest) head.split head.len_is is size;
+      whole = whole_there rest head.after content op len (declared_length rest) head.split head.len_is is size;
       built_there = built_there rest left count at op len false head built;
-      first = ap (λ (o : ℕ). top_of o (take (declared rest) (drop 9 rest))) head.op_is ∙ ap (λ (l : List ℕ). top_of op l) inside;
+      first = ap (λ (o : ℕ). top_of o (take (declared_length rest) (drop 9 rest))) head.op_is ∙ ap (λ (l : List ℕ). top_of op l) inside;
     }

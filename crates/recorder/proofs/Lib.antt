@@ -5,10 +5,8 @@ mod Feeds
 pub mod Files
 mod Handled
 mod Heads
-pub mod Maps
 pub mod OneEnd
 mod OneHistory
-pub mod Places
 mod SchemaSteps
 mod Sections
 mod Shown

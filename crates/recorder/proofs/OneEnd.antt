@@ -8,11 +8,13 @@ use Rattle.mcap_wire.proofs.Framing.{records_apart}
 use Rattle.mcap_wire.proofs.Numbers.{length-le, number-le}
 use Rattle.recorder.specs.declared.report.FeedEnd.{FeedEnd}
 use Rattle.recorder.specs.declared.report.FeedEnd.TheVariants as feed_ends
-use Rattle.recorder.specs.Places.{At, EachBehind}
-use Rattle.recorder.specs.Feed.{Top, top_bytes, spelled, FitsBehind, AreGood, HasDataEnd, IsBuilt, declarations, is_unbuilt, opcode, declared, has_head, is_whole, first_top, Reads, ReadsTo, IsLater, IsBroken, Stops, FeedRead}
+use Rattle.mcap_model.specs.Places.{At, EachBehind}
+use Rattle.mcap_model.specs.Tops.{Top, top_bytes, spelled, opcode, declared_length, is_whole, first_top}
+use Rattle.mcap_model.specs.Rules.{HasDataEnd}
+use Rattle.recorder.specs.Feed.{FitsBehind, AreGood, IsBuilt, declarations, is_unbuilt, has_opcode, Reads, ReadsTo, IsLater, IsBroken, Stops, FeedRead}
 use Rattle.recorder.specs.Laws.{FeedsHaveOneEnd}
 use Rattle.recorder.specs.Lane.{top_of}
-use Rattle.recorder.proofs.Places.{each_at}
+use Rattle.mcap_model.proofs.Places.{each_at}
 use Rattle.recorder.proofs.Heads.{near_front}
 use Rattle.recorder.proofs.Feeds.{length-framed}
 
@@ -89,13 +91,13 @@ readings_follow bytes xs ys r s one other =
 -- ---- a record at the front of a rest
 
 pub record Begins (rest : List ℕ) (t : Top) : Type 0 where
-  pub head : has_head rest ≡ true
+  pub head : has_opcode rest ≡ true
   pub op_is : opcode rest ≡ t.op
-  pub len_is : declared rest ≡ length t.content
+  pub len_is : declared_length rest ≡ length t.content
   pub whole : is_whole rest ≡ true
   pub first : first_top rest ≡ t
 
-begins_head : (rest : List ℕ) (op : ℕ) → (op ≡ 0 → ⊥) → opcode rest ≡ op → 9 ≤ length rest → has_head rest ≡ true
+begins_head : (rest : List ℕ) (op : ℕ) → (op ≡ 0 → ⊥) → opcode rest ≡ op → 9 ≤ length rest → has_opcode rest ≡ true
 begins_head rest op nonzero op_is enough =
     and_from (leb 9 (length rest)) (not (eqb (opcode rest) 0)) (le-leb 9 (length rest) enough)
     (not_from_false (eqb (opcode rest) 0) (ne_eqb (opcode rest) 0 (λ (e : opcode rest ≡ 0). nonzero (sym op_is ∙ e))))
@@ -105,11 +107,11 @@ begins rest t behind is short nonzero =
     let len = length t.content in
     let op_is : opcode rest ≡ t.op = ap opcode is in
     let inner : drop 1 rest ≡ le 8 len ++ (t.content ++ behind) = ap (drop 1) is ∙ append_assoc (le 8 len) t.content behind in
-    let len_is : declared rest ≡ len =
+    let len_is : declared_length rest ≡ len =
     ap (λ (l : List ℕ). number (take 8 l)) inner ∙ ap number (take_at (le 8 len) (t.content ++ behind) 8 (length-le 8 len)) ∙ number-le 8 len short in
     let after : drop 9 rest ≡ t.content ++ behind =
     ap (drop 9) is ∙ ap (drop 8) (append_assoc (le 8 len) t.content behind) ∙ drop_at (le 8 len) (t.content ++ behind) 8 (length-le 8 len) in
-    let inside : take (declared rest) (drop 9 rest) ≡ t.content =
+    let inside : take (declared_length rest) (drop 9 rest) ≡ t.content =
     ap (λ (n : ℕ). take n (drop 9 rest)) len_is ∙ ap (take len) after ∙ take_at t.content behind len refl in
     let size : length rest ≡ 9 + len + length behind =
     omega (arith, ap length is, length-append (top_bytes t) behind, length-framed t.op t.content) in
@@ -117,8 +119,8 @@ begins rest t behind is short nonzero =
       head = begins_head rest t.op nonzero op_is (omega arith);
       op_is = op_is;
       len_is = len_is;
-      whole = le-leb (9 + declared rest) (length rest) (omega arith);
-      first = ap (λ (o : ℕ). top_of o (take (declared rest) (drop 9 rest))) op_is ∙ ap (top_of t.op) inside;
+      whole = le-leb (9 + declared_length rest) (length rest) (omega arith);
+      first = ap (λ (o : ℕ). top_of o (take (declared_length rest) (drop 9 rest))) op_is ∙ ap (top_of t.op) inside;
     }
 
 -- ---- where a reading halts
@@ -131,14 +133,14 @@ Halts tops rest at = IsBroken tops rest at ⊎ IsLater tops rest at
 goes_on : (tops : List Top) (rest : List ℕ) (at : ℕ) (t : Top) → Begins rest t → is_unbuilt (declarations tops) at t.op (length t.content) ≡ false → FitsBehind tops t → Halts tops rest at → ⊥
 goes_on tops rest at t front built fits halts =
     let count = declarations tops in
-    let built_there : is_unbuilt count at (opcode rest) (declared rest) ≡ false =
-    ap (λ (o : ℕ). is_unbuilt count at o (declared rest)) front.op_is ∙ ap (λ (n : ℕ). is_unbuilt count at t.op n) front.len_is ∙ built in
+    let built_there : is_unbuilt count at (opcode rest) (declared_length rest) ≡ false =
+    ap (λ (o : ℕ). is_unbuilt count at o (declared_length rest)) front.op_is ∙ ap (λ (n : ℕ). is_unbuilt count at t.op n) front.len_is ∙ built in
     let fits_there : FitsBehind tops (first_top rest) = subst (λ (x : Top). FitsBehind tops x) (sym front.first) fits in
     elim halts [
-      | inl (inl headless) ↦ both_ways (has_head rest) headless front.head
+      | inl (inl headless) ↦ both_ways (has_opcode rest) headless front.head
       | inl (inr (there, recorded, inl cut)) ↦ both_ways (is_whole rest) cut front.whole
       | inl (inr (there, recorded, inr (whole, bad))) ↦ bad fits_there
-      | inr later ↦ both_ways (is_unbuilt count at (opcode rest) (declared rest)) built_there later.unbuilt
+      | inr later ↦ both_ways (is_unbuilt count at (opcode rest) (declared_length rest)) built_there later.unbuilt
     ]
 
 -- so a reading that halts isn't followed by one with more records
@@ -203,15 +205,15 @@ not_built_not_done bytes tops others n done later =
 
 -- a rest at which a rule is broken doesn't begin with a record that isn't recorded yet
 broken_not_later : (tops : List Top) (rest : List ℕ) (at : ℕ) → IsBroken tops rest at → IsLater tops rest at → ⊥
-broken_not_later tops rest at (inl headless) later = both_ways (has_head rest) headless later.head
-broken_not_later tops rest at (inr broken) later = both_ways (is_unbuilt (declarations tops) at (opcode rest) (declared rest)) broken.1 later.unbuilt
+broken_not_later tops rest at (inl headless) later = both_ways (has_opcode rest) headless later.head
+broken_not_later tops rest at (inr broken) later = both_ways (is_unbuilt (declarations tops) at (opcode rest) (declared_length rest)) broken.1 later.unbuilt
 
 later_at : (tops others : List Top) (rest other : List ℕ) (at place : ℕ) → tops ≡ others → rest ≡ other → at ≡ place → IsLater others other place → IsLater tops rest at
 later_at tops others rest other at place same_tops same_rest same_place later = record {
-  head = ap has_head same_rest ∙ later.head;
-  unbuilt = ap (λ (l : List Top). is_unbuilt (declarations l) at (opcode rest) (declared rest)) same_tops
-      ∙ ap (λ (n : ℕ). is_unbuilt (declarations others) n (opcode rest) (declared rest)) same_place
-      ∙ ap (λ (l : List ℕ). is_unbuilt (declarations others) place (opcode l) (declared l)) same_rest
+  head = ap has_opcode same_rest ∙ later.head;
+  unbuilt = ap (λ (l : List Top). is_unbuilt (declarations l) at (opcode rest) (declared_length rest)) same_tops
+      ∙ ap (λ (n : ℕ). is_unbuilt (declarations others) n (opcode rest) (declared_length rest)) same_place
+      ∙ ap (λ (l : List ℕ). is_unbuilt (declarations others) place (opcode l) (declared_length l)) same_rest
       ∙ later.unbuilt;
 }
 

@@ -8,14 +8,17 @@ use Rattle.rec_data.specs.declared.owned.Rec.{Rec}
 use Rattle.recorder.specs.declared.report.Accepted.{Accepted}
 use Rattle.recorder.specs.declared.report.DeclaredAt.{DeclaredAt}
 use Rattle.recorder.specs.declared.report.Refused.{Refused}
-use Rattle.recorder.specs.Places.{At}
-use Rattle.recorder.specs.Feed.{Top, SchemaFields, ChannelFields, SameChannel, MessageFields, IsMessage, AreGood}
-use Rattle.recorder.specs.History.{schema_of, channel_of, message_of, schema_count, Follows, Numbered}
-use Rattle.recorder.specs.Assembled.{messages, IsOn, SourceShows, SameSchema, SchemaIs, Declares, Accepts, IsGiven, Assembled}
+use Rattle.mcap_model.specs.Places.{At}
+use Rattle.mcap_model.specs.Tops.{Top}
+use Rattle.mcap_model.specs.Fields.{SchemaFields, ChannelFields, SameChannel, MessageFields, IsMessage}
+use Rattle.recorder.specs.Feed.{AreGood}
+use Rattle.mcap_model.specs.History.{schema_of, channel_of, message_of, schema_count, Follows, Numbered}
+use Rattle.mcap_model.specs.Written.{SourceShows, SameSchema, SchemaIs}
+use Rattle.recorder.specs.Assembled.{messages, IsOn, Declares, Accepts, IsGiven, Assembled}
 use Rattle.recorder.specs.Channels.{SourceSchemaShows}
 use Rattle.recorder.specs.Laws.{HistoriesAreGiven}
-use Rattle.recorder.proofs.Maps.{message_once, same_is}
-use Rattle.recorder.proofs.Places.{at_within, at_none, at_one}
+use Rattle.mcap_model.proofs.Maps.{message_once, same_is}
+use Rattle.mcap_model.proofs.Places.{at_within, at_none, at_one}
 use Rattle.recorder.proofs.Shown.{at_take, shows_same, schema_shows_same, schema_number, schema_place_one, schema_fields_one}
 use Rattle.recorder.proofs.Steps.{on_one}
 use Rattle.recorder.proofs.StepsBoth.{same_schema}

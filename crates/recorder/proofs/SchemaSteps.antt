@@ -18,12 +18,14 @@ use Rattle.recorder.specs.declared.report.Refused.{Refused}
 use Rattle.recorder.specs.declared.schemas.SourceSchema.{SourceSchema}
 use Rattle.recorder.specs.declared.channels.SourceChannel.{SourceChannel}
 use Rattle.recorder.specs.declared.lane.Lane.{Lane}
-use Rattle.recorder.specs.Places.{At}
-use Rattle.recorder.specs.Feed.{Top, SchemaFields, IsSchema, SchemaFits}
+use Rattle.mcap_model.specs.Places.{At}
+use Rattle.mcap_model.specs.Tops.{Top}
+use Rattle.mcap_model.specs.Fields.{SchemaFields, IsSchema}
+use Rattle.recorder.specs.Feed.{SchemaFits}
 use Rattle.recorder.specs.Channels.{schema_fields, SchemaFieldsFit, SourceSchemaShows, SchemasOf, given_schemas, SchemasGiven, SchemaGiven, IsGivenId, GivenBy}
 use Rattle.recorder.specs.Lane.{Stands, LaneStands}
-use Rattle.recorder.proofs.Maps.{schema_once}
-use Rattle.recorder.proofs.Places.{at_within, at_kept, at_last, at_more, pairs_more}
+use Rattle.mcap_model.proofs.Maps.{schema_once}
+use Rattle.mcap_model.proofs.Places.{at_within, at_kept, at_last, at_more, pairs_more}
 use Rattle.recorder.proofs.Steps.{schema_shows_more, messages_same, declarations_schema, declarations_grow, more_tops, given_more, channels_more}
 
 -- ---- the table

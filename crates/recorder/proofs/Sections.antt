@@ -6,7 +6,10 @@ use Rattle.recorder.specs.declared.report.FeedEnd.TheVariants as feed_ends
 use Rattle.recorder.specs.declared.lane.Lane.{Lane}
 use Rattle.recorder.specs.declared.lane.Put.TheVariants as puts
 use Rattle.recorder.specs.declared.tape.Tape.{Tape}
-use Rattle.recorder.specs.Feed.{Top, HasDataEnd, IsDataEnd, SchemaFits, ChannelFits, MessageFits, FitsBehind, ReadsTo, FeedRead, FeedCause, is_unbuilt, declarations}
+use Rattle.mcap_model.specs.Tops.{Top}
+use Rattle.mcap_model.specs.Fields.{IsDataEnd}
+use Rattle.mcap_model.specs.Rules.{HasDataEnd}
+use Rattle.recorder.specs.Feed.{SchemaFits, ChannelFits, MessageFits, FitsBehind, ReadsTo, FeedRead, FeedCause, is_unbuilt, declarations}
 use Rattle.recorder.specs.Next.{TakesTop, NextEnds, TakesHeader, HeaderTaken}
 use Rattle.recorder.specs.Lane.{top_of, LaneStands, TapeStands, GoesOn, IsOver, SchemaTaken, ChannelTaken, MessageTaken, EndsAt, RecordTaken, LaneRead}
 use Rattle.recorder.proofs.Steps.{messages_same, more_tops}

@@ -3,13 +3,15 @@ use Rattle.std.proofs.Common.{◌≡◌, ℕ, zero, suc, ◌+◌, ◌<◌, List,
 use Rattle.std.proofs.lemmas.Bool.{cases_lt, cases_eq}
 use Rattle.std.proofs.lemmas.List.{take-take}
 use Rattle.rec_data.specs.declared.owned.Rec.{Rec}
-use Rattle.recorder.specs.Places.{At}
-use Rattle.recorder.specs.Feed.{Top, SchemaFields, IsSchema, ChannelFields, SameChannel, IsChannel, FitsBehind, AreGood}
-use Rattle.recorder.specs.History.{schema_of, is_schema, schema_count, Follows, Numbered}
-use Rattle.recorder.specs.Assembled.{SourceShows}
+use Rattle.mcap_model.specs.Places.{At}
+use Rattle.mcap_model.specs.Tops.{Top}
+use Rattle.mcap_model.specs.Fields.{SchemaFields, IsSchema, ChannelFields, SameChannel, IsChannel}
+use Rattle.recorder.specs.Feed.{FitsBehind, AreGood}
+use Rattle.mcap_model.specs.History.{schema_of, is_schema, schema_count, Follows, Numbered}
+use Rattle.mcap_model.specs.Written.{SourceShows}
 use Rattle.recorder.specs.Channels.{SourceSchemaShows}
-use Rattle.recorder.proofs.Maps.{schema_once, shows_once, same_refl, same_sym}
-use Rattle.recorder.proofs.Places.{at_none, at_one}
+use Rattle.mcap_model.proofs.Maps.{schema_once, shows_once, same_refl, same_sym}
+use Rattle.mcap_model.proofs.Places.{at_none, at_one}
 use Rattle.recorder.proofs.StepsTable.{filter_before}
 
 pub at_take : {X : Type 0} (xs : List X) (n m : ℕ) (x : X) → At xs n x → n < m → At (take m xs) n x

@@ -9,14 +9,18 @@ use Rattle.recorder.specs.declared.report.DeclaredAt.{DeclaredAt}
 use Rattle.recorder.specs.declared.report.Refused.{Refused}
 use Rattle.recorder.specs.declared.schemas.SourceSchema.{SourceSchema}
 use Rattle.recorder.specs.declared.channels.SourceChannel.{SourceChannel}
-use Rattle.recorder.specs.Places.{At}
-use Rattle.recorder.specs.Feed.{Top, SchemaFields, HasSchema, ChannelFields, IsMessage, is_declaration, declarations}
-use Rattle.recorder.specs.History.{message_of}
-use Rattle.recorder.specs.Assembled.{messages, IsOn, SourceShows, SameSchema, SchemaIs, IsWrittenAs, Added, Declares, Accepts, Assembled}
+use Rattle.mcap_model.specs.Places.{At}
+use Rattle.mcap_model.specs.Tops.{Top}
+use Rattle.mcap_model.specs.Fields.{SchemaFields, ChannelFields, IsMessage}
+use Rattle.mcap_model.specs.Rules.{HasSchema}
+use Rattle.recorder.specs.Feed.{is_declaration, declarations}
+use Rattle.mcap_model.specs.History.{message_of}
+use Rattle.mcap_model.specs.Written.{SourceShows, SameSchema, SchemaIs, IsWrittenAs}
+use Rattle.recorder.specs.Assembled.{messages, IsOn, Added, Declares, Accepts, Assembled}
 use Rattle.recorder.specs.Channels.{schema_fields, SourceSchemaShows, SchemasOf, ChannelsOf, IsGivenId, GivenBy}
 use Rattle.recorder.specs.Lane.{Stands}
-use Rattle.recorder.proofs.Maps.{message_once}
-use Rattle.recorder.proofs.Places.{at_within, at_one, at_kept, at_more}
+use Rattle.mcap_model.proofs.Maps.{message_once}
+use Rattle.mcap_model.proofs.Places.{at_within, at_one, at_kept, at_more}
 
 -- ---- lists
 

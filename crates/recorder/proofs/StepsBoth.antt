@@ -9,14 +9,16 @@ use Rattle.recorder.specs.declared.report.DeclaredAt.{DeclaredAt}
 use Rattle.recorder.specs.declared.report.Refused.{Refused}
 use Rattle.recorder.specs.declared.schemas.SourceSchema.{SourceSchema}
 use Rattle.recorder.specs.declared.channels.SourceChannel.{SourceChannel}
-use Rattle.recorder.specs.Places.{At}
-use Rattle.recorder.specs.Feed.{Top, SchemaFields, IsSchema, ChannelFields, SameChannel}
-use Rattle.recorder.specs.History.{schema_of, channel_of, is_schema, schema_count, is_channel, channel_count, SchemaFollows, ChannelFollows, Follows, Numbered}
-use Rattle.recorder.specs.Assembled.{IsOn, SameSchema}
+use Rattle.mcap_model.specs.Places.{At}
+use Rattle.mcap_model.specs.Tops.{Top}
+use Rattle.mcap_model.specs.Fields.{SchemaFields, IsSchema, ChannelFields, SameChannel}
+use Rattle.mcap_model.specs.History.{schema_of, channel_of, is_schema, schema_count, is_channel, channel_count, SchemaFollows, ChannelFollows, Follows, Numbered}
+use Rattle.mcap_model.specs.Written.{SameSchema}
+use Rattle.recorder.specs.Assembled.{IsOn}
 use Rattle.recorder.specs.Channels.{schema_fields, written_of, SchemasGiven, FindsSameSchema}
 use Rattle.recorder.specs.Lane.{Stands}
-use Rattle.recorder.proofs.Maps.{schema_one}
-use Rattle.recorder.proofs.Places.{at_within, at_kept, at_last, at_more, each_more, at_set_same}
+use Rattle.mcap_model.proofs.Maps.{schema_one}
+use Rattle.mcap_model.proofs.Places.{at_within, at_kept, at_last, at_more, each_more, at_set_same}
 use Rattle.recorder.proofs.Steps.{filter_out}
 use Rattle.recorder.proofs.StepsSchemas.{given_schema_id, GetsSchema, schema_id_some, no_channel_of, schemas_then, schemas_given_then, keeps_given}
 use Rattle.recorder.proofs.StepsTable.{given_id}

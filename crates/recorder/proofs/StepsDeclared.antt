@@ -8,14 +8,16 @@ use Rattle.recorder.specs.declared.report.DeclaredAt.{DeclaredAt}
 use Rattle.recorder.specs.declared.report.Refused.{Refused}
 use Rattle.recorder.specs.declared.schemas.SourceSchema.{SourceSchema}
 use Rattle.recorder.specs.declared.channels.SourceChannel.{SourceChannel}
-use Rattle.recorder.specs.Places.{At}
-use Rattle.recorder.specs.Feed.{Top, SchemaFields, ChannelFields, SameChannel}
-use Rattle.recorder.specs.History.{schema_of, channel_of, is_channel, channel_count, ChannelFollows, Follows, Numbered}
-use Rattle.recorder.specs.Assembled.{IsOn, SchemaIs, Added, Declares, IsGiven, Assembled}
+use Rattle.mcap_model.specs.Places.{At}
+use Rattle.mcap_model.specs.Tops.{Top}
+use Rattle.mcap_model.specs.Fields.{SchemaFields, ChannelFields, SameChannel}
+use Rattle.mcap_model.specs.History.{schema_of, channel_of, is_channel, channel_count, ChannelFollows, Follows, Numbered}
+use Rattle.mcap_model.specs.Written.{SchemaIs}
+use Rattle.recorder.specs.Assembled.{IsOn, Added, Declares, IsGiven, Assembled}
 use Rattle.recorder.specs.Channels.{written_of, SchemasOf, SchemasGiven, ChannelsOf, SchemaGiven, IsGivenId, given_count, GivenBy, FindsSame}
 use Rattle.recorder.specs.Lane.{Stands}
-use Rattle.recorder.proofs.Maps.{fields_one, same_is}
-use Rattle.recorder.proofs.Places.{at_within, at_one, at_kept, at_last, at_more, has_last, each_more, pairs_more, at_set_same, at_set_other, at_set}
+use Rattle.mcap_model.proofs.Maps.{fields_one, same_is}
+use Rattle.mcap_model.proofs.Places.{at_within, at_one, at_kept, at_last, at_more, has_last, each_more, pairs_more, at_set_same, at_set_other, at_set}
 use Rattle.recorder.proofs.Steps.{filter_in, on_one, accepted_within}
 use Rattle.recorder.proofs.StepsSchemas.{schemas_given_grown, schema_is_given}
 use Rattle.recorder.proofs.StepsTable.{filter_set, given_id, has_given, ids_apart, channels_given, declares_grown, accepts_grown, schema_is_grown, given_id_grown, given_grown, numbered_id}

@@ -9,13 +9,15 @@ use Rattle.recorder.specs.declared.report.Refused.{Refused}
 use Rattle.recorder.specs.declared.report.Cause.{Cause}
 use Rattle.recorder.specs.declared.schemas.SourceSchema.{SourceSchema}
 use Rattle.recorder.specs.declared.channels.SourceChannel.{SourceChannel}
-use Rattle.recorder.specs.Places.{At}
-use Rattle.recorder.specs.Feed.{Top, MessageFields, IsMessage, declarations}
-use Rattle.recorder.specs.History.{channel_of, message_of, is_channel, schema_count, channel_count, Follows}
+use Rattle.mcap_model.specs.Places.{At}
+use Rattle.mcap_model.specs.Tops.{Top}
+use Rattle.mcap_model.specs.Fields.{MessageFields, IsMessage}
+use Rattle.recorder.specs.Feed.{declarations}
+use Rattle.mcap_model.specs.History.{channel_of, message_of, is_channel, schema_count, channel_count, Follows}
 use Rattle.recorder.specs.Assembled.{messages, Accepts, Assembled}
 use Rattle.recorder.specs.Channels.{written_of, IsGivenId, given_schemas, given_count, GivenBy}
 use Rattle.recorder.specs.Lane.{Stands}
-use Rattle.recorder.proofs.Places.{at_within, at_kept, at_last, at_more, each_more, pairs_more}
+use Rattle.mcap_model.proofs.Places.{at_within, at_kept, at_last, at_more, each_more, pairs_more}
 use Rattle.recorder.proofs.Steps.{filter_out, accepted_within}
 use Rattle.recorder.proofs.StepsSchemas.{has_schema_given, schemas_given_grown}
 use Rattle.recorder.proofs.StepsTable.{filter_lacks, has_given, declares_grown, accepts_kept, given_id_kept, given_kept, listed_kept, not_message}

@@ -8,13 +8,14 @@ use Rattle.recorder.specs.declared.report.DeclaredAt.{DeclaredAt}
 use Rattle.recorder.specs.declared.report.Refused.{Refused}
 use Rattle.recorder.specs.declared.schemas.SourceSchema.{SourceSchema}
 use Rattle.recorder.specs.declared.channels.SourceChannel.{SourceChannel}
-use Rattle.recorder.specs.Places.{At}
-use Rattle.recorder.specs.Feed.{Top, SchemaFields, IsSchema, ChannelFields}
-use Rattle.recorder.specs.History.{schema_of, channel_of, is_schema, schema_count, Follows, Numbered}
-use Rattle.recorder.specs.Assembled.{SchemaIs}
+use Rattle.mcap_model.specs.Places.{At}
+use Rattle.mcap_model.specs.Tops.{Top}
+use Rattle.mcap_model.specs.Fields.{SchemaFields, IsSchema, ChannelFields}
+use Rattle.mcap_model.specs.History.{schema_of, channel_of, is_schema, schema_count, Follows, Numbered}
+use Rattle.mcap_model.specs.Written.{SchemaIs}
 use Rattle.recorder.specs.Channels.{schema_fields, SchemaFieldsFit, SourceSchemaShows, SchemasOf, given_schemas, SchemasGiven, SchemaGiven, IsGivenId, GivenBy, FindsSameSchema}
 use Rattle.recorder.specs.Lane.{Stands}
-use Rattle.recorder.proofs.Places.{at_within, at_one, at_kept, at_more, at_set_same, at_set_other, at_set}
+use Rattle.mcap_model.proofs.Places.{at_within, at_one, at_kept, at_more, at_set_same, at_set_other, at_set}
 use Rattle.recorder.proofs.Steps.{filter_out}
 use Rattle.recorder.proofs.StepsTable.{pairs_at, pairs_from, each_set, filter_set, filter_before, at_taken}
 

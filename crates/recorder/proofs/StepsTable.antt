@@ -11,12 +11,15 @@ use Rattle.recorder.specs.declared.report.DeclaredAt.{DeclaredAt}
 use Rattle.recorder.specs.declared.report.Refused.{Refused}
 use Rattle.recorder.specs.declared.schemas.SourceSchema.{SourceSchema}
 use Rattle.recorder.specs.declared.channels.SourceChannel.{SourceChannel}
-use Rattle.recorder.specs.Places.{At}
-use Rattle.recorder.specs.Feed.{Top, HasSchema, ChannelFields, SameChannel, MessageFields}
-use Rattle.recorder.specs.History.{schema_of, channel_of, message_of, Follows, Numbered}
-use Rattle.recorder.specs.Assembled.{SourceShows, SameSchema, SchemaIs, IsWrittenAs, Added, Declares, Accepts, IsGiven, IsListed}
+use Rattle.mcap_model.specs.Places.{At}
+use Rattle.mcap_model.specs.Tops.{Top}
+use Rattle.mcap_model.specs.Fields.{ChannelFields, SameChannel, MessageFields}
+use Rattle.mcap_model.specs.Rules.{HasSchema}
+use Rattle.mcap_model.specs.History.{schema_of, channel_of, message_of, Follows, Numbered}
+use Rattle.mcap_model.specs.Written.{SourceShows, SameSchema, SchemaIs, IsWrittenAs}
+use Rattle.recorder.specs.Assembled.{Added, Declares, Accepts, IsGiven, IsListed}
 use Rattle.recorder.specs.Channels.{fields_of, written_of, FieldsFit, ChannelsOf, SchemaGiven, IsGivenId}
-use Rattle.recorder.proofs.Places.{at_within, at_none, at_one, at_kept, at_read, has_kept, at_set_same, at_set_other, at_set}
+use Rattle.mcap_model.proofs.Places.{at_within, at_none, at_one, at_kept, at_read, has_kept, at_set_same, at_set_other, at_set}
 
 -- ---- lists
 

@@ -1,12 +1,14 @@
 -- How a feed and the lists of its report make up the history.
-use Rattle.std.specs.Prelude.{◌≡◌, ◌⊎◌, ℕ, ◌+◌, ◌<◌, ◌≤◌, List, length, filter, AllPairs, IsPermutation, ◌==◌}
+use Rattle.std.specs.Prelude.{◌≡◌, ◌⊎◌, ℕ, ◌+◌, ◌<◌, ◌≤◌, List, length, filter, AllPairs, ◌==◌}
 use Rattle.rec_data.specs.declared.owned.Rec.{Rec}
 use Rattle.recorder.specs.declared.report.Accepted.{Accepted}
 use Rattle.recorder.specs.declared.report.DeclaredAt.{DeclaredAt}
 use Rattle.recorder.specs.declared.report.Refused.{Refused}
-use Rattle.recorder.specs.Places.{At, Has}
-use Rattle.recorder.specs.Feed.{Top, SchemaFields, IsSchema, ChannelFields, IsChannel, MessageFields, IsMessage}
-use Rattle.recorder.specs.History.{schema_of, channel_of, message_of, Numbered}
+use Rattle.mcap_model.specs.Places.{At, Has}
+use Rattle.mcap_model.specs.Tops.{Top}
+use Rattle.mcap_model.specs.Fields.{ChannelFields, MessageFields, IsMessage}
+use Rattle.mcap_model.specs.History.{channel_of, message_of, Numbered}
+use Rattle.mcap_model.specs.Written.{SameSchema, SourceShows, IsWrittenAs}
 
 -- the messages among the records, in their order: the first one has index 0
 abbrev pub messages : List Top → List Top
@@ -18,34 +20,6 @@ pub record IsOn (tops : List Top) (index channel : ℕ) : Type 0 where
   pub message : MessageFields
   pub at : At (messages tops) index top
   pub is : IsMessage top channel message
-
--- the feed's channel of that id has these fields
-pub record SourceShows (tops : List Top) (channel : ℕ) (shown : ChannelFields) : Type 0 where
-  pub place : ℕ
-  pub top : Top
-  pub at : At tops place top
-  pub is : IsChannel top channel shown
-
--- the feed's schema of the first id has the fields of the history's Schema of the second one
-pub record SameSchema (tops : List Top) (history : List Rec) (source written : ℕ) : Type 0 where
-  pub place : ℕ
-  pub top : Top
-  pub shown : SchemaFields
-  pub at : At tops place top
-  pub is : IsSchema top source shown
-  pub there : ℕ
-  pub stands : At history there (schema_of written shown)
-
--- both have no schema, or the same
-abbrev pub SchemaIs : List Top → List Rec → ℕ → ℕ → Type 0
-SchemaIs tops history source written = ((source ≡ 0) × (written ≡ 0)) ⊎ SameSchema tops history source written
-
--- the fields of a channel of the feed, and those that are written of it
-pub record IsWrittenAs (tops : List Top) (history : List Rec) (shown written : ChannelFields) : Type 0 where
-  pub schema : SchemaIs tops history shown.schema written.schema
-  pub topic : shown.topic ≡ written.topic
-  pub encoding : shown.encoding ≡ written.encoding
-  pub metadata : IsPermutation shown.metadata written.metadata
 
 -- the records that a declaration added: none, its Channel, or its Schema and its Channel
 abbrev pub Added : List Top → List Rec → DeclaredAt → ℕ → ℕ → ℕ → Type 0

@@ -5,10 +5,14 @@ use Rattle.rec_data.specs.declared.owned.Rec.{Rec}
 use Rattle.recorder.specs.declared.schemas.SourceSchema.{SourceSchema}
 use Rattle.recorder.specs.declared.channels.SourceChannel.{SourceChannel}
 use Rattle.recorder.specs.declared.report.DeclaredAt.{DeclaredAt}
-use Rattle.recorder.specs.Places.{At, Has}
-use Rattle.recorder.specs.Feed.{Top, SchemaFields, IsSchema, HasSchema, ChannelFields, SameChannel, IsChannel, declarations}
-use Rattle.recorder.specs.History.{schema_of, schema_count, channel_of, channel_count}
-use Rattle.recorder.specs.Assembled.{IsOn, SourceShows}
+use Rattle.mcap_model.specs.Places.{At, Has}
+use Rattle.mcap_model.specs.Tops.{Top}
+use Rattle.mcap_model.specs.Fields.{SchemaFields, IsSchema, ChannelFields, SameChannel, IsChannel}
+use Rattle.mcap_model.specs.Rules.{HasSchema}
+use Rattle.recorder.specs.Feed.{declarations}
+use Rattle.mcap_model.specs.History.{schema_of, schema_count, channel_of, channel_count}
+use Rattle.mcap_model.specs.Written.{SourceShows}
+use Rattle.recorder.specs.Assembled.{IsOn}
 
 -- ---- schemas
 

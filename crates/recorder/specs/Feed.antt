@@ -1,104 +1,16 @@
 -- The records of a feed, and where its reading ends and why.
-use Rattle.std.specs.Prelude.{◌≡◌, ◌⊎◌, ℕ, ◌+◌, ◌<◌, ◌≤◌, List, [], ◌∷◌, ◌++◌, length, take, drop, filter, slice_index, Bool, true, false, not, ◌&&◌, ◌||◌, ◌==◌, nat_lt, nat_le, if◌then◌else◌, Option, Some, IsPermutation}
-use Rattle.std.specs.List.{flat_map, list_any}
-use Rattle.mcap_wire.specs.Layout.{number, framed, magic}
-use Rattle.rec_data.specs.Records.{ShowsHeader, ShowsDataEnd, ShowsSchema, ShowsChannel, ShowsMessage}
+use Rattle.std.specs.Prelude.{◌≡◌, ◌⊎◌, ℕ, ◌+◌, ◌<◌, ◌≤◌, List, [], ◌∷◌, ◌++◌, length, drop, filter, Bool, true, false, not, ◌&&◌, ◌||◌, ◌==◌, nat_lt, nat_le, if◌then◌else◌, Option, Some}
+use Rattle.std.specs.List.{list_any}
+use Rattle.mcap_wire.specs.Layout.{magic}
 use Rattle.mcap_io.specs.Outside.{Rose}
+use Rattle.mcap_model.specs.Places.{At, EachBehind}
+use Rattle.mcap_model.specs.Tops.{Top, spelled, opcode, declared_length, has_head, is_whole, first_top}
+use Rattle.mcap_model.specs.Fields.{IsHeader, IsDataEnd, SchemaFields, IsSchema, ChannelFields, SameChannel, IsChannel, MessageFields, IsMessage}
+use Rattle.mcap_model.specs.Rules.{HasDataEnd, HasSchema, HasChannel}
 use Rattle.recorder.specs.declared.report.FeedEnd.{FeedEnd}
 use Rattle.recorder.specs.declared.report.FeedEnd.TheVariants as feed_ends
-use Rattle.recorder.specs.Places.{At, EachBehind}
-
--- a top-level record
-pub record Top : Type 0 where
-  pub op : ℕ
-  pub content : List ℕ
-
-abbrev pub top_bytes : Top → List ℕ
-top_bytes t = framed t.op t.content
-
--- the records' bytes, one after the other
-abbrev pub spelled : List Top → List ℕ
-spelled tops = flat_map top_bytes tops
-
--- ---- what the records show (MCAP specification: Header, Schema, Channel, Message, Data End)
-
-pub record IsHeader (t : Top) : Type 0 where
-  pub kind : t.op ≡ 1
-  pub profile : List ℕ
-  pub library : List ℕ
-  pub layout : ShowsHeader t.content profile library
-
-pub record IsDataEnd (t : Top) : Type 0 where
-  pub kind : t.op ≡ 15
-  pub crc : ℕ
-  pub layout : ShowsDataEnd t.content crc
-
--- what a schema is but for its id: its name, its encoding and its data
-pub record SchemaFields : Type 0 where
-  pub name : List ℕ
-  pub encoding : List ℕ
-  pub payload : List ℕ
-
--- the record shows a Schema of that id, which isn't 0
-pub record IsSchema (t : Top) (id : ℕ) (f : SchemaFields) : Type 0 where
-  pub kind : t.op ≡ 3
-  pub layout : ShowsSchema t.content id f.name f.encoding f.payload
-  pub some : id ≡ 0 → ⊥
-
--- what a channel is but for its id: the id of its schema, or 0 where it has none, its topic, the encoding of its
--- messages, and its metadata
-pub record ChannelFields : Type 0 where
-  pub schema : ℕ
-  pub topic : List ℕ
-  pub encoding : List ℕ
-  pub metadata : List (List ℕ × List ℕ)
-
--- equal fields: the metadata are compared as maps
-pub record SameChannel (f g : ChannelFields) : Type 0 where
-  pub schema : f.schema ≡ g.schema
-  pub topic : f.topic ≡ g.topic
-  pub encoding : f.encoding ≡ g.encoding
-  pub metadata : IsPermutation f.metadata g.metadata
-
--- the record shows a Channel of that id
-pub record IsChannel (t : Top) (id : ℕ) (f : ChannelFields) : Type 0 where
-  pub kind : t.op ≡ 4
-  pub layout : ShowsChannel t.content id f.schema f.topic f.encoding f.metadata
-
--- what a message is but for its channel
-pub record MessageFields : Type 0 where
-  pub sequence : ℕ
-  pub log_time : ℕ
-  pub publish_time : ℕ
-  pub payload : List ℕ
-
--- the record shows a Message on the channel of that id
-pub record IsMessage (t : Top) (channel : ℕ) (m : MessageFields) : Type 0 where
-  pub kind : t.op ≡ 5
-  pub layout : ShowsMessage t.content channel m.sequence m.log_time m.publish_time m.payload
 
 -- ---- which records may follow one another (MCAP specification: File Structure)
-
--- one of them is a Data End
-abbrev pub HasDataEnd : List Top → Type 0
-HasDataEnd [] = ⊥
-HasDataEnd (t ∷ ts) = (t.op ≡ 15) ⊎ HasDataEnd ts
-
--- one of them is a Schema of that id
-pub record HasSchema (tops : List Top) (id : ℕ) : Type 0 where
-  pub place : ℕ
-  pub top : Top
-  pub shown : SchemaFields
-  pub at : At tops place top
-  pub is : IsSchema top id shown
-
--- one of them is a Channel of that id
-pub record HasChannel (tops : List Top) (id : ℕ) : Type 0 where
-  pub place : ℕ
-  pub top : Top
-  pub shown : ChannelFields
-  pub at : At tops place top
-  pub is : IsChannel top id shown
 
 -- a Schema whose fields are those of each Schema of its id before it
 pub record SchemaFits (before : List Top) (t : Top) : Type 0 where
@@ -122,7 +34,8 @@ pub record MessageFits (before : List Top) (t : Top) : Type 0 where
   pub is : IsMessage t channel message
   pub known : HasChannel before channel
 
--- a Header stands first; behind it stand Schemas, Channels and Messages up to the Data End
+-- A Header stands first; behind it stand Schemas, Channels and Messages up to the Data End. The rule for all kinds is
+-- `Fits` of mcap_model; this one goes once no kind ends a reading.
 abbrev pub FitsBehind : List Top → Top → Type 0
 FitsBehind [] t = IsHeader t
 FitsBehind (first ∷ more) t = (HasDataEnd (first ∷ more) → ⊥)
@@ -161,27 +74,13 @@ IsBuilt before t = is_unbuilt (declarations before) (8 + length (spelled before)
 
 -- ---- what stands at the front of some bytes
 
-abbrev pub opcode : List ℕ → ℕ
-opcode rest = slice_index rest 0
-
--- the length that the record there declares
-abbrev pub declared : List ℕ → ℕ
-declared rest = number (take 8 (drop 1 rest))
-
 -- a record begins there: nine bytes at least, and no opcode 0
-abbrev pub has_head : List ℕ → Bool
-has_head rest = nat_le 9 (length rest) && not (opcode rest == 0)
+abbrev pub has_opcode : List ℕ → Bool
+has_opcode rest = has_head rest && not (opcode rest == 0)
 
--- its content is all there
-abbrev pub is_whole : List ℕ → Bool
-is_whole rest = nat_le (9 + declared rest) (length rest)
-
--- what stands behind the record there, or behind nine bytes where none begins
-abbrev pub behind_first : List ℕ → List ℕ
-behind_first rest = drop (if has_head rest then 9 + declared rest else 9) rest
-
-abbrev pub first_top : List ℕ → Top
-first_top rest = record { op = opcode rest; content = take (declared rest) (drop 9 rest) }
+-- what a reading of the record there leaves: what stands behind it, or behind nine bytes where none begins
+abbrev pub behind_taken : List ℕ → List ℕ
+behind_taken rest = drop (if has_opcode rest then 9 + declared_length rest else 9) rest
 
 -- ---- the reading of a feed
 
@@ -199,13 +98,13 @@ pub record ReadsTo (bytes : List ℕ) (tops : List Top) (rest : List ℕ) (at : 
 
 -- a record that isn't recorded yet begins at the rest
 pub record IsLater (tops : List Top) (rest : List ℕ) (at : ℕ) : Type 0 where
-  pub head : has_head rest ≡ true
-  pub unbuilt : is_unbuilt (declarations tops) at (opcode rest) (declared rest) ≡ true
+  pub head : has_opcode rest ≡ true
+  pub unbuilt : is_unbuilt (declarations tops) at (opcode rest) (declared_length rest) ≡ true
 
 -- no record begins at the rest; or one begins that is recorded, but is cut off or may not stand behind the others
 abbrev pub IsBroken : List Top → List ℕ → ℕ → Type 0
-IsBroken tops rest at = (has_head rest ≡ false)
-    ⊎ ((has_head rest ≡ true) × (is_unbuilt (declarations tops) at (opcode rest) (declared rest) ≡ false)
+IsBroken tops rest at = (has_opcode rest ≡ false)
+    ⊎ ((has_opcode rest ≡ true) × (is_unbuilt (declarations tops) at (opcode rest) (declared_length rest) ≡ false)
     × ((is_whole rest ≡ false) ⊎ ((is_whole rest ≡ true) × (FitsBehind tops (first_top rest) → ⊥))))
 
 -- the feed doesn't begin with the magic
@@ -216,14 +115,14 @@ LacksMagic bytes = (rest : List ℕ) → bytes ≡ magic ++ rest → ⊥
 -- the head of a record that is recorded, or behind the whole of a schema or a channel.
 abbrev pub MemoryLeaves : ℕ → List ℕ → ℕ → Option (List ℕ) → Type 0
 MemoryLeaves count rest at left = (left ≡ Some rest)
-    ⊎ ((has_head rest ≡ true) × (is_unbuilt count at (opcode rest) (declared rest) ≡ false)
-    × ((left ≡ Some (drop 9 rest)) ⊎ ((is_declaration (opcode rest) ≡ true) × (is_whole rest ≡ true) × (left ≡ Some (behind_first rest)))))
+    ⊎ ((has_opcode rest ≡ true) × (is_unbuilt count at (opcode rest) (declared_length rest) ≡ false)
+    × ((left ≡ Some (drop 9 rest)) ⊎ ((is_declaration (opcode rest) ≡ true) × (is_whole rest ≡ true) × (left ≡ Some (behind_taken rest)))))
 
 -- Behind so many schemas and channels, at that offset: fewer bytes than a head, or a record begins there that is
 -- recorded, but isn't all there.
 abbrev pub IsCutOff : ℕ → List ℕ → ℕ → Type 0
 IsCutOff count part at = (length part < 9)
-    ⊎ ((has_head part ≡ true) × (is_unbuilt count at (opcode part) (declared part) ≡ false) × (is_whole part ≡ false))
+    ⊎ ((has_opcode part ≡ true) × (is_unbuilt count at (opcode part) (declared_length part) ≡ false) × (is_whole part ≡ false))
 
 -- These are all records that are whole in the bytes which a source gave. Behind them more bytes are awaited: no Data
 -- End is among them, and what stands there is cut off, or the magic itself is.
@@ -241,7 +140,7 @@ LastIsMessage tops = (before : List Top) × (t : Top) × (tops ≡ before ++ t �
 abbrev pub FeedRead : List ℕ → List Top → Option (List ℕ) → FeedEnd → Type 0
 FeedRead bytes tops left feed_ends.Done = (rest : List ℕ) × Reads bytes tops rest × HasDataEnd tops × (left ≡ Some rest)
 FeedRead bytes tops left (feed_ends.Grammar n) = ((n ≡ 0) × (tops ≡ []) × LacksMagic bytes × (left ≡ Some (drop 8 bytes)))
-    ⊎ ((rest : List ℕ) × ReadsTo bytes tops rest n × IsBroken tops rest n × (left ≡ Some (behind_first rest)))
+    ⊎ ((rest : List ℕ) × ReadsTo bytes tops rest n × IsBroken tops rest n × (left ≡ Some (behind_taken rest)))
 FeedRead bytes tops left (feed_ends.NotBuilt n) = (rest : List ℕ) × ReadsTo bytes tops rest n × IsLater tops rest n × (left ≡ Some (drop 9 rest))
 FeedRead bytes tops left (feed_ends.Fault faults) = (given rest : List ℕ) × (bytes ≡ given ++ rest) × (left ≡ Some rest) × AllGiven given tops
 FeedRead bytes tops left feed_ends.Memory = ((tops ≡ []) × (left ≡ Some bytes))

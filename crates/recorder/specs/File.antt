@@ -1,76 +1,73 @@
--- The file of a plain recording.
-use Rattle.std.specs.Prelude.{◌≡◌, ◌⊎◌, ℕ, ◌+◌, ◌≤◌, List, [], ◌++◌, length, take, codes, Option, Result, Ok, Err}
-use Rattle.mcap_wire.specs.Layout.{framed, magic}
-use Rattle.rec_data.specs.Records.{header_text, data_end_text, footer_text}
-use Rattle.rec_data.specs.declared.owned.Rec.{Rec}
-use Rattle.rec_data.specs.Owned.{rec_bytes}
+-- The file of a plain recording, and what of it was written.
+use Rattle.std.specs.Prelude.{◌≡◌, ◌⊎◌, ℕ, suc, ◌+◌, ◌≤◌, List, [], length, None, Option, Result, Ok, Err}
 use Rattle.mcap_io.specs.Outside.{Rose, Adds, AddsPart}
-use Rattle.recorder.specs.declared.report.End.{End}
-use Rattle.recorder.specs.declared.report.End.TheVariants as ends
-use Rattle.recorder.specs.declared.report.Stop.{Stop}
-use Rattle.recorder.specs.declared.report.Stop.TheVariants as stops
-use Rattle.recorder.specs.Places.{At}
-use Rattle.recorder.specs.History.{accepted_with, history_bytes}
+use Rattle.rec_data.specs.declared.owned.Rec.{Rec}
+use Rattle.rec_data.specs.declared.owned.Rec.TheVariants.{Schema, Channel, Message}
+use Rattle.mcap_model.specs.declared.options.FileOptions.{FileOptions}
+use Rattle.mcap_model.specs.declared.ends.End.{End}
+use Rattle.mcap_model.specs.declared.ends.End.TheVariants as ends
+use Rattle.mcap_model.specs.declared.ends.Stop.{Stop}
+use Rattle.mcap_model.specs.declared.ends.Stop.TheVariants as stops
+use Rattle.mcap_model.specs.Places.{At}
+use Rattle.mcap_model.specs.File.{file_of}
+use Rattle.mcap_model.specs.Pieces.{back_of, file_pieces, pieces_before, StoppedAt}
 
-abbrev pub library : List ℕ
-library = codes "mcaprec 1"
+-- no profile and no chunks: the records stand at top level, in order, and there is no summary
+abbrev pub plain : FileOptions
+plain = record { profile = []; chunk = None }
 
--- the magic and the Header
-unfoldable pub front : List ℕ → List ℕ
-front profile = magic ++ framed 1 (header_text profile library)
+-- the pieces of the file of these records: the front, each record, and the back
+abbrev pub plain_pieces : List Rec → List (List ℕ)
+plain_pieces history = file_pieces plain [] history
 
--- Data End, a Footer without a summary, and the magic again
-unfoldable pub back : List ℕ
-back = framed 15 (data_end_text 0) ++ (framed 2 (footer_text 0 0 0) ++ magic)
-
--- the file of these records: they stand at top level, in order, and there is no summary
-abbrev pub file_of : List ℕ → List Rec → List ℕ
-file_of profile history = front profile ++ (history_bytes history ++ back)
-
--- a first part of the whole
-abbrev pub IsPrefix : List ℕ → List ℕ → Type 0
-IsPrefix some whole = (rest : List ℕ) × (some ++ rest ≡ whole)
+-- the back, which is the same for all records
+abbrev pub plain_back : List ℕ
+plain_back = back_of plain [] []
 
 -- What one piece did to a store: all of it stands there, or the store failed and a first part of it does, or memory
 -- lacked and nothing changed. The count of faults stands still but where the store failed, by which it rose.
 abbrev pub PieceAdded : Option (List ℕ) → Option (List ℕ) → ℕ → ℕ → List ℕ → Result ℕ Stop → Type 0
 PieceAdded old new before now piece (Ok bytes) = (now ≡ before) × Adds old new piece × (bytes ≡ length piece)
 PieceAdded old new before now piece (Err (stops.Fault faults)) = (before ≤ now) × Rose before now × (faults ≡ now) × AddsPart old new 0 piece
+PieceAdded old new before now piece (Err (stops.Limit blocks bytes)) = ⊥
 PieceAdded old new before now piece (Err stops.Memory) = (now ≡ before) × (new ≡ old)
 
--- The file is appended piece by piece: the front, each record, and the back. These bytes are whole pieces of it, and
--- this is the piece behind them at which the writer stopped, which isn't the back. Behind it nothing was accepted, but
+-- how many records are accepted at once, the first of which is this one: a Schema comes with its Channel
+abbrev pub accepted_with : Rec → ℕ
+accepted_with (Schema id schema) = 2
+accepted_with (Channel id schema topic encoding metadata) = 1
+accepted_with (Message channel sequence log_time publish_time payload) = 1
+
+-- The writer may stop at the piece at that place before it closes the file. Behind the piece nothing was accepted, but
 -- for the Channel that comes with a Schema.
-abbrev pub AreFirstPieces : List Rec → List ℕ → List ℕ → Type 0
-AreFirstPieces history done next = ((history ≡ []) × (done ≡ []) × (next ≡ front []))
-    ⊎ ((k : ℕ) × (r : Rec) × At history k r × (length history ≤ k + accepted_with r) × (done ≡ front [] ++ history_bytes (take k history)) × (next ≡ rec_bytes r))
+abbrev pub MayStopAt : List Rec → ℕ → Type 0
+MayStopAt history place = ((history ≡ []) × (place ≡ 0))
+    ⊎ ((k : ℕ) × (r : Rec) × At history k r × (length history ≤ k + accepted_with r) × (place ≡ suc k))
 
 -- the same, or it is the back
-abbrev pub ArePieces : List Rec → List ℕ → List ℕ → Type 0
-ArePieces history done next = AreFirstPieces history done next ⊎ ((done ≡ front [] ++ history_bytes history) × (next ≡ back))
+abbrev pub MayEndAt : List Rec → ℕ → Type 0
+MayEndAt history place = MayStopAt history place ⊎ (place ≡ suc (length history))
 
 -- so many bytes of the file of this history were taken in whole pieces when the writer ended so
 abbrev pub TookBytes : List Rec → End → ℕ → Type 0
-TookBytes history ends.Closed bytes = bytes ≡ length (file_of [] history)
-TookBytes history (ends.Stopped stop) bytes = (done next : List ℕ) × ArePieces history done next × (bytes ≡ length done)
+TookBytes history ends.Closed bytes = bytes ≡ length (file_of plain [] history)
+TookBytes history (ends.Stopped stop) bytes = (place : ℕ) × MayEndAt history place × (bytes ≡ length (pieces_before (plain_pieces history) place))
 
--- a first part of the file: whole pieces of so many bytes, and perhaps some of the next one, but none of it where
--- memory lacked
+-- what stands of the file of this history where the writer stopped so
 pub record IsPartOf (text : List ℕ) (history : List Rec) (stop : Stop) (bytes : ℕ) : Type 0 where
-  pub done : List ℕ
-  pub next : List ℕ
-  pub pieces : ArePieces history done next
-  pub some : ℕ
-  pub split : text ≡ done ++ take some next
-  pub lacked : stop ≡ stops.Memory → some ≡ 0
-  pub size : bytes ≡ length done
+  pub place : ℕ
+  pub ended : MayEndAt history place
+  pub stopped : StoppedAt (plain_pieces history) place stop text bytes
 
 -- what was written of the file of this history when the writer ended so
 abbrev pub WrittenSoFar : List ℕ → List Rec → End → ℕ → Type 0
-WrittenSoFar text history ends.Closed bytes = (text ≡ file_of [] history) × (bytes ≡ length text)
+WrittenSoFar text history ends.Closed bytes = (text ≡ file_of plain [] history) × (bytes ≡ length text)
 WrittenSoFar text history (ends.Stopped stop) bytes = IsPartOf text history stop bytes
 
--- The count of the store stands still but where the writer stopped by a fault: there it rose, and the end carries it.
+-- The count of the store stands still but where the writer stopped by a fault: there it rose, and the end carries it. No
+-- limit stops it.
 abbrev pub WriterCause : ℕ → ℕ → End → Type 0
+WriterCause before now ends.Closed = now ≡ before
 WriterCause before now (ends.Stopped (stops.Fault faults)) = (before ≤ now) × Rose before now × (faults ≡ now)
-WriterCause before now end = now ≡ before
+WriterCause before now (ends.Stopped (stops.Limit blocks bytes)) = ⊥
+WriterCause before now (ends.Stopped stops.Memory) = now ≡ before

@@ -4,7 +4,7 @@ use Rattle.rec_data.specs.declared.owned.Rec.{Rec}
 use Rattle.recorder.specs.declared.report.Refused.{Refused}
 use Rattle.recorder.specs.declared.report.Cause.{Cause}
 use Rattle.recorder.specs.declared.report.Cause.TheVariants as causes
-use Rattle.recorder.specs.declared.report.Stop.{Stop}
+use Rattle.mcap_model.specs.declared.ends.Stop.{Stop}
 use Rattle.recorder.specs.declared.channels.SourceChannel.{SourceChannel}
 use Rattle.recorder.specs.declared.lane.Lane.{Lane}
 use Rattle.recorder.specs.declared.lane.Put.{Put}
@@ -12,9 +12,10 @@ use Rattle.recorder.specs.declared.lane.Put.TheVariants as puts
 use Rattle.recorder.specs.declared.lane.Declared.{Declared}
 use Rattle.recorder.specs.declared.lane.Declared.TheVariants as declarations_made
 use Rattle.recorder.specs.declared.tape.Tape.{Tape}
-use Rattle.recorder.specs.Places.{At}
-use Rattle.recorder.specs.Feed.{Top, declarations}
-use Rattle.recorder.specs.History.{schema_count, channel_count}
+use Rattle.mcap_model.specs.Places.{At}
+use Rattle.mcap_model.specs.Tops.{Top}
+use Rattle.recorder.specs.Feed.{declarations}
+use Rattle.mcap_model.specs.History.{schema_count, channel_count}
 use Rattle.recorder.specs.Assembled.{messages}
 use Rattle.recorder.specs.Lane.{Stands, LaneStands, LaneOver, TapeStands, TapeFits, EndsAtMessage}
 

@@ -5,7 +5,7 @@ use Rattle.recorder.specs.declared.report.Accepted.{Accepted}
 use Rattle.recorder.specs.declared.report.DeclaredAt.{DeclaredAt}
 use Rattle.recorder.specs.declared.report.Refused.{Refused}
 use Rattle.recorder.specs.declared.report.Cause.TheVariants as causes
-use Rattle.recorder.specs.declared.report.Stop.{Stop}
+use Rattle.mcap_model.specs.declared.ends.Stop.{Stop}
 use Rattle.recorder.specs.declared.report.FeedEnd.{FeedEnd}
 use Rattle.recorder.specs.declared.report.FeedEnd.TheVariants as feed_ends
 use Rattle.recorder.specs.declared.schemas.SourceSchema.{SourceSchema}
@@ -15,9 +15,10 @@ use Rattle.recorder.specs.declared.lane.Put.{Put}
 use Rattle.recorder.specs.declared.lane.Put.TheVariants as puts
 use Rattle.recorder.specs.declared.tape.Tape.{Tape}
 use Rattle.recorder.specs.Tape.{Wrote}
-use Rattle.recorder.specs.Places.{At}
-use Rattle.recorder.specs.Feed.{Top, SchemaFits, ChannelFits, MessageFits, FitsBehind, FeedRead, FeedCause, is_declaration, declarations}
-use Rattle.recorder.specs.History.{schema_count, channel_count}
+use Rattle.mcap_model.specs.Places.{At}
+use Rattle.mcap_model.specs.Tops.{Top}
+use Rattle.recorder.specs.Feed.{SchemaFits, ChannelFits, MessageFits, FitsBehind, FeedRead, FeedCause, is_declaration, declarations}
+use Rattle.mcap_model.specs.History.{schema_count, channel_count}
 use Rattle.recorder.specs.Assembled.{Assembled, messages}
 use Rattle.recorder.specs.Channels.{SchemasOf, SchemasGiven, ChannelsOf, GivenBy}
 

@@ -5,7 +5,8 @@ use Rattle.recorder.specs.declared.report.Accepted.{Accepted}
 use Rattle.recorder.specs.declared.report.DeclaredAt.{DeclaredAt}
 use Rattle.recorder.specs.declared.report.FeedEnd.{FeedEnd}
 use Rattle.recorder.specs.declared.report.Refused.{Refused}
-use Rattle.recorder.specs.Feed.{Top, AreGood, Stops}
+use Rattle.mcap_model.specs.Tops.{Top}
+use Rattle.recorder.specs.Feed.{AreGood, Stops}
 use Rattle.recorder.specs.Assembled.{Assembled}
 
 -- the bytes of a feed decide its records, and where and why its reading ends

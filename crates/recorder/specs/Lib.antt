@@ -3,10 +3,8 @@ pub mod Channels
 pub mod Feed
 pub mod File
 pub mod Handling
-pub mod History
 pub mod Lane
 pub mod Laws
 pub mod Next
-pub mod Places
 pub mod Recorded
 pub mod Tape

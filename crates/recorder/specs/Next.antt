@@ -9,7 +9,8 @@ use Rattle.recorder.specs.declared.report.FeedEnd.TheVariants as feed_ends
 use Rattle.recorder.specs.declared.feed.Next.{Next}
 use Rattle.recorder.specs.declared.feed.Next.TheVariants as next
 use Rattle.recorder.specs.declared.feed.Head.{Head}
-use Rattle.recorder.specs.Feed.{Top, ReadsTo, FeedRead, FeedCause, has_head, opcode, declared, is_unbuilt, is_whole, first_top, behind_first, spelled, IsCutOff}
+use Rattle.mcap_model.specs.Tops.{Top, opcode, declared_length, is_whole, first_top, spelled}
+use Rattle.recorder.specs.Feed.{ReadsTo, FeedRead, FeedCause, has_opcode, is_unbuilt, behind_taken, IsCutOff}
 
 -- nine bytes are the head of a record: its opcode, and the length of its content
 pub record IsHead (bytes : List ℕ) (op len : ℕ) : Type 0 where
@@ -25,9 +26,9 @@ HeadRead bytes (Some head) = IsHead bytes head.op head.len
 
 -- a head stands at the front, and the bytes behind it are left
 pub record TakesHead (rest : List ℕ) (left : Option (List ℕ)) (op len : ℕ) : Type 0 where
-  pub begins : has_head rest ≡ true
+  pub begins : has_opcode rest ≡ true
   pub op_is : opcode rest ≡ op
-  pub len_is : declared rest ≡ len
+  pub len_is : declared_length rest ≡ len
   pub no_zero : op ≡ 0 → ⊥
   pub after : List ℕ
   pub split : rest ≡ op ∷ (le 8 len ++ after)
@@ -44,17 +45,17 @@ GivesPart rest count at left = (n : ℕ) × (left ≡ Some (drop n rest)) × IsC
 -- Why no record could be taken, behind so many declarations and at that offset.
 abbrev pub NextEnds : List ℕ → ℕ → ℕ → Option (List ℕ) → FeedEnd → Type 0
 NextEnds rest count at left feed_ends.Done = ⊥
-NextEnds rest count at left (feed_ends.Grammar n) = (n ≡ at) × (left ≡ Some (behind_first rest)) × ((has_head rest ≡ false)
-    ⊎ ((has_head rest ≡ true) × (is_unbuilt count at (opcode rest) (declared rest) ≡ false) × (is_whole rest ≡ false)))
-NextEnds rest count at left (feed_ends.NotBuilt n) = (n ≡ at) × (has_head rest ≡ true) × (is_unbuilt count at (opcode rest) (declared rest) ≡ true) × (left ≡ Some (drop 9 rest))
+NextEnds rest count at left (feed_ends.Grammar n) = (n ≡ at) × (left ≡ Some (behind_taken rest)) × ((has_opcode rest ≡ false)
+    ⊎ ((has_opcode rest ≡ true) × (is_unbuilt count at (opcode rest) (declared_length rest) ≡ false) × (is_whole rest ≡ false)))
+NextEnds rest count at left (feed_ends.NotBuilt n) = (n ≡ at) × (has_opcode rest ≡ true) × (is_unbuilt count at (opcode rest) (declared_length rest) ≡ true) × (left ≡ Some (drop 9 rest))
 NextEnds rest count at left (feed_ends.Fault faults) = GivesPart rest count at left
 NextEnds rest count at left feed_ends.Memory = (left ≡ Some rest)
-    ⊎ ((has_head rest ≡ true) × (is_unbuilt count at (opcode rest) (declared rest) ≡ false) × (left ≡ Some (drop 9 rest)))
+    ⊎ ((has_opcode rest ≡ true) × (is_unbuilt count at (opcode rest) (declared_length rest) ≡ false) × (left ≡ Some (drop 9 rest)))
 NextEnds rest count at left feed_ends.Ended = ⊥
 
 -- why no head could be taken
 abbrev pub HeadEnds : List ℕ → ℕ → Option (List ℕ) → FeedEnd → Type 0
-HeadEnds rest at left (feed_ends.Grammar n) = (n ≡ at) × (has_head rest ≡ false) × (left ≡ Some (drop 9 rest))
+HeadEnds rest at left (feed_ends.Grammar n) = (n ≡ at) × (has_opcode rest ≡ false) × (left ≡ Some (drop 9 rest))
 HeadEnds rest at left (feed_ends.Fault faults) = GivesFew rest left
 HeadEnds rest at left feed_ends.Memory = left ≡ Some rest
 HeadEnds rest at left end = ⊥
@@ -73,10 +74,10 @@ pub record TakesTop (rest : List ℕ) (count at : ℕ) (left : Option (List ℕ)
   pub after : List ℕ
   pub split : rest ≡ framed op content ++ after
   pub left_after : left ≡ Some after
-  pub behind : after ≡ behind_first rest
-  pub begins : has_head rest ≡ true
+  pub behind : after ≡ behind_taken rest
+  pub begins : has_opcode rest ≡ true
   pub whole : is_whole rest ≡ true
-  pub built_there : is_unbuilt count at (opcode rest) (declared rest) ≡ false
+  pub built_there : is_unbuilt count at (opcode rest) (declared_length rest) ≡ false
   pub first : first_top rest ≡ record { op = op; content = content }
 
 abbrev pub NextTaken : List ℕ → ℕ → ℕ → Option (List ℕ) → List ℕ → Next → Type 0

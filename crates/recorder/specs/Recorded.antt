@@ -5,12 +5,13 @@ use Rattle.recorder.specs.declared.report.Report.{Report}
 use Rattle.recorder.specs.declared.report.FeedReport.{FeedReport}
 use Rattle.recorder.specs.declared.report.FeedEnd.TheVariants as feed_ends
 use Rattle.recorder.specs.declared.report.WriterReport.{WriterReport}
-use Rattle.recorder.specs.declared.report.End.TheVariants as ends
+use Rattle.mcap_model.specs.declared.ends.End.TheVariants as ends
 use Rattle.recorder.specs.declared.report.Refused.{Refused}
 use Rattle.recorder.specs.declared.report.Cause.TheVariants as causes
-use Rattle.recorder.specs.declared.report.Stop.{Stop}
-use Rattle.recorder.specs.Places.{At}
-use Rattle.recorder.specs.Feed.{Top, FeedRead, FeedCause}
+use Rattle.mcap_model.specs.declared.ends.Stop.{Stop}
+use Rattle.mcap_model.specs.Places.{At}
+use Rattle.mcap_model.specs.Tops.{Top}
+use Rattle.recorder.specs.Feed.{FeedRead, FeedCause}
 use Rattle.recorder.specs.File.{TookBytes, WrittenSoFar, WriterCause}
 use Rattle.recorder.specs.Assembled.{Assembled, messages}
 

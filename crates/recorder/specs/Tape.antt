@@ -1,21 +1,21 @@
 -- What a tape has written of a history.
-use Rattle.std.specs.Prelude.{◌≡◌, ℕ, List, [], ◌++◌, length, take, Option, Some, None}
+use Rattle.std.specs.Prelude.{◌≡◌, ℕ, List, [], ◌++◌, length, Option, Some, None}
 use Rattle.rec_data.specs.declared.owned.Rec.{Rec}
 use Rattle.mcap_io.specs.Outside.{Adds}
-use Rattle.recorder.specs.declared.report.Stop.{Stop}
-use Rattle.recorder.specs.declared.report.Stop.TheVariants as stops
-use Rattle.recorder.specs.declared.report.End.TheVariants.{Stopped}
-use Rattle.recorder.specs.History.{history_bytes}
-use Rattle.recorder.specs.File.{front, AreFirstPieces, WriterCause}
+use Rattle.mcap_model.specs.declared.ends.Stop.{Stop}
+use Rattle.mcap_model.specs.declared.ends.End.TheVariants.{Stopped}
+use Rattle.mcap_model.specs.History.{history_bytes}
+use Rattle.mcap_model.specs.File.{front}
+use Rattle.mcap_model.specs.Pieces.{pieces_before, StoppedAt}
+use Rattle.recorder.specs.File.{plain_pieces, MayStopAt, WriterCause}
 
--- The tape stopped at one of the file's pieces. Behind what the store held stand the whole pieces before it, and
--- perhaps some of it, but none where memory lacked.
+-- The tape stopped at a piece of the file that isn't the back: the pieces before it have so many bytes, and behind what
+-- the store held stands what is left of a stop there.
 pub record StopsAt (old new : Option (List ℕ)) (history : List Rec) (stop : Stop) (bytes : ℕ) : Type 0 where
-  pub done : List ℕ
-  pub next : List ℕ
-  pub pieces : AreFirstPieces history done next
-  pub size : bytes ≡ length done
-  pub took : (start : List ℕ) → old ≡ Some start → (some : ℕ) × (new ≡ Some (start ++ (done ++ take some next))) × (stop ≡ stops.Memory → some ≡ 0)
+  pub place : ℕ
+  pub stops_there : MayStopAt history place
+  pub size : bytes ≡ length (pieces_before (plain_pieces history) place)
+  pub took : (start : List ℕ) → old ≡ Some start → (text : List ℕ) × (new ≡ Some (start ++ text)) × StoppedAt (plain_pieces history) place stop text bytes
 
 -- all but the back of the file stands behind what the store held, and its count of faults stands still; or the tape
 -- stopped

@@ -1,7 +1,8 @@
 //! Reading a feed: an MCAP stream of which a recording takes the records up to and with its Data End.
 ghost use Rattle.std.specs.Prelude.{◌≡◌, ◌≤◌, ◌+◌, ◌^◌, ℕ, List, Some, true, false, length, vec_len, IfOk};
 ghost use Rattle.mcap_wire.specs.Layout.{magic};
-ghost use Rattle.recorder.specs.Feed.{FeedCause, IsHeader, IsDataEnd, is_unbuilt};
+ghost use Rattle.mcap_model.specs.Fields.{IsHeader, IsDataEnd};
+ghost use Rattle.recorder.specs.Feed.{FeedCause, is_unbuilt};
 ghost use Rattle.recorder.specs.Next.{HeadRead, HeadTaken, HeadCause, NextTaken, NextCause, NextFits, MagicTaken, HeaderTaken, Failure, NextUnstopped, Unstopped};
 
 use crate::report::FeedEnd;

@@ -3,10 +3,11 @@
 ghost use Rattle.std.specs.Prelude.{◌≡◌, ◌⊎◌, true, false, ◌+◌, ◌*◌, ◌<◌, ◌≤◌, ◌^◌, ◌++◌, ◌∷◌, ℕ, List, Option, [], Some, None, length, IfOk, OnOk};
 ghost use Rattle.rec_data.specs.declared.owned.Rec.{Rec};
 ghost use Rattle.rec_data.specs.Owned.{rec_bytes};
-ghost use Rattle.recorder.specs.declared.report.Stop.{Stop};
-ghost use Rattle.recorder.specs.Places.{At};
-ghost use Rattle.recorder.specs.Feed.{Top, MessageFields, IsMessage};
-ghost use Rattle.recorder.specs.History.{schema_of, channel_of, message_of};
+ghost use Rattle.mcap_model.specs.declared.ends.Stop.{Stop};
+ghost use Rattle.mcap_model.specs.Places.{At};
+ghost use Rattle.mcap_model.specs.Tops.{Top};
+ghost use Rattle.mcap_model.specs.Fields.{MessageFields, IsMessage};
+ghost use Rattle.mcap_model.specs.History.{schema_of, channel_of, message_of};
 ghost use Rattle.recorder.specs.Channels.{schema_fields, SchemaFieldsFit, FindsSchema, FindsSameSchema, SchemaGiven, fields_of, written_of, FieldsFit, FindsSame};
 ghost use Rattle.recorder.specs.Assembled.{messages, IsOn};
 ghost use Rattle.recorder.specs.Handling.{Handles, AtHand, HasId, CauseFits, RefusedFor, DeclaredFor, KnownFor, PublishedAs};

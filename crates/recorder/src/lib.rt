@@ -12,9 +12,7 @@ mod section;
 mod tape;
 
 pub use recording::{Recording, record};
-pub use report::{
-    Accepted, Cause, DeclaredAt, End, FeedEnd, FeedReport, Refused, Report, Stop, WriterReport,
-};
+pub use report::{Accepted, Cause, DeclaredAt, FeedEnd, FeedReport, Refused, Report, WriterReport};
 
 #[cfg(test)]
 mod tests;

@@ -1,22 +1,6 @@
 //! What a recording came to: each feed's part, and the writer's.
 
-/// Why the writer stopped before the file was closed.
-#[derive(Clone, Copy, Debug, PartialEq, Eq)]
-pub enum Stop {
-    /// The store failed; `faults` is its count of faults.
-    Fault { faults: u64 },
-    /// Memory lacked.
-    Memory,
-}
-
-/// How the writer ended.
-#[derive(Clone, Copy, Debug, PartialEq, Eq)]
-pub enum End {
-    /// The file is whole.
-    Closed,
-    /// The file is a first part of what it was to be.
-    Stopped { stop: Stop },
-}
+use mcap_model::{End, Stop};
 
 /// How the reading of a feed ended. Offsets count from the feed's first byte.
 #[derive(Clone, Copy, Debug, PartialEq, Eq)]

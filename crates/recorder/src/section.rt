@@ -1,7 +1,9 @@
 //! Reading a feed's data section through its lane.
 ghost use Rattle.std.specs.Prelude.{◌≡◌, ◌≤◌, ◌+◌, ◌^◌, ◌∷◌, [], ℕ, List, Option, Some, length, false};
 ghost use Rattle.rec_data.specs.declared.owned.Rec.{Rec};
-ghost use Rattle.recorder.specs.Feed.{Top, HasDataEnd, is_unbuilt};
+ghost use Rattle.mcap_model.specs.Tops.{Top};
+ghost use Rattle.mcap_model.specs.Rules.{HasDataEnd};
+ghost use Rattle.recorder.specs.Feed.{is_unbuilt};
 ghost use Rattle.recorder.specs.Next.{TakesHeader};
 ghost use Rattle.recorder.specs.Lane.{top_of, LaneStands, TapeFits, TapeStands, GoesOn, RecordTaken, LaneRead};
 

@@ -2,16 +2,18 @@
 ghost use Rattle.std.specs.Prelude.{◌≡◌, ◌+◌, ◌<◌, ◌≤◌, ◌^◌, ◌++◌, ◌∷◌, ℕ, List, Option, [], None, Some, length, IfOk};
 ghost use Rattle.rec_data.specs.declared.owned.Rec.{Rec};
 ghost use Rattle.rec_data.specs.Owned.{rec_bytes};
-ghost use Rattle.recorder.specs.File.{front, back, PieceAdded, WrittenSoFar, WriterCause};
+ghost use Rattle.mcap_model.specs.File.{front};
+ghost use Rattle.recorder.specs.File.{plain_back, PieceAdded, accepted_with};
 ghost use Rattle.recorder.specs.Tape.{Wrote};
 ghost use Rattle.recorder.specs.Recorded.{WriterRecorded};
-ghost use Rattle.recorder.specs.Feed.{SchemaFields};
-ghost use Rattle.recorder.specs.History.{schema_of, accepted_with};
-ghost use Rattle.recorder.specs.declared.report.Stop.{Stop};
-ghost use Rattle.recorder.specs.declared.report.End.TheVariants.{Stopped};
+ghost use Rattle.mcap_model.specs.Fields.{SchemaFields};
+ghost use Rattle.mcap_model.specs.History.{schema_of};
+ghost use Rattle.mcap_model.specs.declared.ends.Stop.{Stop};
+ghost use Rattle.mcap_model.specs.declared.ends.End.TheVariants.{Stopped};
 
-use crate::report::{End, Stop, WriterReport};
+use crate::report::WriterReport;
 use mcap_io::{AppendRefused, LiveStore};
+use mcap_model::{End, Stop};
 use mcap_wire::{MAGIC, Memory, put_bytes};
 use rec_data::{DataEnd, Footer, Header};
 use std::alloc::Global;
@@ -27,7 +29,7 @@ pub(crate) struct Tape {
 }
 
 // The magic and the Header.
-#[tactic(auto, unfolding(crate::specs::File::front))]
+#[tactic(auto, unfolding(mcap_model::specs::File::front))]
 fn front_piece(alloc: Global) -> Result<Vec<u8>, Memory>
     ensures { IfOk result (λ piece. piece.items ≡ front []) }
 {
@@ -42,9 +44,9 @@ fn front_piece(alloc: Global) -> Result<Vec<u8>, Memory>
 }
 
 // Data End, the Footer of a file without a summary, and the magic.
-#[tactic(auto, unfolding(crate::specs::File::back))]
+#[tactic(auto, unfolding(mcap_model::specs::File::data_end))]
 fn back_piece(alloc: Global) -> Result<Vec<u8>, Memory>
-    ensures { IfOk result (λ piece. piece.items ≡ back) }
+    ensures { IfOk result (λ piece. piece.items ≡ plain_back) }
 {
     let data_end = DataEnd {
         data_section_crc: 0,
@@ -88,7 +90,7 @@ fn write_front<L: LiveStore>(alloc: Global, live: &mut L) -> Result<u64, Stop>
 
 // Appends what closes the file, and says how long that is.
 fn write_back<L: LiveStore>(alloc: Global, live: &mut L) -> Result<u64, Stop>
-    ensures { PieceAdded (L.held live.old) (L.held live.new) (L.faults live.old) (L.faults live.new) back result }
+    ensures { PieceAdded (L.held live.old) (L.held live.new) (L.faults live.old) (L.faults live.new) plain_back result }
 {
     match back_piece(alloc) {
         Ok(piece) => return append_piece(live, &piece),

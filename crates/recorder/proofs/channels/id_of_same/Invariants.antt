@@ -1,6 +1,6 @@
 use Rattle.std.proofs.Common.{◌≡◌, ℕ, ◌<◌}
 use Rattle.recorder.specs.declared.channels.SourceChannel.{SourceChannel}
-use Rattle.recorder.specs.Places.{At}
+use Rattle.mcap_model.specs.Places.{At}
 use Rattle.recorder.specs.Channels.{written_of}
 use Rattle.recorder.proofs.channels.id_of_same.Given as goal
 

@@ -1,5 +1,7 @@
 use Rattle.std.proofs.Common.{◌≡◌, ◌∙◌, ℕ, ◌+◌, List, [], ◌∷◌, length, refl, sym, subst, arith}
-use Rattle.recorder.specs.Feed.{IsHeader, spelled, ReadsTo}
+use Rattle.mcap_model.specs.Tops.{spelled}
+use Rattle.mcap_model.specs.Fields.{IsHeader}
+use Rattle.recorder.specs.Feed.{ReadsTo}
 use Rattle.recorder.specs.Lane.{top_of}
 use Rattle.recorder.proofs.Feeds.{begun, reads_on, place_more, broken_there, ends_there, cause_after}
 use Rattle.recorder.proofs.feed.read_header.Goals as goal

@@ -4,8 +4,8 @@ use Rattle.mcap_wire.proofs.Framing.{length-framed}
 use Rattle.rec_data.specs.Owned.{rec_bytes}
 use Rattle.rec_data.specs.Records.{channel_text}
 use Rattle.rec_data.proofs.OwnedLengths.{length-channel_text}
-use Rattle.recorder.specs.Feed.{ChannelFields}
-use Rattle.recorder.specs.History.{channel_of}
+use Rattle.mcap_model.specs.Fields.{ChannelFields}
+use Rattle.mcap_model.specs.History.{channel_of}
 use Rattle.recorder.specs.Channels.{written_of, FieldsFit}
 use Rattle.recorder.proofs.lane.channel_piece.Goals as goal
 

@@ -5,8 +5,8 @@ use Rattle.mcap_wire.proofs.Numbers.{length-le}
 use Rattle.rec_data.specs.Owned.{rec_bytes}
 use Rattle.rec_data.specs.Records.{message_text}
 use Rattle.rec_data.proofs.Contents.{message_on}
-use Rattle.recorder.specs.Feed.{MessageFields, IsMessage}
-use Rattle.recorder.specs.History.{message_of}
+use Rattle.mcap_model.specs.Fields.{MessageFields, IsMessage}
+use Rattle.mcap_model.specs.History.{message_of}
 use Rattle.recorder.specs.Lane.{top_of}
 use Rattle.recorder.proofs.lane.message_piece.Goals as goal
 

@@ -4,8 +4,8 @@ use Rattle.mcap_wire.proofs.Framing.{length-framed}
 use Rattle.rec_data.specs.Owned.{rec_bytes}
 use Rattle.rec_data.specs.Records.{schema_text}
 use Rattle.rec_data.proofs.OwnedLengths.{length-schema_text}
-use Rattle.recorder.specs.Feed.{SchemaFields}
-use Rattle.recorder.specs.History.{schema_of}
+use Rattle.mcap_model.specs.Fields.{SchemaFields}
+use Rattle.mcap_model.specs.History.{schema_of}
 use Rattle.recorder.specs.Channels.{schema_fields, SchemaFieldsFit}
 use Rattle.recorder.proofs.lane.schema_piece.Goals as goal
 

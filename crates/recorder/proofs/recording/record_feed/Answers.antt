@@ -6,10 +6,10 @@ use Rattle.recorder.specs.declared.report.FeedEnd.{FeedEnd}
 use Rattle.recorder.specs.declared.report.FeedReport.{FeedReport}
 use Rattle.recorder.specs.declared.report.Refused.{Refused}
 use Rattle.recorder.specs.declared.report.WriterReport.{WriterReport}
-use Rattle.recorder.specs.declared.report.Stop.{Stop}
-use Rattle.recorder.specs.declared.report.End.TheVariants.{Stopped}
+use Rattle.mcap_model.specs.declared.ends.Stop.{Stop}
+use Rattle.mcap_model.specs.declared.ends.End.TheVariants.{Stopped}
 use Rattle.recorder.specs.declared.report.Cause.TheVariants as causes
-use Rattle.recorder.specs.Feed.{Top}
+use Rattle.mcap_model.specs.Tops.{Top}
 use Rattle.recorder.specs.Lane.{IsLast, LaneOver}
 use Rattle.recorder.specs.Recorded.{IsLastRefusal, FeedReported}
 use Rattle.recorder.proofs.recording.record_feed.Goals as goal

@@ -1,6 +1,6 @@
 use Rattle.std.proofs.Common.{◌≡◌, ℕ, ◌<◌}
 use Rattle.recorder.specs.declared.schemas.SourceSchema.{SourceSchema}
-use Rattle.recorder.specs.Places.{At}
+use Rattle.mcap_model.specs.Places.{At}
 use Rattle.recorder.specs.Channels.{schema_fields}
 use Rattle.recorder.proofs.schemas.id_of_same_schema.Given as goal
 

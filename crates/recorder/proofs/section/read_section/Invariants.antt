@@ -1,6 +1,6 @@
 -- Each record has at least nine bytes, and holds at most one message.
 use Rattle.std.proofs.Common.{◌≡◌, ℕ, ◌-◌, ◌*◌, ◌^◌, ◌≤◌, List, [], ◌∷◌, Option, Some}
-use Rattle.recorder.specs.Feed.{Top}
+use Rattle.mcap_model.specs.Tops.{Top}
 use Rattle.recorder.specs.Next.{TakesHeader}
 use Rattle.recorder.specs.Lane.{GoesOn}
 use Rattle.recorder.proofs.Sections.{SoFar}

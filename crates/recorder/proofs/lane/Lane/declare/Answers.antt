@@ -1,7 +1,7 @@
 use Rattle.std.proofs.Common.{◌≡◌, ◌∙◌, refl, sym, ap, inl, inr}
 use Rattle.std.proofs.lemmas.Option.{get_or_from_slice_get}
 use Rattle.recorder.specs.declared.channels.SourceChannel.{SourceChannel}
-use Rattle.recorder.proofs.Places.{at_within}
+use Rattle.mcap_model.proofs.Places.{at_within}
 use Rattle.recorder.proofs.Declared.{some_at, declared_before}
 use Rattle.recorder.proofs.lane.Lane.declare.Goals as goal
 

@@ -3,7 +3,7 @@ use Rattle.std.proofs.lemmas.Option.{get_or_from_slice_get}
 use Rattle.rec_data.specs.Owned.{rec_bytes}
 use Rattle.recorder.specs.declared.schemas.SourceSchema.{SourceSchema}
 use Rattle.recorder.specs.declared.channels.SourceChannel.{SourceChannel}
-use Rattle.recorder.specs.History.{schema_of, channel_of}
+use Rattle.mcap_model.specs.History.{schema_of, channel_of}
 use Rattle.recorder.specs.Channels.{schema_fields, written_of}
 use Rattle.recorder.proofs.StepsTable.{given_id}
 use Rattle.recorder.proofs.StepsSchemas.{given_schema_id}

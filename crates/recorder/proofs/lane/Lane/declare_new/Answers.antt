@@ -2,7 +2,7 @@ use Rattle.std.proofs.Common.{◌≡◌, ◌∙◌, ◌+◌, length, set, refl, 
 use Rattle.std.proofs.lemmas.Option.{get_or_from_slice_get}
 use Rattle.rec_data.specs.Owned.{rec_bytes}
 use Rattle.recorder.specs.declared.channels.SourceChannel.{SourceChannel}
-use Rattle.recorder.specs.History.{channel_of}
+use Rattle.mcap_model.specs.History.{channel_of}
 use Rattle.recorder.specs.Channels.{written_of}
 use Rattle.recorder.proofs.StepsTable.{given_id}
 use Rattle.recorder.proofs.Declared.{put_new}

@@ -2,7 +2,7 @@ use Rattle.std.proofs.Common.{◌≡◌, ◌∙◌, List, set, refl, sym, ap, su
 use Rattle.std.proofs.lemmas.Option.{get_or_from_slice_get}
 use Rattle.recorder.specs.declared.schemas.SourceSchema.{SourceSchema}
 use Rattle.recorder.specs.Channels.{schema_fields, FindsSameSchema}
-use Rattle.recorder.proofs.Places.{at_within, at_set_same}
+use Rattle.mcap_model.proofs.Places.{at_within, at_set_same}
 use Rattle.recorder.proofs.StepsMore.{room_for_id, room_for_schema}
 use Rattle.recorder.proofs.StepsSchemas.{given_schema_id}
 use Rattle.recorder.proofs.Declared.{some_at, schema_given}

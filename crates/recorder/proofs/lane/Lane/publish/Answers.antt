@@ -1,6 +1,6 @@
 use Rattle.std.proofs.Common.{◌≡◌, ◌∙◌, ◌+◌, [], ◌∷◌, length, refl, ap, arith}
 use Rattle.rec_data.specs.Owned.{rec_bytes}
-use Rattle.recorder.specs.History.{message_of}
+use Rattle.mcap_model.specs.History.{message_of}
 use Rattle.recorder.specs.Lane.{top_of}
 use Rattle.recorder.proofs.Handled.{accepted_on, refused_published}
 use Rattle.recorder.proofs.lane.Lane.publish.Goals as goal

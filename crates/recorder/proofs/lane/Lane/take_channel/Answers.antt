@@ -4,13 +4,13 @@ use Rattle.std.proofs.lemmas.Bool.{false≢true}
 use Rattle.std.proofs.lemmas.Option.{get_or_from_slice_get}
 use Rattle.rec_data.specs.Records.{ShowsChannel}
 use Rattle.recorder.specs.declared.channels.SourceChannel.{SourceChannel}
-use Rattle.recorder.specs.Places.{At}
-use Rattle.recorder.specs.Feed.{ChannelFields, SameChannel, IsChannel}
+use Rattle.mcap_model.specs.Places.{At}
+use Rattle.mcap_model.specs.Fields.{ChannelFields, SameChannel, IsChannel}
 use Rattle.recorder.specs.Channels.{fields_of}
 use Rattle.recorder.specs.declared.lane.Lane.{Lane}
 use Rattle.recorder.specs.Lane.{top_of, LaneStands}
 use Rattle.recorder.proofs.ChannelSteps.{LacksId, ShowsEntry, SchemaKnown, schema_known_by, unfit_schema, unfit_fields, fits_again, fits_new, is_entry, lane_again, lane_new}
-use Rattle.recorder.proofs.Places.{at_within}
+use Rattle.mcap_model.proofs.Places.{at_within}
 use Rattle.recorder.proofs.lane.Lane.take_channel.Goals as goal
 use Rattle.recorder.proofs.lane.Lane.take_channel.Goals.{then-known-channel-via-then-known-channel, then-known-channel-via-else-known-channel+then-not-shows}
 

@@ -1,12 +1,12 @@
 use Rattle.std.proofs.Common.{◌≡◌, ℕ, List, [], ◌∷◌, ◌++◌, inl, refl, sym, subst, arith, None}
 use Rattle.recorder.specs.declared.channels.SourceChannel.{SourceChannel}
-use Rattle.recorder.specs.Places.{At}
-use Rattle.recorder.specs.Feed.{MessageFields, IsMessage}
+use Rattle.mcap_model.specs.Places.{At}
+use Rattle.mcap_model.specs.Fields.{MessageFields, IsMessage}
 use Rattle.recorder.specs.Assembled.{messages}
 use Rattle.recorder.specs.Channels.{FindsId}
 use Rattle.recorder.specs.Lane.{top_of}
-use Rattle.recorder.proofs.Maps.{message_long}
-use Rattle.recorder.proofs.Places.{at_within}
+use Rattle.mcap_model.proofs.Maps.{message_long}
+use Rattle.mcap_model.proofs.Places.{at_within}
 use Rattle.recorder.proofs.AtHand.{comes, at_hand, on_hand, may_stand, may_not, published, refused, no_room}
 use Rattle.recorder.proofs.Declared.{handles_raised}
 use Rattle.recorder.proofs.lane.Lane.take_message.Goals as goal

@@ -3,12 +3,12 @@ use Rattle.std.proofs.lemmas.Bool.{false≢true}
 use Rattle.std.proofs.lemmas.Option.{get_or_from_slice_get}
 use Rattle.rec_data.specs.Records.{ShowsSchema}
 use Rattle.recorder.specs.declared.schemas.SourceSchema.{SourceSchema}
-use Rattle.recorder.specs.Places.{At}
-use Rattle.recorder.specs.Feed.{SchemaFields, IsSchema}
+use Rattle.mcap_model.specs.Places.{At}
+use Rattle.mcap_model.specs.Fields.{SchemaFields, IsSchema}
 use Rattle.recorder.specs.Channels.{schema_fields}
 use Rattle.recorder.specs.Lane.{top_of}
 use Rattle.recorder.proofs.SchemaSteps.{LacksSchema, ShowsSchemaEntry, unfit_zero, unfit_schema_fields, schema_fits_again, schema_fits_new, schema_entry, lane_schema_again, lane_schema_new}
-use Rattle.recorder.proofs.Places.{at_within}
+use Rattle.mcap_model.proofs.Places.{at_within}
 use Rattle.recorder.proofs.lane.Lane.take_schema.Goals as goal
 
 abbrev made : List ℕ → List ℕ → List ℕ → SchemaFields

@@ -1,6 +1,6 @@
 -- Both stand behind the others, or the tape stopped at one of them.
 use Rattle.std.proofs.Common.{[], ◌∷◌, ◌++◌, arith}
-use Rattle.recorder.specs.History.{schema_of}
+use Rattle.mcap_model.specs.History.{schema_of}
 use Rattle.recorder.proofs.Files.{both_put}
 use Rattle.recorder.proofs.tape.Tape.put_both.Goals as goal
 
