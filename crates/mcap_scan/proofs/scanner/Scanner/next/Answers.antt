@@ -1,0 +1,21 @@
+use Rattle.std.proofs.Common.{inr, refl}
+use Rattle.mcap_scan.specs.declared.answers.ScanRefused.TheVariants as refusals
+use Rattle.mcap_model.specs.Made.{top}
+use Rattle.mcap_scan.specs.Scanning.{content_of}
+use Rattle.mcap_scan.proofs.Scanning.{given_back}
+use Rattle.mcap_scan.specs.Sources.{state}
+use Rattle.mcap_scan.proofs.scanner.Scanner.next.Goals as goal
+
+pub returns-in-Err-clause-steps : goal.returns-in-Err-clause-steps
+returns-in-Err-clause-steps g c = λ before tops was.
+    let gives = c.in-Record.ensures.steps before tops was in (
+      record {
+        why = refusals.Memory;
+        stage = c.stop.ensures.stage;
+        stands = given_back c.advance.new.self.reader before (state g.S.Source.left g.S.Source.faults c.advance.new.self.source) tops (top c.in-Record.op (content_of c.advance.new.self.reader)) gives.going gives.stands;
+      },
+      (refusals.Memory, c.stop.ensures.stage, inr refl),
+    )
+
+pub returns-in-Err-clause-over : goal.returns-in-Err-clause-over
+returns-in-Err-clause-over g c = λ scanned. absurd (c.in-Record.ensures.over scanned).1

@@ -1,0 +1,5 @@
+pub mod Sources
+pub mod Taking
+pub mod Scanning
+pub mod Scanners
+pub mod Lending

@@ -1,0 +1,167 @@
+-- For which records a reader stands, and what its next step adds.
+use Rattle.std.specs.Prelude.{◌≡◌, ℕ, ◌+◌, ◌-◌, ◌^◌, ◌<◌, ◌≤◌, ◌==◌, min, if◌then◌else◌, List, [], ◌∷◌, ◌++◌, Option, Some, None}
+use Rattle.mcap_io.specs.Outside.{Rose}
+use Rattle.mcap_model.specs.Tops.{Top, offset_behind, flat}
+use Rattle.mcap_model.specs.Rules.{HasDataEnd}
+use Rattle.mcap_model.specs.Kept.{reading_limits, Good, Halt, at_end, grammar, compressed, beyond, Halts}
+use Rattle.mcap_scan.specs.declared.answers.ScanRefused.{ScanRefused}
+use Rattle.mcap_scan.specs.declared.answers.ScanRefused.TheVariants as refusals
+use Rattle.mcap_scan.specs.declared.answers.Step.{Step}
+use Rattle.mcap_scan.specs.declared.answers.Step.TheVariants as steps
+use Rattle.mcap_scan.specs.declared.reader.Stage.{Stage}
+use Rattle.mcap_scan.specs.declared.reader.Stage.TheVariants as stages
+use Rattle.mcap_scan.specs.declared.reader.Reader.{Reader}
+use Rattle.mcap_model.specs.declared.tables.Tables.{Tables}
+use Rattle.mcap_model.specs.declared.tops.Judged.{Judged}
+use Rattle.mcap_model.specs.declared.tops.Judged.TheVariants as judged
+use Rattle.mcap_model.specs.Declarations.{TablesOf}
+use Rattle.mcap_model.specs.Made.{top}
+use Rattle.mcap_scan.specs.Sources.{SourceState, ReadTo, HaltLeaves, FaultLeaves, MemoryLeaves}
+use denote.Ref.{Bor}
+
+-- ---- a reading that goes on, or came to its Data End
+
+-- nothing was read
+pub record IsFresh (tables : Tables) (offset : ℕ) (before now : SourceState) (tops : List Top) : Type 0 where
+  pub none : tops ≡ []
+  pub place : offset ≡ 8
+  pub tables_are : TablesOf [] tables
+  pub unread : now ≡ before
+
+-- the records were taken, and there is no Data End among them
+pub record IsReading (tables : Tables) (offset : ℕ) (before now : SourceState) (tops : List Top) : Type 0 where
+  pub good : Good reading_limits tops
+  pub unended : HasDataEnd tops → ⊥
+  pub place : offset ≡ offset_behind tops
+  pub tables_are : TablesOf (flat tops) tables
+  pub still : now.faults ≡ before.faults
+  pub read : ReadTo before now tops
+
+-- the Header was given, and no Data End
+pub record IsInside (tables : Tables) (offset : ℕ) (before now : SourceState) (tops : List Top) : Type 0 where
+  pub some : tops ≡ [] → ⊥
+  pub reading : IsReading tables offset before now tops
+
+-- the records were given, the last a Data End, and nothing behind it was read
+pub record IsEnded (offset : ℕ) (before now : SourceState) (tops : List Top) : Type 0 where
+  pub good : Good reading_limits tops
+  pub ended : HasDataEnd tops
+  pub place : offset ≡ offset_behind tops
+  pub still : now.faults ≡ before.faults
+  pub read : ReadTo before now tops
+
+-- ---- a reading that was refused
+
+-- The count stood still, and where the source told its bytes, a reading of them keeps just these records, halts so, and
+-- leaves what is left.
+pub record HaltsSo (before now : SourceState) (tops : List Top) (halt : Halt) : Type 0 where
+  pub still : now.faults ≡ before.faults
+  pub halts : (bytes : List ℕ) → before.left ≡ Some bytes → Halts reading_limits bytes tops halt
+  pub leaves : (bytes : List ℕ) → before.left ≡ Some bytes → HaltLeaves bytes tops halt now.left
+
+-- the source failed, and the count that is told is the one which rose
+pub record FaultStands (faults : ℕ) (before now : SourceState) (tops : List Top) : Type 0 where
+  pub later : before.faults ≤ now.faults
+  pub rose : Rose before.faults now.faults
+  pub carried : faults ≡ now.faults
+  pub leaves : (bytes : List ℕ) → before.left ≡ Some bytes → FaultLeaves bytes tops now.left
+
+-- memory lacked, behind records that are good
+pub record MemoryStands (before now : SourceState) (tops : List Top) : Type 0 where
+  pub still : now.faults ≡ before.faults
+  pub good : Good reading_limits tops
+  pub leaves : (bytes : List ℕ) → before.left ≡ Some bytes → MemoryLeaves bytes tops now.left
+
+-- what a refusal says, behind the records that were given
+abbrev pub RefusalStands : ScanRefused → SourceState → SourceState → List Top → Type 0
+RefusalStands (refusals.Fault faults) before now tops = FaultStands faults before now tops
+RefusalStands (refusals.Grammar offset rule) before now tops = HaltsSo before now tops (grammar offset rule)
+RefusalStands (refusals.Compressed offset name) before now tops = HaltsSo before now tops (compressed offset name)
+RefusalStands (refusals.Limit offset) before now tops = HaltsSo before now tops (beyond offset)
+RefusalStands refusals.Memory before now tops = MemoryStands before now tops
+
+-- ---- readers
+
+abbrev pub StageStands : Stage → Tables → ℕ → SourceState → SourceState → List Top → Type 0
+StageStands stages.Fresh tables offset before now tops = IsFresh tables offset before now tops
+StageStands stages.Inside tables offset before now tops = IsInside tables offset before now tops
+StageStands stages.Ended tables offset before now tops = IsEnded offset before now tops
+StageStands (stages.Stopped why) tables offset before now tops = RefusalStands why before now tops
+
+-- A reader stands for these records of a source, as this one was when the reader was new and as it is by now.
+abbrev pub Stands : Reader → SourceState → SourceState → List Top → Type 0
+Stands reader before now tops = StageStands reader.stage reader.tables reader.offset before now tops
+
+-- the content of the record that was given last
+abbrev pub content_of : Reader → List ℕ
+content_of reader = reader.room.items
+
+-- where the next record stands
+abbrev pub offset_of : Reader → ℕ
+offset_of reader = reader.offset
+
+-- A record that is given moves a reader on, and no further than the limit on files: so a reading ends.
+abbrev pub Moves : ℕ → ℕ → Step → Type 0
+Moves old new (steps.Record op offset) = (old < new) × (new ≤ 1099511627776)
+Moves old new (steps.End offset) = Unit {0}
+Moves old new steps.Refused = Unit {0}
+
+-- no refusal is kept
+abbrev pub IsGoing : Stage → Type 0
+IsGoing stages.Fresh = Unit {0}
+IsGoing stages.Inside = Unit {0}
+IsGoing stages.Ended = Unit {0}
+IsGoing (stages.Stopped why) = ⊥
+
+-- the record that a step gives is one more
+pub record Gives (reader : Reader) (before now : SourceState) (tops : List Top) (op offset : ℕ) : Type 0 where
+  pub place : offset ≡ offset_behind tops
+  pub stands : Stands reader before now (tops ++ top op (content_of reader) ∷ [])
+  pub going : IsGoing reader.stage
+
+-- the Data End was given before
+pub record Finds (reader : Reader) (before now : SourceState) (tops : List Top) (offset : ℕ) : Type 0 where
+  pub is : IsEnded offset before now tops
+  pub stage : reader.stage ≡ stages.Ended
+  pub stands : Stands reader before now tops
+  pub halts : HaltsSo before now tops (at_end offset)
+
+-- the reader keeps a refusal
+pub record Refuses (reader : Reader) (before now : SourceState) (tops : List Top) : Type 0 where
+  pub why : ScanRefused
+  pub stage : reader.stage ≡ stages.Stopped why
+  pub stands : RefusalStands why before now tops
+
+abbrev pub Advanced : Reader → SourceState → SourceState → List Top → Step → Type 0
+Advanced reader before now tops (steps.Record op offset) = Gives reader before now tops op offset
+Advanced reader before now tops (steps.End offset) = Finds reader before now tops offset
+Advanced reader before now tops steps.Refused = Refuses reader before now tops
+
+-- the Data End was given, or the reading was refused
+abbrev pub IsOver : Stage → Type 0
+IsOver stages.Fresh = ⊥
+IsOver stages.Inside = ⊥
+IsOver stages.Ended = Unit {0}
+IsOver (stages.Stopped why) = Unit {0}
+
+-- What the judging of a record, taken at that offset, makes of the offset and the stage.
+abbrev pub Given : ℕ → ℕ → ℕ → Stage → ℕ → Judged → Step → Type 0
+Given at len offset stage op judged.Fits step = (step ≡ steps.Record op at) × (offset ≡ min (min (at + 9) (2 ^ 64 - 1) + len) (2 ^ 64 - 1)) × (stage ≡ (if op == 15 then stages.Ended else stages.Inside))
+Given at len offset stage op (judged.Breaks rule) step = (step ≡ steps.Refused) × (stage ≡ stages.Stopped (refusals.Grammar at rule))
+Given at len offset stage op (judged.Compressed name) step = (step ≡ steps.Refused) × (stage ≡ stages.Stopped (refusals.Compressed at name))
+Given at len offset stage op judged.Memory step = (step ≡ steps.Refused) × (stage ≡ stages.Stopped refusals.Memory)
+
+-- the refusal that a reader keeps
+abbrev pub KeptBy : Reader → Option (Bor ScanRefused) → Type 0
+KeptBy reader (Some why) = reader.stage ≡ stages.Stopped why.now
+KeptBy reader None = (why : ScanRefused) → reader.stage ≡ stages.Stopped why → ⊥
+
+-- the Data End was given, or the reading was refused
+abbrev pub IsDone : Reader → Type 0
+IsDone reader = IsOver reader.stage
+
+-- no record is given
+abbrev pub IsLast : Step → Type 0
+IsLast (steps.Record op offset) = ⊥
+IsLast (steps.End offset) = Unit {0}
+IsLast steps.Refused = Unit {0}

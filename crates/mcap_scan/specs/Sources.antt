@@ -1,0 +1,59 @@
+-- What is seen of a source, and how much of it a reading left unread.
+use Rattle.std.specs.Prelude.{◌≡◌, ◌⊎◌, ℕ, ◌<◌, List, [], ◌++◌, length, drop, true, ◌==◌, if◌then◌else◌, Option, Some}
+use Rattle.mcap_model.specs.Tops.{Top, Tops, offset_behind, opcode, is_whole, behind_first}
+use Rattle.mcap_model.specs.Rules.{V1}
+use Rattle.mcap_model.specs.Kept.{reading_limits, Kept, Halt, at_end, grammar, compressed, beyond, IsDue, HaltsAt}
+
+-- the bytes that a source has left, where it tells them, and its count of faults
+pub record SourceState : Type 0 where
+  pub left : Option (List ℕ)
+  pub faults : ℕ
+
+abbrev pub state : {S : Type 0} → (S → Option (List ℕ)) → (S → ℕ) → S → SourceState
+state left faults source = record { left = left source; faults = faults source }
+
+-- where the bytes before are told, these records were taken from their front, and the rest is left
+abbrev pub ReadTo : SourceState → SourceState → List Top → Type 0
+ReadTo before now tops = (bytes : List ℕ) → before.left ≡ Some bytes → (rest : List ℕ) × (now.left ≡ Some rest) × Tops bytes tops rest
+
+-- ---- where a reading halts
+
+-- What stays unread of the bytes behind the records: behind a Data End, all; of a record that is past a limit, or has
+-- opcode 0, all but the head; and what stands behind any other record.
+abbrev pub unread_behind : List ℕ → Halt → List ℕ
+unread_behind rest (at_end offset) = rest
+unread_behind rest (grammar offset rule) = if opcode rest == 0 then drop 9 rest else behind_first rest
+unread_behind rest (compressed offset name) = behind_first rest
+unread_behind rest (beyond offset) = drop 9 rest
+
+-- what is left where a reading of the bytes, which kept these records, halts so; without the magic its eight bytes alone
+-- were read
+abbrev pub HaltLeaves : List ℕ → List Top → Halt → Option (List ℕ) → Type 0
+HaltLeaves bytes tops halt left = ((V1 bytes → ⊥) × (left ≡ Some (drop 8 bytes)))
+    ⊎ ((rest : List ℕ) × Tops bytes tops rest × (left ≡ Some (unread_behind rest halt)))
+
+-- ---- where a source fails
+
+-- These bytes are cut off: a reading keeps these records of them, and awaits more of the next one, or of the magic.
+pub record IsCutOff (part : List ℕ) (tops : List Top) : Type 0 where
+  pub kept : Kept reading_limits part tops
+  pub cut : (length part < 8) ⊎ HaltsAt reading_limits part tops (grammar (offset_behind tops) 4)
+
+-- the source gave bytes that are cut off, and has the rest
+pub record FaultLeaves (bytes : List ℕ) (tops : List Top) (left : Option (List ℕ)) : Type 0 where
+  pub part : List ℕ
+  pub rest : List ℕ
+  pub split : bytes ≡ part ++ rest
+  pub left_is : left ≡ Some rest
+  pub cut_off : IsCutOff part tops
+
+-- ---- where memory lacks
+
+-- Nothing of the rest was read; or the head alone of a record that is due, or all of it.
+abbrev pub LacksAt : List Top → List ℕ → Option (List ℕ) → Type 0
+LacksAt tops rest left = (left ≡ Some rest)
+    ⊎ (IsDue reading_limits tops rest × ((left ≡ Some (drop 9 rest)) ⊎ ((is_whole rest ≡ true) × (left ≡ Some (behind_first rest)))))
+
+-- what is left where memory lacked behind these records, or already for the magic
+abbrev pub MemoryLeaves : List ℕ → List Top → Option (List ℕ) → Type 0
+MemoryLeaves bytes tops left = ((tops ≡ []) × (left ≡ Some bytes)) ⊎ ((rest : List ℕ) × Tops bytes tops rest × LacksAt tops rest left)

@@ -1,0 +1,168 @@
+//! Reading the records of a file from a source that is handed in at each call.
+use crate::answers::{ScanRefused, Step};
+use crate::heads::{take_magic, take_record};
+use mcap_io::Source;
+use mcap_model::{Judged, Tables, judge, judge_first};
+use mcap_wire::Memory;
+use rec_data::DATA_END;
+use std::alloc::Global;
+
+/// How far a reading is.
+#[derive(Drop)]
+pub(crate) enum Stage {
+    /// Nothing was read.
+    Fresh,
+    /// The Header was given, and no Data End.
+    Inside,
+    /// The Data End was given.
+    Ended,
+    /// The reading was refused.
+    Stopped { why: ScanRefused },
+}
+
+/// What is kept of a file between two records: the declarations so far, and where the next record stands.
+#[derive(Drop)]
+pub struct Reader {
+    alloc: Global,
+    head: Vec<u8>,
+    room: Vec<u8>,
+    tables: Tables,
+    offset: u64,
+    stage: Stage,
+}
+
+impl Reader {
+    ghost use Rattle.std.specs.Prelude.{◌≡◌, ◌+◌, ◌==◌, if◌then◌else◌, min, ◌^◌, ◌-◌, ℕ, List, [], Option, Some, length, IfOk};
+    ghost use Rattle.mcap_model.specs.Tops.{Top};
+    ghost use Rattle.mcap_scan.specs.Sources.{SourceState, state};
+    ghost use Rattle.mcap_scan.specs.Scanning.{content_of, offset_of, KeptBy, Moves, Stands, IsFresh, IsInside, Advanced, Given, IsDone, IsLast};
+
+    /// A reader of which nothing was asked yet.
+    pub fn new(alloc: Global) -> Result<Reader, Memory>
+        ensures begins { IfOk result (λ reader. offset_of reader ≡ 8) }
+        ensures stands { IfOk result (λ reader. (source : SourceState) → Stands reader source source []) }
+    {
+        match Vec::with_capacity(alloc, 9) {
+            Ok(head) => {
+                return Ok(Reader {
+                    alloc,
+                    head,
+                    room: Vec::new(alloc),
+                    tables: Tables::new(alloc),
+                    offset: 8,
+                    stage: Stage::Fresh,
+                });
+            }
+            Err(_) => return Err(Memory),
+        }
+    }
+
+    /// The content of the record, until the next step, where the last step gave one.
+    pub fn content(&self) -> &[u8]
+        ensures { result.now ≡ content_of self.now }
+    {
+        self.room.as_slice()
+    }
+
+    /// Why the reading was refused, where it was.
+    pub fn refusal(&self) -> Option<&ScanRefused>
+        ensures { KeptBy self.now result }
+    {
+        match &self.stage {
+            Stage::Stopped { why } => return Some(why),
+            _ => return None,
+        }
+    }
+
+    // Keeps the refusal.
+    pub(crate) fn stop(&mut self, why: ScanRefused) -> Step
+        ensures step { result ≡ Step.Refused }
+        ensures stage { self.new.stage ≡ Stage.Stopped why }
+        ensures room { self.new.room ≡ self.old.room }
+        ensures tables { self.new.tables ≡ self.old.tables }
+    {
+        self.stage = Stage::Stopped { why };
+        return Step::Refused;
+    }
+
+    // Gives the record that was read and judged.
+    fn give(&mut self, op: u8, judged: Judged) -> Step
+        ensures given { Given self.old.offset (length self.old.room.items) self.new.offset self.new.stage op judged result }
+        ensures room { self.new.room ≡ self.old.room }
+        ensures tables { self.new.tables ≡ self.old.tables }
+    {
+        let offset = self.offset;
+        match judged {
+            Judged::Fits => {
+                self.offset = offset
+                    .saturating_add(9)
+                    .saturating_add(self.room.len() as u64);
+                if op == DATA_END {
+                    self.stage = Stage::Ended;
+                } else {
+                    self.stage = Stage::Inside;
+                }
+                return Step::Record { op, offset };
+            }
+            Judged::Breaks { rule } => return self.stop(ScanRefused::Grammar { offset, rule }),
+            Judged::Compressed { name } => {
+                return self.stop(ScanRefused::Compressed { offset, name });
+            }
+            Judged::Memory => return self.stop(ScanRefused::Memory),
+        }
+    }
+
+    // Reads the magic and the first record.
+    fn begin<S: Source>(&mut self, source: &mut S) -> Step
+        ensures moves { Moves self.old.offset self.new.offset result }
+        ensures steps { (before : SourceState) (tops : List Top) → IsFresh self.old.tables self.old.offset before (state S.left S.faults source.old) tops
+            → Advanced self.new before (state S.left S.faults source.new) tops result }
+    {
+        match take_magic(source, &mut self.head) {
+            Ok(()) => {}
+            Err(why) => return self.stop(why),
+        }
+        match take_record(source, &mut self.head, &mut self.room, self.offset) {
+            Ok(op) => {
+                let judged = judge_first(op, &self.room);
+                return self.give(op, judged);
+            }
+            Err(why) => return self.stop(why),
+        }
+    }
+
+    // Reads the next record behind the Header.
+    fn go_on<S: Source>(&mut self, source: &mut S) -> Step
+        ensures moves { Moves self.old.offset self.new.offset result }
+        ensures steps { (before : SourceState) (tops : List Top) → IsInside self.old.tables self.old.offset before (state S.left S.faults source.old) tops
+            → Advanced self.new before (state S.left S.faults source.new) tops result }
+    {
+        match take_record(source, &mut self.head, &mut self.room, self.offset) {
+            Ok(op) => {
+                let judged = judge(self.alloc, &mut self.tables, op, &self.room);
+                return self.give(op, judged);
+            }
+            Err(why) => return self.stop(why),
+        }
+    }
+
+    /// Reads the next record of the source (MCAP specification: Records); the first call reads the magic too. Nothing
+    /// behind the Data End is read, and nothing more after a refusal: each later call gives the same answer.
+    pub fn advance<S: Source>(&mut self, source: &mut S) -> Step
+        ensures steps { (before : SourceState) (tops : List Top) → Stands self.old before (state S.left S.faults source.old) tops
+            → Advanced self.new before (state S.left S.faults source.new) tops result }
+        ensures moves { Moves (offset_of self.old) (offset_of self.new) result }
+        ensures over { IsDone self.old → (self.new ≡ self.old) × (source.new ≡ source.old) × IsLast result }
+    {
+        match &self.stage {
+            Stage::Fresh => return self.begin(source),
+            Stage::Inside => return self.go_on(source),
+            Stage::Ended => {
+                return Step::End {
+                    offset: self.offset,
+                };
+            }
+            Stage::Stopped { .. } => return Step::Refused,
+        }
+    }
+}

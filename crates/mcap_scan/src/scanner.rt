@@ -1,0 +1,132 @@
+//! A scanner: a reader with its source.
+ghost use Rattle.std.specs.Prelude.{◌≡◌, ◌⊎◌, ℕ, List, [], Option, IfOk, IfErr};
+ghost use Rattle.mcap_model.specs.Tops.{Top as Record};
+ghost use Rattle.mcap_scan.specs.Scanning.{IsLast, Moves};
+ghost use Rattle.mcap_scan.specs.Sources.{SourceState, state};
+ghost use Rattle.mcap_scan.specs.Scanners.{Scans, Steps, Copies, step_of, IsScanned, KeptIn, source_of, scanned_content, scanned_offset};
+
+use crate::answers::{ScanRefused, Step, Top};
+use crate::reader::Reader;
+use mcap_io::Source;
+use mcap_wire::{Bytes, Memory, Text};
+use std::alloc::Global;
+
+/// Gives the records of a source in their order, and then where and why it halted.
+#[derive(Drop)]
+pub struct Scanner<S> {
+    alloc: Global,
+    source: S,
+    reader: Reader,
+}
+
+// The same refusal once more.
+fn again(alloc: Global, why: &ScanRefused) -> ScanRefused
+    ensures { (result ≡ why.now) ⊎ (result ≡ ScanRefused.Memory) }
+{
+    match why {
+        ScanRefused::Fault { faults } => return ScanRefused::Fault { faults: *faults },
+        ScanRefused::Grammar { offset, rule } => {
+            return ScanRefused::Grammar {
+                offset: *offset,
+                rule: *rule,
+            };
+        }
+        ScanRefused::Compressed { offset, name } => match Text::copied(alloc, name.as_str()) {
+            Ok(name) => {
+                return ScanRefused::Compressed {
+                    offset: *offset,
+                    name,
+                };
+            }
+            Err(_) => return ScanRefused::Memory,
+        },
+        ScanRefused::Limit { offset } => return ScanRefused::Limit { offset: *offset },
+        ScanRefused::Memory => return ScanRefused::Memory,
+    }
+}
+
+impl<S: Source> Scanner<S> {
+    /// A scanner of that source, of which nothing is read yet. Where memory lacks, the source is given back.
+    pub fn new(alloc: Global, source: S) -> Result<Scanner<S>, (S, Memory)>
+        ensures stands { IfOk result (λ scanner. Scans (state S.left S.faults) scanner (state S.left S.faults source) []) }
+        ensures begins { IfOk result (λ scanner. (source_of scanner ≡ source) × (scanned_offset scanner ≡ 8)) }
+        ensures unread { IfErr result (λ back. back.0 ≡ source) }
+    {
+        match Reader::new(alloc) {
+            Ok(reader) => {
+                return Ok(Scanner {
+                    alloc,
+                    source,
+                    reader,
+                });
+            }
+            Err(memory) => return Err((source, memory)),
+        }
+    }
+
+    /// Reads the next record into the scanner's own room: `content` lends it, and no memory is taken for a copy. After the
+    /// Data End or a refusal nothing more is read, and each later call gives the same answer.
+    pub fn advance(&mut self) -> Step
+        ensures steps { (before : SourceState) (tops : List Record) → Scans (state S.left S.faults) self.old before tops → Steps (state S.left S.faults) self.new before tops result }
+        ensures moves { Moves (scanned_offset self.old) (scanned_offset self.new) result }
+        ensures over { IsScanned self.old → (self.new ≡ self.old) × IsLast result }
+    {
+        self.reader.advance(&mut self.source)
+    }
+
+    /// The content of the record, until the next step, where the last step gave one.
+    pub fn content(&self) -> &[u8]
+        ensures { result.now ≡ scanned_content self.now }
+    {
+        self.reader.content()
+    }
+
+    /// Why the reading was refused, where it was.
+    pub fn refusal(&self) -> Option<&ScanRefused>
+        ensures { KeptIn self.now result }
+    {
+        self.reader.refusal()
+    }
+
+    /// Reads the next record as `advance` does, and copies its content. Where memory lacks for the copy the reading is
+    /// refused for good.
+    pub fn next(&mut self) -> Result<Top, ScanRefused>
+        ensures steps { (before : SourceState) (tops : List Record) → Scans (state S.left S.faults) self.old before tops
+            → Steps (state S.left S.faults) self.new before tops (step_of result) × Copies self.new result }
+        ensures moves { Moves (scanned_offset self.old) (scanned_offset self.new) (step_of result) }
+        ensures over { IsScanned self.old → (self.new ≡ self.old) × IsLast (step_of result) }
+    {
+        match self.advance() {
+            Step::Record { op, offset } => match Bytes::copied(self.alloc, self.content()) {
+                Ok(content) => {
+                    return Ok(Top::Record {
+                        op,
+                        offset,
+                        content,
+                    });
+                }
+                Err(_) => {
+                    let _ = self.reader.stop(ScanRefused::Memory);
+                    return Err(ScanRefused::Memory);
+                }
+            },
+            Step::End { offset } => return Ok(Top::End { offset }),
+            Step::Refused => match self.refusal() {
+                Some(why) => return Err(again(self.alloc, why)),
+                None => return Err(ScanRefused::Memory),
+            },
+        }
+    }
+
+    /// The source, with all that was not read.
+    pub fn into_source(self) -> S
+        ensures { result ≡ source_of self }
+    {
+        let Scanner {
+            alloc: _,
+            source,
+            reader: _,
+        } = self;
+        source
+    }
+}
