@@ -1,0 +1,153 @@
+-- A desk: what it is to its callers, what each of its calls answers, and what the call makes of it.
+use Rattle.std.specs.Prelude.{◌≡◌, ℕ, ◌+◌, ◌^◌, ◌≤◌, List, [], ◌∷◌, ◌++◌, length, nat_lt, nat_le, if◌then◌else◌, Option, Some, None, Result, Ok, Err}
+use Rattle.rec_data.specs.declared.owned.Rec.{Rec}
+use Rattle.rec_data.specs.declared.schema.SchemaDef.{SchemaDef}
+use Rattle.rec_data.specs.declared.channel.ChannelDef.{ChannelDef}
+use Rattle.rec_data.specs.Owned.{rec_bytes}
+use Rattle.mcap_model.specs.declared.ends.End.{End}
+use Rattle.mcap_model.specs.declared.ends.End.TheVariants.{Closed, Stopped}
+use Rattle.mcap_model.specs.declared.ends.Stop.{Stop}
+use Rattle.mcap_model.specs.declared.ends.Stop.TheVariants.{Fault, Limit, Memory}
+use Rattle.mcap_model.specs.Fields.{MessageFields}
+use Rattle.mcap_model.specs.History.{schema_of, channel_of, message_of, history_bytes}
+use Rattle.record_core.specs.Ids.{Ids, no_ids, with_ids, is_known, fields_of_schema, fields_with, channel_place, channel_id, new_records}
+use Rattle.record_core.specs.Tables.{ids_lack}
+use Rattle.record_core.specs.declared.answers.PublishRefused.{PublishRefused}
+use Rattle.record_core.specs.declared.answers.PublishRefused.TheVariants as publishing
+use Rattle.record_core.specs.declared.answers.Declared.{Declared}
+use Rattle.record_core.specs.declared.answers.Empty.{Empty}
+use Rattle.record_core.specs.declared.answers.Found.{Found}
+use Rattle.record_core.specs.declared.answers.NewMessage.{NewMessage}
+use Rattle.record_cache.specs.Buffers.{Buffer}
+use Rattle.record_core.specs.declared.answers.DeclareRefused.{DeclareRefused}
+use Rattle.record_core.specs.declared.answers.DeclareRefused.TheVariants as declaring
+
+-- ---- the desk
+
+-- What a desk is to its callers: how many bytes its buffer may hold before it is full, how many records were swapped
+-- out, the records that the buffer holds, the end and the place at which it was set, and what has an id.
+pub record DeskView : Type 0 where
+  pub limit : ℕ
+  pub taken : ℕ
+  pub primary : List Rec
+  pub end : Option (End × ℕ)
+  pub ids : Ids
+
+abbrev pub new_desk : ℕ → DeskView
+new_desk limit = record { limit = limit; taken = 0; primary = []; end = None; ids = no_ids }
+
+-- how many records were accepted
+abbrev pub accepted : DeskView → ℕ
+accepted d = d.taken + length d.primary
+
+-- how many bytes the records in the buffer have
+abbrev pub held : DeskView → ℕ
+held d = length (history_bytes d.primary)
+
+-- with these records more
+abbrev pub added : DeskView → List Rec → DeskView
+added d records = record d { primary = d.primary ++ records; ids = with_ids d.ids records }
+
+-- with an empty buffer
+abbrev pub swapped : DeskView → DeskView
+swapped d = record d { taken = accepted d; primary = [] }
+
+-- with this end, unless one stands
+abbrev pub end_or : Option (End × ℕ) → End → ℕ → Option (End × ℕ)
+end_or None end at = Some (end, at)
+end_or (Some e) end at = Some e
+
+abbrev pub ended : DeskView → End → DeskView
+ended d end = record d { end = end_or d.end end (accepted d) }
+
+-- ---- publishing
+
+-- why a message is refused where nothing before these reasons refuses it
+abbrev pub publish_open : DeskView → ℕ → Option PublishRefused
+publish_open d channel =
+    if is_known d.ids channel
+    then (if nat_le (2 ^ 48) (accepted d) then Some (publishing.TooManyRecords (accepted d))
+    else (if nat_le d.limit (held d) then Some (publishing.Full (held d)) else None))
+    else Some publishing.UnknownChannel
+
+abbrev pub publish_ended : Option (End × ℕ) → DeskView → ℕ → Option PublishRefused
+publish_ended None d channel = publish_open d channel
+publish_ended (Some (Closed, at)) d channel = Some (publishing.Closed at)
+publish_ended (Some (Stopped reason, at)) d channel = Some (publishing.Stopped at reason)
+
+-- the first reason to refuse a message with so many bytes of data
+abbrev pub publish_refusal : DeskView → ℕ → ℕ → Option PublishRefused
+publish_refusal d channel len = if nat_lt 33554432 len then Some (publishing.TooLarge len) else publish_ended d.end d channel
+
+-- ---- declaring
+
+-- how many bytes the records of a declaration have, new or not
+abbrev pub schema_size : Option SchemaDef → ℕ
+schema_size None = 0
+schema_size (Some s) = length (rec_bytes (schema_of 0 (fields_of_schema s)))
+
+abbrev pub declared_size : ChannelDef → ℕ
+declared_size c = schema_size c.schema + length (rec_bytes (channel_of 0 (fields_with c 0)))
+
+abbrev pub declare_new : DeskView → ChannelDef → Option DeclareRefused
+declare_new d c =
+    if nat_le (2 ^ 48) (accepted d) then Some (declaring.TooManyRecords (accepted d))
+    else (if nat_le d.limit (held d) then Some (declaring.Full (held d)) else ids_lack d.ids c)
+
+abbrev pub declare_at : Option ℕ → DeskView → ChannelDef → Option DeclareRefused
+declare_at (Some place) d c = None
+declare_at None d c = declare_new d c
+
+abbrev pub declare_ended : Option (End × ℕ) → DeskView → ChannelDef → Option DeclareRefused
+declare_ended None d c = declare_at (channel_place d.ids c) d c
+declare_ended (Some (Closed, at)) d c = Some (declaring.Closed at)
+declare_ended (Some (Stopped reason, at)) d c = Some (declaring.Stopped at reason)
+
+-- the first reason to refuse a declaration
+abbrev pub declare_refusal : DeskView → ChannelDef → Option DeclareRefused
+declare_refusal d c = if nat_lt 1048576 (declared_size c) then Some (declaring.TooLarge (declared_size c)) else declare_ended d.end d c
+
+-- ---- what the calls answer
+
+abbrev pub fields_of_message : NewMessage → MessageFields
+fields_of_message m = record { sequence = m.sequence; log_time = m.log_time; publish_time = m.publish_time; payload = m.payload.now }
+
+-- A message is refused for the first reason that there is, or it is added and its place answered; memory may lack only
+-- where there is no reason. Nothing changes where it is refused.
+abbrev pub Published : DeskView → ℕ → MessageFields → Result ℕ PublishRefused → DeskView → Type 0
+Published d channel m (Ok place) after = (publish_refusal d channel (length m.payload) ≡ None) × (place ≡ accepted d) × (after ≡ added d (message_of channel m ∷ []))
+Published d channel m (Err publishing.Memory) after = (publish_refusal d channel (length m.payload) ≡ None) × (after ≡ d)
+Published d channel m (Err refusal) after = (publish_refusal d channel (length m.payload) ≡ Some refusal) × (after ≡ d)
+
+-- the same of a declaration, which answers the channel's id and the places of the records that are added
+abbrev pub DeclaredBy : DeskView → ChannelDef → Result Declared DeclareRefused → DeskView → Type 0
+DeclaredBy d c (Ok given) after = (declare_refusal d c ≡ None) × (given.channel ≡ channel_id d.ids c) × (given.first ≡ accepted d)
+    × (given.count ≡ length (new_records d.ids c)) × (after ≡ added d (new_records d.ids c))
+DeclaredBy d c (Err declaring.Memory) after = (declare_refusal d c ≡ None) × (after ≡ d)
+DeclaredBy d c (Err refusal) after = (declare_refusal d c ≡ Some refusal) × (after ≡ d)
+
+-- the end, if one stands
+abbrev pub first_of : Option (End × ℕ) → Option End
+first_of None = None
+first_of (Some (end, at)) = Some end
+
+abbrev pub end_of : DeskView → Option End
+end_of d = first_of d.end
+
+-- the end stands, and was set at that place
+abbrev pub EndsAt : DeskView → ℕ → Type 0
+EndsAt d at = (end : End) × (d.end ≡ Some (end, at))
+
+-- a stop for a fault comes behind a fault
+abbrev pub IsCause : Stop → Type 0
+IsCause (Fault faults) = 1 ≤ faults
+IsCause (Limit blocks bytes) = Unit {0}
+IsCause Memory = Unit {0}
+
+-- the buffer that is given away, or nothing where it holds nothing
+abbrev pub SwapAnswered : DeskView → Result Buffer Empty → DeskView → Type 0
+SwapAnswered d (Ok full) after = (full ≡ record { limit = d.limit; records = d.primary }) × (d.primary ≡ [] → ⊥) × (after ≡ swapped d)
+SwapAnswered d (Err empty) after = (d.primary ≡ []) × (empty.cache ≡ record { limit = d.limit; records = [] }) × (empty.end ≡ end_of d) × (empty.at ≡ accepted d) × (after ≡ d)
+
+abbrev pub found_of : DeskView → Found
+found_of d = record { taken = d.taken; count = accepted d; held = held d; schemas = length d.ids.schemas; channels = length d.ids.channels; end = end_of d }

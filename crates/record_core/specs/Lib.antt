@@ -1,0 +1,8 @@
+pub mod Ids
+pub mod Tables
+pub mod Desk
+pub mod Holding
+pub mod Sights
+pub mod Machine
+pub mod Stands
+pub mod Laws

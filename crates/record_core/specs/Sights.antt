@@ -1,0 +1,61 @@
+-- Parts of a desk's calls.
+use Rattle.std.specs.Prelude.{◌≡◌, ℕ, ◌+◌, ◌^◌, ◌<◌, ◌≤◌, List, [], ◌∷◌, length, Option, Some, None, Result, Ok, Err}
+use Rattle.mcap_wire.specs.Maps.{pair_texts}
+use Rattle.rec_data.specs.declared.schema.SchemaDef.{SchemaDef}
+use Rattle.rec_data.specs.declared.channel.ChannelDef.{ChannelDef}
+use Rattle.record_core.specs.declared.desk.Sight.{Sight}
+use Rattle.record_core.specs.declared.desk.Sight.TheVariants.{Refused, Known, New}
+use Rattle.record_core.specs.Ids.{channel_place}
+use Rattle.record_core.specs.Tables.{IsIdAt, ids_lack}
+use Rattle.record_core.specs.Desk.{DeskView, held, accepted, declare_refusal, declared_size}
+use Rattle.rec_data.specs.declared.owned.Rec.{Rec}
+use Rattle.record_cache.specs.declared.cache.OfferRefused.{OfferRefused}
+use Rattle.rec_data.specs.Owned.{rec_bytes}
+use Rattle.record_cache.specs.declared.records.RecRef.{RecRef}
+use Rattle.record_cache.specs.Buffers.{RecFits, IsKept, Buffer}
+use Rattle.record_cache.specs.Offers.{rec_of, Offered}
+
+-- the lengths of a declaration fit in front of what they count
+abbrev pub SchemaFits : Option SchemaDef → Type 0
+SchemaFits None = Unit {0}
+SchemaFits (Some s) = (length s.name < 2 ^ 32) × (length s.encoding < 2 ^ 32) × (length s.payload < 2 ^ 32)
+
+pub record DefFits (c : ChannelDef) : Type 0 where
+  pub schema : SchemaFits c.schema
+  pub topic : length c.topic < 2 ^ 32
+  pub encoding : length c.message_encoding < 2 ^ 32
+  pub metadata : length (pair_texts c.metadata) < 2 ^ 32
+
+-- only ids and memory may lack
+pub record IsOpen (d : DeskView) (c : ChannelDef) : Type 0 where
+  pub refusal : declare_refusal d c ≡ ids_lack d.ids c
+  pub is_new : channel_place d.ids c ≡ None
+  pub small : declared_size c ≤ 1048576
+  pub room : held d < d.limit
+  pub few : accepted d < 2 ^ 48
+
+-- What is seen of a declaration before ids are given: that it is refused, that its content has an id, or that the content is new and
+-- only ids and memory may lack.
+abbrev pub SightOf : DeskView → ChannelDef → Sight → Type 0
+SightOf d c (Refused refusal) = declare_refusal d c ≡ Some refusal
+SightOf d c (Known id) = (declare_refusal d c ≡ None) × IsIdAt (channel_place d.ids c) (Some id)
+SightOf d c New = IsOpen d c
+
+-- what is counted and added to a buffer, or why nothing is
+abbrev pub CountedOffer : Buffer → List Rec → Result ℕ OfferRefused → Buffer → Type 0
+CountedOffer b records (Ok n) after = (n ≡ length records) × Offered b records (Ok tt) after
+CountedOffer b records (Err refusal) after = Offered b records (Err refusal) after
+
+-- the record that is borrowed, if there is one
+abbrev pub recs_of : Option RecRef → List Rec
+recs_of None = []
+recs_of (Some r) = rec_of r ∷ []
+
+abbrev pub FirstFits : List Rec → Type 0
+FirstFits [] = Unit {0}
+FirstFits (r ∷ rs) = RecFits r
+
+-- the Schema may be kept, and is short enough with its Channel
+abbrev pub SchemaKept : List Rec → Rec → Type 0
+SchemaKept [] channel = Unit {0}
+SchemaKept (r ∷ rs) channel = IsKept r × (length (rec_bytes r) + length (rec_bytes channel) ≤ 1048576)

@@ -1,0 +1,111 @@
+-- The table of ids beside the ids of a history, and what it gives.
+use Rattle.std.specs.Prelude.{◌≡◌, ℕ, ◌+◌, ◌≤◌, List, [], ◌∷◌, length, map, Bool, ◌&&◌, nat_lt, nat_le, if◌then◌else◌, Option, Some, None, Result, Ok, Err}
+use Rattle.rec_data.specs.declared.schema.SchemaDef.{SchemaDef}
+use Rattle.rec_data.specs.declared.channel.ChannelDef.{ChannelDef}
+use Rattle.rec_data.specs.declared.owned.Rec.{Rec}
+use Rattle.mcap_model.specs.History.{schema_of}
+use Rattle.mcap_model.specs.Fields.{SchemaFields, ChannelFields}
+use Rattle.mcap_model.specs.Places.{Has, Each}
+use Rattle.record_core.specs.Ids.{Ids, with_ids, fields_of_schema, fields_of_channel, schema_place, channel_place, new_schema, new_records}
+use Rattle.record_core.specs.declared.answers.DeclareRefused.{DeclareRefused}
+use Rattle.record_core.specs.declared.answers.DeclareRefused.TheVariants as declaring
+use Rattle.id_table.specs.Ids as tables
+use Rattle.id_table.specs.Given.{Declares}
+use Rattle.id_table.specs.declared.given.Given.{Given}
+use Rattle.id_table.specs.declared.given.Given.TheVariants.{Known, New}
+use Rattle.id_table.specs.declared.given.GivenIds.{GivenIds}
+use Rattle.id_table.specs.declared.given.IdRefused.{IdRefused}
+use Rattle.id_table.specs.declared.given.IdRefused.TheVariants.{TooManySchemas, TooManyChannels, Memory}
+
+-- ---- contents in the table
+
+-- what a channel of the table is in a history whose Schemas are these
+abbrev pub content_in : List SchemaFields → ChannelDef → ChannelFields
+content_in schemas c = fields_of_channel (record { schemas = schemas; channels = [] }) c
+
+-- the ids that a table gives, as those of a history
+abbrev pub ids_in : tables.Ids → Ids
+ids_in t = record { schemas = map fields_of_schema t.schemas; channels = map (content_in (map fields_of_schema t.schemas)) t.channels }
+
+-- the schema has an id, if there is one
+abbrev pub HasSchema : List SchemaDef → Option SchemaDef → Type 0
+HasSchema schemas None = Unit {0}
+HasSchema schemas (Some s) = Has schemas s
+
+-- the schema of each channel in the table has an id
+abbrev pub HasSchemas : tables.Ids → Type 0
+HasSchemas t = Each (λ c. HasSchema t.schemas c.schema) t.channels
+
+-- ---- what it gives
+
+-- the id of the content that stands at a place, or none where it stands nowhere
+abbrev pub IsIdAt : Option ℕ → Option ℕ → Type 0
+IsIdAt (Some place) (Some id) = id ≡ place + 1
+IsIdAt (Some place) None = ⊥
+IsIdAt None (Some id) = ⊥
+IsIdAt None None = Unit {0}
+
+-- what is given to the content: its id where it has one, or the next
+abbrev pub GivesAt : Option ℕ → ℕ → Given → Type 0
+GivesAt (Some place) given (Known id) = id ≡ place + 1
+GivesAt (Some place) given (New id) = ⊥
+GivesAt None given (Known id) = ⊥
+GivesAt None given (New id) = id ≡ given + 1
+
+abbrev pub GivesSchema : Ids → Option SchemaDef → Option Given → Type 0
+GivesSchema ids None None = Unit {0}
+GivesSchema ids None (Some given) = ⊥
+GivesSchema ids (Some s) None = ⊥
+GivesSchema ids (Some s) (Some given) = GivesAt (schema_place ids s) (length ids.schemas) given
+
+pub record Gives (ids : Ids) (c : ChannelDef) (given : GivenIds) : Type 0 where
+  pub schema : GivesSchema ids c.schema given.schema
+  pub channel : GivesAt (channel_place ids c) (length ids.channels) given.channel
+
+-- a new schema is needed, and all ids are given
+abbrev pub schemas_lack : Ids → Option SchemaDef → Bool
+schemas_lack ids schema = nat_lt 0 (length (new_schema ids schema)) && nat_le 65535 (length ids.schemas)
+
+-- why no ids are given to a new channel: a new one is needed and 65,535 are given
+abbrev pub ids_lack : Ids → ChannelDef → Option DeclareRefused
+ids_lack ids c =
+    if schemas_lack ids c.schema then Some declaring.TooManySchemas
+    else (if nat_le 65535 (length ids.channels) then Some declaring.TooManyChannels else None)
+
+-- ids are given to a channel that is new, or nothing changes
+abbrev pub IdsDeclared : Ids → ChannelDef → Result GivenIds IdRefused → Ids → Type 0
+IdsDeclared ids c (Ok given) after = (ids_lack ids c ≡ None) × Gives ids c given × (after ≡ with_ids ids (new_records ids c))
+IdsDeclared ids c (Err Memory) after = (ids_lack ids c ≡ None) × (after ≡ ids)
+IdsDeclared ids c (Err TooManySchemas) after = (ids_lack ids c ≡ Some declaring.TooManySchemas) × (after ≡ ids)
+IdsDeclared ids c (Err TooManyChannels) after = (ids_lack ids c ≡ Some declaring.TooManyChannels) × (after ≡ ids)
+
+-- these are the ids that were given last
+abbrev pub AreLast : tables.Ids → GivenIds → Type 0
+AreLast t given = (before : tables.Ids) × (c : ChannelDef) × Declares before c given t
+
+-- the table is as it was before they were given
+abbrev pub TakenBack : tables.Ids → GivenIds → tables.Ids → Type 0
+TakenBack t given after = (before : tables.Ids) (c : ChannelDef) → Declares before c given t → after ≡ before
+
+-- how many ids there are at most
+pub record IsTable (ids : Ids) : Type 0 where
+  pub few_schemas : length ids.schemas ≤ 65535
+  pub few_channels : length ids.channels ≤ 65535
+
+-- ---- parts of a declaration
+
+abbrev pub number_of : Given → ℕ
+number_of (Known id) = id
+number_of (New id) = id
+
+-- the id of a schema that was given, or 0
+abbrev pub id_of : Option Given → ℕ
+id_of None = 0
+id_of (Some (Known id)) = id
+id_of (Some (New id)) = id
+
+abbrev pub schema_with : Option SchemaDef → Option Given → List Rec
+schema_with None given = []
+schema_with (Some s) None = []
+schema_with (Some s) (Some (Known id)) = []
+schema_with (Some s) (Some (New id)) = schema_of id (fields_of_schema s) ∷ []

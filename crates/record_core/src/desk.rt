@@ -1,0 +1,350 @@
+//! The desk: records are accepted into a buffer, and ids are given by content.
+ghost use Rattle.std.specs.Prelude.{◌≡◌, ◌≤◌, ◌<◌, ◌+◌, ◌^◌, [], ◌∷◌, length, None, true, IfOk, OnOk};
+ghost use Rattle.mcap_model.specs.declared.ends.End.TheVariants.{Closed, Stopped};
+ghost use Rattle.record_core.specs.Ids.{is_known};
+ghost use Rattle.record_core.specs.Tables.{IsTable};
+ghost use Rattle.record_core.specs.Desk.{new_desk, accepted, held, added, swapped, ended, fields_of_message, publish_refusal, Published, SwapAnswered, EndsAt, IsCause, end_of, found_of, DeclaredBy};
+ghost use Rattle.mcap_model.specs.History.{message_of};
+ghost use Rattle.record_cache.specs.Offers.{Offered};
+ghost use Rattle.record_core.specs.Machine.{start, swap, close, stop};
+ghost use Rattle.record_core.specs.Sights.{DefFits, IsOpen, SightOf};
+ghost use Rattle.record_core.specs.Stands.{StandsFor, Steps, Stays, PublishSteps, DeclareSteps};
+
+use crate::answers::{DeclareRefused, Declared, Empty, Found, NewMessage, PublishRefused};
+use crate::framing::{declared_size, offer_declared};
+use crate::ids::{give_ids, id_of_channel, number_of, take_ids_back};
+use id_table::{IdRefused, IdTable};
+use mcap_model::{End, Stop};
+use mcap_wire::Memory;
+use rec_data::{ChannelDef, Message};
+use record_cache::{Cache, OfferRefused, RecRef};
+use std::alloc::Global;
+use std::marker::Model;
+use std::mem;
+
+/// What accepts the records of a recording. Contracts see its limit, how many records were swapped out, the records in its
+/// buffer, its end and the place at which it was set, and what has an id.
+#[derive(Drop)]
+pub struct Desk {
+    taken: u64,
+    primary: Cache,
+    end: Option<(End, u64)>,
+    ids: IdTable,
+}
+
+impl Model for Desk {
+    ghost use Rattle.record_core.specs.Desk.{DeskView};
+
+    ghost Value = { DeskView };
+
+    ghost use Rattle.record_core.specs.Holding.{view_of, IsDesk};
+
+    ghost view = { view_of };
+
+    ghost invariant = { IsDesk };
+}
+
+// What is seen of a declaration before ids are given.
+#[derive(Clone, Copy, Debug)]
+enum Sight {
+    Refused(DeclareRefused),
+    Known(u16),
+    New,
+}
+
+impl Desk {
+    /// An empty desk, with nothing accepted.
+    pub fn open(alloc: Global, limit: u64) -> Result<Desk, Memory>
+        requires { limit ≤ 1073741824 }
+        ensures empty { IfOk result (λ desk. desk ≡ new_desk limit) }
+        ensures stands { IfOk result (λ desk. StandsFor desk start) }
+    {
+        let ids = match IdTable::new(alloc) {
+            Ok(ids) => ids,
+            Err(memory) => return Err(memory),
+        };
+        match Cache::new(alloc, limit) {
+            Ok(primary) => {
+                return Ok(Desk {
+                    taken: 0,
+                    primary,
+                    end: None,
+                    ids,
+                });
+            }
+            Err(memory) => return Err(memory),
+        }
+    }
+
+    // From how many bytes on the buffer is full.
+    pub(crate) fn limit(&self) -> u64
+        ensures limit { result ≡ self.now.limit }
+        ensures small { result ≤ 1073741824 }
+    {
+        let _held = self.primary.held();
+        self.primary.limit()
+    }
+
+    /// How many bytes the buffer's records have.
+    pub fn held(&self) -> u64
+        ensures { result ≡ held self.now }
+    {
+        self.primary.held()
+    }
+
+    /// How many records were accepted.
+    pub fn count(&self) -> u64
+        ensures count { result ≡ accepted self.now }
+        ensures few { result ≤ 2 ^ 48 + 1 }
+    {
+        self.taken + self.primary.count()
+    }
+
+    // The first reason to refuse a message.
+    fn publish_refusal(&self, channel: u16, len: u64) -> Option<PublishRefused>
+        ensures { result ≡ publish_refusal self.now channel len }
+    {
+        if len > 33_554_432 {
+            return Some(PublishRefused::TooLarge { len });
+        }
+        match self.end {
+            Some((End::Closed, at)) => return Some(PublishRefused::Closed { at }),
+            Some((End::Stopped { stop }, at)) => return Some(PublishRefused::Stopped { at, stop }),
+            None => {}
+        }
+        if channel == 0 || channel as u32 > self.ids.channels() {
+            return Some(PublishRefused::UnknownChannel);
+        }
+        let count = self.count();
+        if count >= 281_474_976_710_656 {
+            return Some(PublishRefused::TooManyRecords { count });
+        }
+        let held = self.held();
+        if held >= self.limit() {
+            return Some(PublishRefused::Full { held });
+        }
+        None
+    }
+
+    // Adds a message, unless it is refused.
+    fn accept(&mut self, m: &NewMessage<'_>) -> Result<u64, PublishRefused>
+        ensures { Published self.old m.now.channel (fields_of_message m.now) result self.new }
+    {
+        match self.publish_refusal(m.channel, m.payload.len() as u64) {
+            Some(refused) => return Err(refused),
+            None => {}
+        }
+        let at = self.count();
+        match offer_message(&mut self.primary, m) {
+            Ok(()) => return Ok(at),
+            Err(OfferRefused::Full { .. }) => unreachable!(),
+            Err(OfferRefused::Memory) => return Err(PublishRefused::Memory),
+        }
+    }
+
+    /// Adds a message, and answers its place. Where it is refused nothing changes; memory may lack only where there is no
+    /// other reason.
+    pub fn publish(&mut self, m: &NewMessage<'_>) -> Result<u64, PublishRefused>
+        ensures answer { Published self.old m.now.channel (fields_of_message m.now) result self.new }
+        ensures steps { PublishSteps self.old m.now.channel (fields_of_message m.now) result self.new }
+        ensures unended { OnOk result (self.old.end ≡ None) }
+        ensures known { OnOk result (is_known self.old.ids m.now.channel ≡ true) }
+    {
+        self.accept(m)
+    }
+
+    // What is seen of a declaration before ids are given.
+    fn sight(&self, channel: &ChannelDef) -> Sight
+        requires { DefFits channel.now }
+        ensures { SightOf self.now channel.now result }
+    {
+        let len = declared_size(channel);
+        if len > 1_048_576 {
+            return Sight::Refused(DeclareRefused::TooLarge { len });
+        }
+        match self.end {
+            Some((End::Closed, at)) => return Sight::Refused(DeclareRefused::Closed { at }),
+            Some((End::Stopped { stop }, at)) => {
+                return Sight::Refused(DeclareRefused::Stopped { at, stop });
+            }
+            None => {}
+        }
+        match id_of_channel(&self.ids, channel) {
+            Some(id) => return Sight::Known(id),
+            None => {}
+        }
+        let count = self.count();
+        if count >= 281_474_976_710_656 {
+            return Sight::Refused(DeclareRefused::TooManyRecords { count });
+        }
+        let held = self.held();
+        if held >= self.limit() {
+            return Sight::Refused(DeclareRefused::Full { held });
+        }
+        Sight::New
+    }
+
+    // Gives ids to a channel that is new, and adds its records.
+    fn give(&mut self, channel: &ChannelDef) -> Result<Declared, DeclareRefused>
+        requires fits { DefFits channel.now }
+        requires is_open { IsOpen self.old channel.now }
+        ensures { DeclaredBy self.old channel.now result self.new }
+    {
+        let first = self.count();
+        let given = match give_ids(&mut self.ids, channel) {
+            Ok(given) => given,
+            Err(IdRefused::TooManySchemas) => return Err(DeclareRefused::TooManySchemas),
+            Err(IdRefused::TooManyChannels) => return Err(DeclareRefused::TooManyChannels),
+            Err(IdRefused::Memory) => return Err(DeclareRefused::Memory),
+        };
+        let id = number_of(&given.channel);
+        match offer_declared(&mut self.primary, channel, &given.schema, id) {
+            Ok(count) => {
+                return Ok(Declared {
+                    channel: id,
+                    first,
+                    count,
+                });
+            }
+            Err(OfferRefused::Full { .. }) => unreachable!(),
+            Err(OfferRefused::Memory) => {
+                take_ids_back(&mut self.ids, &given);
+                return Err(DeclareRefused::Memory);
+            }
+        }
+    }
+
+    // Declares a channel, unless it is refused.
+    fn accept_channel(&mut self, channel: &ChannelDef) -> Result<Declared, DeclareRefused>
+        requires { DefFits channel.now }
+        ensures { DeclaredBy self.old channel.now result self.new }
+    {
+        match self.sight(channel) {
+            Sight::Refused(refused) => return Err(refused),
+            Sight::Known(id) => {
+                return Ok(Declared {
+                    channel: id,
+                    first: self.count(),
+                    count: 0,
+                });
+            }
+            Sight::New => return self.give(channel),
+        }
+    }
+
+    /// Gives ids to a channel and its schema by content, adds the records of those that are new, and answers the channel's
+    /// id and the places of the records. Where it is refused nothing changes; memory may lack only where there is no other
+    /// reason.
+    pub fn declare(&mut self, channel: &ChannelDef) -> Result<Declared, DeclareRefused>
+        requires { DefFits channel.now }
+        ensures answer { DeclaredBy self.old channel.now result self.new }
+        ensures steps { DeclareSteps self.old channel.now result self.new }
+        ensures unended { OnOk result (self.old.end ≡ None) }
+        ensures few { IsTable self.new.ids }
+    {
+        let _pairs = channel.metadata.as_slice();
+        let answer = self.accept_channel(channel);
+        let _schemas = self.ids.schemas();
+        let _channels = self.ids.channels();
+        answer
+    }
+
+    /// Gives the buffer away for an empty one, or gives that one back where the buffer holds nothing.
+    pub fn swap(&mut self, empty: Cache) -> Result<Cache, Empty>
+        requires { empty ≡ record { limit = self.old.limit; records = [] } }
+        ensures answer { SwapAnswered self.old result self.new }
+        ensures steps { Steps self.old swap self.new }
+    {
+        let count = self.primary.count();
+        if count == 0 {
+            return Err(Empty {
+                cache: empty,
+                end: self.end(),
+                at: self.taken,
+            });
+        }
+        self.taken += count;
+        Ok(mem::replace(&mut self.primary, empty))
+    }
+
+    // Sets the end where none stands, and answers its place.
+    fn end_with(&mut self, end: End) -> u64
+        ensures answer { self.new ≡ ended self.old end }
+        ensures at { EndsAt self.new result }
+    {
+        if let Some((_, at)) = self.end {
+            return at;
+        }
+        let at = self.count();
+        self.end = Some((end, at));
+        at
+    }
+
+    /// Closes the intake where no end stands, and answers the place of the end.
+    pub fn close(&mut self) -> u64
+        ensures answer { self.new ≡ ended self.old Closed }
+        ensures at { EndsAt self.new result }
+        ensures steps { Steps self.old close self.new }
+    {
+        self.end_with(End::Closed)
+    }
+
+    /// Stops the intake where no end stands, and answers the place of the end.
+    pub fn stop(&mut self, reason: Stop) -> u64
+        requires { IsCause reason }
+        ensures answer { self.new ≡ ended self.old (Stopped reason) }
+        ensures at { EndsAt self.new result }
+        ensures steps { Steps self.old (stop reason) self.new }
+    {
+        self.end_with(End::Stopped { stop: reason })
+    }
+
+    /// The end, if one stands.
+    pub fn end(&self) -> Option<End>
+        ensures { result ≡ end_of self.now }
+    {
+        match self.end {
+            Some((end, _)) => return Some(end),
+            None => return None,
+        }
+    }
+
+    /// How the desk stands.
+    pub fn found(&self) -> Found
+        ensures { result ≡ found_of self.now }
+    {
+        Found {
+            taken: self.taken,
+            count: self.count(),
+            held: self.held(),
+            schemas: self.ids.schemas(),
+            channels: self.ids.channels(),
+            end: self.end(),
+        }
+    }
+}
+
+// Offers a message to a buffer.
+fn offer_message(buffer: &mut Cache, m: &NewMessage<'_>) -> Result<(), OfferRefused>
+    requires { length m.now.payload.now ≤ 33554432 }
+    ensures { Offered buffer.old (message_of m.now.channel (fields_of_message m.now) ∷ []) result buffer.new }
+{
+    buffer.offer(RecRef::Message(Message {
+        channel_id: m.channel,
+        sequence: m.sequence,
+        log_time: m.log_time,
+        publish_time: m.publish_time,
+        payload: m.payload,
+    }))
+}
+
+// An empty desk with no ids that says that so many records were swapped out.
+#[cfg(test)]
+pub(crate) fn desk_that_counts(alloc: Global, limit: u64, taken: u64) -> Result<Desk, Memory>
+    requires limit { limit ≤ 1000 }
+    requires few { taken ≤ 2 ^ 48 }
+{
+    let mut desk = Desk::open(alloc, limit)?;
+    desk.taken = taken;
+    Ok(desk)
+}

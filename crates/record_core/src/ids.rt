@@ -1,0 +1,61 @@
+//! The ids of a desk: a table of contents, seen as the ids of a history.
+ghost use Rattle.std.specs.Prelude.{◌≡◌, None, Ok, IfOk, OnErr};
+ghost use Rattle.id_table.specs.Given.{Declares};
+ghost use Rattle.record_core.specs.Ids.{channel_place};
+ghost use Rattle.record_core.specs.Tables.{ids_in, HasSchemas, IsIdAt, IdsDeclared, AreLast, TakenBack, number_of, id_of};
+
+use id_table::{Given, GivenIds, IdRefused, IdTable};
+use rec_data::ChannelDef;
+
+/// The id of a channel's content.
+pub(crate) fn id_of_channel(table: &IdTable, channel: &ChannelDef) -> Option<u16>
+    requires { HasSchemas table.now }
+    ensures { IsIdAt (channel_place (ids_in table.now) channel.now) result }
+{
+    table.find(channel)
+}
+
+/// Gives ids to a channel that is new and to its schema. Where it is refused, nothing changes.
+pub(crate) fn give_ids(table: &mut IdTable, channel: &ChannelDef) -> Result<GivenIds, IdRefused>
+    requires schemas { HasSchemas table.old }
+    requires is_new { channel_place (ids_in table.old) channel.now ≡ None }
+    ensures given { IdsDeclared (ids_in table.old) channel.now result (ids_in table.new) }
+    ensures schemas { HasSchemas table.new }
+    ensures last { IfOk result (λ given. Declares table.old channel.now given table.new) }
+    ensures err { OnErr result (table.new ≡ table.old) }
+{
+    let _before = table.schemas();
+    let given = table.declare(channel);
+    let _schemas = table.schemas();
+    let _channels = table.channels();
+    given
+}
+
+/// Takes the new ones back of the ids that were given last.
+pub(crate) fn take_ids_back(table: &mut IdTable, given: &GivenIds)
+    requires { AreLast table.old given.now }
+    ensures { TakenBack table.old given.now table.new }
+{
+    table.take_back(given);
+}
+
+/// The id of a schema, or 0 where there is none.
+pub(crate) fn id_of(given: &Option<Given>) -> u16
+    ensures { result ≡ id_of given.now }
+{
+    match given {
+        None => return 0,
+        Some(Given::Known(id)) => return *id,
+        Some(Given::New(id)) => return *id,
+    }
+}
+
+/// The id.
+pub(crate) fn number_of(given: &Given) -> u16
+    ensures { result ≡ number_of given.now }
+{
+    match given {
+        Given::Known(id) => return *id,
+        Given::New(id) => return *id,
+    }
+}

@@ -1,0 +1,15 @@
+//! The intake of a recording: a desk that accepts records into a buffer and gives ids by content, and the machine that a
+//! recording is.
+#![tactic(auto)]
+
+mod answers;
+mod desk;
+mod framing;
+mod ids;
+pub mod laws;
+
+pub use answers::{DeclareRefused, Declared, Empty, Found, NewMessage, PublishRefused};
+pub use desk::Desk;
+
+#[cfg(test)]
+mod tests;
