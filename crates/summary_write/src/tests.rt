@@ -72,6 +72,18 @@ const OF_TWO: &[&[u8]] = &[
     b"\x89MCAP0\x0d\x0a",
 ];
 
+// Of two messages in one chunk.
+const OF_TWO_TOGETHER: &[&[u8]] = &[
+    b"\x04\x12\0\0\0\0\0\0\0\x01\0\0\0\x02\0\0\0/a\0\0\0\0\0\0\0\0",
+    b"\x0b\x38\0\0\0\0\0\0\0\x02\0\0\0\0\0\0\0\0\0\x01\0\0\0\0\0\0\0\0\0\0\0\x01\0\0\0\x0a\0\0\0\0\0\0\0\x0b\0\0\0\0\0\0\0\x0a\0\0\0\x01\0\x02\0\0\0\0\0\0\0",
+    b"\x08J\0\0\0\0\0\0\0\x0a\0\0\0\0\0\0\0\x0b\0\0\0\0\0\0\0\x22\0\0\0\0\0\0\0\x8c\0\0\0\0\0\0\0\x0a\0\0\0\x01\0\xae\0\0\0\0\0\0\0/\0\0\0\0\0\0\0\0\0\0\0[\0\0\0\0\0\0\0[\0\0\0\0\0\0\0",
+    b"\x0e\x11\0\0\0\0\0\0\0\x04\xea\0\0\0\0\0\0\0\x1b\0\0\0\0\0\0\0",
+    b"\x0e\x11\0\0\0\0\0\0\0\x0b\x05\x01\0\0\0\0\0\0A\0\0\0\0\0\0\0",
+    b"\x0e\x11\0\0\0\0\0\0\0\x08F\x01\0\0\0\0\0\0S\0\0\0\0\0\0\0",
+    b"\x02\x14\0\0\0\0\0\0\0\xea\0\0\0\0\0\0\0\x99\x01\0\0\0\0\0\0+\xcf\xf7\xe4",
+    b"\x89MCAP\x30\x0d\x0a",
+];
+
 // Of a chunk without a message, which has no times and no Message Index, and of a chunk with one.
 const OF_CUT: &[&[u8]] = &[
     b"\x04\x12\0\0\0\0\0\0\0\x01\0\0\0\x02\0\0\0/a\0\0\0\0\0\0\0\0",
@@ -199,6 +211,7 @@ fn a_summary_tells_of_each_block(rt: HostRuntime) -> Result<(), Fail> {
     let rows = [
         (786432, ONE_MESSAGE, 290, OF_ONE),
         (59, TWO_MESSAGES, 373, OF_TWO),
+        (60, TWO_MESSAGES, 290, OF_TWO_TOGETHER),
         (1, ONE_MESSAGE, 363, OF_CUT),
     ];
     for (size, records, len, want) in rows {
