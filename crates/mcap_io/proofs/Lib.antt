@@ -2,3 +2,6 @@ pub mod Calls
 pub mod Filling
 pub mod Gathering
 pub mod Known
+pub mod Notes
+pub mod Noting
+pub mod Walking

@@ -1,7 +1,9 @@
 pub mod Ahead
 pub mod Files
 pub mod Gathered
+pub mod Inputs
 pub mod Outside
+pub mod Stores
 pub mod Planned
 pub mod Standing
 pub mod Stretch

@@ -1,5 +1,5 @@
--- What the calls on sources, sinks, stores and worlds do to the bytes that these tell, and when one may fail.
-use Rattle.std.specs.Prelude.{◌≡◌, ◌⊎◌, ℕ, ◌+◌, ◌-◌, ◌^◌, ◌<◌, ◌≤◌, min, List, [], ◌∷◌, ◌++◌, length, take, drop, Bool, true, false, Option, Some, IsSome, Result, Ok, Err, OnOk, OnErr}
+-- What is seen of sources, sinks, stores and worlds, what the calls on them do to it, and when one may fail.
+use Rattle.std.specs.Prelude.{◌≡◌, ◌⊎◌, ℕ, ◌+◌, ◌-◌, ◌^◌, ◌<◌, ◌≤◌, min, List, [], ◌∷◌, ◌++◌, length, take, drop, Bool, true, false, Option, Some, None, IsSome, Result, Ok, Err, OnOk, OnErr, All}
 use Rattle.std.specs.Option.{option_map}
 use Rattle.mcap_io.specs.declared.outside.Failed.{Failed}
 use Rattle.mcap_io.specs.declared.outside.ObjectKind.{ObjectKind}
@@ -12,36 +12,93 @@ use Rattle.mcap_io.specs.declared.outside.ReadRefused.{ReadRefused}
 use Rattle.mcap_io.specs.declared.outside.ReadRefused.TheVariants as read_refusals
 use Rattle.mcap_io.specs.declared.outside.Short.{Short}
 
+-- ---- what is seen
+
+-- of a source: the bytes that it has left, where it tells them, and how often it has failed
+pub record SourceState : Type 0 where
+  pub left : Option (List ℕ)
+  pub faults : ℕ
+
+-- of a sink: the bytes that it took, where it tells them, and how often it has failed
+pub record SinkState : Type 0 where
+  pub took : Option (List ℕ)
+  pub faults : ℕ
+
+-- of a live store: the bytes that it holds, where it tells them, and how often it has failed
+pub record LiveState : Type 0 where
+  pub held : Option (List ℕ)
+  pub faults : ℕ
+
+-- what stands under each name, if anything
+abbrev pub Names : Type 0
+Names = List ℕ → Option (List ℕ)
+
+-- how an object was taken back: whether that went well, how often the object had failed, and what it had left, if it is
+-- a source
+pub record Keeping : Type 0 where
+  pub well : Bool
+  pub faults : ℕ
+  pub left : Option (List ℕ)
+
+-- an opening: of what, under which name, whether it gave an object, and how that was taken back, once it was
+pub record Opening : Type 0 where
+  pub kind : ObjectKind
+  pub name : List ℕ
+  pub given : Bool
+  pub kept : Option Keeping
+
+-- what a world tells: its names, and its openings in their order
+pub record Told : Type 0 where
+  pub names : Names
+  pub log : List Opening
+
+-- of a world: what it tells, if it does; how often an opening or a keeping has failed; and the faults of the sources
+-- and of the live stores that it took back
+pub record WorldState : Type 0 where
+  pub told : Option Told
+  pub faults : ℕ
+  pub input_faults : ℕ
+  pub output_faults : ℕ
+
 -- ---- counts of faults
+
+-- one fault more; a count at the end of its type stands there
+abbrev pub one_more : ℕ → ℕ
+one_more count = min (count + 1) (2 ^ 64 - 1)
 
 -- the count has risen, or stands at the end of its type
 abbrev pub Rose : ℕ → ℕ → Type 0
-Rose before now = min (before + 1) (2 ^ 64 - 1) ≤ now
+Rose before now = one_more before ≤ now
 
 -- two counts together; a sum that would pass the end of the type stands there
 abbrev pub added : ℕ → ℕ → ℕ
 added a b = min (a + b) (2 ^ 64 - 1)
 
--- the count stands still where the call went well, and a failure comes only where it rose
+-- the count has risen by one
+pub record RisesOnce (before now : ℕ) : Type 0 where
+  pub later : before ≤ now
+  pub once : now ≡ one_more before
+
+-- the count stands still where the call went well; where it failed it has risen by one
 pub record HasCause {T : Type 0} (before now : ℕ) (result : Result T Failed) : Type 0 where
   pub later : before ≤ now
   pub still : OnOk result (now ≡ before)
-  pub failed : OnErr result (Rose before now)
+  pub failed : OnErr result (RisesOnce before now)
 
 -- the same of an opening, of an append and of the reading of a stretch: want of memory leaves the count as it was
 abbrev pub OpenCause : {T : Type 0} → ℕ → ℕ → Result T OpenRefused → Type 0
 OpenCause before now (Ok it) = now ≡ before
-OpenCause before now (Err open_refusals.Failed) = (before ≤ now) × Rose before now
+OpenCause before now (Err open_refusals.Failed) = RisesOnce before now
 OpenCause before now (Err open_refusals.Memory) = now ≡ before
 
 abbrev pub AppendCause : {T : Type 0} → ℕ → ℕ → Result T AppendRefused → Type 0
 AppendCause before now (Ok it) = now ≡ before
-AppendCause before now (Err (append_refusals.Failed taken)) = (before ≤ now) × Rose before now
+AppendCause before now (Err (append_refusals.Failed taken)) = RisesOnce before now
 AppendCause before now (Err append_refusals.Memory) = now ≡ before
 
 abbrev pub ReadCause : {T : Type 0} → ℕ → ℕ → Result T ReadRefused → Type 0
 ReadCause before now (Ok it) = now ≡ before
-ReadCause before now (Err read_refusals.Failed) = (before ≤ now) × Rose before now
+ReadCause before now (Err read_refusals.Failed) = RisesOnce before now
 ReadCause before now (Err read_refusals.Memory) = now ≡ before
 
 -- ---- sources
@@ -62,11 +119,10 @@ pub record TakesFront (rest : List ℕ) (left : Option (List ℕ)) (len : ℕ) (
   pub given : got ≡ take len rest
   pub after : left ≡ Some (drop len rest)
 
--- or a first part of it was lost in a failure; where memory lacked, nothing was
+-- or a first part of it was lost, in a failure or where memory lacked for the rest
 abbrev pub StretchTaken : Option (List ℕ) → Option (List ℕ) → ℕ → List ℕ → Result Unit ReadRefused → Type 0
 StretchTaken old new len got (Ok it) = (rest : List ℕ) → old ≡ Some rest → TakesFront rest new len got
-StretchTaken old new len got (Err read_refusals.Failed) = (rest : List ℕ) → old ≡ Some rest → (n : ℕ) × (n < len) × (new ≡ Some (drop n rest))
-StretchTaken old new len got (Err read_refusals.Memory) = new ≡ old
+StretchTaken old new len got (Err why) = (rest : List ℕ) → old ≡ Some rest → (n : ℕ) × (n < len) × (new ≡ Some (drop n rest))
 
 -- ---- sinks and live stores
 
@@ -82,10 +138,11 @@ abbrev pub Writes : Option (List ℕ) → Option (List ℕ) → List ℕ → Res
 Writes old new bytes (Ok n) = Adds old new (take n bytes)
 Writes old new bytes (Err why) = AddsPart old new 0 bytes
 
--- all of a piece was taken and the count stood still, or the count rose and a first part was, at least as much as is said
-abbrev pub WritesAll : Option (List ℕ) → Option (List ℕ) → ℕ → ℕ → List ℕ → Result Unit Short → Type 0
-WritesAll old new before now bytes (Ok it) = (now ≡ before) × Adds old new bytes
-WritesAll old new before now bytes (Err short) = (before ≤ now) × Rose before now × (short.taken ≤ length bytes) × AddsPart old new short.taken bytes
+-- all of a piece was taken and the count stood still; or so many first bytes were, in writes that went well, and then
+-- a write failed, which took some first bytes of the rest
+abbrev pub WritesAll : SinkState → SinkState → List ℕ → Result Unit Short → Type 0
+WritesAll old new bytes (Ok it) = (new.faults ≡ old.faults) × Adds old.took new.took bytes
+WritesAll old new bytes (Err short) = RisesOnce old.faults new.faults × (short.taken < length bytes) × AddsPart old.took new.took short.taken bytes
 
 -- what a refused append leaves: the first bytes that it says, or all as it was
 abbrev pub AppendLeaves : Option (List ℕ) → Option (List ℕ) → List ℕ → AppendRefused → Type 0
@@ -94,40 +151,59 @@ AppendLeaves old new bytes append_refusals.Memory = new ≡ old
 
 -- ---- openings
 
--- an opening: of a source or of a live store, under which name, and whether it gave one
-pub record Opening : Type 0 where
-  pub kind : ObjectKind
-  pub name : List ℕ
-  pub given : Bool
+-- an opening that no object was taken back of yet
+abbrev pub opened : ObjectKind → List ℕ → Bool → Opening
+opened kind name given = record { kind = kind; name = name; given = given; kept = None }
 
-abbrev pub source_under : List ℕ → Bool → Opening
-source_under name given = record { kind = kinds.Source; name = name; given = given }
+-- the entry, with how its object was taken back
+abbrev pub taken_back : Opening → Keeping → Opening
+taken_back entry keeping = record { kind = entry.kind; name = entry.name; given = entry.given; kept = Some keeping }
 
-abbrev pub live_under : List ℕ → Bool → Opening
-live_under name given = record { kind = kinds.Live; name = name; given = given }
+-- the names and the log, with one more opening
+abbrev pub with_opening : Told → Opening → Told
+with_opening told entry = record { names = told.names; log = told.log ++ entry ∷ [] }
 
--- these openings were made behind the others, where they are told
-abbrev pub also_opened : Option (List Opening) → List Opening → Option (List Opening)
-also_opened opened more = option_map (λ openings. openings ++ more) opened
+-- an opening is listed, unless memory lacked for it; the names hold what they held
+abbrev pub Opens : {T : Type 0} → WorldState → WorldState → ObjectKind → List ℕ → Result T OpenRefused → Type 0
+Opens old new kind name (Ok it) = new.told ≡ option_map (λ told. with_opening told (opened kind name true)) old.told
+Opens old new kind name (Err open_refusals.Failed) = new.told ≡ option_map (λ told. with_opening told (opened kind name false)) old.told
+Opens old new kind name (Err open_refusals.Memory) = new.told ≡ old.told
 
--- an opening that was refused is told unless memory lacked for it
-abbrev pub OpensNot : Option (List Opening) → Option (List Opening) → (Bool → Opening) → OpenRefused → Type 0
-OpensNot old new opening open_refusals.Failed = new ≡ also_opened old (opening false ∷ [])
-OpensNot old new opening open_refusals.Memory = new ≡ old
+-- an opening leaves the counts of what was taken back
+pub record CountsStand (old new : WorldState) : Type 0 where
+  pub inputs : new.input_faults ≡ old.input_faults
+  pub outputs : new.output_faults ≡ old.output_faults
 
-abbrev pub Opens : {T : Type 0} → Option (List Opening) → Option (List Opening) → (Bool → Opening) → Result T OpenRefused → Type 0
-Opens old new opening (Ok it) = new ≡ also_opened old (opening true ∷ [])
-Opens old new opening (Err why) = OpensNot old new opening why
+-- ---- keepings
 
--- where openings are told, this is one of them
-abbrev pub WasMade : Option (List Opening) → Opening → Type 0
-WasMade opened opening = (openings : List Opening) → opened ≡ Some openings → (before behind : List Opening) × (openings ≡ before ++ opening ∷ behind)
+-- the entry is of an object of that kind under that name, which was given and not taken back
+pub record IsOut (kind : ObjectKind) (name : List ℕ) (entry : Opening) : Type 0 where
+  pub kind_is : entry.kind ≡ kind
+  pub name_is : entry.name ≡ name
+  pub given : entry.given ≡ true
+  pub out : entry.kept ≡ None
+
+-- none of them is
+abbrev pub NoneIsOut : ObjectKind → List ℕ → List Opening → Type 0
+NoneIsOut kind name entries = All (λ entry. IsOut kind name entry → ⊥) entries
+
+-- the newest entry that an object of that kind is out of, under that name
+pub record IsNewestOut (log : List Opening) (kind : ObjectKind) (name : List ℕ) (before : List Opening) (entry : Opening) (behind : List Opening) : Type 0 where
+  pub there : log ≡ before ++ entry ∷ behind
+  pub out : IsOut kind name entry
+  pub newest : NoneIsOut kind name behind
+
+-- a keeping is noted in the newest entry of such an object; where there is none, the log stays
+abbrev pub Notes : List Opening → List Opening → ObjectKind → List ℕ → Keeping → Type 0
+Notes old new kind name keeping = ((before behind : List Opening) × (entry : Opening) × IsNewestOut old kind name before entry behind × (new ≡ before ++ taken_back entry keeping ∷ behind))
+    ⊎ (NoneIsOut kind name old × (new ≡ old))
+
+-- whether a call went well
+abbrev pub went_well : {T : Type 0} → Result T Failed → Bool
+went_well (Ok it) = true
+went_well (Err why) = false
 
 -- ---- worlds
-
--- what stands under each name, if anything
-abbrev pub Names : Type 0
-Names = List ℕ → Option (List ℕ)
 
 -- all names but one hold what they held
 abbrev pub OthersSame : Names → Names → List ℕ → Type 0
@@ -142,14 +218,20 @@ pub record Keeps (all now : Names) (name : List ℕ) (held : Option (List ℕ)) 
   pub others : OthersSame all now name
   pub placed : (bytes : List ℕ) → held ≡ Some bytes → Placed all now name bytes result
 
--- where the world tells, it goes on telling, and the keeping puts the object's bytes under its name alone
-abbrev pub KeepsUnder : Option Names → Option Names → List ℕ → Option (List ℕ) → Result Unit Failed → Type 0
-KeepsUnder old new name held result = (all : Names) → old ≡ Some all → (now : Names) × (new ≡ Some now) × Keeps all now name held result
+-- where the world tells, it goes on telling: a source that is taken back is noted, and the names hold what they held
+abbrev pub KeepsSource : WorldState → WorldState → List ℕ → SourceState → Result Unit Failed → Type 0
+KeepsSource old new name it result = (told : Told) → old.told ≡ Some told → (now : Told) × (new.told ≡ Some now) × (now.names ≡ told.names)
+    × Notes told.log now.log kinds.Source name (record { well = went_well result; faults = it.faults; left = it.left })
+
+-- a live store that is taken back is noted, and its bytes stand under its name alone
+abbrev pub KeepsLive : WorldState → WorldState → List ℕ → LiveState → Result Unit Failed → Type 0
+KeepsLive old new name it result = (told : Told) → old.told ≡ Some told → (now : Told) × (new.told ≡ Some now) × Keeps told.names now.names name it.held result
+    × Notes told.log now.log kinds.Live name (record { well = went_well result; faults = it.faults; left = None })
 
 -- what an opened source tells: the bytes under its name, which is there
-abbrev pub TellsName : Option Names → List ℕ → Option (List ℕ) → Type 0
-TellsName names name left = (all : Names) → names ≡ Some all → (left ≡ all name) × IsSome (all name)
+abbrev pub TellsName : WorldState → List ℕ → SourceState → Type 0
+TellsName world name source = (told : Told) → world.told ≡ Some told → (source.left ≡ told.names name) × IsSome (told.names name)
 
 -- what a newly made store tells: nothing yet
-abbrev pub TellsNothingYet : Option Names → Option (List ℕ) → Type 0
-TellsNothingYet names held = (all : Names) → names ≡ Some all → held ≡ Some []
+abbrev pub TellsNothingYet : WorldState → LiveState → Type 0
+TellsNothingYet world live = (told : Told) → world.told ≡ Some told → live.held ≡ Some []

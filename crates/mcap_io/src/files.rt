@@ -1,53 +1,69 @@
 //! The world of files. What a file gives or keeps no clause can say, so its objects tell nothing.
-ghost use Rattle.std.specs.Prelude.{◌≡◌, ◌≤◌, ◌+◌, ◌-◌, ◌^◌, ℕ, List, length, min, [], Ok, Some, None, false, IsTrue, IsErr, IfOk, IfErr, OnOk, OnErr, ◌↔◌};
+ghost use Rattle.std.proofs.Common.{◌∙◌};
+ghost use Rattle.std.specs.Prelude.{refl, ◌≡◌, ◌≤◌, ◌+◌, ◌-◌, ◌^◌, ℕ, List, length, min, [], ◌∷◌, ◌++◌, Ok, Some, None, false, IsTrue, IsErr, IfOk, IfErr, OnOk, OnErr};
 ghost use Rattle.mcap_io.specs.Ahead.{ahead, Gives};
-ghost use Rattle.mcap_io.specs.Files.{nothing, untold};
+ghost use Rattle.mcap_io.specs.Files.{nothing, PlacedAs, IsWritten};
 ghost use Rattle.mcap_io.specs.Gathered.{Stores};
-ghost use Rattle.mcap_io.specs.Outside.{HasCause, ReadGives, Adds, AppendCause, AppendLeaves, Rose};
+ghost use Rattle.mcap_io.specs.Inputs.{LetsGo};
+ghost use Rattle.mcap_io.specs.Outside.{HasCause, OpenCause, ReadGives, Adds, AppendCause, AppendLeaves, RisesOnce, added};
 
 use crate::ahead::{ROOM, ReadAhead};
 use crate::gather::Gather;
-use crate::outside::{AppendRefused, Extent, Failed, LiveStore, OpenRefused, Source, World};
+use crate::inputs::{FileId, holds, let_go};
+use crate::outside::{AppendRefused, Extent, Failed, LiveStore, OpenRefused, Short, Source, World};
 use crate::writer::WriterSink;
 use std::alloc::{AllocError, Global};
-use std::fs::{File, OpenOptions};
+use std::fs::{OpenFile, OpenOptions};
 use std::io::{Read, Write};
 use std::rt::Files;
 
 /// A source over a file. It reads 262,144 bytes ahead; a larger read goes past its buffer.
 pub struct FileSource<F> {
     ahead: ReadAhead<F>,
+    id: FileId,
     faults: u64,
 }
 
 impl<F: Read + Drop> FileSource<F> {
     // The buffer is taken here.
-    fn new(alloc: Global, file: F) -> Result<Self, AllocError>
-        ensures unused { IfOk result (λ it. ⟦<FileSource<F> as Source>⟧.faults it ≡ 0) }
+    fn new(alloc: Global, file: F, id: FileId) -> Result<Self, AllocError>
+        ensures unused { IfOk result (λ it. (⟦<FileSource<F> as Source>⟧.state it).faults ≡ 0) }
+        ensures id { IfOk result (λ it. it.id ≡ id) }
         ensures left { IfOk result (λ it. ahead it.ahead.buffer.items it.ahead.from it.ahead.to (F.remaining it.ahead.file) ≡ F.remaining file) }
     {
         let ahead = ReadAhead::new(alloc, file)?;
-        Ok(FileSource { ahead, faults: 0 })
+        Ok(FileSource {
+            ahead,
+            id,
+            faults: 0,
+        })
     }
 
     fn close(self) {
         let FileSource {
             ahead: _,
+            id: _,
             faults: _,
         } = self;
     }
 }
 
 impl<F: Read + Drop> Source for FileSource<F> {
-    ghost left = { λ _. nothing };
+    ghost state = { λ s. record { left = nothing; faults = s.faults } };
 
-    ghost faults = { λ s. s.faults };
+    /// It reads the same file.
+    ghost stays = { λ s t. t.id ≡ s.id };
+
+    ghost stays_so = { λ s. refl };
+
+    ghost stays_on = { λ s t u first second. second ∙ first };
 
     fn read(&mut self, out: &mut [u8]) -> Result<usize, Failed>
         ensures bound { IfOk result (λ n. n ≤ length out.new) }
         ensures gives { ReadGives nothing nothing out.new result }
-        ensures no_room { length out.new ≡ 0 → (result ≡ Ok 0) × (nothing ≡ nothing) × (self.new.faults ≡ self.old.faults) }
+        ensures no_room { length out.new ≡ 0 → (result ≡ Ok 0) × (self.new ≡ self.old) }
         ensures cause { HasCause self.old.faults self.new.faults result }
+        ensures stays { self.new.id ≡ self.old.id }
         // Where the file tells what it has left, no byte of it is lost.
         ensures file { Gives (ahead self.old.ahead.buffer.items self.old.ahead.from self.old.ahead.to (F.remaining self.old.ahead.file)) (ahead self.new.ahead.buffer.items self.new.ahead.from self.new.ahead.to (F.remaining self.new.ahead.file)) out.new result }
     {
@@ -103,7 +119,7 @@ impl<F: Write + Drop> FileLive<F> {
     // The room is an empty buffer. It is taken before the file is opened, since opening empties the file.
     fn new(room: Vec<u8>, file: F) -> Self
         requires { room.items ≡ [] }
-        ensures unused { ⟦<FileLive<F> as LiveStore>⟧.faults result ≡ 0 }
+        ensures unused { (⟦<FileLive<F> as LiveStore>⟧.state result).faults ≡ 0 }
         ensures len { result.len ≡ 0 }
         ensures written { F.contents result.gather.sink.writer ≡ F.contents file }
         ensures room { result.gather.waiting ≡ room }
@@ -116,53 +132,30 @@ impl<F: Write + Drop> FileLive<F> {
         }
     }
 
-    // Writes all that waits.
-    fn flush(&mut self) -> Result<(), Failed>
-        ensures cause { self.old.gather.broken ≡ false → OnErr result (Rose self.old.gather.sink.faults self.new.gather.sink.faults) }
-        ensures written { OnOk result (Adds (F.contents self.old.gather.sink.writer) (F.contents self.new.gather.sink.writer) self.old.gather.waiting.items) }
-        ensures none_waits { OnOk result (self.new.gather.waiting.items ≡ []) }
-        ensures broken { IsTrue self.new.gather.broken ↔ IsErr result }
+    // Writes all that waits and closes the file. It goes well only where a file now holds what it held and all that waited.
+    fn finish(self) -> Result<(), Failed>
+        ensures written { OnOk result (IsWritten F.contents self.gather.sink.writer self.gather.waiting.items) }
+        ensures broken { IsTrue self.gather.broken → IsErr result }
     {
-        match self.gather.flush() {
+        let FileLive {
+            mut gather,
+            len: _,
+            faults: _,
+        } = self;
+        match gather.flush() {
             Ok(()) => return Ok(()),
             Err(_) => return Err(Failed),
         }
     }
 
-    // Closes the file. Nothing waits, unless a write has failed.
-    fn close(self)
-        requires { self.gather.broken ≡ false → self.gather.waiting.items ≡ [] }
-    {
-        let FileLive {
-            gather: _,
-            len: _,
-            faults: _,
-        } = self;
-    }
-}
-
-impl<F: Write + Drop> LiveStore for FileLive<F> {
-    type Extent = Stretch;
-
-    ghost held = { λ _. nothing };
-
-    ghost faults = { λ s. s.faults };
-
-    fn append(&mut self, bytes: &[u8]) -> Result<Stretch, AppendRefused>
-        ensures adds { IfOk result (λ e. Adds nothing nothing bytes.now) }
-        ensures extent { IfOk result (λ e. (e.len ≡ length bytes.now) × ((before : List ℕ) → nothing ≡ Some before → nothing ≡ Some bytes.now)) }
-        ensures leaves { IfErr result (AppendLeaves nothing nothing bytes.now) }
+    // Says where the piece stands, or counts its failure.
+    fn placed(&mut self, put: Result<(), Short>, len: u64) -> Result<Stretch, AppendRefused>
+        ensures answer { PlacedAs put self.old.len len result }
+        ensures gather { self.new.gather ≡ self.old.gather }
+        ensures len { IfOk result (λ e. self.new.len ≡ min (self.old.len + len) (2 ^ 64 - 1)) }
         ensures cause { AppendCause self.old.faults self.new.faults result }
-        // The pieces stand one behind the other.
-        ensures place { IfOk result (λ e. (e.from ≡ self.old.len) × (self.new.len ≡ min (self.old.len + e.len) (2 ^ 64 - 1))) }
-        // Where the file tells what it holds, that and what waits hold all pieces in their order.
-        ensures file { Stores (F.contents self.old.gather.sink.writer) self.old.gather.waiting.items (F.contents self.new.gather.sink.writer) self.new.gather.waiting.items bytes.now result }
-        // It fails only where a write has failed.
-        ensures written { self.old.gather.broken ≡ false → OnErr result (Rose self.old.gather.sink.faults self.new.gather.sink.faults) }
-        ensures broken { IsTrue self.old.gather.broken → IsErr result × (F.contents self.new.gather.sink.writer ≡ F.contents self.old.gather.sink.writer) }
     {
-        let len = bytes.len() as u64;
-        match self.gather.put(bytes) {
+        match put {
             Ok(()) => {
                 let from = self.len;
                 self.len = from.saturating_add(len);
@@ -176,30 +169,76 @@ impl<F: Write + Drop> LiveStore for FileLive<F> {
             }
         }
     }
+}
+
+impl<F: Write + Drop> LiveStore for FileLive<F> {
+    type Extent = Stretch;
+
+    ghost state = { λ s. record { held = nothing; faults = s.faults } };
+
+    fn append(&mut self, bytes: &[u8]) -> Result<Stretch, AppendRefused>
+        ensures adds { IfOk result (λ e. Adds nothing nothing bytes.now) }
+        ensures extent { IfOk result (λ e. (e.len ≡ length bytes.now) × ((before : List ℕ) → nothing ≡ Some before → nothing ≡ Some bytes.now)) }
+        ensures leaves { IfErr result (AppendLeaves nothing nothing bytes.now) }
+        ensures cause { AppendCause self.old.faults self.new.faults result }
+        // The pieces stand one behind the other.
+        ensures place { IfOk result (λ e. (e.from ≡ self.old.len) × (self.new.len ≡ min (self.old.len + e.len) (2 ^ 64 - 1))) }
+        // Where the file tells what it holds, that and what waits hold all pieces in their order.
+        ensures file { Stores (F.contents self.old.gather.sink.writer) self.old.gather.waiting.items (F.contents self.new.gather.sink.writer) self.new.gather.waiting.items bytes.now result }
+        // It fails only where a write has failed.
+        ensures written { self.old.gather.broken ≡ false → OnErr result (RisesOnce self.old.gather.sink.faults self.new.gather.sink.faults) }
+        ensures broken { IsTrue self.old.gather.broken → IsErr result × (F.contents self.new.gather.sink.writer ≡ F.contents self.old.gather.sink.writer) }
+    {
+        let put = self.gather.put(bytes);
+        self.placed(put, bytes.len() as u64)
+    }
+
+    fn append_through(&mut self, bytes: &[u8]) -> Result<Stretch, AppendRefused>
+        ensures adds { IfOk result (λ e. Adds nothing nothing bytes.now) }
+        ensures extent { IfOk result (λ e. (e.len ≡ length bytes.now) × ((before : List ℕ) → nothing ≡ Some before → nothing ≡ Some bytes.now)) }
+        ensures leaves { IfErr result (AppendLeaves nothing nothing bytes.now) }
+        ensures cause { AppendCause self.old.faults self.new.faults result }
+        // The pieces stand one behind the other.
+        ensures place { IfOk result (λ e. (e.from ≡ self.old.len) × (self.new.len ≡ min (self.old.len + e.len) (2 ^ 64 - 1))) }
+        // Where the file tells what it holds, that and what waits hold all pieces in their order.
+        ensures file { Stores (F.contents self.old.gather.sink.writer) self.old.gather.waiting.items (F.contents self.new.gather.sink.writer) self.new.gather.waiting.items bytes.now result }
+        // It fails only where a write has failed.
+        ensures written { self.old.gather.broken ≡ false → OnErr result (RisesOnce self.old.gather.sink.faults self.new.gather.sink.faults) }
+        ensures broken { IsTrue self.old.gather.broken → IsErr result × (F.contents self.new.gather.sink.writer ≡ F.contents self.old.gather.sink.writer) }
+        ensures none_waits { OnOk result (self.new.gather.waiting.items ≡ []) }
+    {
+        let put = self.gather.put_through(bytes);
+        self.placed(put, bytes.len() as u64)
+    }
 
     fn faults(&self) -> u64 {
         self.faults
     }
 }
 
-/// The world of files. It counts an opening or a keeping that fails, and tells nothing of what stands under a name.
+/// The world of files. It counts an opening or a keeping that fails, and tells nothing of what stands under a name. An
+/// output that is the same file as an input which is open is refused.
 #[derive(Drop)]
 pub struct FileWorld<R> {
     runtime: R,
+    inputs: Vec<FileId>,
     faults: u64,
     input_faults: u64,
     output_faults: u64,
 }
 
-impl<R: Files<File = File> + AllocGlobal> FileWorld<R> {
+impl<R: Files + AllocGlobal> FileWorld<R>
+where
+    R::File: Send,
+{
     /// The files of this runtime.
     pub fn new(runtime: R) -> Self
-        ensures faults { ⟦<FileWorld<R> as World>⟧.faults result ≡ 0 }
-        ensures input_faults { ⟦<FileWorld<R> as World>⟧.input_faults result ≡ 0 }
-        ensures output_faults { ⟦<FileWorld<R> as World>⟧.output_faults result ≡ 0 }
+        ensures { ⟦<FileWorld<R> as World>⟧.state result ≡ record { told = None; faults = 0; input_faults = 0; output_faults = 0 } }
     {
+        let inputs = Vec::new(runtime.alloc());
         FileWorld {
             runtime,
+            inputs,
             faults: 0,
             input_faults: 0,
             output_faults: 0,
@@ -207,60 +246,111 @@ impl<R: Files<File = File> + AllocGlobal> FileWorld<R> {
     }
 }
 
-impl<R: Files<File = File> + AllocGlobal> World for FileWorld<R> {
-    type Source = FileSource<File>;
+// Opens the file and empties it. One that is read as an input is refused and stays as it was.
+fn open_output<R: Files>(runtime: &R, inputs: &[FileId], name: &str) -> Result<R::File, Failed> {
+    let mut options = OpenOptions::new();
+    options.write(true).create(true);
+    let Ok(file) = runtime.open_file(&options, name) else {
+        return Err(Failed);
+    };
+    let Ok(metadata) = file.metadata() else {
+        return Err(Failed);
+    };
+    if metadata.is_file() {
+        if holds(inputs, FileId::of(&metadata)) {
+            return Err(Failed);
+        }
+        let Ok(()) = file.set_len(0) else {
+            return Err(Failed);
+        };
+    }
+    Ok(file)
+}
 
-    type Live = FileLive<File>;
+// Opens the file, and says which it is. A folder, which would fail at its first read alone, is refused.
+fn open_input<R: Files>(runtime: &R, name: &str) -> Result<(R::File, FileId), Failed> {
+    let mut options = OpenOptions::new();
+    options.read(true);
+    let Ok(file) = runtime.open_file(&options, name) else {
+        return Err(Failed);
+    };
+    let Ok(metadata) = file.metadata() else {
+        return Err(Failed);
+    };
+    if metadata.is_dir() {
+        return Err(Failed);
+    }
+    Ok((file, FileId::of(&metadata)))
+}
 
-    ghost names = { λ _. None };
+impl<R: Files + AllocGlobal> World for FileWorld<R>
+where
+    R::File: Send,
+{
+    type Source = FileSource<R::File>;
 
-    ghost faults = { λ w. w.faults };
+    type Live = FileLive<R::File>;
 
-    ghost input_faults = { λ w. w.input_faults };
+    ghost state = { λ w. record { told = None; faults = w.faults; input_faults = w.input_faults; output_faults = w.output_faults } };
 
-    ghost output_faults = { λ w. w.output_faults };
-
-    ghost opened = { λ _. untold };
-
-    ghost unread = { λ _. nothing };
-
-    fn source(&mut self, name: &str) -> Result<FileSource<File>, OpenRefused> {
-        let Ok(file) = File::open(&self.runtime, name) else {
+    fn source(&mut self, name: &str) -> Result<FileSource<R::File>, OpenRefused>
+        ensures unused { IfOk result (λ it. it.faults ≡ 0) }
+        ensures input_faults { self.new.input_faults ≡ self.old.input_faults }
+        ensures output_faults { self.new.output_faults ≡ self.old.output_faults }
+        ensures cause { OpenCause self.old.faults self.new.faults result }
+        ensures noted { IfOk result (λ it. self.new.inputs.items ≡ self.old.inputs.items ++ it.id ∷ []) }
+        ensures rest { OnErr result (self.new.inputs.items ≡ self.old.inputs.items) }
+    {
+        let Ok(()) = self.inputs.reserve(1) else {
+            return Err(OpenRefused::Memory);
+        };
+        let Ok((file, id)) = open_input(&self.runtime, name) else {
             self.faults = self.faults.saturating_add(1);
             return Err(OpenRefused::Failed);
         };
-        match FileSource::new(self.runtime.alloc(), file) {
-            Ok(source) => return Ok(source),
+        match FileSource::new(self.runtime.alloc(), file, id) {
+            Ok(source) => {
+                self.inputs.push(id).unwrap();
+                return Ok(source);
+            }
             Err(AllocError) => return Err(OpenRefused::Memory),
         }
     }
 
-    fn live(&mut self, name: &str) -> Result<FileLive<File>, OpenRefused> {
+    fn live(&mut self, name: &str) -> Result<FileLive<R::File>, OpenRefused> {
         let Ok(room) = Vec::with_capacity(self.runtime.alloc(), ROOM) else {
             return Err(OpenRefused::Memory);
         };
-        let mut options = OpenOptions::new();
-        options.read(true).write(true).create(true).truncate(true);
-        match options.open(&self.runtime, name) {
+        match open_output(&self.runtime, &self.inputs, name) {
             Ok(file) => return Ok(FileLive::new(room, file)),
-            Err(_) => {
+            Err(Failed) => {
                 self.faults = self.faults.saturating_add(1);
                 return Err(OpenRefused::Failed);
             }
         }
     }
 
-    fn keep_source(&mut self, _name: &str, it: FileSource<File>) -> Result<(), Failed> {
+    fn keep_source(&mut self, _name: &str, it: FileSource<R::File>) -> Result<(), Failed>
+        ensures input_faults { self.new.input_faults ≡ added self.old.input_faults it.faults }
+        ensures output_faults { self.new.output_faults ≡ self.old.output_faults }
+        ensures cause { HasCause self.old.faults self.new.faults result }
+        ensures let_go { LetsGo self.old.inputs.items self.new.inputs.items it.id }
+    {
         self.input_faults = self.input_faults.saturating_add(it.faults());
+        let_go(&mut self.inputs, it.id);
         it.close();
         Ok(())
     }
 
-    fn keep_live(&mut self, _name: &str, mut it: FileLive<File>) -> Result<(), Failed> {
+    fn keep_live(&mut self, _name: &str, it: FileLive<R::File>) -> Result<(), Failed>
+        ensures input_faults { self.new.input_faults ≡ self.old.input_faults }
+        ensures output_faults { self.new.output_faults ≡ added self.old.output_faults it.faults }
+        ensures cause { HasCause self.old.faults self.new.faults result }
+        ensures written { OnOk result (IsWritten R.File.contents it.gather.sink.writer it.gather.waiting.items) }
+        ensures broken { IsTrue it.gather.broken → IsErr result }
+    {
         self.output_faults = self.output_faults.saturating_add(it.faults());
-        let flushed = it.flush();
-        it.close();
-        match flushed {
+        match it.finish() {
             Ok(()) => return Ok(()),
             Err(Failed) => {
                 self.faults = self.faults.saturating_add(1);

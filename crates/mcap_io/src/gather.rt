@@ -1,6 +1,6 @@
 //! Gathering small pieces before they are written.
-ghost use Rattle.std.specs.Prelude.{◌≡◌, ◌≤◌, [], false, IsTrue, IsErr, OnOk, OnErr, IfErr, ◌↔◌};
-ghost use Rattle.mcap_io.specs.Outside.{Adds, AddsPart, Rose};
+ghost use Rattle.std.specs.Prelude.{◌≡◌, [], false, IsTrue, IsErr, OnOk, OnErr, IfErr, ◌↔◌};
+ghost use Rattle.mcap_io.specs.Outside.{Adds, AddsPart, RisesOnce};
 ghost use Rattle.mcap_io.specs.Gathered.{Puts};
 
 use crate::outside::{Short, Sink};
@@ -31,14 +31,14 @@ impl<K: Sink + Drop> Gather<K> {
 
     // Writes all that waits.
     pub(crate) fn flush(&mut self) -> Result<(), Short>
-        ensures written { OnOk result (Adds (K.took self.old.sink) (K.took self.new.sink) self.old.waiting.items) }
+        ensures written { OnOk result (Adds (K.state self.old.sink).took (K.state self.new.sink).took self.old.waiting.items) }
         ensures none_waits { OnOk result (self.new.waiting.items ≡ []) }
-        ensures part { OnErr result (AddsPart (K.took self.old.sink) (K.took self.new.sink) 0 self.old.waiting.items) }
+        ensures part { OnErr result (AddsPart (K.state self.old.sink).took (K.state self.new.sink).took 0 self.old.waiting.items) }
         ensures none_taken { IfErr result (λ short. short.taken ≡ 0) }
-        ensures cause { self.old.broken ≡ false → OnErr result (Rose (K.faults self.old.sink) (K.faults self.new.sink)) }
-        ensures later { K.faults self.old.sink ≤ K.faults self.new.sink }
+        ensures cause { self.old.broken ≡ false → OnErr result (RisesOnce (K.state self.old.sink).faults (K.state self.new.sink).faults) }
+        ensures still { OnOk result ((K.state self.new.sink).faults ≡ (K.state self.old.sink).faults) }
         ensures broken { IsTrue self.new.broken ↔ IsErr result }
-        ensures stays { IsTrue self.old.broken → IsErr result × (K.took self.new.sink ≡ K.took self.old.sink) }
+        ensures stays { IsTrue self.old.broken → IsErr result × ((K.state self.new.sink).took ≡ (K.state self.old.sink).took) }
     {
         if self.broken {
             return Err(Short { taken: 0 });
@@ -57,11 +57,11 @@ impl<K: Sink + Drop> Gather<K> {
 
     // Puts the piece behind what waits. Where there is no room for it, all that waits is written first.
     pub(crate) fn put(&mut self, bytes: &[u8]) -> Result<(), Short>
-        ensures puts { Puts (K.took self.old.sink) self.old.waiting.items (K.took self.new.sink) self.new.waiting.items bytes.now result }
-        ensures cause { self.old.broken ≡ false → OnErr result (Rose (K.faults self.old.sink) (K.faults self.new.sink)) }
-        ensures later { K.faults self.old.sink ≤ K.faults self.new.sink }
+        ensures puts { Puts (K.state self.old.sink).took self.old.waiting.items (K.state self.new.sink).took self.new.waiting.items bytes.now result }
+        ensures cause { self.old.broken ≡ false → OnErr result (RisesOnce (K.state self.old.sink).faults (K.state self.new.sink).faults) }
+        ensures still { OnOk result ((K.state self.new.sink).faults ≡ (K.state self.old.sink).faults) }
         ensures broken { IsTrue self.new.broken ↔ IsErr result }
-        ensures stays { IsTrue self.old.broken → IsErr result × (K.took self.new.sink ≡ K.took self.old.sink) }
+        ensures stays { IsTrue self.old.broken → IsErr result × ((K.state self.new.sink).took ≡ (K.state self.old.sink).took) }
     {
         if !self.broken && bytes.len() <= self.waiting.capacity() - self.waiting.len() {
             self.waiting.extend_from_slice(bytes).unwrap();
@@ -73,19 +73,47 @@ impl<K: Sink + Drop> Gather<K> {
         }
     }
 
+    // Writes all that waits, and then the piece.
+    pub(crate) fn put_through(&mut self, bytes: &[u8]) -> Result<(), Short>
+        ensures puts { Puts (K.state self.old.sink).took self.old.waiting.items (K.state self.new.sink).took self.new.waiting.items bytes.now result }
+        ensures none_waits { OnOk result (self.new.waiting.items ≡ []) }
+        ensures cause { self.old.broken ≡ false → OnErr result (RisesOnce (K.state self.old.sink).faults (K.state self.new.sink).faults) }
+        ensures still { OnOk result ((K.state self.new.sink).faults ≡ (K.state self.old.sink).faults) }
+        ensures broken { IsTrue self.new.broken ↔ IsErr result }
+        ensures stays { IsTrue self.old.broken → IsErr result × ((K.state self.new.sink).took ≡ (K.state self.old.sink).took) }
+    {
+        match self.flush() {
+            Ok(()) => return self.write_past(bytes),
+            Err(short) => return Err(short),
+        }
+    }
+
     // Puts the piece where nothing waits. One that is larger than the room goes past it.
     fn put_first(&mut self, bytes: &[u8]) -> Result<(), Short>
         requires none_waits { self.old.waiting.items ≡ [] }
         requires whole { self.old.broken ≡ false }
-        ensures puts { Puts (K.took self.old.sink) [] (K.took self.new.sink) self.new.waiting.items bytes.now result }
-        ensures cause { OnErr result (Rose (K.faults self.old.sink) (K.faults self.new.sink)) }
-        ensures later { K.faults self.old.sink ≤ K.faults self.new.sink }
+        ensures puts { Puts (K.state self.old.sink).took [] (K.state self.new.sink).took self.new.waiting.items bytes.now result }
+        ensures cause { OnErr result (RisesOnce (K.state self.old.sink).faults (K.state self.new.sink).faults) }
+        ensures still { OnOk result ((K.state self.new.sink).faults ≡ (K.state self.old.sink).faults) }
         ensures broken { IsTrue self.new.broken ↔ IsErr result }
     {
         if bytes.len() <= self.waiting.capacity() - self.waiting.len() {
             self.waiting.extend_from_slice(bytes).unwrap();
             return Ok(());
         }
+        self.write_past(bytes)
+    }
+
+    // Writes the piece where nothing waits.
+    fn write_past(&mut self, bytes: &[u8]) -> Result<(), Short>
+        requires none_waits { self.old.waiting.items ≡ [] }
+        requires whole { self.old.broken ≡ false }
+        ensures puts { Puts (K.state self.old.sink).took [] (K.state self.new.sink).took self.new.waiting.items bytes.now result }
+        ensures waits { self.new.waiting.items ≡ [] }
+        ensures cause { OnErr result (RisesOnce (K.state self.old.sink).faults (K.state self.new.sink).faults) }
+        ensures still { OnOk result ((K.state self.new.sink).faults ≡ (K.state self.old.sink).faults) }
+        ensures broken { IsTrue self.new.broken ↔ IsErr result }
+    {
         match write_all_of(&mut self.sink, bytes) {
             Ok(()) => return Ok(()),
             Err(short) => {

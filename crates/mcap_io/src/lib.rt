@@ -5,10 +5,14 @@
 mod ahead;
 mod files;
 mod gather;
+mod inputs;
 mod memory;
 mod memory_world;
 mod openings;
 mod outside;
+mod store;
+mod store_memory;
+mod store_part;
 mod stretch;
 mod writer;
 
@@ -17,11 +21,14 @@ pub use memory::{
     FailingWrite, MemoryLive, MemorySink, MemorySource, Piece, QuietLive, QuietSource,
 };
 pub use memory_world::{MemoryWorld, Plan};
-pub use openings::Opened;
+pub use openings::{Kept, Opened};
 pub use outside::{
     AppendRefused, Extent, Failed, LiveStore, ObjectKind, OpenRefused, ReadRefused, Short, Sink,
     Source, World,
 };
+pub use store::Store;
+pub use store_memory::{MemoryStore, QuietStore};
+pub use store_part::read_part;
 pub use stretch::{read_up_to, write_all_of};
 pub use writer::WriterSink;
 

@@ -1,5 +1,6 @@
 //! Sources, sinks and live stores in memory. They tell all of their bytes.
-ghost use Rattle.std.specs.Prelude.{◌≡◌, ◌≤◌, ◌<◌, ◌+◌, ◌⊎◌, ◌↔◌, ℕ, List, length, [], Some, Ok, Contains, IsTrue, IsSome, IsErr, IfOk, IfErr, OnErr, vec_len, vec_capacity};
+ghost use Rattle.std.proofs.Common.{◌∙◌};
+ghost use Rattle.std.specs.Prelude.{refl, ◌≡◌, ◌≤◌, ◌<◌, ◌↔◌, ℕ, List, length, [], Some, Ok, Contains, IsTrue, IsErr, IfOk, IfErr, vec_len};
 ghost use Rattle.mcap_io.specs.Outside.{HasCause, ReadGives, Writes, Adds, AppendCause, AppendLeaves};
 ghost use Rattle.mcap_io.specs.Planned.{left_of, planned, next_call, WritesAsPlanned, AppendsAsPlanned};
 
@@ -17,7 +18,7 @@ pub struct QuietSource {
 impl QuietSource {
     /// A source of these bytes.
     pub fn new(bytes: Vec<u8>) -> Self
-        ensures { ⟦<QuietSource as Source>⟧.left result ≡ Some bytes.items }
+        ensures { ⟦<QuietSource as Source>⟧.state result ≡ record { left = Some bytes.items; faults = 0 } }
     {
         QuietSource { bytes, next: 0 }
     }
@@ -31,9 +32,14 @@ impl QuietSource {
 }
 
 impl Source for QuietSource {
-    ghost left = { λ s. left_of s.bytes.items s.next };
+    ghost state = { λ s. record { left = left_of s.bytes.items s.next; faults = 0 } };
 
-    ghost faults = { λ _. 0 };
+    /// Its bytes are the same.
+    ghost stays = { λ s t. t.bytes ≡ s.bytes };
+
+    ghost stays_so = { λ s. refl };
+
+    ghost stays_on = { λ s t u first second. second ∙ first };
 
     fn read(&mut self, out: &mut [u8]) -> Result<usize, Failed> {
         let rest = &self.bytes[self.next..];
@@ -92,8 +98,7 @@ pub struct MemorySource {
 impl MemorySource {
     /// The reads that have room are numbered from 0. Those in the list fail, once each, and take nothing.
     pub fn new(bytes: Vec<u8>, failing: Vec<u64>) -> Self
-        ensures tells { ⟦<MemorySource as Source>⟧.left result ≡ Some bytes.items }
-        ensures unused { ⟦<MemorySource as Source>⟧.faults result ≡ 0 }
+        ensures tells { ⟦<MemorySource as Source>⟧.state result ≡ record { left = Some bytes.items; faults = 0 } }
         ensures plan { result.reads.failing ≡ failing }
         ensures made { result.reads.made ≡ 0 }
     {
@@ -106,23 +111,30 @@ impl MemorySource {
 
     /// A source of the bytes that are left, which never fails.
     pub(crate) fn into_quiet(self) -> QuietSource
-        ensures { ⟦<QuietSource as Source>⟧.left result ≡ ⟦<MemorySource as Source>⟧.left self }
+        ensures { result ≡ self.bytes }
     {
         self.bytes
     }
 }
 
 impl Source for MemorySource {
-    ghost left = { λ s. ⟦<QuietSource as Source>⟧.left s.bytes };
+    ghost state = { λ s. record { left = left_of s.bytes.bytes.items s.bytes.next; faults = s.faults } };
 
-    ghost faults = { λ s. s.faults };
+    /// Its bytes and its plan are the same.
+    ghost stays = { λ s t. (t.bytes.bytes ≡ s.bytes.bytes) × (t.reads.failing ≡ s.reads.failing) };
+
+    ghost stays_so = { λ s. (refl, refl) };
+
+    ghost stays_on = { λ s t u first second. (second.0 ∙ first.0, second.1 ∙ first.1) };
 
     fn read(&mut self, out: &mut [u8]) -> Result<usize, Failed>
         ensures bound { IfOk result (λ n. n ≤ length out.new) }
         ensures gives { ReadGives (left_of self.old.bytes.bytes.items self.old.bytes.next) (left_of self.new.bytes.bytes.items self.new.bytes.next) out.new result }
-        ensures no_room { length out.new ≡ 0 → (result ≡ Ok 0) × (left_of self.new.bytes.bytes.items self.new.bytes.next ≡ left_of self.old.bytes.bytes.items self.old.bytes.next) × (self.new.faults ≡ self.old.faults) }
+        ensures no_room { length out.new ≡ 0 → (result ≡ Ok 0) × (self.new ≡ self.old) }
         ensures cause { HasCause self.old.faults self.new.faults result }
+        ensures stays { (self.new.bytes.bytes ≡ self.old.bytes.bytes) × (self.new.reads.failing ≡ self.old.reads.failing) }
         ensures planned { IsErr result ↔ (0 < length out.new) × Contains self.old.reads.failing.items self.old.reads.made }
+        ensures counted { 0 < length out.new → self.new.reads.made ≡ next_call self.old.reads.made }
     {
         if out.is_empty() {
             return Ok(0);
@@ -180,8 +192,7 @@ pub struct MemorySink {
 impl MemorySink {
     /// An empty sink. The writes are numbered from 0.
     pub fn new(alloc: Global, failing: Vec<FailingWrite>) -> Self
-        ensures tells { ⟦<MemorySink as Sink>⟧.took result ≡ Some [] }
-        ensures unused { ⟦<MemorySink as Sink>⟧.faults result ≡ 0 }
+        ensures tells { ⟦<MemorySink as Sink>⟧.state result ≡ record { took = Some []; faults = 0 } }
         ensures plan { result.writes.failing ≡ failing }
         ensures made { result.writes.made ≡ 0 }
     {
@@ -194,24 +205,23 @@ impl MemorySink {
 
     /// The bytes that it took.
     pub fn bytes(&self) -> &[u8]
-        ensures { ⟦<MemorySink as Sink>⟧.took self.now ≡ Some result.now }
+        ensures { (⟦<MemorySink as Sink>⟧.state self.now).took ≡ Some result.now }
     {
         &self.bytes
     }
 }
 
 impl Sink for MemorySink {
-    ghost took = { λ s. Some s.bytes.items };
-
-    ghost faults = { λ s. s.faults };
+    ghost state = { λ s. record { took = Some s.bytes.items; faults = s.faults } };
 
     fn write(&mut self, bytes: &[u8]) -> Result<usize, Failed>
         ensures bound { IfOk result (λ n. n ≤ length bytes.now) }
         ensures goes_on { IfOk result (λ n. 0 < length bytes.now → 0 < n) }
         ensures takes { Writes (Some self.old.bytes.items) (Some self.new.bytes.items) bytes.now result }
         ensures cause { HasCause self.old.faults self.new.faults result }
-        ensures planned { WritesAsPlanned (planned self.old.writes.failing.items self.old.writes.made (length bytes.now)) bytes.now result }
-        ensures memory { OnErr result (IsSome (planned self.old.writes.failing.items self.old.writes.made (length bytes.now)) ⊎ (vec_capacity self.old.bytes < vec_len self.old.bytes + length bytes.now)) }
+        ensures planned { WritesAsPlanned (planned self.old.writes.failing.items self.old.writes.made (length bytes.now)) self.old.bytes self.new.bytes bytes.now result }
+        ensures counted { self.new.writes.made ≡ next_call self.old.writes.made }
+        ensures plan { self.new.writes.failing ≡ self.old.writes.failing }
     {
         let planned = self.writes.next_takes(bytes.len());
         let taken = planned.unwrap_or(bytes.len());
@@ -269,7 +279,7 @@ pub struct QuietLive {
 impl QuietLive {
     /// An empty store.
     pub fn new(alloc: Global) -> Self
-        ensures { ⟦<QuietLive as LiveStore>⟧.held result ≡ Some [] }
+        ensures { ⟦<QuietLive as LiveStore>⟧.state result ≡ record { held = Some []; faults = 0 } }
     {
         QuietLive {
             alloc,
@@ -279,14 +289,14 @@ impl QuietLive {
 
     /// The bytes that it holds.
     pub fn bytes(&self) -> &[u8]
-        ensures { ⟦<QuietLive as LiveStore>⟧.held self.now ≡ Some result.now }
+        ensures { (⟦<QuietLive as LiveStore>⟧.state self.now).held ≡ Some result.now }
     {
         &self.bytes
     }
 
     /// The bytes that it held.
     pub fn into_bytes(self) -> Vec<u8>
-        ensures { ⟦<QuietLive as LiveStore>⟧.held self ≡ Some result.items }
+        ensures { (⟦<QuietLive as LiveStore>⟧.state self).held ≡ Some result.items }
     {
         let QuietLive { alloc: _, bytes } = self;
         bytes
@@ -296,9 +306,7 @@ impl QuietLive {
 impl LiveStore for QuietLive {
     type Extent = Piece;
 
-    ghost held = { λ s. Some s.bytes.items };
-
-    ghost faults = { λ _. 0 };
+    ghost state = { λ s. record { held = Some s.bytes.items; faults = 0 } };
 
     fn append(&mut self, bytes: &[u8]) -> Result<Piece, AppendRefused> {
         let Ok(copy) = Vec::from_slice(self.alloc, bytes) else {
@@ -308,6 +316,10 @@ impl LiveStore for QuietLive {
             return Err(AppendRefused::Memory);
         };
         Ok(Piece { bytes: copy.leak() })
+    }
+
+    fn append_through(&mut self, bytes: &[u8]) -> Result<Piece, AppendRefused> {
+        self.append(bytes)
     }
 
     fn faults(&self) -> u64 {
@@ -326,8 +338,7 @@ pub struct MemoryLive {
 impl MemoryLive {
     /// An empty store. The appends are numbered from 0.
     pub fn new(alloc: Global, failing: Vec<FailingWrite>) -> Self
-        ensures tells { ⟦<MemoryLive as LiveStore>⟧.held result ≡ Some [] }
-        ensures unused { ⟦<MemoryLive as LiveStore>⟧.faults result ≡ 0 }
+        ensures tells { ⟦<MemoryLive as LiveStore>⟧.state result ≡ record { held = Some []; faults = 0 } }
         ensures plan { result.appends.failing ≡ failing }
         ensures made { result.appends.made ≡ 0 }
     {
@@ -340,14 +351,14 @@ impl MemoryLive {
 
     /// The bytes that it holds.
     pub fn bytes(&self) -> &[u8]
-        ensures { ⟦<MemoryLive as LiveStore>⟧.held self.now ≡ Some result.now }
+        ensures { (⟦<MemoryLive as LiveStore>⟧.state self.now).held ≡ Some result.now }
     {
         self.store.bytes()
     }
 
     /// The bytes that it held.
     pub fn into_bytes(self) -> Vec<u8>
-        ensures { ⟦<MemoryLive as LiveStore>⟧.held self ≡ Some result.items }
+        ensures { (⟦<MemoryLive as LiveStore>⟧.state self).held ≡ Some result.items }
     {
         let MemoryLive {
             store,
@@ -361,9 +372,7 @@ impl MemoryLive {
 impl LiveStore for MemoryLive {
     type Extent = Piece;
 
-    ghost held = { λ s. ⟦<QuietLive as LiveStore>⟧.held s.store };
-
-    ghost faults = { λ s. s.faults };
+    ghost state = { λ s. record { held = Some s.store.bytes.items; faults = s.faults } };
 
     fn append(&mut self, bytes: &[u8]) -> Result<Piece, AppendRefused>
         ensures adds { IfOk result (λ e. Adds (Some self.old.store.bytes.items) (Some self.new.store.bytes.items) bytes.now) }
@@ -371,6 +380,8 @@ impl LiveStore for MemoryLive {
         ensures leaves { IfErr result (AppendLeaves (Some self.old.store.bytes.items) (Some self.new.store.bytes.items) bytes.now) }
         ensures cause { AppendCause self.old.faults self.new.faults result }
         ensures planned { AppendsAsPlanned (planned self.old.appends.failing.items self.old.appends.made (length bytes.now)) result }
+        ensures counted { self.new.appends.made ≡ next_call self.old.appends.made }
+        ensures plan { self.new.appends.failing ≡ self.old.appends.failing }
     {
         let Some(taken) = self.appends.next_takes(bytes.len()) else {
             return self.store.append(bytes);
@@ -382,6 +393,18 @@ impl LiveStore for MemoryLive {
         Err(AppendRefused::Failed {
             taken: taken as u64,
         })
+    }
+
+    fn append_through(&mut self, bytes: &[u8]) -> Result<Piece, AppendRefused>
+        ensures adds { IfOk result (λ e. Adds (Some self.old.store.bytes.items) (Some self.new.store.bytes.items) bytes.now) }
+        ensures extent { IfOk result (λ e. (length e.bytes.now ≡ length bytes.now) × ((before : List ℕ) → Some self.old.store.bytes.items ≡ Some before → Some e.bytes.now ≡ Some bytes.now)) }
+        ensures leaves { IfErr result (AppendLeaves (Some self.old.store.bytes.items) (Some self.new.store.bytes.items) bytes.now) }
+        ensures cause { AppendCause self.old.faults self.new.faults result }
+        ensures planned { AppendsAsPlanned (planned self.old.appends.failing.items self.old.appends.made (length bytes.now)) result }
+        ensures counted { self.new.appends.made ≡ next_call self.old.appends.made }
+        ensures plan { self.new.appends.failing ≡ self.old.appends.failing }
+    {
+        self.append(bytes)
     }
 
     fn faults(&self) -> u64 {

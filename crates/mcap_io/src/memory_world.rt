@@ -1,11 +1,12 @@
 //! A world in memory: its names stand in a map.
-ghost use Rattle.std.specs.Prelude.{◌≡◌, Some, [], map, IfOk, OnOk, OnErr};
-ghost use Rattle.std.specs.Option.{option_copied};
-ghost use Rattle.mcap_io.specs.Outside.{OthersSame, OpenCause, TellsName};
-ghost use Rattle.mcap_io.specs.Standing.{standing, shown, left_unread};
+ghost use Rattle.std.specs.Prelude.{◌≡◌, ◌↔◌, Some, None, [], map, Contains, IfOk, OnOk, OnErr, IsErr, IsTrue};
+ghost use Rattle.std.specs.Option.{option_copied, option_map};
+ghost use Rattle.mcap_io.specs.Outside.{OthersSame, Keeps, OpenCause, HasCause, TellsName, TellsNothingYet, Opens, CountsStand, KeepsSource, KeepsLive, added};
+ghost use Rattle.mcap_io.specs.Planned.{next_call, OpensAsPlanned};
+ghost use Rattle.mcap_io.specs.Standing.{standing, shown, seen};
 
-use crate::memory::{Calls, FailingWrite, MemoryLive, MemorySource, QuietSource};
-use crate::openings::{Opened, list, make_room};
+use crate::memory::{Calls, FailingWrite, MemoryLive, MemorySource};
+use crate::openings::{Kept, Opened, list, make_room, note};
 use crate::outside::{Failed, LiveStore, ObjectKind, OpenRefused, Source, World};
 use std::alloc::{AllocError, Global};
 use std::collections::BTreeMap;
@@ -36,20 +37,13 @@ pub struct MemoryWorld {
     faults: u64,
     input_faults: u64,
     output_faults: u64,
-    opened: Vec<Opened>,
-    // what the source that was kept last gave its bytes from
-    unread: Option<QuietSource>,
+    log: Vec<Opened>,
 }
 
 impl MemoryWorld {
     /// A world with no names.
     pub fn new(alloc: Global, plan: Plan) -> Self
-        ensures names { ⟦<MemoryWorld as World>⟧.names result ≡ Some (λ name. None) }
-        ensures faults { ⟦<MemoryWorld as World>⟧.faults result ≡ 0 }
-        ensures input_faults { ⟦<MemoryWorld as World>⟧.input_faults result ≡ 0 }
-        ensures output_faults { ⟦<MemoryWorld as World>⟧.output_faults result ≡ 0 }
-        ensures unread { ⟦<MemoryWorld as World>⟧.unread result ≡ None }
-        ensures opened { ⟦<MemoryWorld as World>⟧.opened result ≡ Some [] }
+        ensures tells { ⟦<MemoryWorld as World>⟧.state result ≡ record { told = Some (record { names = λ name. None; log = [] }); faults = 0; input_faults = 0; output_faults = 0 } }
         ensures openings { (result.openings.failing ≡ plan.openings) × (result.openings.made ≡ 0) }
         ensures keepings { (result.keepings.failing ≡ plan.keepings) × (result.keepings.made ≡ 0) }
         ensures reads { result.reads ≡ plan.reads }
@@ -71,8 +65,7 @@ impl MemoryWorld {
             faults: 0,
             input_faults: 0,
             output_faults: 0,
-            opened: Vec::new(alloc),
-            unread: None,
+            log: Vec::new(alloc),
         }
     }
 
@@ -97,24 +90,14 @@ impl MemoryWorld {
         }
     }
 
-    /// What the source that was kept last has left.
-    pub fn unread(&self) -> Option<&[u8]>
-        ensures { option_copied result ≡ ⟦<MemoryWorld as World>⟧.unread self.now }
-    {
-        match &self.unread {
-            Some(source) => Some(source.rest()),
-            None => None,
-        }
-    }
-
-    // A source of a copy of what stands under the name.
-    fn open_source(&mut self, name: &str) -> Result<MemorySource, OpenRefused>
-        ensures tells { IfOk result (λ it. TellsName (Some (standing self.old.entries)) name.now (⟦<MemorySource as Source>⟧.left it)) }
-        ensures unused { IfOk result (λ it. ⟦<MemorySource as Source>⟧.faults it ≡ 0) }
+    // A source of a copy of what stands under the name, with a plan of its own.
+    fn open_source(&mut self, name: &str, fails: bool) -> Result<MemorySource, OpenRefused>
+        ensures tells { IfOk result (λ it. Some (⟦<MemorySource as Source>⟧.state it).left ≡ option_map Some (standing self.old.entries name.now)) }
+        ensures unused { IfOk result (λ it. ((⟦<MemorySource as Source>⟧.state it).faults ≡ 0) × (it.reads.failing.items ≡ self.old.reads.items) × (it.reads.made ≡ 0)) }
         ensures cause { OpenCause self.old.faults self.new.faults result }
-        ensures rest { self.new ≡ record self.old { openings = self.new.openings; faults = self.new.faults } }
+        ensures planned { OpensAsPlanned (IsTrue fails) (standing self.old.entries name.now ≡ None) result }
+        ensures rest { self.new ≡ record self.old { faults = self.new.faults } }
     {
-        let fails = self.openings.next_fails();
         let Some(bytes) = self.entries.get(name) else {
             self.faults = self.faults.saturating_add(1);
             return Err(OpenRefused::Failed);
@@ -132,14 +115,15 @@ impl MemoryWorld {
         Ok(MemorySource::new(copy, reads))
     }
 
-    // An empty live store.
-    fn open_live(&mut self) -> Result<MemoryLive, OpenRefused>
-        ensures tells { IfOk result (λ it. ⟦<MemoryLive as LiveStore>⟧.held it ≡ Some []) }
-        ensures unused { IfOk result (λ it. ⟦<MemoryLive as LiveStore>⟧.faults it ≡ 0) }
+    // An empty live store, with a plan of its own.
+    fn open_live(&mut self, fails: bool) -> Result<MemoryLive, OpenRefused>
+        ensures tells { IfOk result (λ it. ⟦<MemoryLive as LiveStore>⟧.state it ≡ record { held = Some []; faults = 0 }) }
+        ensures unused { IfOk result (λ it. (it.appends.failing.items ≡ self.old.appends.items) × (it.appends.made ≡ 0)) }
         ensures cause { OpenCause self.old.faults self.new.faults result }
-        ensures rest { self.new ≡ record self.old { openings = self.new.openings; faults = self.new.faults } }
+        ensures planned { OpensAsPlanned (IsTrue fails) ⊥ result }
+        ensures rest { self.new ≡ record self.old { faults = self.new.faults } }
     {
-        if self.openings.next_fails() {
+        if fails {
             self.faults = self.faults.saturating_add(1);
             return Err(OpenRefused::Failed);
         }
@@ -149,11 +133,45 @@ impl MemoryWorld {
         Ok(MemoryLive::new(self.alloc, appends))
     }
 
-    /// The openings so far, in their order. One that memory lacked for is left out.
-    pub fn opened(&self) -> &[Opened]
-        ensures { Some (map shown result.now) ≡ ⟦<MemoryWorld as World>⟧.opened self.now }
+    // Counts a keeping, which fails where it is to.
+    fn count_keeping(&mut self) -> Result<(), Failed>
+        ensures planned { IsErr result ↔ Contains self.old.keepings.failing.items self.old.keepings.made }
+        ensures cause { HasCause self.old.faults self.new.faults result }
+        ensures rest { self.new ≡ record self.old { faults = self.new.faults; keepings = record { failing = self.old.keepings.failing; made = next_call self.old.keepings.made } } }
     {
-        &self.opened
+        if self.keepings.next_fails() {
+            self.faults = self.faults.saturating_add(1);
+            return Err(Failed);
+        }
+        Ok(())
+    }
+
+    // Puts what a store held under the name. It fails where the keeping is to, and where memory lacks for the name.
+    fn put_back(&mut self, name: &str, bytes: Vec<u8>) -> Result<(), Failed>
+        ensures keeps { Keeps (standing self.old.entries) (standing self.new.entries) name.now (Some bytes.items) result }
+        ensures planned { Contains self.old.keepings.failing.items self.old.keepings.made → IsErr result × (self.new.entries ≡ self.old.entries) }
+        ensures cause { HasCause self.old.faults self.new.faults result }
+        ensures rest { self.new ≡ record self.old { entries = self.new.entries; faults = self.new.faults; keepings = record { failing = self.old.keepings.failing; made = next_call self.old.keepings.made } } }
+    {
+        match self.count_keeping() {
+            Ok(()) => {}
+            Err(Failed) => return Err(Failed),
+        }
+        match place(self.alloc, &mut self.entries, name, bytes) {
+            Ok(()) => return Ok(()),
+            Err(AllocError) => {
+                self.faults = self.faults.saturating_add(1);
+                return Err(Failed);
+            }
+        }
+    }
+
+    /// The openings so far, in their order, each with how its object was taken back. One that memory lacked for is left
+    /// out.
+    pub fn log(&self) -> &[Opened]
+        ensures { (⟦<MemoryWorld as World>⟧.state self.now).told ≡ Some (record { names = standing self.now.entries; log = map shown result.now }) }
+    {
+        &self.log
     }
 
     /// How many openings there were.
@@ -192,70 +210,102 @@ impl World for MemoryWorld {
 
     type Live = MemoryLive;
 
-    ghost names = { λ w. Some (standing w.entries) };
+    ghost state = { λ w. seen w };
 
-    ghost faults = { λ w. w.faults };
-
-    ghost input_faults = { λ w. w.input_faults };
-
-    ghost output_faults = { λ w. w.output_faults };
-
-    ghost opened = { λ w. Some (map shown w.opened.items) };
-
-    ghost unread = { λ w. left_unread w.unread };
-
-    fn source(&mut self, name: &str) -> Result<MemorySource, OpenRefused> {
-        let Ok(copy) = make_room(self.alloc, &mut self.opened, name) else {
+    fn source(&mut self, name: &str) -> Result<MemorySource, OpenRefused>
+        ensures opens { Opens (seen self.old) (seen self.new) ObjectKind.Source name.now result }
+        ensures tells { IfOk result (λ it. TellsName (seen self.old) name.now (⟦<MemorySource as Source>⟧.state it)) }
+        ensures unused { IfOk result (λ it. (⟦<MemorySource as Source>⟧.state it).faults ≡ 0) }
+        ensures counts { CountsStand (seen self.old) (seen self.new) }
+        ensures cause { OpenCause self.old.faults self.new.faults result }
+        ensures planned { OpensAsPlanned (Contains self.old.openings.failing.items self.old.openings.made) (standing self.old.entries name.now ≡ None) result }
+        ensures plan { IfOk result (λ it. (it.reads.failing.items ≡ self.old.reads.items) × (it.reads.made ≡ 0)) }
+        ensures rest { self.new ≡ record self.old { log = self.new.log; faults = self.new.faults; openings = record { failing = self.old.openings.failing; made = next_call self.old.openings.made } } }
+    {
+        let fails = self.openings.next_fails();
+        let Ok(copy) = make_room(self.alloc, &mut self.log, name) else {
             return Err(OpenRefused::Memory);
         };
-        match self.open_source(name) {
+        match self.open_source(name, fails) {
             Ok(source) => {
-                list(&mut self.opened, ObjectKind::Source, copy, true);
+                list(&mut self.log, ObjectKind::Source, copy, true);
                 return Ok(source);
             }
             Err(OpenRefused::Failed) => {
-                list(&mut self.opened, ObjectKind::Source, copy, false);
+                list(&mut self.log, ObjectKind::Source, copy, false);
                 return Err(OpenRefused::Failed);
             }
             Err(OpenRefused::Memory) => return Err(OpenRefused::Memory),
         }
     }
 
-    fn live(&mut self, name: &str) -> Result<MemoryLive, OpenRefused> {
-        let Ok(copy) = make_room(self.alloc, &mut self.opened, name) else {
+    fn live(&mut self, name: &str) -> Result<MemoryLive, OpenRefused>
+        ensures opens { Opens (seen self.old) (seen self.new) ObjectKind.Live name.now result }
+        ensures tells { IfOk result (λ it. TellsNothingYet (seen self.old) (⟦<MemoryLive as LiveStore>⟧.state it)) }
+        ensures unused { IfOk result (λ it. (⟦<MemoryLive as LiveStore>⟧.state it).faults ≡ 0) }
+        ensures counts { CountsStand (seen self.old) (seen self.new) }
+        ensures cause { OpenCause self.old.faults self.new.faults result }
+        ensures planned { OpensAsPlanned (Contains self.old.openings.failing.items self.old.openings.made) ⊥ result }
+        ensures plan { IfOk result (λ it. (it.appends.failing.items ≡ self.old.appends.items) × (it.appends.made ≡ 0)) }
+        ensures rest { self.new ≡ record self.old { log = self.new.log; faults = self.new.faults; openings = record { failing = self.old.openings.failing; made = next_call self.old.openings.made } } }
+    {
+        let fails = self.openings.next_fails();
+        let Ok(copy) = make_room(self.alloc, &mut self.log, name) else {
             return Err(OpenRefused::Memory);
         };
-        match self.open_live() {
+        match self.open_live(fails) {
             Ok(live) => {
-                list(&mut self.opened, ObjectKind::Live, copy, true);
+                list(&mut self.log, ObjectKind::Live, copy, true);
                 return Ok(live);
             }
             Err(OpenRefused::Failed) => {
-                list(&mut self.opened, ObjectKind::Live, copy, false);
+                list(&mut self.log, ObjectKind::Live, copy, false);
                 return Err(OpenRefused::Failed);
             }
             Err(OpenRefused::Memory) => return Err(OpenRefused::Memory),
         }
     }
 
-    fn keep_source(&mut self, _name: &str, it: MemorySource) -> Result<(), Failed> {
+    fn keep_source(&mut self, name: &str, it: MemorySource) -> Result<(), Failed>
+        ensures keeps { KeepsSource (seen self.old) (seen self.new) name.now (⟦<MemorySource as Source>⟧.state it) result }
+        ensures input_faults { self.new.input_faults ≡ added self.old.input_faults it.faults }
+        ensures output_faults { self.new.output_faults ≡ self.old.output_faults }
+        ensures cause { HasCause self.old.faults self.new.faults result }
+        ensures planned { IsErr result ↔ Contains self.old.keepings.failing.items self.old.keepings.made }
+        ensures rest { self.new ≡ record self.old { log = self.new.log; faults = self.new.faults; input_faults = self.new.input_faults; keepings = record { failing = self.old.keepings.failing; made = next_call self.old.keepings.made } } }
+    {
         self.input_faults = self.input_faults.saturating_add(it.faults());
-        self.unread = Some(it.into_quiet());
-        if self.keepings.next_fails() {
-            self.faults = self.faults.saturating_add(1);
-            return Err(Failed);
-        }
-        Ok(())
+        let faults = it.faults();
+        let rest = it.into_quiet();
+        let counted = self.count_keeping();
+        let kept = Kept {
+            well: counted.is_ok(),
+            faults,
+            rest: Some(rest),
+        };
+        note(&mut self.log, ObjectKind::Source, name, kept);
+        counted
     }
 
-    fn keep_live(&mut self, name: &str, it: MemoryLive) -> Result<(), Failed> {
+    fn keep_live(&mut self, name: &str, it: MemoryLive) -> Result<(), Failed>
+        ensures keeps { KeepsLive (seen self.old) (seen self.new) name.now (⟦<MemoryLive as LiveStore>⟧.state it) result }
+        ensures input_faults { self.new.input_faults ≡ self.old.input_faults }
+        ensures output_faults { self.new.output_faults ≡ added self.old.output_faults it.faults }
+        ensures cause { HasCause self.old.faults self.new.faults result }
+        // It fails where it is to, and where memory lacks for the name.
+        ensures planned { Contains self.old.keepings.failing.items self.old.keepings.made → IsErr result × (self.new.entries ≡ self.old.entries) }
+        ensures rest { self.new ≡ record self.old { log = self.new.log; faults = self.new.faults; output_faults = self.new.output_faults; entries = self.new.entries; keepings = record { failing = self.old.keepings.failing; made = next_call self.old.keepings.made } } }
+    {
         self.output_faults = self.output_faults.saturating_add(it.faults());
-        let fails = self.keepings.next_fails();
-        if fails || place(self.alloc, &mut self.entries, name, it.into_bytes()).is_err() {
-            self.faults = self.faults.saturating_add(1);
-            return Err(Failed);
-        }
-        Ok(())
+        let faults = it.faults();
+        let put = self.put_back(name, it.into_bytes());
+        let kept = Kept {
+            well: put.is_ok(),
+            faults,
+            rest: None,
+        };
+        note(&mut self.log, ObjectKind::Live, name, kept);
+        put
     }
 
     fn faults(&self) -> u64 {

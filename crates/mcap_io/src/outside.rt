@@ -1,6 +1,6 @@
 //! The traits of the outside, and the answers of their calls.
-ghost use Rattle.std.specs.Prelude.{◌≡◌, ◌<◌, ◌≤◌, ℕ, List, Option, Some, length, take, true, Ok, IfOk, IfErr};
-ghost use Rattle.mcap_io.specs.Outside.{Names, HasCause, OpenCause, AppendCause, ReadGives, Writes, Adds, AppendLeaves, Opening, Opens, WasMade, source_under, live_under, KeepsUnder, TellsName, TellsNothingYet, added};
+ghost use Rattle.std.specs.Prelude.{◌≡◌, ◌≤◌, ◌<◌, ℕ, List, Option, Some, length, Ok, IfOk, IfErr};
+ghost use Rattle.mcap_io.specs.Outside.{SourceState, SinkState, LiveState, WorldState, HasCause, OpenCause, AppendCause, ReadGives, Writes, Adds, AppendLeaves, Opens, CountsStand, KeepsSource, KeepsLive, TellsName, TellsNothingYet, added};
 
 /// The outside failed: the count of the object has risen in that call.
 #[derive(Clone, Copy, Debug, PartialEq, Eq)]
@@ -43,40 +43,43 @@ pub struct Short {
 
 /// A stream of bytes that is read once, from its front.
 pub trait Source {
-    /// The bytes that are left, where the source tells them.
-    ghost left: { Self → Option (List ℕ) };
+    /// What it has left, where it tells that, and how often it has failed.
+    ghost state: { Self → SourceState };
 
-    /// How often it has failed.
-    ghost faults: { Self → ℕ };
+    /// The second is the first, later.
+    ghost stays: { Self → Self → Type 0 };
+
+    /// A source stays itself where nothing is called, and over several calls.
+    ghost stays_so: { (s : Self) → stays s s };
+
+    ghost stays_on: { (s t u : Self) → stays s t → stays t u → stays s u };
 
     /// Reads into the front of `out`. 0 means the end of the input, or no room in `out`.
     fn read(&mut self, out: &mut [u8]) -> Result<usize, Failed>
         ensures bound { IfOk result (λ n. n ≤ length out.new) }
-        ensures gives { ReadGives (left self.old) (left self.new) out.new result }
-        ensures no_room { length out.new ≡ 0 → (result ≡ Ok 0) × (left self.new ≡ left self.old) × (faults self.new ≡ faults self.old) }
-        ensures cause { HasCause (faults self.old) (faults self.new) result };
+        ensures gives { ReadGives (state self.old).left (state self.new).left out.new result }
+        ensures no_room { length out.new ≡ 0 → (result ≡ Ok 0) × (state self.new ≡ state self.old) }
+        ensures cause { HasCause (state self.old).faults (state self.new).faults result }
+        ensures stays { stays self.old self.new };
 
     fn faults(&self) -> u64
-        ensures { result ≡ faults self.now };
+        ensures { result ≡ (state self.now).faults };
 }
 
 /// What takes a stream of bytes.
 pub trait Sink {
-    /// The bytes that it took, where it tells them.
-    ghost took: { Self → Option (List ℕ) };
-
-    /// How often it has failed.
-    ghost faults: { Self → ℕ };
+    /// What it took, where it tells that, and how often it has failed.
+    ghost state: { Self → SinkState };
 
     /// Takes some first bytes of the piece, at least one where there is one.
     fn write(&mut self, bytes: &[u8]) -> Result<usize, Failed>
         ensures bound { IfOk result (λ n. n ≤ length bytes.now) }
         ensures goes_on { IfOk result (λ n. 0 < length bytes.now → 0 < n) }
-        ensures takes { Writes (took self.old) (took self.new) bytes.now result }
-        ensures cause { HasCause (faults self.old) (faults self.new) result };
+        ensures takes { Writes (state self.old).took (state self.new).took bytes.now result }
+        ensures cause { HasCause (state self.old).faults (state self.new).faults result };
 
     fn faults(&self) -> u64
-        ensures { result ≡ faults self.now };
+        ensures { result ≡ (state self.now).faults };
 }
 
 /// The place of what one append took.
@@ -102,21 +105,25 @@ pub trait Extent: Drop {
 pub trait LiveStore {
     type Extent: Extent;
 
-    /// The bytes that it took, where it tells them.
-    ghost held: { Self → Option (List ℕ) };
+    /// What it holds, where it tells that, and how often it has failed.
+    ghost state: { Self → LiveState };
 
-    /// How often it has failed.
-    ghost faults: { Self → ℕ };
-
-    /// Puts the piece behind what it holds.
+    /// Puts the piece behind what it holds. The store may keep it back for a while before it is with the system.
     fn append(&mut self, bytes: &[u8]) -> Result<Self::Extent, AppendRefused>
-        ensures adds { IfOk result (λ e. Adds (held self.old) (held self.new) bytes.now) }
-        ensures extent { IfOk result (λ e. (Self.Extent.size e ≡ length bytes.now) × ((before : List ℕ) → held self.old ≡ Some before → Self.Extent.tells e ≡ Some bytes.now)) }
-        ensures leaves { IfErr result (AppendLeaves (held self.old) (held self.new) bytes.now) }
-        ensures cause { AppendCause (faults self.old) (faults self.new) result };
+        ensures adds { IfOk result (λ e. Adds (state self.old).held (state self.new).held bytes.now) }
+        ensures extent { IfOk result (λ e. (Self.Extent.size e ≡ length bytes.now) × ((before : List ℕ) → (state self.old).held ≡ Some before → Self.Extent.tells e ≡ Some bytes.now)) }
+        ensures leaves { IfErr result (AppendLeaves (state self.old).held (state self.new).held bytes.now) }
+        ensures cause { AppendCause (state self.old).faults (state self.new).faults result };
+
+    /// Does the same; after an Ok all that was appended is with the system.
+    fn append_through(&mut self, bytes: &[u8]) -> Result<Self::Extent, AppendRefused>
+        ensures adds { IfOk result (λ e. Adds (state self.old).held (state self.new).held bytes.now) }
+        ensures extent { IfOk result (λ e. (Self.Extent.size e ≡ length bytes.now) × ((before : List ℕ) → (state self.old).held ≡ Some before → Self.Extent.tells e ≡ Some bytes.now)) }
+        ensures leaves { IfErr result (AppendLeaves (state self.old).held (state self.new).held bytes.now) }
+        ensures cause { AppendCause (state self.old).faults (state self.new).faults result };
 
     fn faults(&self) -> u64
-        ensures { result ≡ faults self.now };
+        ensures { result ≡ (state self.now).faults };
 }
 
 /// The names that the program reads and writes. Each object that it opens comes back by a keep call.
@@ -125,70 +132,46 @@ pub trait World {
 
     type Live: LiveStore + Send;
 
-    /// What stands under each name, where the world tells it.
-    ghost names: { Self → Option Names };
-
-    /// How often an opening or a keeping has failed.
-    ghost faults: { Self → ℕ };
-
-    /// The faults of the sources that were kept.
-    ghost input_faults: { Self → ℕ };
-
-    /// The faults of the live stores that were kept.
-    ghost output_faults: { Self → ℕ };
-
-    /// The openings so far, in their order, where the world tells them. One that memory lacked for is left out.
-    ghost opened: { Self → Option (List Opening) };
-
-    /// What the source that was kept last has left, where it tells.
-    ghost unread: { Self → Option (List ℕ) };
+    /// What it tells of its names and openings, how often an opening or a keeping has failed, and the faults of what was
+    /// taken back.
+    ghost state: { Self → WorldState };
 
     /// Opens what stands under the name. A name that isn't there is a fault.
     fn source(&mut self, name: &str) -> Result<Self::Source, OpenRefused>
-        ensures names { names self.new ≡ names self.old }
-        ensures opened { Opens (opened self.old) (opened self.new) (source_under name.now) result }
-        ensures tells { IfOk result (λ it. TellsName (names self.old) name.now (Self.Source.left it)) }
-        ensures unused { IfOk result (λ it. Self.Source.faults it ≡ 0) }
-        ensures input_faults { input_faults self.new ≡ input_faults self.old }
-        ensures output_faults { output_faults self.new ≡ output_faults self.old }
-        ensures unread { unread self.new ≡ unread self.old }
-        ensures cause { OpenCause (faults self.old) (faults self.new) result };
+        ensures opens { Opens (state self.old) (state self.new) ObjectKind.Source name.now result }
+        ensures tells { IfOk result (λ it. TellsName (state self.old) name.now (Self.Source.state it)) }
+        ensures unused { IfOk result (λ it. (Self.Source.state it).faults ≡ 0) }
+        ensures counts { CountsStand (state self.old) (state self.new) }
+        ensures cause { OpenCause (state self.old).faults (state self.new).faults result };
 
     /// Makes an empty live store that is to stand under the name.
     fn live(&mut self, name: &str) -> Result<Self::Live, OpenRefused>
-        ensures names { names self.new ≡ names self.old }
-        ensures opened { Opens (opened self.old) (opened self.new) (live_under name.now) result }
-        ensures tells { IfOk result (λ it. TellsNothingYet (names self.old) (Self.Live.held it)) }
-        ensures unused { IfOk result (λ it. Self.Live.faults it ≡ 0) }
-        ensures input_faults { input_faults self.new ≡ input_faults self.old }
-        ensures output_faults { output_faults self.new ≡ output_faults self.old }
-        ensures unread { unread self.new ≡ unread self.old }
-        ensures cause { OpenCause (faults self.old) (faults self.new) result };
+        ensures opens { Opens (state self.old) (state self.new) ObjectKind.Live name.now result }
+        ensures tells { IfOk result (λ it. TellsNothingYet (state self.old) (Self.Live.state it)) }
+        ensures unused { IfOk result (λ it. (Self.Live.state it).faults ≡ 0) }
+        ensures counts { CountsStand (state self.old) (state self.new) }
+        ensures cause { OpenCause (state self.old).faults (state self.new).faults result };
 
     /// Takes a source back, after a failure too.
     fn keep_source(&mut self, name: &str, it: Self::Source) -> Result<(), Failed>
-        ensures names { names self.new ≡ names self.old }
-        ensures opened { opened self.new ≡ opened self.old }
-        ensures input_faults { input_faults self.new ≡ added (input_faults self.old) (Self.Source.faults it) }
-        ensures output_faults { output_faults self.new ≡ output_faults self.old }
-        ensures unread { unread self.new ≡ Self.Source.left it }
-        ensures cause { HasCause (faults self.old) (faults self.new) result };
+        ensures keeps { KeepsSource (state self.old) (state self.new) name.now (Self.Source.state it) result }
+        ensures input_faults { (state self.new).input_faults ≡ added (state self.old).input_faults (Self.Source.state it).faults }
+        ensures output_faults { (state self.new).output_faults ≡ (state self.old).output_faults }
+        ensures cause { HasCause (state self.old).faults (state self.new).faults result };
 
-    /// Takes a live store back, and puts what it holds under the name, which one was opened under.
+    /// Takes a live store back, and puts what it holds under the name.
     fn keep_live(&mut self, name: &str, it: Self::Live) -> Result<(), Failed>
-        ensures keeps { WasMade (opened self.old) (live_under name.now true) → KeepsUnder (names self.old) (names self.new) name.now (Self.Live.held it) result }
-        ensures opened { opened self.new ≡ opened self.old }
-        ensures input_faults { input_faults self.new ≡ input_faults self.old }
-        ensures output_faults { output_faults self.new ≡ added (output_faults self.old) (Self.Live.faults it) }
-        ensures unread { unread self.new ≡ unread self.old }
-        ensures cause { HasCause (faults self.old) (faults self.new) result };
+        ensures keeps { KeepsLive (state self.old) (state self.new) name.now (Self.Live.state it) result }
+        ensures input_faults { (state self.new).input_faults ≡ (state self.old).input_faults }
+        ensures output_faults { (state self.new).output_faults ≡ added (state self.old).output_faults (Self.Live.state it).faults }
+        ensures cause { HasCause (state self.old).faults (state self.new).faults result };
 
     fn faults(&self) -> u64
-        ensures { result ≡ faults self.now };
+        ensures { result ≡ (state self.now).faults };
 
     fn input_faults(&self) -> u64
-        ensures { result ≡ input_faults self.now };
+        ensures { result ≡ (state self.now).input_faults };
 
     fn output_faults(&self) -> u64
-        ensures { result ≡ output_faults self.now };
+        ensures { result ≡ (state self.now).output_faults };
 }

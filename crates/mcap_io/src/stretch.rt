@@ -1,15 +1,19 @@
 //! Whole stretches: reading up to a length, and writing all of a piece.
-ghost use Rattle.std.specs.Prelude.{◌≡◌, ◌≤◌, length, vec_len, [], IfOk, OnErr, IsErrOf};
+ghost use Rattle.std.specs.Prelude.{◌≡◌, ◌≤◌, ◌<◌, ◌+◌, ◌-◌, length, take, drop, vec_len, [], IfOk, OnErr, IsErrOf};
 ghost use Rattle.mcap_io.specs.Outside.{HasCause, ReadCause, StretchTaken, WritesAll};
-ghost use Rattle.mcap_io.specs.Stretch.{Fills};
+ghost use Rattle.mcap_io.specs.Stretch.{Fills, FillsBehind};
 
 use crate::outside::{Failed, ReadRefused, Short, Sink, Source};
+
+/// How much room a stretch takes first, where its buffer has none.
+const FIRST_ROOM: usize = 65_536;
 
 // Reads until `out` is full or the input ends, and says how many bytes it read.
 fn fill<S: Source>(source: &mut S, out: &mut [u8]) -> Result<usize, Failed>
     ensures bound { IfOk result (λ n. n ≤ length out.new) }
-    ensures fills { Fills (S.left source.old) (S.left source.new) out.new result }
-    ensures cause { HasCause (S.faults source.old) (S.faults source.new) result }
+    ensures fills { Fills (S.state source.old).left (S.state source.new).left out.new result }
+    ensures cause { HasCause (S.state source.old).faults (S.state source.new).faults result }
+    ensures stays { S.stays source.old source.new }
 {
     let mut filled = 0;
     'fill: while filled < out.len() {
@@ -22,42 +26,74 @@ fn fill<S: Source>(source: &mut S, out: &mut [u8]) -> Result<usize, Failed>
     Ok(filled)
 }
 
+// Reads on behind the first `filled` bytes, until the buffer holds `room` or the input ends, and says how many bytes it
+// read. Only room that is new is filled with zeros.
+fn read_on<S: Source>(
+    source: &mut S,
+    buffer: &mut Vec<u8>,
+    filled: usize,
+    room: usize,
+) -> Result<usize, ReadRefused>
+    requires within { filled ≤ vec_len buffer.old }
+    requires some { filled < room }
+    ensures bound { IfOk result (λ n. filled + n ≤ room) }
+    ensures room { IfOk result (λ n. vec_len buffer.new ≡ room) }
+    ensures front { IfOk result (λ n. take filled buffer.new.items ≡ take filled buffer.old.items) }
+    ensures fills { FillsBehind (S.state source.old).left (S.state source.new).left (drop filled buffer.new.items) (room - filled) result }
+    ensures cause { ReadCause (S.state source.old).faults (S.state source.new).faults result }
+    ensures unread { IsErrOf result ReadRefused.Memory → source.new ≡ source.old }
+    ensures stays { S.stays source.old source.new }
+{
+    let more = room.saturating_sub(buffer.len());
+    if buffer.reserve_exact(more).is_err() || buffer.resize(room, 0).is_err() {
+        return Err(ReadRefused::Memory);
+    }
+    match fill(source, &mut buffer[filled..]) {
+        Ok(n) => return Ok(n),
+        Err(Failed) => return Err(ReadRefused::Failed),
+    }
+}
+
 /// Reads until the buffer holds `len` bytes or the input ends, in place of what the buffer held. It holds fewer
-/// than `len` only where the input ended. After a refusal it is empty. The memory is taken before the first byte is
-/// read, and the buffer's capacity never falls.
+/// than `len` only where the input ended. After a refusal it is empty. Where the buffer lacks room it grows in steps, so
+/// that an input which ends early costs little more than it has; its capacity never falls. Where memory lacks for up to
+/// 65,536 bytes, none is read.
 pub fn read_up_to<S: Source>(
     source: &mut S,
     buffer: &mut Vec<u8>,
     len: u64,
 ) -> Result<(), ReadRefused>
     ensures bound { vec_len buffer.new ≤ len }
-    ensures taken { StretchTaken (S.left source.old) (S.left source.new) len buffer.new.items result }
-    ensures cause { ReadCause (S.faults source.old) (S.faults source.new) result }
+    ensures taken { StretchTaken (S.state source.old).left (S.state source.new).left len buffer.new.items result }
+    ensures cause { ReadCause (S.state source.old).faults (S.state source.new).faults result }
     ensures refused { OnErr result (buffer.new.items ≡ []) }
-    ensures left { IsErrOf result ReadRefused.Memory → S.left source.new ≡ S.left source.old }
-    ensures faults { IsErrOf result ReadRefused.Memory → S.faults source.new ≡ S.faults source.old }
+    ensures unread { IsErrOf result ReadRefused.Memory → len ≤ 65536 → S.state source.new ≡ S.state source.old }
+    ensures stays { S.stays source.old source.new }
 {
     let len = len as usize;
-    // What the buffer holds is read over, so that only new room is filled with zeros.
-    if buffer.resize(len, 0).is_err() {
-        buffer.clear();
-        return Err(ReadRefused::Memory);
-    }
-    match fill(source, buffer.as_mut_slice()) {
-        Ok(filled) => {
+    let mut filled = 0;
+    let mut room = buffer.capacity().max(FIRST_ROOM).min(len);
+    'steps: while filled < len {
+        match read_on(source, buffer, filled, room) {
+            Ok(n) => filled += n,
+            Err(why) => {
+                buffer.clear();
+                return Err(why);
+            }
+        }
+        if filled < room {
             buffer.truncate(filled);
-            Ok(())
+            return Ok(());
         }
-        Err(Failed) => {
-            buffer.clear();
-            Err(ReadRefused::Failed)
-        }
+        room = room.saturating_mul(2).min(len);
     }
+    buffer.truncate(filled);
+    Ok(())
 }
 
 /// Writes all of the piece, in as many calls as the sink wants.
 pub fn write_all_of<K: Sink>(sink: &mut K, bytes: &[u8]) -> Result<(), Short>
-    ensures { WritesAll (K.took sink.old) (K.took sink.new) (K.faults sink.old) (K.faults sink.new) bytes.now result }
+    ensures { WritesAll (K.state sink.old) (K.state sink.new) bytes.now result }
 {
     let mut taken = 0;
     'pieces: while taken < bytes.len() {

@@ -12,6 +12,14 @@ fn plan(alloc: Global) -> Plan {
     }
 }
 
+// How long the file is; 0 where it isn't there.
+fn len_of(rt: &HostRuntime, name: &str) -> u64 {
+    match fs::metadata(rt, name) {
+        Ok(metadata) => metadata.len(),
+        Err(_) => 0,
+    }
+}
+
 // "abcdefghij" in stretches, where the second read fails once.
 #[test]
 fn a_source_goes_on_behind_a_read_that_failed(rt: HostRuntime) -> Result<(), Fail> {
@@ -34,14 +42,21 @@ fn a_source_goes_on_behind_a_read_that_failed(rt: HostRuntime) -> Result<(), Fai
     Ok(())
 }
 
+// "ab", of which 256 MiB and more than any memory are asked for, and then 100,000 bytes.
 #[test]
-fn a_stretch_that_memory_lacks_for_is_refused(rt: HostRuntime) -> Result<(), Fail> {
+fn a_short_input_costs_little_room(rt: HostRuntime) -> Result<(), Fail> {
     let mut source = QuietSource::new(Vec::from_slice(rt.alloc(), b"ab")?);
     let mut buffer = Vec::new(rt.alloc());
-    let refused = read_up_to(&mut source, &mut buffer, u64::MAX);
-    assert!(rt; refused == Err(ReadRefused::Memory));
-    assert!(rt; read_up_to(&mut source, &mut buffer, 2) == Ok(()));
-    assert_eq!(rt; buffer.as_slice(), b"ab".as_slice());
+    for (len, held) in [(268_435_456, b"ab".as_slice()), (u64::MAX, b"")] {
+        assert!(rt; read_up_to(&mut source, &mut buffer, len) == Ok(()));
+        assert_eq!(rt; buffer.as_slice(), held);
+        assert_eq!(rt; buffer.capacity(), 65_536);
+    }
+    let mut large = QuietSource::new(vec![in rt.alloc(); 7u8; 100_000]?);
+    assert!(rt; read_up_to(&mut large, &mut buffer, 99_999) == Ok(()));
+    assert_eq!(rt; (buffer.len(), buffer.capacity()), (99_999, 99_999));
+    assert!(rt; buffer.iter().all(|byte| *byte == 7));
+    assert_eq!(rt; large.rest().len(), 1);
     Ok(())
 }
 
@@ -69,7 +84,12 @@ fn a_live_store_tells_where_each_piece_stands(rt: HostRuntime) -> Result<(), Fai
     let mut store = MemoryLive::new(rt.alloc(), failing);
     let mut quiet = QuietLive::new(rt.alloc());
     let first = store.append(b"ab").ok().ok_or("memory is there")?;
-    assert!(rt; matches!(store.append(b"cd"), Err(AppendRefused::Failed { taken: 1 })));
+    assert!(rt;
+        matches!(
+            store.append_through(b"cd"),
+            Err(AppendRefused::Failed { taken: 1 })
+        )
+    );
     let last = store.append(b"ef").ok().ok_or("memory is there")?;
     assert_eq!(rt; store.bytes(), b"abcef".as_slice());
     assert_eq!(rt; store.faults(), 1);
@@ -77,8 +97,10 @@ fn a_live_store_tells_where_each_piece_stands(rt: HostRuntime) -> Result<(), Fai
     assert_eq!(rt; last.same().len(), 2);
     let piece = quiet.append(b"xyz").ok().ok_or("memory is there")?;
     assert_eq!(rt; piece.bytes(), b"xyz".as_slice());
+    let more = quiet.append_through(b"w").ok().ok_or("memory is there")?;
+    assert_eq!(rt; more.bytes(), b"w".as_slice());
     assert_eq!(rt; quiet.faults(), 0);
-    assert_eq!(rt; quiet.into_bytes().as_slice(), b"xyz".as_slice());
+    assert_eq!(rt; quiet.into_bytes().as_slice(), b"xyzw".as_slice());
     Ok(())
 }
 
@@ -116,8 +138,8 @@ fn a_world_fails_where_it_is_told_to(rt: HostRuntime) -> Result<(), Fail> {
         (ObjectKind::Live, "out", true),
         (ObjectKind::Live, "out", true),
     ];
-    assert_eq!(rt; world.opened().len(), 5);
-    for (made, (kind, name, given)) in world.opened().iter().zip(openings) {
+    assert_eq!(rt; world.log().len(), 5);
+    for (made, (kind, name, given)) in world.log().iter().zip(openings) {
         assert_eq!(rt; made.kind, kind);
         assert_eq!(rt; made.name.as_str(), name);
         assert_eq!(rt; made.given, given);
@@ -129,25 +151,47 @@ fn a_world_fails_where_it_is_told_to(rt: HostRuntime) -> Result<(), Fail> {
     Ok(())
 }
 
-// Of "abc" one byte is read, and then none; the second keeping fails.
+// Of "abc" the first source reads one byte and the second none. The second is kept first, and its keeping fails.
 #[test]
-fn a_world_tells_what_its_last_source_has_left(rt: HostRuntime) -> Result<(), Fail> {
+fn a_keeping_is_noted_at_the_newest_that_is_out(rt: HostRuntime) -> Result<(), Fail> {
     let mut plan = plan(rt.alloc());
-    plan.keepings.push(1)?;
+    plan.keepings.push(0)?;
     let mut world = MemoryWorld::new(rt.alloc(), plan);
     world.put("in", b"abc")?;
-    assert!(rt; world.unread() == None);
-    let cases: [(u64, Result<(), Failed>, &[u8]); 2] = [
-        (1, Ok(()), b"bc"),
-        (0, Err(Failed), b"abc"),
-    ];
-    for (len, kept, left) in cases {
-        let mut source = world.source("in").ok().ok_or("it is there")?;
-        let mut buffer = Vec::new(rt.alloc());
-        assert!(rt; read_up_to(&mut source, &mut buffer, len) == Ok(()));
-        assert!(rt; world.keep_source("in", source) == kept, "behind {len}");
-        assert!(rt; world.unread() == Some(left), "behind {len}");
+    let mut first = world.source("in").ok().ok_or("it is there")?;
+    let second = world.source("in").ok().ok_or("it is there")?;
+    let mut buffer = Vec::new(rt.alloc());
+    assert!(rt; read_up_to(&mut first, &mut buffer, 1) == Ok(()));
+    assert!(rt; world.keep_source("in", second) == Err(Failed));
+    assert!(rt; world.keep_source("in", first) == Ok(()));
+    let wanted: [(bool, &[u8]); 2] = [(true, b"bc"), (false, b"abc")];
+    assert_eq!(rt; world.log().len(), 2);
+    for (entry, (well, left)) in world.log().iter().zip(wanted) {
+        let kept = entry.kept.as_ref().ok_or("it was kept")?;
+        assert_eq!(rt; (kept.well, kept.faults), (well, 0));
+        let rest = kept.rest.as_ref().ok_or("it is a source")?;
+        assert_eq!(rt; rest.rest(), left);
     }
+    Ok(())
+}
+
+// An input that is open isn't opened as an output; behind its keeping it may be, and is emptied.
+#[test]
+fn an_input_is_no_output(rt: HostRuntime) -> Result<(), Fail> {
+    fs::write(&rt, "both", b"abc")?;
+    let mut world = FileWorld::new(&rt);
+    let source = world.source("both").ok().ok_or("it is there")?;
+    match world.live("./both") {
+        Ok(live) => assert!(rt; world.keep_live("both", live).is_err(), "it is read"),
+        Err(why) => assert_eq!(rt; why, OpenRefused::Failed),
+    }
+    assert_eq!(rt; len_of(&rt, "both"), 3);
+    assert!(rt; world.keep_source("both", source) == Ok(()));
+    let live = world.live("both").ok().ok_or("nothing reads it")?;
+    assert!(rt; world.keep_live("both", live) == Ok(()));
+    assert_eq!(rt; len_of(&rt, "both"), 0);
+    fs::remove_file(&rt, "both")?;
+    assert_eq!(rt; world.faults(), 1);
     Ok(())
 }
 
@@ -168,10 +212,17 @@ fn a_file_gives_back_what_was_kept(rt: HostRuntime) -> Result<(), Fail> {
         let len = piece.len() as u64;
         assert!(rt; live.append(piece) == Ok(Stretch { from, len }));
     }
+    assert_eq!(rt; len_of(&rt, "record"), 300_002);
+    let last = Stretch {
+        from: 300_005,
+        len: 1,
+    };
+    assert!(rt; live.append_through(b"f") == Ok(last));
+    assert_eq!(rt; len_of(&rt, "record"), 300_006);
     assert!(rt; world.keep_live("record", live) == Ok(()));
     let mut source = world.source("record").ok().ok_or("it was kept")?;
     let mut buffer = Vec::new(rt.alloc());
-    for (len, first, held) in [(3, b'a', 3), (299_999, 7, 299_999), (9, b'c', 3), (9, 0, 0)] {
+    for (len, first, held) in [(3, b'a', 3), (299_999, 7, 299_999), (9, b'c', 4), (9, 0, 0)] {
         assert!(rt; read_up_to(&mut source, &mut buffer, len) == Ok(()));
         assert_eq!(rt; buffer.len(), held, "at {len}");
         assert_eq!(rt; buffer.first().copied().unwrap_or(0), first, "at {len}");

@@ -16,15 +16,14 @@ pub struct WriterSink<W> {
 impl<W: Write> WriterSink<W> {
     /// A sink over the writer. What the writer holds already counts as taken.
     pub fn new(writer: W) -> Self
-        ensures writer { ⟦<WriterSink<W> as Sink>⟧.took result ≡ W.contents writer }
-        ensures unused { ⟦<WriterSink<W> as Sink>⟧.faults result ≡ 0 }
+        ensures { ⟦<WriterSink<W> as Sink>⟧.state result ≡ record { took = W.contents writer; faults = 0 } }
     {
         WriterSink { writer, faults: 0 }
     }
 
     /// The writer.
     pub fn into_inner(self) -> W
-        ensures { ⟦<WriterSink<W> as Sink>⟧.took self ≡ W.contents result }
+        ensures { (⟦<WriterSink<W> as Sink>⟧.state self).took ≡ W.contents result }
     {
         let WriterSink { writer, faults: _ } = self;
         writer
@@ -32,9 +31,7 @@ impl<W: Write> WriterSink<W> {
 }
 
 impl<W: Write> Sink for WriterSink<W> {
-    ghost took = { λ s. W.contents s.writer };
-
-    ghost faults = { λ s. s.faults };
+    ghost state = { λ s. record { took = W.contents s.writer; faults = s.faults } };
 
     fn write(&mut self, bytes: &[u8]) -> Result<usize, Failed> {
         if bytes.is_empty() {

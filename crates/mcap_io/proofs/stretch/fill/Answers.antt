@@ -10,7 +10,7 @@ returns-in-Ok-eq0-clause-fills g c = λ rest told.
     let filled = c.fill.filled in
     let whole = same_len_mid filled (length out - filled) out c.read.new.out c.read.auto.out in
     let room : 0 < length c.read.new.out = omega (arith, c.read.auto.out, c.fill-test.true, length-take (length out - filled) (drop filled out), length-drop filled out) in
-    filled-all rest out c.read.new.out (g.S.Source.left c.fill.source) _ filled (length out - filled) _ _ c.in-Ok-eq0.field-0-test c.fill.invariant.bound (omega (arith, whole, c.fill.invariant.bound)) room (c.fill.invariant.so_far rest told)
+    filled-all rest out c.read.new.out (g.S.Source.state c.fill.source).left _ filled (length out - filled) _ _ c.in-Ok-eq0.field-0-test c.fill.invariant.bound (omega (arith, whole, c.fill.invariant.bound)) room (c.fill.invariant.so_far rest told)
     c.in-Ok-eq0.ensures.gives
 
 pub fill-preserved : goal.fill-preserved
@@ -24,6 +24,7 @@ fill-preserved g c =
     record {
       bound = omega (arith, whole, within);
       still = c.in-Ok.ensures.cause.still ∙ c.fill.invariant.still;
+      stays = g.S.Source.stays_on _ _ _ c.fill.invariant.stays c.in-Ok.ensures.stays;
       so_far = λ rest told.
-          filled-more rest _ c.read.new.out (g.S.Source.left c.fill.source) _ _ _ _ c.fill.invariant.bound fits (c.fill.invariant.so_far rest told) c.in-Ok.ensures.gives;
+          filled-more rest _ c.read.new.out (g.S.Source.state c.fill.source).left _ _ _ _ c.fill.invariant.bound fits (c.fill.invariant.so_far rest told) c.in-Ok.ensures.gives;
     }

@@ -1,7 +1,7 @@
 -- One write more goes on from what was written; a failed one adds a part of what was left of the piece.
-use Rattle.std.proofs.Common.{◌∙◌, ◌-◌, length, drop, arith, length-take, length-drop}
+use Rattle.std.proofs.Common.{◌∙◌, ap, ◌-◌, length, drop, arith, length-take, length-drop}
 use Rattle.mcap_io.proofs.Filling.{written-more, written-part}
-use Rattle.mcap_io.proofs.Calls.{rose-second}
+use Rattle.mcap_io.specs.Outside.{one_more}
 use Rattle.mcap_io.proofs.stretch.write_all_of.Goals as goal
 
 pub pieces-preserved : goal.pieces-preserved
@@ -17,8 +17,7 @@ pieces-preserved g c =
 pub returns-in-Err : goal.returns-in-Err
 returns-in-Err g c =
     let cause = c.in-Err.ensures.cause in (
-      omega (arith, c.pieces.invariant.still, cause.later),
-      rose-second _ _ _ (omega (arith, c.pieces.invariant.still)) cause.failed,
-      c.pieces.invariant.bound,
+      record { later = omega (arith, c.pieces.invariant.still, cause.later); once = cause.failed.once ∙ ap one_more c.pieces.invariant.still },
+      c.pieces-test.true,
       written-part _ _ _ _ _ c.pieces.invariant.bound c.pieces.invariant.so_far c.in-Err.ensures.takes,
     )

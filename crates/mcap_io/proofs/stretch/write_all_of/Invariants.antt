@@ -5,8 +5,8 @@ use Rattle.mcap_io.proofs.stretch.write_all_of.Given as goal
 abbrev pub invariant-pieces : goal.invariant-pieces
 invariant-pieces g l = record {
   bound : l.taken ≤ length l.bytes;
-  still : g.K.Sink.faults l.sink ≡ g.K.Sink.faults l.fn.sink;
-  so_far : Adds (g.K.Sink.took l.fn.sink) (g.K.Sink.took l.sink) (take l.taken l.bytes);
+  still : (g.K.Sink.state l.sink).faults ≡ (g.K.Sink.state l.fn.sink).faults;
+  so_far : Adds (g.K.Sink.state l.fn.sink).took (g.K.Sink.state l.sink).took (take l.taken l.bytes);
 }
 
 abbrev pub decreases-pieces : goal.decreases-pieces

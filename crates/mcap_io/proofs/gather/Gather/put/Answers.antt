@@ -3,7 +3,7 @@ use Rattle.mcap_io.proofs.Gathering.{part-longer, puts-after}
 use Rattle.mcap_io.proofs.gather.Gather.put.Goals as goal
 
 pub returns-in-Ok-clause-puts : goal.returns-in-Ok-clause-puts
-returns-in-Ok-clause-puts g c = puts-after _ (g.K.Sink.took c.flush.new.self.sink) _ _ _ _ _ c.in-Ok.ensures.written c.put_first.ensures.puts
+returns-in-Ok-clause-puts g c = puts-after _ (g.K.Sink.state c.flush.new.self.sink).took _ _ _ _ _ c.in-Ok.ensures.written c.put_first.ensures.puts
 
 pub returns-in-Err-clause-puts : goal.returns-in-Err-clause-puts
 returns-in-Err-clause-puts g c =

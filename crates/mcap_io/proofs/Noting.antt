@@ -1,0 +1,62 @@
+-- Noting in a log how an object was taken back.
+use Rattle.std.proofs.Common.{◌≡◌, ℕ, List, ◌∷◌, ◌++◌, map, get_or, set, length, Some, None, Result, Ok, Err, ap, ◌∙◌, refl, subst, inl}
+use Rattle.std.specs.Prelude.{is_ok}
+use Rattle.std.proofs.lemmas.List.{map-append, get_or_at, set_at}
+use Rattle.mcap_io.specs.declared.outside.Failed.{Failed}
+use Rattle.mcap_io.specs.declared.outside.ObjectKind.{ObjectKind}
+use Rattle.mcap_io.specs.declared.outside.ObjectKind.TheVariants as kinds
+use Rattle.mcap_io.specs.declared.openings.Kept.{Kept}
+use Rattle.mcap_io.specs.declared.openings.Opened.{Opened}
+use Rattle.mcap_io.specs.Outside.{Names, Told, Opening, SourceState, LiveState, WorldState, IsOut, NoneIsOut, Notes, Keeps, KeepsSource, KeepsLive, went_well}
+use Rattle.mcap_io.specs.Standing.{shown, shown_keeping}
+
+-- the entry, with the keeping
+abbrev kept_entry : Opened → Kept → Opened
+kept_entry entry kept = record { kind = entry.kind; name = entry.name; given = entry.given; kept = Some kept }
+
+pub noted_there : (log before behind : List Opened) (entry there : Opened) (kind : ObjectKind) (name : List ℕ) (at : ℕ) (kept : Kept) → there ≡ get_or log at there → log ≡ before ++ entry ∷ behind → length before ≡ at → IsOut kind name (shown entry) → NoneIsOut kind name (map shown behind)
+    → Notes (map shown log) (map shown (set log at (kept_entry there kept))) kind name (shown_keeping kept)
+noted_there log before behind entry there kind name at kept stands is place out none =
+    let same : there ≡ entry = stands ∙ ap (λ l. get_or l at there) is ∙ get_or_at before entry behind there at place in
+    let changed : set log at (kept_entry there kept) ≡ before ++ kept_entry entry kept ∷ behind =
+    ap (λ e. set log at (kept_entry e kept)) same ∙ ap (λ l. set l at (kept_entry entry kept)) is ∙ set_at before entry behind (kept_entry entry kept) at place in
+    inl (
+      map shown before,
+      map shown behind,
+      shown entry,
+      record { there = ap (map shown) is ∙ map-append shown before (entry ∷ behind); out = out; newest = none },
+      ap (map shown) changed ∙ map-append shown before (kept_entry entry kept ∷ behind),
+    )
+
+-- a world with these names and this log; what a keeping says doesn't look at the counts
+abbrev telling : Names → List Opening → WorldState
+telling names log = record { told = Some (record { names = names; log = log }); faults = 0; input_faults = 0; output_faults = 0 }
+
+-- whether a keeping went well
+well_is : (result : Result Unit Failed) → is_ok result ≡ went_well result
+well_is (Ok it) = refl
+well_is (Err why) = refl
+
+pub keeps-source : (names names' : Names) (log log' : List Opening) (name : List ℕ) (it : SourceState) (result : Result Unit Failed) → names' ≡ names
+    → Notes log log' kinds.Source name (record { well = is_ok result; faults = it.faults; left = it.left }) → KeepsSource (telling names log) (telling names' log') name it result
+keeps-source names names' log log' name it result same notes told told_is =
+    let was : Told = record { names = names; log = log } in
+    let is : was ≡ told = cc in
+    let noted = subst (λ b. Notes log log' kinds.Source name (record { well = b; faults = it.faults; left = it.left })) (well_is result) notes in (
+      record { names = names'; log = log' },
+      refl,
+      same ∙ ap (λ t. t.names) is,
+      subst (λ t. Notes t.log log' kinds.Source name (record { well = went_well result; faults = it.faults; left = it.left })) is noted,
+    )
+
+pub keeps-live : (names names' : Names) (log log' : List Opening) (name : List ℕ) (it : LiveState) (result : Result Unit Failed) → Keeps names names' name it.held result
+    → Notes log log' kinds.Live name (record { well = is_ok result; faults = it.faults; left = None }) → KeepsLive (telling names log) (telling names' log') name it result
+keeps-live names names' log log' name it result keeps notes told told_is =
+    let was : Told = record { names = names; log = log } in
+    let is : was ≡ told = cc in
+    let noted = subst (λ b. Notes log log' kinds.Live name (record { well = b; faults = it.faults; left = None })) (well_is result) notes in (
+      record { names = names'; log = log' },
+      refl,
+      subst (λ t. Keeps t.names names' name it.held result) is keeps,
+      subst (λ t. Notes t.log log' kinds.Live name (record { well = went_well result; faults = it.faults; left = None })) is noted,
+    )
