@@ -2,7 +2,7 @@
 use Rattle.std.proofs.Common.{◌≡◌, ℕ, zero, suc, ◌+◌, ◌*◌, ◌/◌, ◌^◌, ◌<◌, ◌≤◌, List, [], ◌∷◌, ◌++◌, length, get_or, take, drop, refl, sym, ap, subst, inl, inr, ◌∙◌, append_assoc, arith}
 use Rattle.std.specs.Prelude.{All, slice_get, Some}
 use Rattle.std.proofs.lemmas.Grind.{flat_map-append}
-use Rattle.std.proofs.lemmas.List.{append-nil, take_at, drop_at, length-append, length-take-le, length-drop, drop-drop, drop_more, take-append-drop, flat_map_more, get_or_at, nil_from_length}
+use Rattle.std.proofs.lemmas.List.{append-nil, take_at, drop_at, length-append, length-take-le, length-drop, drop-drop, drop_more, take-append-drop, flat_map_more, nil_from_length}
 use Rattle.std.proofs.lemmas.List.Elements.{All-nil, All-cons, All-head, All-tail, All-push}
 use Rattle.std.proofs.Math.Nat.{mul-div_cancel_left, mul-le-mul_left}
 use Rattle.std.proofs.lemmas.Option.{slice_get-get_or}
@@ -10,13 +10,13 @@ use Rattle.mcap_wire.specs.declared.faults.Why.{Why}
 use Rattle.mcap_wire.specs.declared.faults.Why.TheVariants.{Short, BadText, BadLength, DoubleKey}
 use Rattle.mcap_wire.specs.Layout.{le, number, prefixed}
 use Rattle.mcap_wire.specs.Reading.{FieldAt, NumberAt, NumberFails, BytesAt, text_length, text_bytes}
-use Rattle.mcap_wire.specs.Maps.{KeysDiffer, HasKey, LacksKey}
-use Rattle.mcap_wire.specs.Arrays.{IsEntry, entry_text, entry_texts, array_text, ArrayAt, EntriesFail, CountFails, CountsStop, CountsFail}
+use Rattle.mcap_wire.specs.Maps.{a_uint, ItemFits, KeysDiffer, LacksKey, ItemFails, MapStops}
+use Rattle.mcap_wire.specs.Arrays.{IsEntry, entry_text, entry_texts, array_text, ArrayAt, EntriesFail}
 use Rattle.mcap_wire.specs.ArrayBytes.{entries_in, HoldsArray, HoldsCounts}
 use Rattle.mcap_wire.proofs.Numbers.{AreBytes, length-le, number-le, le-number, number_below}
 use Rattle.mcap_wire.proofs.Fields.{AreBytes-take, AreBytes-drop}
-use Rattle.mcap_wire.proofs.Framing.{texts_apart, split_number, length-string, length_found, bytes_found, stands_within, number_not_refused, number_decided}
-use Rattle.mcap_wire.proofs.TextMaps.{KeysDiffer-push, key_stands_before}
+use Rattle.mcap_wire.proofs.Framing.{texts_apart, length-string, length_found, bytes_found, stands_within, number_not_refused, number_decided}
+use Rattle.mcap_wire.proofs.TextMaps.{KeysDiffer-push}
 use Rattle.mcap_wire.proofs.PairWalks.{taken_more}
 
 abbrev pub Entry : Type 0
@@ -258,22 +258,20 @@ counts_before bytes count at within held = record {
   ends = within;
 }
 
--- behind the counts up to an offset the next one fails
-pub counts_stop : (bytes : List ℕ) (count at : ℕ) (why : Why) → at ≤ length bytes → HoldsCounts (take at bytes) count → CountFails (entries_in 2 count (take at bytes)) bytes at why → CountsStop bytes why
-counts_stop bytes count at why within held fails = record {
+pub counts_fit : (counts : List Entry) → All (IsEntry 2) counts → All (ItemFits (a_uint 2) (a_uint 8)) counts
+counts_fit counts fit = λ i d lt. ((fit i d lt).first_fits, (fit i d lt).second_fits)
+
+-- behind the counts up to an offset another begins, and fails
+pub counts_stop : (bytes : List ℕ) (count at : ℕ) (why : Why) → at < length bytes → HoldsCounts (take at bytes) count → ItemFails (a_uint 2) (a_uint 8) (entries_in 2 count (take at bytes)) bytes at why → MapStops (a_uint 2) (a_uint 8) bytes why
+counts_stop bytes count at why begins held fails = record {
   before = entries_in 2 count (take at bytes);
   at = at;
-  field = counts_before bytes count at within held;
-  entries_fit = held.array.entries_fit;
+  field = counts_before bytes count at (omega (arith, begins)) held;
+  items_fit = counts_fit (entries_in 2 count (take at bytes)) held.array.entries_fit;
   keys_differ = held.keys_differ;
+  begins = begins;
   fails = fails;
 }
-
-pub counts_fail : (content : List ℕ) (at : ℕ) (why : Why) → at + 4 + text_length content at ≤ length content → CountsStop (text_bytes content at) why → CountsFail content at why
-counts_fail content at Short whole stops = absurd stops.fails
-counts_fail content at BadText whole stops = absurd stops.fails
-counts_fail content at BadLength whole stops = (whole, stops)
-counts_fail content at DoubleKey whole stops = (whole, stops)
 
 -- ---- refusals
 
@@ -299,75 +297,3 @@ entries_not_refused content at entries rest why fits is fails = by_cause why fai
     by_cause BadText none = none
     by_cause BadLength bad = bad.1 (omega (arith, size, length-entry_texts 8 entries))
     by_cause DoubleKey none = none
-
--- where one list of entries and some bytes spell what another list spells, the second goes on from the first
-entries_split : (n : ℕ) (before : List Entry) (rest : List ℕ) (entries : List Entry) → All (IsEntry n) before → All (IsEntry n) entries → entry_texts n before ++ rest ≡ entry_texts n entries → (after : List Entry) × (entries ≡ before ++ after) × (rest ≡ entry_texts n after)
-entries_split n [] rest entries before_fit fit same = (entries, refl, same)
-entries_split n (e ∷ before) rest [] before_fit fit same =
-    absurd (omega (arith, ap length same, length-append (entry_texts n (e ∷ before)) rest, length-append (entry_text n e) (entry_texts n before), length-entry_text n e))
-entries_split n (e ∷ before) rest (f ∷ entries) before_fit fit same =
-    let e_fits : IsEntry n e = All-head (IsEntry n) e before before_fit in
-    let f_fits : IsEntry n f = All-head (IsEntry n) f entries fit in
-    let spelled : le n e.0 ++ (le 8 e.1 ++ (entry_texts n before ++ rest)) ≡ le n f.0 ++ (le 8 f.1 ++ entry_texts n entries) =
-    sym (entry_parts n e (entry_texts n before) rest) ∙ same ∙ append_assoc (le n f.0) (le 8 f.1) (entry_texts n entries) in
-    let firsts = split_number n e.0 f.0 (le 8 e.1 ++ (entry_texts n before ++ rest)) (le 8 f.1 ++ entry_texts n entries) e_fits.first_fits f_fits.first_fits spelled in
-    let seconds = split_number 8 e.1 f.1 (entry_texts n before ++ rest) (entry_texts n entries) e_fits.second_fits f_fits.second_fits firsts.1 in
-    let more = entries_split n before rest entries (All-tail (IsEntry n) e before before_fit) (All-tail (IsEntry n) f entries fit) seconds.1 in
-    let first : f ≡ e = sym (ap (λ (x : ℕ). (x, e.1)) firsts.0 ∙ ap (λ (x : ℕ). (f.0, x)) seconds.0) in
-    (more.0, ap (λ (x : Entry). x ∷ entries) first ∙ ap (λ (l : List Entry). e ∷ l) more.1, more.2)
-
--- a count that stands next is read
-pub count_not_refused : (before after : List Entry) (next : Entry) (behind bytes : List ℕ) (at : ℕ) (why : Why) → IsEntry 2 next → KeysDiffer (before ++ next ∷ after) → at ≤ length bytes → drop at bytes ≡ entry_texts 2 (next ∷ after) ++ behind → CountFails before bytes at why → ⊥
-count_not_refused before after next behind bytes at why is_entry differ inside is fails = by_cause why fails
-  where
-    parts : drop at bytes ≡ le 2 next.0 ++ (le 8 next.1 ++ (entry_texts 2 after ++ behind))
-    parts = is ∙ entry_parts 2 next (entry_texts 2 after) behind
-
-    within : at + 10 ≤ length bytes
-    within = omega (arith, inside, length-drop at bytes, ap length is, length-append (entry_texts 2 (next ∷ after)) behind, length-append (entry_text 2 next) (entry_texts 2 after), length-entry_text 2 next)
-
-    by_cause : (cause : Why) → CountFails before bytes at cause → ⊥
-    by_cause Short none = none
-    by_cause BadText none = none
-    by_cause BadLength (some, inl short) = absurd (omega (arith, within, short))
-    by_cause BadLength (some, inr short) = absurd (omega (arith, within, short.2.size, short.4))
-    by_cause DoubleKey double =
-        let decided = number_decided 2 bytes at double.0 double.1 next.0 (le 8 next.1 ++ (entry_texts 2 after ++ behind)) double.2 is_entry.first_fits parts in
-        key_stands_before before after next differ (subst (HasKey before) decided.0 double.3)
-
-no_count_not_refused : (before : List Entry) (bytes : List ℕ) (at : ℕ) (why : Why) → length bytes ≤ at → CountFails before bytes at why → ⊥
-no_count_not_refused before bytes at Short none fails = fails
-no_count_not_refused before bytes at BadText none fails = fails
-no_count_not_refused before bytes at BadLength none fails = absurd (omega (arith, fails.0))
-no_count_not_refused before bytes at DoubleKey none double = absurd (omega (arith, double.2.size, double.2.field.ends))
-
--- the bytes of a map of counts don't stop short
-counts_go_on : (bytes : List ℕ) (counts : List Entry) (why : Why) → All (IsEntry 2) counts → KeysDiffer counts → bytes ≡ entry_texts 2 counts → CountsStop bytes why → ⊥
-counts_go_on bytes counts why fit differ is stops =
-    let more = entries_split 2 stops.before (drop stops.at bytes) counts stops.entries_fit fit (sym stops.field.spelled_there ∙ is) in
-    by_next more.0 more.1 more.2
-  where
-    by_next : (after : List Entry) → counts ≡ stops.before ++ after → drop stops.at bytes ≡ entry_texts 2 after → ⊥
-    by_next [] joined rest_is = no_count_not_refused stops.before bytes stops.at why (omega (arith, ap length rest_is, length-drop stops.at bytes)) stops.fails
-    by_next (next ∷ after) joined rest_is =
-        let whole : All (IsEntry 2) (stops.before ++ next ∷ after) = subst (All (IsEntry 2)) joined fit in
-        let is_entry : IsEntry 2 next = subst (IsEntry 2) (get_or_at stops.before next after next (length stops.before) refl)
-        (whole (length stops.before) next (omega (arith, length-append stops.before (next ∷ after)))) in
-        count_not_refused stops.before after next [] bytes stops.at why is_entry (subst KeysDiffer joined differ) stops.field.ends (rest_is ∙ sym (append-nil (entry_texts 2 (next ∷ after)))) stops.fails
-
--- a map of counts that stands there is read
-pub counts_not_refused : (content : List ℕ) (at : ℕ) (counts : List Entry) (rest : List ℕ) (why : Why) → length (entry_texts 2 counts) < 2 ^ 32 → All (IsEntry 2) counts → KeysDiffer counts → drop at content ≡ array_text 2 counts ++ rest → CountsFail content at why → ⊥
-counts_not_refused content at counts rest why fits fit differ is fails = by_cause why fails
-  where
-    size : text_length content at ≡ length (entry_texts 2 counts)
-    size = length_found content at (entry_texts 2 counts) rest fits is
-
-    stops : (cause : Why) → CountsStop (text_bytes content at) cause → ⊥
-    stops cause = counts_go_on (text_bytes content at) counts cause fit differ (bytes_found content at (entry_texts 2 counts) rest fits is)
-
-    by_cause : (cause : Why) → CountsFail content at cause → ⊥
-    by_cause Short (inl short) = absurd (omega (arith, array_within 2 content at counts rest is, short))
-    by_cause Short (inr short) = absurd (omega (arith, array_within 2 content at counts rest is, size, short.1))
-    by_cause BadText none = none
-    by_cause BadLength bad = stops BadLength bad.1
-    by_cause DoubleKey bad = stops DoubleKey bad.1

@@ -3,10 +3,10 @@ use Rattle.std.proofs.Common.{◌≡◌, ℕ, ◌+◌, ◌-◌, ◌^◌, ◌<◌
 use Rattle.std.specs.Prelude.{IsUtf8}
 use Rattle.std.proofs.lemmas.List.{take_at, take-append-drop, length-take, length-take-le, length-drop, drop-drop, drop_more, get_or-drop, get_or-take, get_or_past}
 use Rattle.std.proofs.lemmas.Bool.{cases_lt}
-use Rattle.std.specs.Int.{Width, from_le_bytes}
+use Rattle.byteorder.specs.Endian.{little_number}
 use Rattle.mcap_wire.specs.Layout.{le, number, part}
-use Rattle.mcap_wire.specs.Reading.{NumberAt, TextAt, BytesAt, BytesAreShort, Stands}
-use Rattle.mcap_wire.proofs.Numbers.{AreBytes, ReadsBack, length-le, number-le, le-number, number_below, le_one}
+use Rattle.mcap_wire.specs.Reading.{NumberAt, TextAt, BytesAt, BytesAreShort, HeadAt, HasOpcode, Stands}
+use Rattle.mcap_wire.proofs.Numbers.{AreBytes, number_is, length-le, number-le, le-number, number_below, le_one}
 
 -- the bytes from an offset on are n of them, and the bytes n later
 pub cut_off : (bytes : List ℕ) (at n : ℕ) → drop at bytes ≡ take n (drop at bytes) ++ drop (at + n) bytes
@@ -34,15 +34,6 @@ AreBytes-take n bytes fits i =
       | inr le ↦ rw (get_or_past (take n bytes) i 0 (omega (arith, length-take n bytes))) (omega arith)
     ]
 
--- the same, of what `from_le_bytes` read
-pub number_from : (n : ℕ) (w : Width) → ReadsBack n w → (content : List ℕ) (at : ℕ) (rest front : List ℕ) (value : ℕ) → AreBytes content → at ≤ length content → rest ≡ drop at content → n ≤ length rest → front ≡ take n rest → value ≡ from_le_bytes w front → value < 256 ^ n → NumberAt n content at value (at + n)
-number_from n w back content at rest front value bytes within rest_is long front_is is fits =
-    let there : front ≡ take n (drop at content) = front_is ∙ ap (take n) rest_is in
-    let size : length rest ≡ length content - at = ap length rest_is ∙ length-drop at content in
-    let len : length front ≡ n = ap length front_is ∙ length-take-le n rest long in
-    let small : AreBytes front = subst AreBytes (sym there) (AreBytes-take n (drop at content) (AreBytes-drop at content bytes)) in
-    number_read n content at value (omega arith) (back front value len small is ∙ there) fits
-
 -- the same, of the first byte that is left
 pub byte_read : (content : List ℕ) (at : ℕ) (rest : List ℕ) → AreBytes content → at ≤ length content → rest ≡ drop at content → 1 ≤ length rest → NumberAt 1 content at (get_or rest 0 0) (at + 1)
 byte_read content at [] bytes within rest_is long = absurd (omega arith)
@@ -59,6 +50,13 @@ number_spelled n content at bytes whole =
     let small : AreBytes front = AreBytes-take n (drop at content) (AreBytes-drop at content bytes) in
     let spelled : le n (number front) ≡ front = ap (λ (k : ℕ). le k (number front)) (sym size) ∙ le-number front small in
     number_read n content at (number front) whole spelled (subst (λ (k : ℕ). number front < 256 ^ k) size (number_below front small))
+
+-- the same, of what `LittleEndian` read
+pub number_from : (n : ℕ) (content : List ℕ) (at : ℕ) (rest : List ℕ) (value : ℕ) → AreBytes content → at ≤ length content → rest ≡ drop at content → n ≤ length rest → value ≡ little_number n rest → NumberAt n content at value (at + n)
+number_from n content at rest value bytes within rest_is long is =
+    let size : length rest ≡ length content - at = ap length rest_is ∙ length-drop at content in
+    let there : number (take n (drop at content)) ≡ value = ap (λ (l : List ℕ). number (take n l)) (sym rest_is) ∙ sym (number_is n rest long) ∙ sym is in
+    subst (λ (v : ℕ). NumberAt n content at v (at + n)) there (number_spelled n content at bytes (omega (arith, size)))
 
 -- the bytes of a number that stands there
 pub number_bytes : (n : ℕ) (content : List ℕ) (at value end : ℕ) → NumberAt n content at value end → take n (drop at content) ≡ le n value
@@ -111,6 +109,12 @@ bytes_read n content at len from bytes end prefix is end_is whole =
 pub bytes_short : (n : ℕ) (content : List ℕ) (at len from : ℕ) → NumberAt n content at len from → length content < from + len → BytesAreShort n content at
 bytes_short n content at len from prefix short =
     inr (omega (arith, prefix.size, prefix.field.ends), omega (arith, prefix.size, number_there n content at len from prefix))
+
+-- a head that was read is whole, and its opcode valid
+pub has_opcode : (bytes : List ℕ) (at op len : ℕ) → HeadAt bytes at op len → HasOpcode bytes at
+has_opcode bytes at op len head =
+    let valid = head.valid in
+    (head.len_there.field.ends, λ none. valid (head.opcode ∙ none))
 
 -- a record that was cut stands there
 pub record_cut : (bytes : List ℕ) (at op len from : ℕ) → at < length bytes → op ≡ get_or bytes at 0 → NumberAt 8 bytes (at + 1) len from → from + len ≤ length bytes → Stands bytes at op from (from + len)

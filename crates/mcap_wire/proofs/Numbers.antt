@@ -1,8 +1,10 @@
 -- A number and its bytes: each gives the other back.
-use Rattle.std.proofs.Common.{◌≡◌, ℕ, zero, suc, ◌+◌, ◌*◌, ◌/◌, ◌%◌, ◌^◌, ◌<◌, List, [], ◌∷◌, length, get_or, refl, sym, ap, ◌∙◌, arith}
+use Rattle.std.proofs.Common.{◌≡◌, ℕ, zero, suc, ◌+◌, ◌*◌, ◌/◌, ◌%◌, ◌^◌, ◌<◌, ◌≤◌, List, [], ◌∷◌, ◌++◌, length, get_or, take, drop, refl, sym, ap, ◌∙◌, arith}
 use Rattle.std.proofs.Math.Nat.{div-div-eq-div-mul, div-one, pow-suc}
-use Rattle.std.proofs.lemmas.Nat.{div_below, le_bytes_2, le_bytes_4, le_bytes_8}
-use Rattle.std.specs.Int.{Width, w16, w32, w64, byte_at, bytes_low_first, from_le_bytes}
+use Rattle.std.proofs.lemmas.Nat.{div_below}
+use Rattle.std.proofs.lemmas.List.{append-nil, drop_more}
+use Rattle.std.specs.Int.{byte_at, bytes_low_first}
+use Rattle.byteorder.specs.Endian.{little_from, little_number, little_bytes}
 use Rattle.mcap_wire.specs.Layout.{le, number}
 
 -- each item is a byte
@@ -45,7 +47,7 @@ byte_at_is : (i n : ℕ) → byte_at i n ≡ n / 256 ^ i % 256
 byte_at_is zero n = ap (λ (m : ℕ). m % 256) (sym (div-one n))
 byte_at_is (suc i) n = refl
 
--- the bytes that `to_le_bytes` gives, from byte i upward
+-- the bytes of a number, from byte i upward
 pub bytes_low_first-le : (i k n : ℕ) → bytes_low_first i k n ≡ le k (n / 256 ^ i)
 unfolding le
 bytes_low_first-le i zero n = refl
@@ -55,24 +57,29 @@ bytes_low_first-le i (suc k) n =
     let rest : bytes_low_first (suc i) k n ≡ le k (n / 256 ^ i / 256) = bytes_low_first-le (suc i) k n ∙ ap (le k) next in
     cc
 
--- what `to_le_bytes` gives of a number
+-- the bytes of a number, from its first on
 pub written : (k n : ℕ) → bytes_low_first 0 k n ≡ le k n
 written k n = bytes_low_first-le 0 k n ∙ ap (le k) (div-one n)
+
+-- what `LittleEndian` writes into an array of as many bytes
+pub written_alone : (k n : ℕ) → little_bytes k n ++ [] ≡ le k n
+written_alone k n = append-nil (little_bytes k n) ∙ written k n
 
 -- a byte is itself
 pub le_one : (v : ℕ) → v < 256 → le 1 v ≡ v ∷ []
 unfolding le
 le_one v small = let low : v % 256 ≡ v = omega arith in ap (λ (b : ℕ). b ∷ []) low
 
--- what `from_le_bytes` reads of n bytes has these bytes
-abbrev pub ReadsBack : ℕ → Width → Type 0
-ReadsBack n w = (bytes : List ℕ) (v : ℕ) → length bytes ≡ n → AreBytes bytes → v ≡ from_le_bytes w bytes → le n v ≡ bytes
+-- the number that `LittleEndian` reads in n bytes from place i on
+little_from_is : (n i : ℕ) (xs : List ℕ) → i + n ≤ length xs → little_from i n xs ≡ number (take n (drop i xs))
+unfolding number
+little_from_is zero i xs long = refl
+little_from_is (suc n) i xs long =
+    let first : drop i xs ≡ get_or xs i 0 ∷ drop (i + 1) xs = drop_more xs i 0 (omega arith) in
+    let place : suc i ≡ i + 1 = omega arith in
+    let rest : little_from (suc i) n xs ≡ number (take n (drop (i + 1) xs)) =
+    little_from_is n (suc i) xs (omega arith) ∙ ap (λ (k : ℕ). number (take n (drop k xs))) place in
+    ap (λ (m : ℕ). get_or xs i 0 + 256 * m) rest ∙ sym (ap (λ (l : List ℕ). number (take (suc n) l)) first)
 
-pub reads_2 : ReadsBack 2 w16
-reads_2 bytes v size fits is = sym (written 2 v) ∙ le_bytes_2 bytes v size fits is
-
-pub reads_4 : ReadsBack 4 w32
-reads_4 bytes v size fits is = sym (written 4 v) ∙ le_bytes_4 bytes v size fits is
-
-pub reads_8 : ReadsBack 8 w64
-reads_8 bytes v size fits is = sym (written 8 v) ∙ le_bytes_8 bytes v size fits is
+pub number_is : (n : ℕ) (xs : List ℕ) → n ≤ length xs → little_number n xs ≡ number (take n xs)
+number_is n xs long = little_from_is n 0 xs (omega arith)

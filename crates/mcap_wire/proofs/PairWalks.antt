@@ -1,5 +1,5 @@
 -- Pairs that are read from their bytes, one behind the other.
-use Rattle.std.proofs.Common.{◌≡◌, ℕ, zero, suc, ◌+◌, ◌^◌, ◌<◌, ◌≤◌, List, [], ◌∷◌, ◌++◌, length, get_or, take, drop, refl, sym, ap, subst, inr, ◌∙◌, append_assoc, arith}
+use Rattle.std.proofs.Common.{◌≡◌, ℕ, zero, suc, ◌+◌, ◌^◌, ◌<◌, ◌≤◌, List, [], ◌∷◌, ◌++◌, length, get_or, take, drop, refl, sym, ap, subst, inr, ◌∙◌, append_assoc, inl, arith}
 use Rattle.std.specs.Prelude.{All, Bool, true, false, Some, slice_get}
 use Rattle.std.proofs.lemmas.Option.{slice_get-get_or}
 use Rattle.std.specs.Ordering.{nat_cmp, is_gt, is_some_and, ordering_reverse, ordering_then, MatchOrdering}
@@ -14,10 +14,10 @@ use Rattle.mcap_wire.specs.declared.faults.Why.{Why}
 use Rattle.mcap_wire.specs.declared.faults.Why.TheVariants.{Short, BadText, BadLength, DoubleKey}
 use Rattle.mcap_wire.specs.Layout.{string}
 use Rattle.mcap_wire.specs.Reading.{FieldAt, TextAt, text_length, text_bytes}
-use Rattle.mcap_wire.specs.Maps.{IsText, IsTextPair, LacksKey, IsTextMap, pair_text, pair_texts, PairFails}
+use Rattle.mcap_wire.specs.Maps.{IsText, a_string, IsTextPair, LacksKey, IsTextMap, pair_text, pair_texts, ItemFails, MapStops}
 use Rattle.mcap_wire.specs.PairBytes.{behind_text, pairs_in, HoldsMap, NoneAbove, PartFails, TextStands}
 use Rattle.mcap_wire.proofs.Framing.{length-string, length_found, bytes_found, stands_within, text_decided}
-use Rattle.mcap_wire.proofs.TextMaps.{Pair, IsTextMap-nil, IsTextMap-push, pair_texts-push, pair_parts}
+use Rattle.mcap_wire.proofs.TextMaps.{Pair, IsTextMap-nil, IsTextMap-push, pair_texts-push, pair_parts, texts_fit}
 
 -- ---- the pairs that some bytes are
 
@@ -107,12 +107,31 @@ stands_before bytes count at within held = record {
   ends = within;
 }
 
+-- behind the pairs up to an offset another begins, and fails
+pub pairs_stop : (bytes : List ℕ) (count at : ℕ) (why : Why) → at < length bytes → HoldsMap (take at bytes) count → ItemFails a_string a_string (pairs_in count (take at bytes)) bytes at why → MapStops a_string a_string bytes why
+pairs_stop bytes count at why begins held fails = record {
+  before = pairs_in count (take at bytes);
+  at = at;
+  field = stands_before bytes count at (omega (arith, begins)) held;
+  items_fit = texts_fit (pairs_in count (take at bytes)) held.is_map.texts;
+  keys_differ = held.is_map.keys_differ;
+  begins = begins;
+  fails = fails;
+}
+
+-- a key that can't be read
+pub key_fails : (before : List Pair) (bytes : List ℕ) (at : ℕ) (why : Why) → PartFails bytes at why → ItemFails a_string a_string before bytes at why
+key_fails before bytes at Short fails = fails
+key_fails before bytes at BadText fails = inl fails
+key_fails before bytes at BadLength fails = inl fails
+key_fails before bytes at DoubleKey fails = absurd fails
+
 -- a value that can't be read behind a new key
-pub value_fails : (before : List Pair) (bytes : List ℕ) (at : ℕ) (key : List ℕ) (middle : ℕ) (why : Why) → at < length bytes → TextAt bytes at key middle → LacksKey before key → PartFails bytes middle why → PairFails before bytes at why
-value_fails before bytes at key middle Short some there new fails = fails
-value_fails before bytes at key middle BadText some there new fails = inr (key, middle, there, new, fails)
-value_fails before bytes at key middle BadLength some there new fails = (some, inr (key, middle, there, new, fails))
-value_fails before bytes at key middle DoubleKey some there new fails = absurd fails
+pub value_fails : (before : List Pair) (bytes : List ℕ) (at : ℕ) (key : List ℕ) (middle : ℕ) (why : Why) → TextAt bytes at key middle → LacksKey before key → PartFails bytes middle why → ItemFails a_string a_string before bytes at why
+value_fails before bytes at key middle Short there new fails = fails
+value_fails before bytes at key middle BadText there new fails = inr (key, middle, there, new, fails)
+value_fails before bytes at key middle BadLength there new fails = inr (key, middle, there, new, fails)
+value_fails before bytes at key middle DoubleKey there new fails = absurd fails
 
 -- ---- a walk along the pairs
 

@@ -1,17 +1,15 @@
 -- A map of texts spells one list of pairs, and is refused only where it spells none.
-use Rattle.std.proofs.Common.{◌≡◌, ◌≢◌, ℕ, ◌+◌, ◌^◌, ◌<◌, ◌≤◌, List, [], ◌∷◌, ◌++◌, length, get_or, take, drop, refl, sym, ap, subst, inl, inr, ◌∙◌, append_assoc, arith}
+use Rattle.std.proofs.Common.{◌≡◌, ◌≢◌, ℕ, ◌+◌, ◌^◌, ◌<◌, ◌≤◌, List, [], ◌∷◌, ◌++◌, length, get_or, take, drop, refl, sym, ap, inl, inr, ◌∙◌, append_assoc, arith}
 use Rattle.std.specs.Prelude.{AllPairs, All}
 use Rattle.std.proofs.lemmas.Bool.{cases_lt}
 use Rattle.std.proofs.lemmas.List.{append-nil, length-append, length-take-le, length-drop, take_more, take-append-drop, flat_map_more, get_or_append_left, get_or_push, get_or_at, length_push}
 use Rattle.std.proofs.lemmas.Grind.{flat_map-append}
 use Rattle.std.proofs.lemmas.List.Elements.{All-nil, All-head, All-tail, All-push}
-use Rattle.mcap_wire.specs.declared.faults.Why.{Why}
-use Rattle.mcap_wire.specs.declared.faults.Why.TheVariants.{Short, BadText, BadLength, DoubleKey}
 use Rattle.mcap_wire.specs.Layout.{le, string}
-use Rattle.mcap_wire.specs.Reading.{NumberAt, TextAt, TextFails, text_length, text_bytes}
-use Rattle.mcap_wire.specs.Maps.{IsTextPair, KeysDiffer, HasKey, LacksKey, IsTextMap, pair_text, pair_texts, text_map, PairsAt, PairFails, PairsStop, PairsFail}
+use Rattle.mcap_wire.specs.Reading.{NumberAt}
+use Rattle.mcap_wire.specs.Maps.{IsTextPair, KeysDiffer, HasKey, LacksKey, IsTextMap, pair_text, pair_texts, text_map, PairsAt, a_string, ItemFits}
 use Rattle.mcap_wire.proofs.Fields.{cut_off}
-use Rattle.mcap_wire.proofs.Framing.{texts_apart, length-string, length_found, bytes_found, stands_within, text_not_refused, text_decided}
+use Rattle.mcap_wire.proofs.Framing.{texts_apart, length-string}
 
 abbrev pub Pair : Type 0
 Pair = List ℕ × List ℕ
@@ -49,6 +47,10 @@ IsTextMap-push pairs pair is_map is_pair lacks = record {
   texts = All-push IsTextPair pairs pair is_map.texts is_pair;
   keys_differ = KeysDiffer-push pairs pair is_map.keys_differ lacks;
 }
+
+-- the pairs of a map fit as items of texts
+pub texts_fit : (pairs : List Pair) → All IsTextPair pairs → All (ItemFits a_string a_string) pairs
+texts_fit pairs texts = λ i d lt. ((texts i d lt).key, (texts i d lt).value)
 
 -- ---- how pairs lie
 
@@ -108,75 +110,6 @@ pairs_same pairs others texts other_texts same =
     nothing_left (p ∷ after) is none =
         absurd (omega (arith, ap length none, length-append (pair_text p) (pair_texts after), length-pair_text p))
 
--- ---- refusals
-
--- a pair that stands next is read
-pub pair_not_refused : (before after : List Pair) (pair : Pair) (behind bytes : List ℕ) (at : ℕ) (why : Why) → IsTextPair pair → KeysDiffer (before ++ pair ∷ after) → drop at bytes ≡ pair_texts (pair ∷ after) ++ behind → PairFails before bytes at why → ⊥
-pair_not_refused before after pair behind bytes at why is_pair differ is fails = by_cause why fails
-  where
-    parts : drop at bytes ≡ string pair.0 ++ (string pair.1 ++ (pair_texts after ++ behind))
-    parts = is ∙ pair_parts pair (pair_texts after) behind
-
-    not_at_key : (cause : Why) → TextFails bytes at cause → ⊥
-    not_at_key cause = text_not_refused bytes at pair.0 (string pair.1 ++ (pair_texts after ++ behind)) cause is_pair.key.fits is_pair.key.utf8 parts
-
-    not_at_value : (key : List ℕ) (end : ℕ) (cause : Why) → TextAt bytes at key end → TextFails bytes end cause → ⊥
-    not_at_value key end cause there =
-        let decided = text_decided bytes at key end pair.0 (string pair.1 ++ (pair_texts after ++ behind)) there is_pair.key.fits parts in
-        text_not_refused bytes end pair.1 (pair_texts after ++ behind) cause is_pair.value.fits is_pair.value.utf8 decided.1
-
-    by_cause : (cause : Why) → PairFails before bytes at cause → ⊥
-    by_cause Short none = none
-    by_cause BadLength (some, inl short) = not_at_key Short short
-    by_cause BadLength (some, inr short) = not_at_value short.0 short.1 Short short.2 short.4
-    by_cause BadText (inl bad) = not_at_key BadText bad
-    by_cause BadText (inr bad) = not_at_value bad.0 bad.1 BadText bad.2 bad.4
-    by_cause DoubleKey double =
-        let decided = text_decided bytes at double.0 double.1 pair.0 (string pair.1 ++ (pair_texts after ++ behind)) double.2 is_pair.key.fits parts in
-        key_stands_before before after pair differ (subst (HasKey before) decided.0 double.3)
-
--- nothing is refused where nothing is left
-end_not_refused : (before : List Pair) (bytes : List ℕ) (at : ℕ) (why : Why) → length bytes ≤ at → PairFails before bytes at why → ⊥
-end_not_refused before bytes at Short none fails = fails
-end_not_refused before bytes at BadLength none fails = absurd (omega (arith, fails.0))
-end_not_refused before bytes at BadText none (inl bad) = absurd (omega (arith, bad.0))
-end_not_refused before bytes at BadText none (inr bad) = absurd (omega (arith, bad.2.size, bad.2.field.ends))
-end_not_refused before bytes at DoubleKey none double = absurd (omega (arith, double.2.size, double.2.field.ends))
-
--- the bytes of a map don't stop short
-pub map_not_refused : (bytes : List ℕ) (pairs : List Pair) (why : Why) → IsTextMap pairs → bytes ≡ pair_texts pairs → PairsStop bytes why → ⊥
-map_not_refused bytes pairs why is_map is stops =
-    let more = pairs_split stops.before (drop stops.at bytes) pairs stops.is_map.texts is_map.texts (sym stops.field.spelled_there ∙ is) in
-    by_next more.0 more.1 more.2
-  where
-    by_next : (after : List Pair) → pairs ≡ stops.before ++ after → drop stops.at bytes ≡ pair_texts after → ⊥
-    by_next [] joined rest_is = end_not_refused stops.before bytes stops.at why (omega (arith, ap length rest_is, length-drop stops.at bytes)) stops.fails
-    by_next (pair ∷ after) joined rest_is =
-        let whole : IsTextMap (stops.before ++ pair ∷ after) = subst IsTextMap joined is_map in
-        let is_pair : IsTextPair pair = subst IsTextPair (get_or_at stops.before pair after pair (length stops.before) refl)
-        (whole.texts (length stops.before) pair (omega (arith, length-append stops.before (pair ∷ after)))) in
-        pair_not_refused stops.before after pair [] bytes stops.at why is_pair whole.keys_differ (rest_is ∙ sym (append-nil (pair_texts (pair ∷ after)))) stops.fails
-
--- a map that stands there is read
-pub pairs_not_refused : (content : List ℕ) (at : ℕ) (pairs : List Pair) (rest : List ℕ) (why : Why) → length (pair_texts pairs) < 2 ^ 32 → IsTextMap pairs → drop at content ≡ text_map pairs ++ rest → PairsFail content at why → ⊥
-pairs_not_refused content at pairs rest why fits is_map is fails = by_cause why fails
-  where
-    size : text_length content at ≡ length (pair_texts pairs)
-    size = length_found content at (pair_texts pairs) rest fits is
-
-    within : at + 4 + length (pair_texts pairs) ≤ length content
-    within = omega (arith, stands_within content at (text_map pairs) rest is (omega (arith, length-string (pair_texts pairs))), length-string (pair_texts pairs))
-
-    stops : (cause : Why) → PairsStop (text_bytes content at) cause → ⊥
-    stops cause = map_not_refused (text_bytes content at) pairs cause is_map (bytes_found content at (pair_texts pairs) rest fits is)
-
-    by_cause : (cause : Why) → PairsFail content at cause → ⊥
-    by_cause Short (inl short) = absurd (omega (arith, within, short))
-    by_cause Short (inr short) = absurd (omega (arith, within, size, short.1))
-    by_cause BadText bad = stops BadText bad.1
-    by_cause BadLength bad = stops BadLength bad.1
-    by_cause DoubleKey bad = stops DoubleKey bad.1
-
 -- no map begins another
 pub maps_apart : (pairs others : List Pair) (rest behind : List ℕ) → length (pair_texts pairs) < 2 ^ 32 → length (pair_texts others) < 2 ^ 32 → IsTextMap pairs → IsTextMap others → text_map pairs ++ rest ≡ text_map others ++ behind → (pairs ≡ others) × (rest ≡ behind)
 maps_apart pairs others rest behind fits other_fits is_map other_is_map same =
@@ -204,10 +137,3 @@ pairs_read content at len from bytes pairs prefix whole is spelled is_map =
       fits = omega (arith, prefix.fits, size);
       is_map = is_map;
     }
-
--- a whole map whose pairs stop short can't be read
-pub pairs_fail : (content : List ℕ) (at : ℕ) (why : Why) → at + 4 + text_length content at ≤ length content → PairsStop (text_bytes content at) why → PairsFail content at why
-pairs_fail content at Short whole stops = absurd stops.fails
-pairs_fail content at BadText whole stops = (whole, stops)
-pairs_fail content at BadLength whole stops = (whole, stops)
-pairs_fail content at DoubleKey whole stops = (whole, stops)

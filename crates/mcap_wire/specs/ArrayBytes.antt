@@ -2,8 +2,8 @@
 use Rattle.std.specs.Prelude.{◌≡◌, ℕ, zero, suc, ◌+◌, List, [], ◌∷◌, take, drop, Result, Ok, Err, All}
 use Rattle.mcap_wire.specs.declared.faults.Why.{Why}
 use Rattle.mcap_wire.specs.Layout.{number}
-use Rattle.mcap_wire.specs.Maps.{KeysDiffer}
-use Rattle.mcap_wire.specs.Arrays.{IsEntry, entry_texts, CountsStop}
+use Rattle.mcap_wire.specs.Maps.{a_uint, KeysDiffer, MapStops}
+use Rattle.mcap_wire.specs.Arrays.{IsEntry, entry_texts}
 
 -- the first entries, of which each begins with a number of n bytes
 unfoldable pub entries_in : ℕ → ℕ → List ℕ → List (ℕ × ℕ)
@@ -22,4 +22,4 @@ pub record HoldsCounts (bytes : List ℕ) (count : ℕ) : Type 0 where
 
 abbrev pub CountsCounts : List ℕ → Result ℕ Why → Type 0
 CountsCounts bytes (Ok count) = HoldsCounts bytes count
-CountsCounts bytes (Err why) = CountsStop bytes why
+CountsCounts bytes (Err why) = MapStops (a_uint 2) (a_uint 8) bytes why

@@ -1,11 +1,11 @@
 -- Arrays of entries and maps of counts: how one lies in a file, what is read at an offset, and why it may be refused.
-use Rattle.std.specs.Prelude.{◌≡◌, ◌≢◌, ◌⊎◌, ℕ, ◌+◌, ◌%◌, ◌^◌, ◌<◌, ◌≤◌, List, ◌++◌, length, Result, Ok, Err, All}
+use Rattle.std.specs.Prelude.{◌≡◌, ◌≢◌, ℕ, ◌+◌, ◌%◌, ◌^◌, ◌<◌, ◌≤◌, List, ◌++◌, length, Result, Ok, Err, All}
 use Rattle.std.specs.List.{flat_map}
 use Rattle.mcap_wire.specs.declared.faults.Why.{Why}
 use Rattle.mcap_wire.specs.declared.faults.Why.TheVariants.{Short, BadText, BadLength, DoubleKey}
 use Rattle.mcap_wire.specs.Layout.{le}
-use Rattle.mcap_wire.specs.Reading.{FieldAt, NumberAt, TextIsShort, text_length, text_bytes}
-use Rattle.mcap_wire.specs.Maps.{KeysDiffer, HasKey, LacksKey}
+use Rattle.mcap_wire.specs.Reading.{FieldAt, TextIsShort, text_length}
+use Rattle.mcap_wire.specs.Maps.{a_uint, KeysDiffer, MapFails}
 
 -- ---- how they lie
 
@@ -48,36 +48,9 @@ ReadsEntries content at (Err why) = EntriesFail content at why
 
 -- ---- maps of counts, each a key of two bytes and a count of eight
 
--- behind these counts one begins and is cut short: its key, or the number behind a new key
-abbrev pub CountIsShort : List (ℕ × ℕ) → List ℕ → ℕ → Type 0
-CountIsShort before bytes at = (at < length bytes) × ((length bytes < at + 2)
-    ⊎ ((key : ℕ) × (end : ℕ) × NumberAt 2 bytes at key end × LacksKey before key × (length bytes < end + 8)))
-
--- behind these counts stands the key of one of them
-abbrev pub CountIsDouble : List (ℕ × ℕ) → List ℕ → ℕ → Type 0
-CountIsDouble before bytes at = (key : ℕ) × (end : ℕ) × NumberAt 2 bytes at key end × HasKey before key
-
-abbrev pub CountFails : List (ℕ × ℕ) → List ℕ → ℕ → Why → Type 0
-CountFails before bytes at Short = ⊥
-CountFails before bytes at BadText = ⊥
-CountFails before bytes at BadLength = CountIsShort before bytes at
-CountFails before bytes at DoubleKey = CountIsDouble before bytes at
-
--- some counts can be read from the front, and the next one can't
-pub record CountsStop (bytes : List ℕ) (why : Why) : Type 0 where
-  pub before : List (ℕ × ℕ)
-  pub at : ℕ
-  pub field : FieldAt bytes 0 at (entry_texts 2 before)
-  pub entries_fit : All (IsEntry 2) before
-  pub keys_differ : KeysDiffer before
-  pub fails : CountFails before bytes at why
-
--- why a map of counts can't be read: it is cut short, or it is whole and a count fails
+-- why a map of counts can't be read: no count has a text, so never for a bad one
 abbrev pub CountsFail : List ℕ → ℕ → Why → Type 0
-CountsFail content at Short = TextIsShort content at
-CountsFail content at BadText = ⊥
-CountsFail content at BadLength = (at + 4 + text_length content at ≤ length content) × CountsStop (text_bytes content at) BadLength
-CountsFail content at DoubleKey = (at + 4 + text_length content at ≤ length content) × CountsStop (text_bytes content at) DoubleKey
+CountsFail content at why = MapFails (a_uint 2) (a_uint 8) content at why
 
 -- a map of counts stands there
 pub record CountsAt (content : List ℕ) (at : ℕ) (counts : List (ℕ × ℕ)) (end : ℕ) : Type 0 where

@@ -27,22 +27,22 @@ Value an_array = List (ℕ × ℕ)
 Value a_count_map = List (ℕ × ℕ)
 
 -- the bytes of a field
-abbrev pub spelled : (kind : Kind) → Value kind → List ℕ
-spelled (a_number n) value = le n value
-spelled a_text text = string text
-spelled (some_bytes n) bytes = prefixed n bytes
-spelled a_text_map pairs = text_map pairs
-spelled an_array entries = array_text 8 entries
-spelled a_count_map counts = array_text 2 counts
+abbrev pub field_text : (kind : Kind) → Value kind → List ℕ
+field_text (a_number n) value = le n value
+field_text a_text text = string text
+field_text (some_bytes n) bytes = prefixed n bytes
+field_text a_text_map pairs = text_map pairs
+field_text an_array entries = array_text 8 entries
+field_text a_count_map counts = array_text 2 counts
 
 -- the values that a field can have
-abbrev pub Fits : (kind : Kind) → Value kind → Type 0
-Fits (a_number n) value = value < 256 ^ n
-Fits a_text text = (length text < 2 ^ 32) × IsUtf8 text
-Fits (some_bytes n) bytes = length bytes < 256 ^ n
-Fits a_text_map pairs = (length (pair_texts pairs) < 2 ^ 32) × IsTextMap pairs
-Fits an_array entries = (length (entry_texts 8 entries) < 2 ^ 32) × All (IsEntry 8) entries
-Fits a_count_map counts = (length (entry_texts 2 counts) < 2 ^ 32) × All (IsEntry 2) counts × KeysDiffer counts
+abbrev pub FieldFits : (kind : Kind) → Value kind → Type 0
+FieldFits (a_number n) value = value < 256 ^ n
+FieldFits a_text text = (length text < 2 ^ 32) × IsUtf8 text
+FieldFits (some_bytes n) bytes = length bytes < 256 ^ n
+FieldFits a_text_map pairs = (length (pair_texts pairs) < 2 ^ 32) × IsTextMap pairs
+FieldFits an_array entries = (length (entry_texts 8 entries) < 2 ^ 32) × All (IsEntry 8) entries
+FieldFits a_count_map counts = (length (entry_texts 2 counts) < 2 ^ 32) × All (IsEntry 2) counts × KeysDiffer counts
 
 -- a field stands from one offset to another
 abbrev pub FieldStands : (kind : Kind) → List ℕ → ℕ → Value kind → ℕ → Type 0
@@ -72,21 +72,21 @@ Values (kind ∷ kinds) = Value kind × Values kinds
 -- the bytes of a row, and what follows it
 abbrev pub row : (kinds : List Kind) → Values kinds → List ℕ → List ℕ
 row [] values rest = rest
-row (kind ∷ kinds) values rest = spelled kind values.0 ++ row kinds values.1 rest
+row (kind ∷ kinds) values rest = field_text kind values.0 ++ row kinds values.1 rest
 
 -- the values that a row can have
 abbrev pub AllFit : (kinds : List Kind) → Values kinds → Type 0
 AllFit [] values = Unit {0}
-AllFit (kind ∷ kinds) values = Fits kind values.0 × AllFit kinds values.1
+AllFit (kind ∷ kinds) values = FieldFits kind values.0 × AllFit kinds values.1
 
 -- a content is this row, and this follows it
-pub record Begins (kinds : List Kind) (content : List ℕ) (values : Values kinds) (rest : List ℕ) : Type 0 where
+pub record RowBegins (kinds : List Kind) (content : List ℕ) (values : Values kinds) (rest : List ℕ) : Type 0 where
   pub spelled_there : content ≡ row kinds values rest
   pub fit : AllFit kinds values
 
 -- a content shows a row, whatever follows it
 abbrev pub Shows : (kinds : List Kind) → List ℕ → Values kinds → Type 0
-Shows kinds content values = (rest : List ℕ) × Begins kinds content values rest
+Shows kinds content values = (rest : List ℕ) × RowBegins kinds content values rest
 
 -- of the fields from an offset on, of which the first has this number, each that is in front stands whole, and this one can't be read
 abbrev pub FailsFrom : List Kind → List ℕ → ℕ → ℕ → ℕ → Why → Type 0

@@ -1,5 +1,5 @@
 -- How numbers, texts and records lie in a file.
-use Rattle.std.specs.Prelude.{ℕ, zero, suc, ◌+◌, ◌-◌, ◌*◌, ◌/◌, ◌%◌, List, [], ◌∷◌, ◌++◌, length, take, drop}
+use Rattle.std.specs.Prelude.{ℕ, zero, suc, ◌+◌, ◌-◌, ◌*◌, ◌^◌, ◌/◌, ◌%◌, List, [], ◌∷◌, ◌++◌, length, take, drop}
 
 -- the n bytes of a number, lowest first
 unfoldable pub le : ℕ → ℕ → List ℕ
@@ -22,6 +22,10 @@ prefixed n bytes = le n (length bytes) ++ bytes
 -- a record: its opcode, the length of its content in eight bytes, its content
 abbrev pub framed : ℕ → List ℕ → List ℕ
 framed op content = op ∷ (le 8 (length content) ++ content)
+
+-- the largest content of a record, in bytes
+abbrev pub content_limit : ℕ
+content_limit = 2 ^ 28
 
 -- the eight bytes at both ends of a file
 abbrev pub magic : List ℕ

@@ -1,13 +1,13 @@
 pub mod Layout
 pub mod Reading
+pub mod Maps
+pub mod Arrays
+pub mod Contents
 pub mod Writing
 pub mod Laws
-pub mod Maps
 pub mod PairBytes
 pub mod PairsPlace
-pub mod Arrays
 pub mod ArrayBytes
 pub mod ArrayPlaces
-pub mod Contents
 pub mod Marks
 pub mod Sameness

@@ -1,4 +1,4 @@
--- Maps from texts to texts: how one lies in a file, what is read at an offset, and why it may be refused.
+-- Maps: what stops the reading of one, whatever its keys and values are; and maps from texts to texts, how one lies in a file and what is read at an offset.
 use Rattle.std.specs.Prelude.{◌≡◌, ◌≢◌, ◌⊎◌, ℕ, ◌+◌, ◌^◌, ◌<◌, ◌≤◌, List, ◌++◌, length, Result, Ok, Err, IsUtf8, All, AllPairs, Any}
 use Rattle.std.specs.Cmp.Lexicographic.{slice_cmp}
 use Rattle.std.specs.List.{flat_map}
@@ -7,18 +7,43 @@ use Rattle.std.specs.declared.cmp.Ordering.TheVariants.{Less}
 use Rattle.mcap_wire.specs.declared.faults.Why.{Why}
 use Rattle.mcap_wire.specs.declared.faults.Why.TheVariants.{Short, BadText, BadLength, DoubleKey}
 use Rattle.mcap_wire.specs.Layout.{le, string}
-use Rattle.mcap_wire.specs.Reading.{FieldAt, TextAt, text_length, text_bytes, TextIsShort, TextIsBad}
+use Rattle.mcap_wire.specs.Reading.{FieldAt, NumberAt, NumberFails, TextAt, TextFails, TextIsShort, text_length, text_bytes}
 
--- ---- pairs of texts
+-- ---- keys and values
 
 -- a text that a length of four bytes can stand before
 pub record IsText (text : List ℕ) : Type 0 where
   pub fits : length text < 2 ^ 32
   pub utf8 : IsUtf8 text
 
-pub record IsTextPair (pair : List ℕ × List ℕ) : Type 0 where
-  pub key : IsText pair.0
-  pub value : IsText pair.1
+-- what a map has for a key or for a value: a number of some bytes, or a text
+pub data Plain : Type 0 where
+  a_uint : ℕ → Plain
+  a_string : Plain
+
+abbrev pub PlainValue : Plain → Type 0
+PlainValue (a_uint n) = ℕ
+PlainValue a_string = List ℕ
+
+-- its bytes
+abbrev pub plain_text : (plain : Plain) → PlainValue plain → List ℕ
+plain_text (a_uint n) value = le n value
+plain_text a_string text = string text
+
+-- the values that it can have
+abbrev pub PlainFits : (plain : Plain) → PlainValue plain → Type 0
+PlainFits (a_uint n) value = value < 256 ^ n
+PlainFits a_string text = IsText text
+
+-- it stands from one offset to another
+abbrev pub PlainAt : (plain : Plain) → List ℕ → ℕ → PlainValue plain → ℕ → Type 0
+PlainAt (a_uint n) bytes at value end = NumberAt n bytes at value end
+PlainAt a_string bytes at text end = TextAt bytes at text end
+
+-- why it can't be read
+abbrev pub PlainFails : Plain → List ℕ → ℕ → Why → Type 0
+PlainFails (a_uint n) bytes at why = NumberFails n bytes at why
+PlainFails a_string bytes at why = TextFails bytes at why
 
 -- no two items have one key
 abbrev pub KeysDiffer : {K V : Type 0} → List (K × V) → Type 0
@@ -31,6 +56,61 @@ HasKey items key = Any (λ p. p.0 ≡ key) items
 -- no item has this key
 abbrev pub LacksKey : {K V : Type 0} → List (K × V) → K → Type 0
 LacksKey items key = All (λ p. p.0 ≢ key) items
+
+-- ---- what stops the reading of a map
+
+abbrev pub Item : Plain → Plain → Type 0
+Item key value = PlainValue key × PlainValue value
+
+-- an item: its key, then its value
+abbrev pub item_text : (key value : Plain) → Item key value → List ℕ
+item_text key value item = plain_text key item.0 ++ plain_text value item.1
+
+abbrev pub ItemFits : (key value : Plain) → Item key value → Type 0
+ItemFits key value item = PlainFits key item.0 × PlainFits value item.1
+
+-- behind these items a key can't be read, or a key that none of them has is read and the value behind it can't be
+abbrev pub KeyOrValueFails : (key value : Plain) → List (Item key value) → List ℕ → ℕ → Why → Type 0
+KeyOrValueFails key value before bytes at why = PlainFails key bytes at why
+    ⊎ ((k : PlainValue key) × (end : ℕ) × PlainAt key bytes at k end × LacksKey before k × PlainFails value bytes end why)
+
+-- behind these items stands the key of one of them
+abbrev pub KeyIsDouble : (key value : Plain) → List (Item key value) → List ℕ → ℕ → Type 0
+KeyIsDouble key value before bytes at = (k : PlainValue key) × (end : ℕ) × PlainAt key bytes at k end × HasKey before k
+
+-- why the item behind these can't be read: it is cut short, a text of it is whole and isn't UTF-8, or its key stands before
+abbrev pub ItemFails : (key value : Plain) → List (Item key value) → List ℕ → ℕ → Why → Type 0
+ItemFails key value before bytes at Short = ⊥
+ItemFails key value before bytes at BadText = KeyOrValueFails key value before bytes at BadText
+ItemFails key value before bytes at BadLength = KeyOrValueFails key value before bytes at Short
+ItemFails key value before bytes at DoubleKey = KeyIsDouble key value before bytes at
+
+-- some items can be read from the front, and another begins behind them and can't be
+pub record MapStops (key value : Plain) (bytes : List ℕ) (why : Why) : Type 0 where
+  pub before : List (Item key value)
+  pub at : ℕ
+  pub field : FieldAt bytes 0 at (flat_map (item_text key value) before)
+  pub items_fit : All (ItemFits key value) before
+  pub keys_differ : KeysDiffer before
+  pub begins : at < length bytes
+  pub fails : ItemFails key value before bytes at why
+
+-- the length of a map and its bytes are whole
+abbrev pub MapIsWhole : List ℕ → ℕ → Type 0
+MapIsWhole content at = at + 4 + text_length content at ≤ length content
+
+-- why a map can't be read: it is cut short, or it is whole and its items stop
+abbrev pub MapFails : (key value : Plain) → List ℕ → ℕ → Why → Type 0
+MapFails key value content at Short = TextIsShort content at
+MapFails key value content at BadText = MapIsWhole content at × MapStops key value (text_bytes content at) BadText
+MapFails key value content at BadLength = MapIsWhole content at × MapStops key value (text_bytes content at) BadLength
+MapFails key value content at DoubleKey = MapIsWhole content at × MapStops key value (text_bytes content at) DoubleKey
+
+-- ---- pairs of texts
+
+pub record IsTextPair (pair : List ℕ × List ℕ) : Type 0 where
+  pub key : IsText pair.0
+  pub value : IsText pair.1
 
 -- a map from texts to texts
 pub record IsTextMap (pairs : List (List ℕ × List ℕ)) : Type 0 where
@@ -64,40 +144,9 @@ pub record PairsAt (content : List ℕ) (at : ℕ) (pairs : List (List ℕ × Li
   pub fits : length (pair_texts pairs) < 2 ^ 32
   pub is_map : IsTextMap pairs
 
--- behind these pairs a pair begins and is cut short: its key, or the value behind a new key
-abbrev pub PairIsShort : List (List ℕ × List ℕ) → List ℕ → ℕ → Type 0
-PairIsShort before bytes at = (at < length bytes) × (TextIsShort bytes at
-    ⊎ ((key : List ℕ) × (end : ℕ) × TextAt bytes at key end × LacksKey before key × TextIsShort bytes end))
-
--- behind these pairs a text is whole and isn't UTF-8: a key, or the value behind a new key
-abbrev pub PairIsBad : List (List ℕ × List ℕ) → List ℕ → ℕ → Type 0
-PairIsBad before bytes at = TextIsBad bytes at
-    ⊎ ((key : List ℕ) × (end : ℕ) × TextAt bytes at key end × LacksKey before key × TextIsBad bytes end)
-
--- behind these pairs stands the key of one of them
-abbrev pub KeyIsDouble : List (List ℕ × List ℕ) → List ℕ → ℕ → Type 0
-KeyIsDouble before bytes at = (key : List ℕ) × (end : ℕ) × TextAt bytes at key end × HasKey before key
-
-abbrev pub PairFails : List (List ℕ × List ℕ) → List ℕ → ℕ → Why → Type 0
-PairFails before bytes at Short = ⊥
-PairFails before bytes at BadLength = PairIsShort before bytes at
-PairFails before bytes at BadText = PairIsBad before bytes at
-PairFails before bytes at DoubleKey = KeyIsDouble before bytes at
-
--- some pairs can be read from the front, and the next one can't
-pub record PairsStop (bytes : List ℕ) (why : Why) : Type 0 where
-  pub before : List (List ℕ × List ℕ)
-  pub at : ℕ
-  pub field : FieldAt bytes 0 at (pair_texts before)
-  pub is_map : IsTextMap before
-  pub fails : PairFails before bytes at why
-
--- why a map of texts can't be read: it is cut short, or it is whole and a pair fails
+-- why a map of texts can't be read
 abbrev pub PairsFail : List ℕ → ℕ → Why → Type 0
-PairsFail content at Short = TextIsShort content at
-PairsFail content at BadText = (at + 4 + text_length content at ≤ length content) × PairsStop (text_bytes content at) BadText
-PairsFail content at BadLength = (at + 4 + text_length content at ≤ length content) × PairsStop (text_bytes content at) BadLength
-PairsFail content at DoubleKey = (at + 4 + text_length content at ≤ length content) × PairsStop (text_bytes content at) DoubleKey
+PairsFail content at why = MapFails a_string a_string content at why
 
 abbrev pub ReadsPairs : List ℕ → ℕ → Result (List (List ℕ × List ℕ) × ℕ) Why → Type 0
 ReadsPairs content at (Ok r) = PairsAt content at r.0 r.1

@@ -6,7 +6,7 @@ use denote.Ref.{Bor}
 use Rattle.mcap_wire.specs.declared.faults.Why.{Why}
 use Rattle.mcap_wire.specs.declared.faults.Why.TheVariants.{Short, BadText, BadLength, DoubleKey}
 use Rattle.mcap_wire.specs.Reading.{TextAt, TextIsShort, TextIsBad, text_length, text_bytes}
-use Rattle.mcap_wire.specs.Maps.{IsTextMap, pair_texts, PairsStop}
+use Rattle.mcap_wire.specs.Maps.{a_string, IsTextMap, pair_texts, MapStops}
 
 -- what stands behind the first text
 abbrev pub behind_text : List ℕ → List ℕ
@@ -24,7 +24,7 @@ pub record HoldsMap (bytes : List ℕ) (n : ℕ) : Type 0 where
 
 abbrev pub CountsPairs : List ℕ → Result ℕ Why → Type 0
 CountsPairs bytes (Ok n) = HoldsMap bytes n
-CountsPairs bytes (Err why) = PairsStop bytes why
+CountsPairs bytes (Err why) = MapStops a_string a_string bytes why
 
 -- no key is above this one
 abbrev pub NoneAbove : List (List ℕ × List ℕ) → List ℕ → Type 0

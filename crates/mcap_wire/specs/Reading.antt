@@ -2,10 +2,13 @@
 use Rattle.std.specs.Prelude.{◌≡◌, ◌≢◌, ◌⊎◌, ℕ, ◌+◌, ◌^◌, ◌<◌, ◌≤◌, List, ◌++◌, length, take, drop, slice_index, Result, Ok, Err, IsUtf8}
 use Rattle.mcap_wire.specs.declared.faults.Why.{Why}
 use Rattle.mcap_wire.specs.declared.faults.Why.TheVariants.{Short, BadText, BadLength, DoubleKey}
+use Rattle.mcap_wire.specs.declared.faults.Head.{Head}
+use Rattle.mcap_wire.specs.declared.faults.HeadFault.{HeadFault}
+use Rattle.mcap_wire.specs.declared.faults.HeadFault.TheVariants as head_faults
 use Rattle.mcap_wire.specs.declared.faults.Cut.{Cut}
 use Rattle.mcap_wire.specs.declared.faults.CutFault.{CutFault}
 use Rattle.mcap_wire.specs.declared.faults.CutFault.TheVariants as cut_faults
-use Rattle.mcap_wire.specs.Layout.{le, number, string, prefixed, framed, part}
+use Rattle.mcap_wire.specs.Layout.{le, number, string, prefixed, framed, part, content_limit}
 use denote.Ref.{Bor}
 
 -- a field stands from one offset to another
@@ -98,18 +101,7 @@ abbrev pub ReadsBytes : ℕ → List ℕ → ℕ → Result (Bor (List ℕ) × �
 ReadsBytes n content at (Ok r) = BytesAt n content at r.0.now r.1
 ReadsBytes n content at (Err why) = BytesFail n content at why
 
--- ---- records
-
--- a record stands at an offset, its content between two others
-pub record Stands (bytes : List ℕ) (at op from to : ℕ) : Type 0 where
-  pub framed_there : drop at bytes ≡ framed op (part from to bytes) ++ drop to bytes
-  pub head : from ≡ at + 9
-  pub begins : from ≤ to
-  pub ends : to ≤ length bytes
-
--- the largest content of a record
-abbrev pub content_limit : ℕ
-content_limit = 268435456
+-- ---- heads
 
 -- the length of the content that stands behind the opcode
 abbrev pub content_length : List ℕ → ℕ → ℕ
@@ -123,11 +115,39 @@ HeadIsShort bytes at = length bytes < at + 9
 abbrev pub HasOpcode : List ℕ → ℕ → Type 0
 HasOpcode bytes at = (at + 9 ≤ length bytes) × (slice_index bytes at ≢ 0)
 
+-- the head is whole, and its opcode is 0
+abbrev pub HasZeroOpcode : List ℕ → ℕ → Type 0
+HasZeroOpcode bytes at = (at + 9 ≤ length bytes) × (slice_index bytes at ≡ 0)
+
+-- the head of a record stands there: a valid opcode, and the length of the content in eight bytes
+pub record HeadAt (bytes : List ℕ) (at op len : ℕ) : Type 0 where
+  pub opcode : op ≡ slice_index bytes at
+  pub valid : op ≢ 0
+  pub len_there : NumberAt 8 bytes (at + 1) len (at + 9)
+
+-- why a head can't be read: the first that holds of a short head and an opcode 0
+abbrev pub HeadFails : List ℕ → ℕ → HeadFault → Type 0
+HeadFails bytes at head_faults.Short = HeadIsShort bytes at
+HeadFails bytes at head_faults.ZeroOp = HasZeroOpcode bytes at
+
+abbrev pub ReadsHead : List ℕ → ℕ → Result Head HeadFault → Type 0
+ReadsHead bytes at (Ok head) = HeadAt bytes at head.op head.len
+ReadsHead bytes at (Err fault) = HeadFails bytes at fault
+
+-- ---- records
+
+-- a record stands at an offset, its content between two others
+pub record Stands (bytes : List ℕ) (at op from to : ℕ) : Type 0 where
+  pub framed_there : drop at bytes ≡ framed op (part from to bytes) ++ drop to bytes
+  pub head : from ≡ at + 9
+  pub begins : from ≤ to
+  pub ends : to ≤ length bytes
+
 -- why a record can't be cut: the first that holds of a short head, an opcode 0, a content that is too long and a content that is cut short
 abbrev pub CutFails : List ℕ → ℕ → CutFault → Type 0
 CutFails bytes at cut_faults.Short = HeadIsShort bytes at
     ⊎ (HasOpcode bytes at × (content_length bytes at ≤ content_limit) × (length bytes < at + 9 + content_length bytes at))
-CutFails bytes at cut_faults.ZeroOp = (at + 9 ≤ length bytes) × (slice_index bytes at ≡ 0)
+CutFails bytes at cut_faults.ZeroOp = HasZeroOpcode bytes at
 CutFails bytes at (cut_faults.TooLong len) = HasOpcode bytes at × (len ≡ content_length bytes at) × (content_limit < len)
 
 -- a whole record with a valid opcode and a content within the limit

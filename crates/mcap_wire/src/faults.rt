@@ -1,11 +1,13 @@
 //! What is cut, the limits of the format, and why a reading is refused.
+ghost use Rattle.std.specs.Prelude.{◌≡◌, Ok, Err, IfOk, IfErr};
+
 use std::alloc::{AllocError, AllocFailed};
 
 /// The eight bytes at both ends of a file (MCAP specification, "Magic").
 pub const MAGIC: [u8; 8] = [0x89, 0x4d, 0x43, 0x41, 0x50, 0x30, 0x0d, 0x0a];
 
 /// The largest content of a record, in bytes.
-pub const CONTENT_LIMIT: u64 = 268_435_456;
+pub const CONTENT_LIMIT: u64 = 256 * 1024 * 1024;
 
 /// Memory ran out.
 #[derive(Clone, Copy, Debug, PartialEq, Eq)]
@@ -21,6 +23,22 @@ impl<T: Drop> From<AllocFailed<T>> for Memory {
     fn from(_: AllocFailed<T>) -> Self {
         Memory
     }
+}
+
+/// What a record begins with: its opcode and the length of its content.
+#[derive(Clone, Copy, Debug, PartialEq, Eq)]
+pub struct Head {
+    pub op: u8,
+    pub len: u64,
+}
+
+/// Why no head was read.
+#[derive(Clone, Copy, Debug, PartialEq, Eq)]
+pub enum HeadFault {
+    /// Fewer than nine bytes stand there.
+    Short,
+    /// The opcode is 0, which isn't valid.
+    ZeroOp,
 }
 
 /// A record that was cut: its opcode, and the offsets at which its content begins and ends.
@@ -53,4 +71,22 @@ pub enum Why {
     BadLength,
     /// A key stands twice in a map.
     DoubleKey,
+}
+
+/// The first field of a content that can't be read, counted from 1, and why.
+#[derive(Clone, Copy, Debug, PartialEq, Eq)]
+pub struct Bad {
+    pub field: u8,
+    pub why: Why,
+}
+
+/// What was read, or the number of the field that can't be.
+pub fn at_field<T>(field: u8, read: Result<T, Why>) -> Result<T, Bad>
+    ensures ok { IfOk result (λ value. read ≡ Ok value) }
+    ensures err { IfErr result (λ bad. (bad.field ≡ field) × (read ≡ Err bad.why)) }
+{
+    match read {
+        Ok(value) => Ok(value),
+        Err(why) => Err(Bad { field, why }),
+    }
 }

@@ -1,9 +1,32 @@
-//! Records, cut at an offset (MCAP specification, "Records").
+//! Records and their heads, read at an offset (MCAP specification, "Records").
 ghost use Rattle.std.specs.Prelude.{◌≤◌, length};
-ghost use Rattle.mcap_wire.specs.Reading.{CutsAt};
+ghost use Rattle.mcap_wire.specs.Reading.{ReadsHead, CutsAt};
 
-use crate::faults::{CONTENT_LIMIT, Cut, CutFault};
+use crate::faults::{CONTENT_LIMIT, Cut, CutFault, Head, HeadFault};
 use crate::reading::take_u64;
+
+/// The bytes of a record before its content: the opcode and the length.
+const HEAD_LENGTH: usize = 9;
+
+/// Reads the head of the record that stands at an offset. A fault is the first that holds of: the head of nine bytes isn't
+/// whole, the opcode is 0.
+pub fn take_head(bytes: &[u8], at: usize) -> Result<Head, HeadFault>
+    requires { at ≤ length bytes.now }
+    ensures { ReadsHead bytes.now at result }
+{
+    if at == bytes.len() {
+        return Err(HeadFault::Short);
+    }
+    let len = match take_u64(bytes, at + 1) {
+        Ok(read) => read.0,
+        Err(_) => return Err(HeadFault::Short),
+    };
+    let op = bytes[at];
+    if op == 0 {
+        return Err(HeadFault::ZeroOp);
+    }
+    Ok(Head { op, len })
+}
 
 /// Cuts the record that stands at an offset. A fault is the first that holds of: the head of nine bytes isn't whole,
 /// the opcode is 0, the content is longer than `CONTENT_LIMIT`, the content isn't whole.
@@ -11,21 +34,15 @@ pub fn cut(bytes: &[u8], at: usize) -> Result<Cut, CutFault>
     requires { at ≤ length bytes.now }
     ensures { CutsAt bytes.now at result }
 {
-    if at == bytes.len() {
-        return Err(CutFault::Short);
-    }
-    let (len, from) = match take_u64(bytes, at + 1) {
-        Ok(read) => read,
-        Err(_) => return Err(CutFault::Short),
+    let Head { op, len } = match take_head(bytes, at) {
+        Ok(head) => head,
+        Err(HeadFault::Short) => return Err(CutFault::Short),
+        Err(HeadFault::ZeroOp) => return Err(CutFault::ZeroOp),
     };
-    let op = bytes[at];
-    if op == 0 {
-        return Err(CutFault::ZeroOp);
-    }
     if len > CONTENT_LIMIT {
         return Err(CutFault::TooLong { len });
     }
-    let from = from as u64;
+    let from = (at + HEAD_LENGTH) as u64;
     let to = from + len;
     if to > bytes.len() as u64 {
         return Err(CutFault::Short);

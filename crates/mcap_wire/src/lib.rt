@@ -21,8 +21,10 @@ mod writing;
 pub use arrays::{EntriesRef, add_entries, put_entries, take_entries};
 pub use blobs::Bytes;
 pub use counts::{CountsRef, add_counts, put_counts, take_counts};
-pub use faults::{CONTENT_LIMIT, Cut, CutFault, MAGIC, Memory, Why};
-pub use heads::cut;
+pub use faults::{
+    Bad, CONTENT_LIMIT, Cut, CutFault, Head, HeadFault, MAGIC, Memory, Why, at_field,
+};
+pub use heads::{cut, take_head};
 pub use maps::{add_pairs, put_pairs, take_pairs};
 pub use pair_list::{PairList, Pairs};
 pub use pairs::PairsRef;

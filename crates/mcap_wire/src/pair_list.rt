@@ -48,6 +48,14 @@ impl PairList {
     {
         self.pairs.as_slice()
     }
+
+    /// The pairs, given back with their room.
+    pub fn into_vec(self) -> Vec<(Text, Text)>
+        ensures same { result.items ≡ self }
+        ensures map { IsTextMap self }
+    {
+        self.pairs
+    }
 }
 
 /// A map of texts of its own, its keys in strictly ascending order of their bytes. Contracts see the list of its pairs.
@@ -101,6 +109,15 @@ impl Pairs {
         ensures order { KeysAscend self.now }
     {
         self.pairs.as_slice()
+    }
+
+    /// The pairs, given back with their room.
+    pub fn into_vec(self) -> Vec<(Text, Text)>
+        ensures same { result.items ≡ self }
+        ensures map { IsTextMap self }
+        ensures order { KeysAscend self }
+    {
+        self.pairs
     }
 }
 

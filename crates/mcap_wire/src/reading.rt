@@ -3,6 +3,7 @@ ghost use Rattle.std.specs.Prelude.{◌≡◌, ◌+◌, ◌<◌, ◌≤◌, take
 ghost use Rattle.mcap_wire.specs.Reading.{ReadsNumber, ReadsText, ReadsBytes};
 
 use crate::faults::Why;
+use byteorder::{ByteOrder, LittleEndian};
 use std::str;
 
 // The bytes from an offset on.
@@ -29,10 +30,11 @@ pub fn take_u16(content: &[u8], at: usize) -> Result<(u16, usize), Why>
     requires { at ≤ length content.now }
     ensures { ReadsNumber 2 content.now at result }
 {
-    match rest_from(content, at).split_first_chunk::<2>() {
-        Some((front, _)) => Ok((u16::from_le_bytes(*front), at + 2)),
-        None => Err(Why::Short),
+    let rest = rest_from(content, at);
+    if rest.len() < 2 {
+        return Err(Why::Short);
     }
+    Ok((LittleEndian::read_u16(rest), at + 2))
 }
 
 /// Reads a number of four bytes, and says where it ends.
@@ -40,10 +42,11 @@ pub fn take_u32(content: &[u8], at: usize) -> Result<(u32, usize), Why>
     requires { at ≤ length content.now }
     ensures { ReadsNumber 4 content.now at result }
 {
-    match rest_from(content, at).split_first_chunk::<4>() {
-        Some((front, _)) => Ok((u32::from_le_bytes(*front), at + 4)),
-        None => Err(Why::Short),
+    let rest = rest_from(content, at);
+    if rest.len() < 4 {
+        return Err(Why::Short);
     }
+    Ok((LittleEndian::read_u32(rest), at + 4))
 }
 
 /// Reads a number of eight bytes, and says where it ends.
@@ -51,10 +54,11 @@ pub fn take_u64(content: &[u8], at: usize) -> Result<(u64, usize), Why>
     requires { at ≤ length content.now }
     ensures { ReadsNumber 8 content.now at result }
 {
-    match rest_from(content, at).split_first_chunk::<8>() {
-        Some((front, _)) => Ok((u64::from_le_bytes(*front), at + 8)),
-        None => Err(Why::Short),
+    let rest = rest_from(content, at);
+    if rest.len() < 8 {
+        return Err(Why::Short);
     }
+    Ok((LittleEndian::read_u64(rest), at + 8))
 }
 
 /// Reads a text, and says where it ends.

@@ -5,6 +5,7 @@ ghost use Rattle.mcap_wire.specs.Layout.{le, string, prefixed};
 ghost use Rattle.mcap_wire.specs.Writing.{HasRoom, LacksRoom};
 
 use crate::faults::Memory;
+use byteorder::{ByteOrder, LittleEndian};
 
 /// Makes room for some bytes more. The bytes stay; the capacity never shrinks.
 pub fn make_room(out: &mut Vec<u8>, more: usize) -> Result<(), Memory>
@@ -47,7 +48,9 @@ pub fn add_u16(out: &mut Vec<u8>, value: u16)
     ensures len { vec_len out.new ≡ vec_len out.old + 2 }
     ensures capacity { vec_capacity out.old ≤ vec_capacity out.new }
 {
-    add_bytes(out, &value.to_le_bytes());
+    let mut bytes = [0; 2];
+    LittleEndian::write_u16(&mut bytes, value);
+    add_bytes(out, &bytes);
 }
 
 /// Appends a number in four bytes.
@@ -57,7 +60,9 @@ pub fn add_u32(out: &mut Vec<u8>, value: u32)
     ensures len { vec_len out.new ≡ vec_len out.old + 4 }
     ensures capacity { vec_capacity out.old ≤ vec_capacity out.new }
 {
-    add_bytes(out, &value.to_le_bytes());
+    let mut bytes = [0; 4];
+    LittleEndian::write_u32(&mut bytes, value);
+    add_bytes(out, &bytes);
 }
 
 /// Appends a number in eight bytes.
@@ -67,7 +72,9 @@ pub fn add_u64(out: &mut Vec<u8>, value: u64)
     ensures len { vec_len out.new ≡ vec_len out.old + 8 }
     ensures capacity { vec_capacity out.old ≤ vec_capacity out.new }
 {
-    add_bytes(out, &value.to_le_bytes());
+    let mut bytes = [0; 8];
+    LittleEndian::write_u64(&mut bytes, value);
+    add_bytes(out, &bytes);
 }
 
 /// Appends a text with its length in front.

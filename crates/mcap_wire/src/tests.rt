@@ -89,6 +89,14 @@ fn a_record_is_cut_only_where_it_is_whole(rt: HostRuntime) {
 }
 
 #[test]
+fn a_head_is_read_without_its_content(rt: HostRuntime) {
+    assert_eq!(rt; take_head(&RECORD[..9], 0), Ok(Head { op: 0x0f, len: 4 }));
+    assert_eq!(rt; take_head(&RECORD[..8], 0), Err(HeadFault::Short));
+    assert_eq!(rt; take_head(&[0; 9], 0), Err(HeadFault::ZeroOp));
+    assert_eq!(rt; take_head(&[0; 8], 0), Err(HeadFault::Short));
+}
+
+#[test]
 fn the_first_fault_of_a_record_is_told(rt: HostRuntime) {
     let table: [(&[u8], CutFault); 6] = [
         (&[0, 4, 0, 0, 0, 0, 0, 0], CutFault::Short),
@@ -122,6 +130,7 @@ fn a_text_is_its_bytes(rt: HostRuntime) -> Result<(), Fail> {
     );
     assert!(rt; own.is(copy.as_str()));
     assert!(rt; !own.is("naive"));
+    assert_eq!(rt; own.into_vec().as_slice(), copy.as_str().as_bytes());
     Ok(())
 }
 
@@ -208,10 +217,11 @@ fn a_map_is_copied_and_sorted(rt: HostRuntime) -> Result<(), Fail> {
     put_pairs(&mut out, &PairsRef::of(list.as_slice()))?;
     assert_eq!(rt; out.as_slice(), PAIRS.as_slice());
     let sorted = Pairs::sorted(rt.alloc(), &pairs)?;
-    let sorted = PairsRef::of(sorted.as_slice());
-    assert_eq!(rt; sorted.count(), 2);
-    assert_eq!(rt; sorted.item(0).0, "a");
-    assert_eq!(rt; sorted.item(1).0, "b");
+    let sorted = sorted.into_vec();
+    assert_eq!(rt; sorted.len(), 2);
+    assert_eq!(rt; sorted[0].0.as_str(), "a");
+    assert_eq!(rt; sorted[1].0.as_str(), "b");
+    assert_eq!(rt; list.into_vec()[0].0.as_str(), "b");
     Ok(())
 }
 

@@ -50,6 +50,14 @@ impl Text {
     {
         self.text.as_str() == other
     }
+
+    /// Its bytes, given back with their room.
+    pub fn into_vec(self) -> Vec<u8>
+        ensures same { result.items ≡ self }
+        ensures utf8 { IsUtf8 self }
+    {
+        self.text.into_bytes()
+    }
 }
 
 // Copies of a key and its value.

@@ -1,72 +1,151 @@
 -- Bytes that are one framed record, and what its content shows.
-use Rattle.std.proofs.Common.{◌≡◌, ◌≢◌, ℕ, ◌-◌, ◌<◌, ◌≤◌, List, [], ◌++◌, length, take, drop, Result, Ok, Err, sym, ap, subst, ◌∙◌, arith}
-use Rattle.std.proofs.lemmas.List.{append-nil, length-drop, drop_all, take_all}
-use Rattle.mcap_wire.specs.declared.faults.Cut.{Cut}
-use Rattle.mcap_wire.specs.declared.faults.CutFault.{CutFault}
-use Rattle.mcap_wire.specs.Layout.{framed, part}
-use Rattle.mcap_wire.specs.Reading.{IsCut, CutFails}
-use Rattle.mcap_wire.proofs.Framing.{record_not_refused, record_decided}
+use Rattle.std.proofs.Common.{◌≡◌, ℕ, ◌+◌, ◌-◌, ◌^◌, ◌<◌, ◌≤◌, List, [], ◌∷◌, ◌++◌, length, take, drop, slice_index, Result, Ok, Err, None, refl, sym, ap, subst, ◌∙◌, arith}
+use Rattle.std.proofs.lemmas.List.{drop_at, length-drop, take_all}
+use Rattle.mcap_wire.specs.Layout.{le, framed}
+use Rattle.mcap_wire.specs.declared.faults.HeadFault.{HeadFault}
+use Rattle.mcap_wire.specs.declared.faults.HeadFault.TheVariants.{Short, ZeroOp}
+use Rattle.mcap_wire.specs.Reading.{HeadAt, HeadFails}
+use Rattle.mcap_wire.proofs.Numbers.{length-le}
+use Rattle.mcap_wire.proofs.Framing.{length-framed, split_number}
+use Rattle.mcap_wire.proofs.Contents.{shows_decided}
+use Rattle.rec_data.specs.declared.schema.SchemaDef.{SchemaDef}
 use Rattle.rec_data.specs.declared.owned.Rec.{Rec}
 use Rattle.rec_data.specs.declared.owned.Rec.TheVariants.{Schema, Channel, Message}
 use Rattle.rec_data.specs.declared.owned.RecRefused.{RecRefused}
 use Rattle.rec_data.specs.declared.owned.RecRefused.TheVariants.{Bad, Memory}
-use Rattle.rec_data.specs.Records.{ShowsSchema, ShowsChannel}
-use Rattle.rec_data.specs.Owned.{ShowsRec, IsFramed, ContentRead, FramedRead}
+use Rattle.rec_data.specs.Fields.{SchemaFields, ChannelFields, MessageFields}
+use Rattle.rec_data.specs.Records.{schema_kinds, schema_values, ShowsSchema, channel_kinds, channel_values, ShowsChannel, ShowsMessage}
+use Rattle.rec_data.specs.Owned.{def_fields, rec_opcode, rec_text, rec_bytes, RecFits, ShowsRec, IsFramed, ContentRead, Unframed, FramedRead}
+use Rattle.rec_data.proofs.Contents.{message_decided}
 
-pub schema_refused : (content : List ℕ) → ((id : ℕ) (name encoding payload : List ℕ) → ShowsSchema content id name encoding payload → ⊥) → (r : Rec) → ShowsRec 3 content r → ⊥
-schema_refused content none (Schema id schema) shows = none id schema.name schema.encoding schema.payload shows.1
-schema_refused content none (Channel id schema_id topic encoding metadata) shows = absurd (omega (arith, shows.0))
+-- ---- what a content shows
+
+pub schema_refused : (content : List ℕ) → ((id : ℕ) (f : SchemaFields) → ShowsSchema content id f → ⊥) → (r : Rec) → ShowsRec 3 content r → ⊥
+schema_refused content none (Schema id schema) shows = none id (def_fields schema) shows.1
+schema_refused content none (Channel id schema topic encoding metadata) shows = absurd (omega (arith, shows.0))
 schema_refused content none (Message channel_id sequence log_time publish_time payload) shows = absurd (omega (arith, shows.0))
 
-pub channel_refused : (content : List ℕ) → ((id schema_id : ℕ) (topic encoding : List ℕ) (metadata : List (List ℕ × List ℕ)) → ShowsChannel content id schema_id topic encoding metadata → ⊥) → (r : Rec) → ShowsRec 4 content r → ⊥
+pub channel_refused : (content : List ℕ) → ((id : ℕ) (f : ChannelFields) → ShowsChannel content id f → ⊥) → (r : Rec) → ShowsRec 4 content r → ⊥
 channel_refused content none (Schema id schema) shows = absurd (omega (arith, shows.0))
-channel_refused content none (Channel id schema_id topic encoding metadata) shows = none id schema_id topic encoding metadata shows.1
+channel_refused content none (Channel id schema topic encoding metadata) shows = none id (record { schema = schema; topic = topic; encoding = encoding; metadata = metadata }) shows.1
 channel_refused content none (Message channel_id sequence log_time publish_time payload) shows = absurd (omega (arith, shows.0))
 
-opcode_of : (op : ℕ) (content : List ℕ) (r : Rec) → ShowsRec op content r → op ≢ 0
-opcode_of op content (Schema id schema) shows = λ zero_op. absurd (omega (arith, shows.0, zero_op))
-opcode_of op content (Channel id schema_id topic encoding metadata) shows = λ zero_op. absurd (omega (arith, shows.0, zero_op))
-opcode_of op content (Message channel_id sequence log_time publish_time payload) shows = λ zero_op. absurd (omega (arith, shows.0, zero_op))
+pub message_refused : (content : List ℕ) → ((id : ℕ) (f : MessageFields) → ShowsMessage content id f → ⊥) → (r : Rec) → ShowsRec 5 content r → ⊥
+message_refused content none (Schema id schema) shows = absurd (omega (arith, shows.0))
+message_refused content none (Channel id schema topic encoding metadata) shows = absurd (omega (arith, shows.0))
+message_refused content none (Message channel_id sequence log_time publish_time payload) shows = none channel_id (record { sequence = sequence; log_time = log_time; publish_time = publish_time; payload = payload }) shows.1
 
--- bytes that can't be cut are no record
-pub not_cut : (bytes : List ℕ) (fault : CutFault) → CutFails bytes 0 fault → (r : Rec) → IsFramed bytes r → ⊥
-not_cut bytes fault fails r is =
-    record_not_refused bytes 0 is.0 is.1 [] fault (opcode_of is.0 is.1 r is.4) is.3 (is.2 ∙ sym (append-nil (framed is.0 is.1))) fails
+-- ---- one frame
 
--- the record that was cut is the one that the bytes are
-same_record : (bytes : List ℕ) (c : Cut) (op : ℕ) (content : List ℕ) → IsCut bytes 0 c → bytes ≡ framed op content → length content ≤ 268435456 → (c.op ≡ op) × (part c.from c.to bytes ≡ content) × (drop c.to bytes ≡ [])
-same_record bytes c op content there is within =
-    record_decided bytes 0 c op content [] there (omega (arith, within)) (is ∙ sym (append-nil (framed op content)))
+-- two frames of the same bytes are one
+frames_same : (op code : ℕ) (content other : List ℕ) → framed op content ≡ framed code other → (op ≡ code) × (content ≡ other)
+frames_same op code content other same = (cc, contents)
+  where
+    behind : (c : List ℕ) (o : ℕ) → drop 9 (framed o c) ≡ c
+    behind c o = drop_at (le 8 (length c)) c 8 (length-le 8 (length c))
 
--- bytes behind the record: they are no record
-pub not_alone : (bytes : List ℕ) (c : Cut) → IsCut bytes 0 c → c.to < length bytes → (r : Rec) → IsFramed bytes r → ⊥
-not_alone bytes c there less r is =
-    let same = same_record bytes c is.0 is.1 there is.2 is.3 in
-    let none : length (drop c.to bytes) ≡ 0 = ap length same.2 in
-    absurd (omega (arith, length-drop c.to bytes, none))
+    contents : content ≡ other
+    contents = sym (behind content op) ∙ ap (drop 9) same ∙ behind other code
 
--- the content is all that stands behind the head
-whole_content : (bytes : List ℕ) (c : Cut) → IsCut bytes 0 c → length bytes ≤ c.to → part c.from c.to bytes ≡ drop 9 bytes
-whole_content bytes c there all =
-    let from : c.from ≡ 9 = omega (arith, there.stands.head) in
-    ap (λ (n : ℕ). take (c.to - n) (drop n bytes)) from ∙ take_all (c.to - 9) (drop 9 bytes) (omega (arith, length-drop 9 bytes))
+-- the opcode of a record that is shown
+shown_opcode : (op : ℕ) (content : List ℕ) (r : Rec) → ShowsRec op content r → (op ≡ rec_opcode r)
+shown_opcode op content (Schema id schema) shows = shows.0
+shown_opcode op content (Channel id schema topic encoding metadata) shows = shows.0
+shown_opcode op content (Message channel_id sequence log_time publish_time payload) shows = shows.0
 
-pub found : (bytes : List ℕ) (c : Cut) (result : Result Rec RecRefused) → IsCut bytes 0 c → length bytes ≤ c.to → ContentRead c.op (drop 9 bytes) result → FramedRead bytes result
-found bytes c (Ok r) there all shows =
-    let content = whole_content bytes c there all in
-    let nothing : drop c.to bytes ≡ [] = drop_all c.to bytes all in
-    let whole : bytes ≡ framed c.op (drop 9 bytes) =
-    there.stands.framed_there ∙ ap (λ (l : List ℕ). framed c.op (part c.from c.to bytes) ++ l) nothing
-    ∙ append-nil (framed c.op (part c.from c.to bytes)) ∙ ap (λ (l : List ℕ). framed c.op l) content in
-    (c.op, drop 9 bytes, whole, omega (arith, length-drop 9 bytes, there.within, there.stands.head), shows)
-found bytes c (Err Bad) there all none = λ r is.
-    let same = same_record bytes c is.0 is.1 there is.2 is.3 in
-    let content : is.1 ≡ drop 9 bytes = sym same.1 ∙ whole_content bytes c there all in
-    none r (subst (λ (l : List ℕ). ShowsRec c.op l r) content (subst (λ (o : ℕ). ShowsRec o is.1 r) (sym same.0) is.4))
-found bytes c (Err Memory) there all lacks = tt
+opcode_valid : (r : Rec) → 0 < rec_opcode r
+opcode_valid (Schema id schema) = omega arith
+opcode_valid (Channel id schema topic encoding metadata) = omega arith
+opcode_valid (Message channel_id sequence log_time publish_time payload) = omega arith
 
--- the same, as the content was sliced
-pub found_at : (bytes : List ℕ) (c : Cut) (result : Result Rec RecRefused) (op : ℕ) → IsCut bytes 0 c → length bytes ≤ c.to → c.op ≡ op → ContentRead op (take (length bytes - 9) (drop 9 bytes)) result → FramedRead bytes result
-found_at bytes c result op there all kind read =
-    let content : take (length bytes - 9) (drop 9 bytes) ≡ drop 9 bytes = take_all (length bytes - 9) (drop 9 bytes) (omega (arith, length-drop 9 bytes)) in
-    found bytes c result there all (subst (λ (o : ℕ). ContentRead o (drop 9 bytes) result) (sym kind) (subst (λ (l : List ℕ). ContentRead op l result) content read))
+-- bytes that are no frame are no record
+pub not_framed : (bytes : List ℕ) → Unframed bytes None → (r : Rec) → IsFramed bytes r → ⊥
+not_framed bytes none r (op, content, is, shows) = none op content (λ zero_op. absurd (omega (arith, zero_op, shown_opcode op content r shows, opcode_valid r))) is
+
+-- what the content shows is what the bytes are
+found_one : (bytes : List ℕ) (op : ℕ) (content : List ℕ) (result : Result Rec RecRefused) → bytes ≡ framed op content → ContentRead op content result → FramedRead bytes result
+found_one bytes op content (Ok r) is shows = (op, content, is, shows)
+found_one bytes op content (Err Bad) is none = λ r other.
+    let same = frames_same other.0 op other.1 content (sym other.2 ∙ is) in
+    none r (subst (λ (l : List ℕ). ShowsRec op l r) same.1 (subst (λ (o : ℕ). ShowsRec o other.1 r) same.0 other.3))
+found_one bytes op content (Err Memory) is lacks = tt
+
+pub found : (bytes : List ℕ) (op kind : ℕ) (content : List ℕ) (result : Result Rec RecRefused) → op ≡ kind → bytes ≡ framed op content → ContentRead kind content result → FramedRead bytes result
+found bytes op kind content result same is read =
+    found_one bytes op content result is (subst (λ (o : ℕ). ContentRead o content result) (sym same) read)
+
+-- ---- the law
+
+-- a record that fits is shown by its own content
+pub rec_shown : (r : Rec) → RecFits r → ShowsRec (rec_opcode r) (rec_text r) r
+rec_shown (Schema id schema) fits = (refl, ([], record { spelled_there = refl; fit = fits }))
+rec_shown (Channel id schema topic encoding metadata) fits = (refl, ([], record { spelled_there = refl; fit = fits }))
+rec_shown (Message channel_id sequence log_time publish_time payload) fits = (refl, record { spelled_there = refl; fit = fits })
+
+pub rec_framed : (r : Rec) → RecFits r → IsFramed (rec_bytes r) r
+rec_framed r fits = (rec_opcode r, rec_text r, refl, rec_shown r fits)
+
+one_schema : (id other : ℕ) (s t : SchemaDef) → schema_values id (def_fields s) ≡ schema_values other (def_fields t) → Schema id s ≡ Schema other t
+one_schema id other s t same = ap (λ v. Schema v.0 (record { name = v.1.0; encoding = v.1.1.0; payload = v.1.1.1.0 })) same
+
+one_channel : (id other : ℕ) (f g : ChannelFields) → channel_values id f ≡ channel_values other g → Channel id f.schema f.topic f.encoding f.metadata ≡ Channel other g.schema g.topic g.encoding g.metadata
+one_channel id other f g same = ap (λ v. Channel v.0 v.1.0 v.1.1.0 v.1.1.1.0 v.1.1.1.1.0) same
+
+one_message : (id other : ℕ) (m n : MessageFields) → id ≡ other → m ≡ n → Message id m.sequence m.log_time m.publish_time m.payload ≡ Message other n.sequence n.log_time n.publish_time n.payload
+one_message id other m n ids fields = cc
+
+-- a content of one kind shows one record
+pub shown_once : (op : ℕ) (content : List ℕ) (r other : Rec) → ShowsRec op content r → ShowsRec op content other → r ≡ other
+shown_once op content (Schema id s) (Schema i t) one two =
+    one_schema id i s t (shows_decided schema_kinds content (schema_values id (def_fields s)) (schema_values i (def_fields t)) one.1 two.1)
+shown_once op content (Schema id s) (Channel i t a b m) one two = absurd (omega (arith, one.0, two.0))
+shown_once op content (Schema id s) (Message i a b c p) one two = absurd (omega (arith, one.0, two.0))
+shown_once op content (Channel id s a b m) (Schema i t) one two = absurd (omega (arith, one.0, two.0))
+shown_once op content (Channel id s a b m) (Channel i t c d n) one two =
+    let f : ChannelFields = record { schema = s; topic = a; encoding = b; metadata = m } in
+    let g : ChannelFields = record { schema = t; topic = c; encoding = d; metadata = n } in
+    one_channel id i f g (shows_decided channel_kinds content (channel_values id f) (channel_values i g) one.1 two.1)
+shown_once op content (Channel id s a b m) (Message i c d e p) one two = absurd (omega (arith, one.0, two.0))
+shown_once op content (Message id a b c p) (Schema i t) one two = absurd (omega (arith, one.0, two.0))
+shown_once op content (Message id a b c p) (Channel i t d e m) one two = absurd (omega (arith, one.0, two.0))
+shown_once op content (Message id a b c p) (Message i d e f q) one two =
+    let m : MessageFields = record { sequence = a; log_time = b; publish_time = c; payload = p } in
+    let n : MessageFields = record { sequence = d; log_time = e; publish_time = f; payload = q } in
+    let same = message_decided content id i m n one.1 two.1 in
+    one_message id i m n same.0 same.1
+
+-- bytes are one record
+pub framed_decided : (bytes : List ℕ) (r other : Rec) → IsFramed bytes r → IsFramed bytes other → r ≡ other
+framed_decided bytes r other (op, content, is, shows) (code, text, frame, also) =
+    let same = frames_same op code content text (sym is ∙ frame) in
+    shown_once op content r other shows
+    (subst (λ (l : List ℕ). ShowsRec op l other) (sym same.1) (subst (λ (o : ℕ). ShowsRec o text other) (sym same.0) also))
+
+-- ---- the head and what is behind it
+
+first_of : (bytes : List ℕ) → 9 ≤ length bytes → bytes ≡ slice_index bytes 0 ∷ drop 1 bytes
+first_of [] whole = absurd (omega (arith, whole))
+first_of (b ∷ bytes) whole = refl
+
+-- a head with the length of all that is behind it
+pub frame_of : (bytes : List ℕ) (op len : ℕ) → HeadAt bytes 0 op len → len ≡ length bytes - 9 → bytes ≡ framed op (take (length bytes - 9) (drop 9 bytes))
+frame_of bytes op len head all =
+    let size : len ≡ length (drop 9 bytes) = all ∙ sym (length-drop 9 bytes) in
+    first_of bytes head.len_there.field.ends
+    ∙ ap (λ (o : ℕ). o ∷ drop 1 bytes) (sym head.opcode)
+    ∙ ap (λ (l : List ℕ). op ∷ l) head.len_there.field.spelled_there
+    ∙ ap (λ (n : ℕ). op ∷ (le 8 n ++ drop 9 bytes)) size
+    ∙ ap (framed op) (sym (take_all (length bytes - 9) (drop 9 bytes) (omega (arith, length-drop 9 bytes))))
+
+-- a head that can't be read
+pub no_head : (bytes : List ℕ) (fault : HeadFault) → HeadFails bytes 0 fault → Unframed bytes None
+no_head bytes Short fails op content valid is = absurd (omega (arith, fails, ap length is, length-framed op content))
+no_head bytes ZeroOp fails op content valid is = valid (ap (λ (l : List ℕ). slice_index l 0) (sym is) ∙ fails.1)
+
+-- another length than that of all that is behind the head
+pub other_length : (bytes : List ℕ) (op len : ℕ) → length bytes < 2 ^ 64 → HeadAt bytes 0 op len → (len ≡ length bytes - 9 → ⊥) → Unframed bytes None
+other_length bytes op len few head other = λ code content valid is.
+    let size : length bytes ≡ 9 + length content = ap length is ∙ length-framed code content in
+    let same = split_number 8 len (length content) (drop 9 bytes) content head.len_there.fits (omega (arith, size, few))
+    (sym head.len_there.field.spelled_there ∙ ap (drop 1) is) in
+    other (omega (arith, same.0, size))

@@ -1,42 +1,29 @@
 -- What is framed is read back, and a content shows one record.
-use Rattle.std.specs.Prelude.{◌≡◌, ◌↔◌, ℕ, ◌^◌, ◌<◌, ◌≤◌, List, ◌++◌, length, drop, All, IsUtf8}
+use Rattle.std.specs.Prelude.{◌≡◌, ◌↔◌, ℕ, ◌^◌, ◌<◌, ◌≤◌, List, ◌++◌, length, drop, All}
+use Rattle.mcap_wire.specs.declared.faults.Why.{Why}
 use Rattle.mcap_wire.specs.Layout.{le}
-use Rattle.rec_data.specs.Records.{message_text, ShowsMessage, header_text, ShowsHeader, footer_text, ShowsFooter, data_end_text, ShowsDataEnd}
-
-pub record HeadersReadBack : Type 0 where
-  pub shown : (profile library : List ℕ) → length profile < 2 ^ 32 → length library < 2 ^ 32 → IsUtf8 profile → IsUtf8 library
-      → ShowsHeader (header_text profile library) profile library
-  pub decided : (content profile library other_profile other_library : List ℕ)
-      → ShowsHeader content profile library → ShowsHeader content other_profile other_library
-      → (profile ≡ other_profile) × (library ≡ other_library)
+use Rattle.rec_data.specs.declared.owned.Rec.{Rec}
+use Rattle.rec_data.specs.Fields.{FooterFields, MessageFields}
+use Rattle.rec_data.specs.Records.{message_text, ShowsMessage, footer_text, ShowsFooter, FooterFails}
+use Rattle.rec_data.specs.Owned.{RecFits, rec_bytes, IsFramed}
 
 pub record FootersReadBack : Type 0 where
-  pub shown : (start offset_start crc : ℕ) → start < 2 ^ 64 → offset_start < 2 ^ 64 → crc < 2 ^ 32
-      → ShowsFooter (footer_text start offset_start crc) start offset_start crc
-  pub decided : (content : List ℕ) (start offset_start crc other_start other_offset_start other_crc : ℕ)
-      → ShowsFooter content start offset_start crc → ShowsFooter content other_start other_offset_start other_crc
-      → (start ≡ other_start) × (offset_start ≡ other_offset_start) × (crc ≡ other_crc)
-
-pub record DataEndsReadBack : Type 0 where
-  pub shown : (crc : ℕ) → crc < 2 ^ 32 → ShowsDataEnd (data_end_text crc) crc
-  pub decided : (content : List ℕ) (crc other : ℕ) → ShowsDataEnd content crc → ShowsDataEnd content other → crc ≡ other
+  pub shown : (f : FooterFields) → f.summary_start < 2 ^ 64 → f.summary_offset_start < 2 ^ 64 → f.summary_crc < 2 ^ 32
+      → ShowsFooter (footer_text f) f
+  pub decided : (content : List ℕ) (f g : FooterFields) → ShowsFooter content f → ShowsFooter content g → f ≡ g
+  pub refused : (content : List ℕ) (field : ℕ) (why : Why) (f : FooterFields) → FooterFails content field why
+      → ShowsFooter content f → ⊥
 
 pub record MessagesReadBack : Type 0 where
-  pub shown : (channel_id sequence log_time publish_time : ℕ) (payload : List ℕ)
-      → channel_id < 2 ^ 16 → sequence < 2 ^ 32 → log_time < 2 ^ 64 → publish_time < 2 ^ 64
-      → ShowsMessage (message_text channel_id sequence log_time publish_time payload)
-      channel_id sequence log_time publish_time payload
-  pub decided : (content : List ℕ) (id sequence log_time publish_time : ℕ) (payload : List ℕ)
-      (other_id other_sequence other_log_time other_publish_time : ℕ) (other_payload : List ℕ)
-      → ShowsMessage content id sequence log_time publish_time payload
-      → ShowsMessage content other_id other_sequence other_log_time other_publish_time other_payload
-      → (id ≡ other_id) × (sequence ≡ other_sequence) × (log_time ≡ other_log_time) × (publish_time ≡ other_publish_time)
-      × (payload ≡ other_payload)
+  pub shown : (channel_id : ℕ) (m : MessageFields)
+      → channel_id < 2 ^ 16 → m.sequence < 2 ^ 32 → m.log_time < 2 ^ 64 → m.publish_time < 2 ^ 64
+      → ShowsMessage (message_text channel_id m) channel_id m
+  pub decided : (content : List ℕ) (id other : ℕ) (m n : MessageFields) → ShowsMessage content id m
+      → ShowsMessage content other n → (id ≡ other) × (m ≡ n)
 
 -- a content shows some Message
 abbrev pub IsMessage : List ℕ → Type 0
-IsMessage content = (channel_id sequence log_time publish_time : ℕ) × (payload : List ℕ)
-    × ShowsMessage content channel_id sequence log_time publish_time payload
+IsMessage content = (channel_id : ℕ) × (m : MessageFields) × ShowsMessage content channel_id m
 
 -- bytes are a Message exactly where there are enough for its fields
 abbrev pub MessagesAreLongEnough : Type 0
@@ -44,6 +31,10 @@ MessagesAreLongEnough = (content : List ℕ) → All (λ b. b < 256) content →
 
 -- a Message with its first two bytes replaced is the same Message on another channel
 abbrev pub MessagesChangeChannel : Type 0
-MessagesChangeChannel = (content : List ℕ) (channel_id sequence log_time publish_time : ℕ) (payload : List ℕ) (id : ℕ)
-    → id < 2 ^ 16 → ShowsMessage content channel_id sequence log_time publish_time payload
-    → ShowsMessage (le 2 id ++ drop 2 content) id sequence log_time publish_time payload
+MessagesChangeChannel = (content : List ℕ) (channel_id : ℕ) (m : MessageFields) (id : ℕ) → id < 2 ^ 16
+    → ShowsMessage content channel_id m → ShowsMessage (le 2 id ++ drop 2 content) id m
+
+-- the bytes of a record are that record, and no bytes are two
+pub record RecsReadBack : Type 0 where
+  pub shown : (r : Rec) → RecFits r → IsFramed (rec_bytes r) r
+  pub decided : (bytes : List ℕ) (r other : Rec) → IsFramed bytes r → IsFramed bytes other → r ≡ other

@@ -1,3 +1,5 @@
+pub mod Fields
 pub mod Records
-pub mod Laws
+pub mod Parsed
 pub mod Owned
+pub mod Laws

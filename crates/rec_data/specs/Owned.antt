@@ -1,23 +1,30 @@
 -- Records that own what they hold.
-use Rattle.std.specs.Prelude.{◌≡◌, ℕ, ◌^◌, ◌<◌, ◌≤◌, List, length, Result, Ok, Err}
+use Rattle.std.specs.Prelude.{◌≡◌, ◌≢◌, ℕ, ◌^◌, ◌<◌, List, length, Result, Ok, Err, Option, Some, None}
+use denote.Ref.{Bor}
+use Rattle.mcap_wire.specs.Contents.{AllFit}
 use Rattle.mcap_wire.specs.Layout.{framed}
 use Rattle.mcap_wire.specs.Maps.{pair_texts}
+use Rattle.rec_data.specs.declared.schema.SchemaDef.{SchemaDef}
 use Rattle.rec_data.specs.declared.owned.Rec.{Rec}
 use Rattle.rec_data.specs.declared.owned.Rec.TheVariants.{Schema, Channel, Message}
 use Rattle.rec_data.specs.declared.owned.RecRefused.{RecRefused}
 use Rattle.rec_data.specs.declared.owned.RecRefused.TheVariants.{Bad, Memory}
-use Rattle.rec_data.specs.Records.{schema_opcode, schema_text, ShowsSchema, channel_opcode, channel_text, ShowsChannel, message_opcode, message_text, ShowsMessage}
+use Rattle.rec_data.specs.Fields.{SchemaFields}
+use Rattle.rec_data.specs.Records.{schema_opcode, schema_kinds, schema_values, schema_text, ShowsSchema, channel_opcode, channel_kinds, channel_values, channel_text, ShowsChannel, message_opcode, message_kinds, message_values, message_text, ShowsMessage}
+
+abbrev pub def_fields : SchemaDef → SchemaFields
+def_fields s = record { name = s.name; encoding = s.encoding; payload = s.payload }
 
 abbrev pub rec_opcode : Rec → ℕ
 rec_opcode (Schema id schema) = schema_opcode
-rec_opcode (Channel id schema_id topic encoding metadata) = channel_opcode
+rec_opcode (Channel id schema topic encoding metadata) = channel_opcode
 rec_opcode (Message channel_id sequence log_time publish_time payload) = message_opcode
 
 -- the content of a record
 abbrev pub rec_text : Rec → List ℕ
-rec_text (Schema id schema) = schema_text id schema.name schema.encoding schema.payload
-rec_text (Channel id schema_id topic encoding metadata) = channel_text id schema_id topic encoding metadata
-rec_text (Message channel_id sequence log_time publish_time payload) = message_text channel_id sequence log_time publish_time payload
+rec_text (Schema id schema) = schema_text id (def_fields schema)
+rec_text (Channel id schema topic encoding metadata) = channel_text id (record { schema = schema; topic = topic; encoding = encoding; metadata = metadata })
+rec_text (Message channel_id sequence log_time publish_time payload) = message_text channel_id (record { sequence = sequence; log_time = log_time; publish_time = publish_time; payload = payload })
 
 -- the whole record
 abbrev pub rec_bytes : Rec → List ℕ
@@ -26,14 +33,20 @@ rec_bytes r = framed (rec_opcode r) (rec_text r)
 -- its lengths fit in front of what they count
 abbrev pub LengthsFit : Rec → Type 0
 LengthsFit (Schema id schema) = (length schema.name < 2 ^ 32) × (length schema.encoding < 2 ^ 32) × (length schema.payload < 2 ^ 32)
-LengthsFit (Channel id schema_id topic encoding metadata) = (length topic < 2 ^ 32) × (length encoding < 2 ^ 32) × (length (pair_texts metadata) < 2 ^ 32)
+LengthsFit (Channel id schema topic encoding metadata) = (length topic < 2 ^ 32) × (length encoding < 2 ^ 32) × (length (pair_texts metadata) < 2 ^ 32)
 LengthsFit (Message channel_id sequence log_time publish_time payload) = Unit {0}
+
+-- each number and length of the record fits its field, its texts are UTF-8 and the keys of its map differ
+abbrev pub RecFits : Rec → Type 0
+RecFits (Schema id schema) = AllFit schema_kinds (schema_values id (def_fields schema))
+RecFits (Channel id schema topic encoding metadata) = AllFit channel_kinds (channel_values id (record { schema = schema; topic = topic; encoding = encoding; metadata = metadata }))
+RecFits (Message channel_id sequence log_time publish_time payload) = AllFit message_kinds (message_values channel_id (record { sequence = sequence; log_time = log_time; publish_time = publish_time; payload = payload }))
 
 -- a content shows this record, whatever may follow its fields
 abbrev pub ShowsRec : ℕ → List ℕ → Rec → Type 0
-ShowsRec op content (Schema id schema) = (op ≡ schema_opcode) × ShowsSchema content id schema.name schema.encoding schema.payload
-ShowsRec op content (Channel id schema_id topic encoding metadata) = (op ≡ channel_opcode) × ShowsChannel content id schema_id topic encoding metadata
-ShowsRec op content (Message channel_id sequence log_time publish_time payload) = (op ≡ message_opcode) × ShowsMessage content channel_id sequence log_time publish_time payload
+ShowsRec op content (Schema id schema) = (op ≡ schema_opcode) × ShowsSchema content id (def_fields schema)
+ShowsRec op content (Channel id schema topic encoding metadata) = (op ≡ channel_opcode) × ShowsChannel content id (record { schema = schema; topic = topic; encoding = encoding; metadata = metadata })
+ShowsRec op content (Message channel_id sequence log_time publish_time payload) = (op ≡ message_opcode) × ShowsMessage content channel_id (record { sequence = sequence; log_time = log_time; publish_time = publish_time; payload = payload })
 
 -- what a content of that kind shows, or that it shows nothing, or that memory lacked
 abbrev pub ContentRead : ℕ → List ℕ → Result Rec RecRefused → Type 0
@@ -41,9 +54,14 @@ ContentRead op content (Ok r) = ShowsRec op content r
 ContentRead op content (Err Bad) = (r : Rec) → ShowsRec op content r → ⊥
 ContentRead op content (Err Memory) = Unit {0}
 
+-- the opcode and the content that the bytes are the frame of, or that they are no frame with a valid opcode
+abbrev pub Unframed : List ℕ → Option (ℕ × Bor (List ℕ)) → Type 0
+Unframed bytes (Some r) = bytes ≡ framed r.0 r.1.now
+Unframed bytes None = (op : ℕ) (content : List ℕ) → op ≢ 0 → bytes ≡ framed op content → ⊥
+
 -- the bytes are this record, framed
 abbrev pub IsFramed : List ℕ → Rec → Type 0
-IsFramed bytes r = (op : ℕ) × (content : List ℕ) × (bytes ≡ framed op content) × (length content ≤ 268435456) × ShowsRec op content r
+IsFramed bytes r = (op : ℕ) × (content : List ℕ) × (bytes ≡ framed op content) × ShowsRec op content r
 
 -- what the bytes are, or that they are no such record, or that memory lacked
 abbrev pub FramedRead : List ℕ → Result Rec RecRefused → Type 0

@@ -1,10 +1,10 @@
 -- The contents of the records, and why one can't be read.
-use Rattle.std.specs.Prelude.{◌≡◌, ◌⊎◌, ℕ, ◌+◌, ◌^◌, ◌<◌, ◌≤◌, List, [], ◌∷◌, ◌++◌, length, IsUtf8}
+use Rattle.std.specs.Prelude.{◌≡◌, ◌⊎◌, ℕ, ◌+◌, ◌<◌, List, [], ◌∷◌, length}
 use Rattle.mcap_wire.specs.declared.faults.Why.{Why}
 use Rattle.mcap_wire.specs.declared.faults.Why.TheVariants.{BadLength}
-use Rattle.mcap_wire.specs.Layout.{le, string}
-use Rattle.mcap_wire.specs.Reading.{NumberAt, NumberFails, TextFails, TextAt}
-use Rattle.mcap_wire.specs.Contents.{Kind, a_number, a_text, some_bytes, a_text_map, Values, row, Begins, Shows, Fails}
+use Rattle.mcap_wire.specs.Reading.{NumberAt}
+use Rattle.mcap_wire.specs.Contents.{Kind, a_number, a_text, some_bytes, a_text_map, Values, row, RowBegins, Shows, Fails}
+use Rattle.rec_data.specs.Fields.{HeaderFields, FooterFields, SchemaFields, ChannelFields, MessageFields, AttachmentFields, MetadataFields}
 
 -- ---- the opcodes
 
@@ -34,75 +34,80 @@ data_end_opcode = 15
 
 -- ---- Header
 
--- the content of a Header: its profile and its library
-abbrev pub header_text : List ℕ → List ℕ → List ℕ
-header_text profile library = string profile ++ string library
+abbrev pub header_kinds : List Kind
+header_kinds = a_text ∷ a_text ∷ []
+
+abbrev pub header_values : HeaderFields → Values header_kinds
+header_values f = (f.profile, (f.library, tt))
+
+-- the content of a Header
+abbrev pub header_text : HeaderFields → List ℕ
+header_text f = row header_kinds (header_values f) []
 
 -- a content shows these fields, whatever follows them
-pub record ShowsHeader (content profile library : List ℕ) : Type 0 where
-  pub spelled : (rest : List ℕ) × (content ≡ header_text profile library ++ rest)
-  pub profile_fits : length profile < 2 ^ 32
-  pub library_fits : length library < 2 ^ 32
-  pub profile_utf8 : IsUtf8 profile
-  pub library_utf8 : IsUtf8 library
+abbrev pub ShowsHeader : List ℕ → HeaderFields → Type 0
+ShowsHeader content f = Shows header_kinds content (header_values f)
 
--- the profile can't be read, or it stands whole and the library behind it can't
+-- the first of its fields that can't be read
 abbrev pub HeaderFails : List ℕ → ℕ → Why → Type 0
-HeaderFails content field why = ((field ≡ 1) × TextFails content 0 why)
-    ⊎ ((field ≡ 2) × ((profile : List ℕ) × (end : ℕ) × TextAt content 0 profile end × TextFails content end why))
+HeaderFails content field why = Fails header_kinds content field why
 
 -- ---- Footer
 
--- the content of a Footer: where the summary starts, where its offsets start, its CRC
-abbrev pub footer_text : ℕ → ℕ → ℕ → List ℕ
-footer_text summary_start summary_offset_start summary_crc =
-    le 8 summary_start ++ (le 8 summary_offset_start ++ le 4 summary_crc)
+abbrev pub footer_kinds : List Kind
+footer_kinds = a_number 8 ∷ a_number 8 ∷ a_number 4 ∷ []
+
+abbrev pub footer_values : FooterFields → Values footer_kinds
+footer_values f = (f.summary_start, (f.summary_offset_start, (f.summary_crc, tt)))
+
+-- the content of a Footer
+abbrev pub footer_text : FooterFields → List ℕ
+footer_text f = row footer_kinds (footer_values f) []
 
 -- a content is these fields, with nothing behind them
-pub record ShowsFooter (content : List ℕ) (summary_start summary_offset_start summary_crc : ℕ) : Type 0 where
-  pub spelled : content ≡ footer_text summary_start summary_offset_start summary_crc
-  pub start_fits : summary_start < 2 ^ 64
-  pub offset_start_fits : summary_offset_start < 2 ^ 64
-  pub crc_fits : summary_crc < 2 ^ 32
+abbrev pub ShowsFooter : List ℕ → FooterFields → Type 0
+ShowsFooter content f = RowBegins footer_kinds content (footer_values f) []
 
--- the first of the three numbers that is cut short, or, at field 4, bytes behind them
+-- the first of its fields that can't be read, or, at field 4, bytes behind all three
 abbrev pub FooterFails : List ℕ → ℕ → Why → Type 0
-FooterFails content field why = ((field ≡ 1) × NumberFails 8 content 0 why)
-    ⊎ ((field ≡ 2) × (8 ≤ length content) × NumberFails 8 content 8 why)
-    ⊎ ((field ≡ 3) × (16 ≤ length content) × NumberFails 4 content 16 why)
+FooterFails content field why = Fails footer_kinds content field why
     ⊎ ((field ≡ 4) × (20 < length content) × (why ≡ BadLength))
 
 -- ---- Data End
 
+abbrev pub data_end_kinds : List Kind
+data_end_kinds = a_number 4 ∷ []
+
+abbrev pub data_end_values : ℕ → Values data_end_kinds
+data_end_values data_section_crc = (data_section_crc, tt)
+
 -- the content of a Data End: the CRC of the data section
 abbrev pub data_end_text : ℕ → List ℕ
-data_end_text data_section_crc = le 4 data_section_crc
+data_end_text data_section_crc = row data_end_kinds (data_end_values data_section_crc) []
 
 -- a content shows this field, whatever follows it
-pub record ShowsDataEnd (content : List ℕ) (data_section_crc : ℕ) : Type 0 where
-  pub spelled : (rest : List ℕ) × (content ≡ data_end_text data_section_crc ++ rest)
-  pub crc_fits : data_section_crc < 2 ^ 32
+abbrev pub ShowsDataEnd : List ℕ → ℕ → Type 0
+ShowsDataEnd content data_section_crc = Shows data_end_kinds content (data_end_values data_section_crc)
 
 -- the number is cut short
 abbrev pub DataEndFails : List ℕ → ℕ → Why → Type 0
-DataEndFails content field why = (field ≡ 1) × NumberFails 4 content 0 why
+DataEndFails content field why = Fails data_end_kinds content field why
 
 -- ---- Schema
 
--- the fields of a Schema: its id, its name, its encoding and its data
 abbrev pub schema_kinds : List Kind
 schema_kinds = a_number 2 ∷ a_text ∷ a_text ∷ some_bytes 4 ∷ []
 
-abbrev pub schema_values : ℕ → List ℕ → List ℕ → List ℕ → Values schema_kinds
-schema_values id name encoding payload = (id, (name, (encoding, (payload, tt))))
+abbrev pub schema_values : ℕ → SchemaFields → Values schema_kinds
+schema_values id f = (id, (f.name, (f.encoding, (f.payload, tt))))
 
--- the content of a Schema
-abbrev pub schema_text : ℕ → List ℕ → List ℕ → List ℕ → List ℕ
-schema_text id name encoding payload = row schema_kinds (schema_values id name encoding payload) []
+-- the content of a Schema: its id, and its fields
+abbrev pub schema_text : ℕ → SchemaFields → List ℕ
+schema_text id f = row schema_kinds (schema_values id f) []
 
--- a content shows these fields, whatever follows them
-abbrev pub ShowsSchema : List ℕ → ℕ → List ℕ → List ℕ → List ℕ → Type 0
-ShowsSchema content id name encoding payload = Shows schema_kinds content (schema_values id name encoding payload)
+-- a content shows this id and these fields, whatever follows them
+abbrev pub ShowsSchema : List ℕ → ℕ → SchemaFields → Type 0
+ShowsSchema content id f = Shows schema_kinds content (schema_values id f)
 
 -- the first of its fields that can't be read
 abbrev pub SchemaFails : List ℕ → ℕ → Why → Type 0
@@ -110,22 +115,19 @@ SchemaFails content field why = Fails schema_kinds content field why
 
 -- ---- Channel
 
--- the fields of a Channel: its id, the id of its schema, its topic, the encoding of its messages and its metadata
 abbrev pub channel_kinds : List Kind
 channel_kinds = a_number 2 ∷ a_number 2 ∷ a_text ∷ a_text ∷ a_text_map ∷ []
 
-abbrev pub channel_values : ℕ → ℕ → List ℕ → List ℕ → List (List ℕ × List ℕ) → Values channel_kinds
-channel_values id schema_id topic encoding metadata = (id, (schema_id, (topic, (encoding, (metadata, tt)))))
+abbrev pub channel_values : ℕ → ChannelFields → Values channel_kinds
+channel_values id f = (id, (f.schema, (f.topic, (f.encoding, (f.metadata, tt)))))
 
--- the content of a Channel
-abbrev pub channel_text : ℕ → ℕ → List ℕ → List ℕ → List (List ℕ × List ℕ) → List ℕ
-channel_text id schema_id topic encoding metadata =
-    row channel_kinds (channel_values id schema_id topic encoding metadata) []
+-- the content of a Channel: its id, and its fields
+abbrev pub channel_text : ℕ → ChannelFields → List ℕ
+channel_text id f = row channel_kinds (channel_values id f) []
 
--- a content shows these fields, whatever follows them
-abbrev pub ShowsChannel : List ℕ → ℕ → ℕ → List ℕ → List ℕ → List (List ℕ × List ℕ) → Type 0
-ShowsChannel content id schema_id topic encoding metadata =
-    Shows channel_kinds content (channel_values id schema_id topic encoding metadata)
+-- a content shows this id and these fields, whatever follows them
+abbrev pub ShowsChannel : List ℕ → ℕ → ChannelFields → Type 0
+ShowsChannel content id f = Shows channel_kinds content (channel_values id f)
 
 -- the first of its fields that can't be read
 abbrev pub ChannelFails : List ℕ → ℕ → Why → Type 0
@@ -133,20 +135,19 @@ ChannelFails content field why = Fails channel_kinds content field why
 
 -- ---- Metadata
 
--- the fields of a Metadata: its name and its map
 abbrev pub metadata_kinds : List Kind
 metadata_kinds = a_text ∷ a_text_map ∷ []
 
-abbrev pub metadata_values : List ℕ → List (List ℕ × List ℕ) → Values metadata_kinds
-metadata_values name metadata = (name, (metadata, tt))
+abbrev pub metadata_values : MetadataFields → Values metadata_kinds
+metadata_values f = (f.name, (f.metadata, tt))
 
 -- the content of a Metadata
-abbrev pub metadata_text : List ℕ → List (List ℕ × List ℕ) → List ℕ
-metadata_text name metadata = row metadata_kinds (metadata_values name metadata) []
+abbrev pub metadata_text : MetadataFields → List ℕ
+metadata_text f = row metadata_kinds (metadata_values f) []
 
 -- a content shows these fields, whatever follows them
-abbrev pub ShowsMetadata : List ℕ → List ℕ → List (List ℕ × List ℕ) → Type 0
-ShowsMetadata content name metadata = Shows metadata_kinds content (metadata_values name metadata)
+abbrev pub ShowsMetadata : List ℕ → MetadataFields → Type 0
+ShowsMetadata content f = Shows metadata_kinds content (metadata_values f)
 
 -- the first of its fields that can't be read
 abbrev pub MetadataFails : List ℕ → ℕ → Why → Type 0
@@ -154,22 +155,20 @@ MetadataFails content field why = Fails metadata_kinds content field why
 
 -- ---- Message
 
--- the fields of a Message in front of its data: its channel's id, its sequence number, when it was logged and when it was published
+-- the fields of a Message in front of its data
 abbrev pub message_kinds : List Kind
 message_kinds = a_number 2 ∷ a_number 4 ∷ a_number 8 ∷ a_number 8 ∷ []
 
-abbrev pub message_values : ℕ → ℕ → ℕ → ℕ → Values message_kinds
-message_values channel_id sequence log_time publish_time = (channel_id, (sequence, (log_time, (publish_time, tt))))
+abbrev pub message_values : ℕ → MessageFields → Values message_kinds
+message_values channel_id f = (channel_id, (f.sequence, (f.log_time, (f.publish_time, tt))))
 
--- the content of a Message: its fields, and all that follows them is its data
-abbrev pub message_text : ℕ → ℕ → ℕ → ℕ → List ℕ → List ℕ
-message_text channel_id sequence log_time publish_time payload =
-    row message_kinds (message_values channel_id sequence log_time publish_time) payload
+-- the content of a Message: its channel's id and its fields, and all that follows them is its data
+abbrev pub message_text : ℕ → MessageFields → List ℕ
+message_text channel_id f = row message_kinds (message_values channel_id f) f.payload
 
--- a content is these fields and this data
-abbrev pub ShowsMessage : List ℕ → ℕ → ℕ → ℕ → ℕ → List ℕ → Type 0
-ShowsMessage content channel_id sequence log_time publish_time payload =
-    Begins message_kinds content (message_values channel_id sequence log_time publish_time) payload
+-- a content is this channel's id and these fields
+abbrev pub ShowsMessage : List ℕ → ℕ → MessageFields → Type 0
+ShowsMessage content channel_id f = RowBegins message_kinds content (message_values channel_id f) f.payload
 
 -- the first of its fields that is cut short
 abbrev pub MessageFails : List ℕ → ℕ → Why → Type 0
@@ -177,36 +176,30 @@ MessageFails content field why = Fails message_kinds content field why
 
 -- ---- Attachment
 
--- the fields of an Attachment: when it was logged and when it was created, its name, its media type, its data and the CRC of these
 abbrev pub attachment_kinds : List Kind
 attachment_kinds = a_number 8 ∷ a_number 8 ∷ a_text ∷ a_text ∷ some_bytes 8 ∷ a_number 4 ∷ []
 
-abbrev pub attachment_values : ℕ → ℕ → List ℕ → List ℕ → List ℕ → ℕ → Values attachment_kinds
-attachment_values log_time create_time name media_type payload crc =
-    (log_time, (create_time, (name, (media_type, (payload, (crc, tt))))))
+abbrev pub attachment_values : AttachmentFields → Values attachment_kinds
+attachment_values f = (f.log_time, (f.create_time, (f.name, (f.media_type, (f.payload, (f.crc, tt))))))
 
 -- the content of an Attachment
-abbrev pub attachment_text : ℕ → ℕ → List ℕ → List ℕ → List ℕ → ℕ → List ℕ
-attachment_text log_time create_time name media_type payload crc =
-    row attachment_kinds (attachment_values log_time create_time name media_type payload crc) []
+abbrev pub attachment_text : AttachmentFields → List ℕ
+attachment_text f = row attachment_kinds (attachment_values f) []
 
 -- a content shows these fields, whatever follows them
-abbrev pub ShowsAttachment : List ℕ → ℕ → ℕ → List ℕ → List ℕ → List ℕ → ℕ → Type 0
-ShowsAttachment content log_time create_time name media_type payload crc =
-    Shows attachment_kinds content (attachment_values log_time create_time name media_type payload crc)
+abbrev pub ShowsAttachment : List ℕ → AttachmentFields → Type 0
+ShowsAttachment content f = Shows attachment_kinds content (attachment_values f)
 
 -- the first of its fields that can't be read
 abbrev pub AttachmentFails : List ℕ → ℕ → Why → Type 0
 AttachmentFails content field why = Fails attachment_kinds content field why
 
 -- a content shows an Attachment whose CRC stands at this place, behind its other fields
-pub record CrcStandsAt (content : List ℕ) (place log_time create_time : ℕ) (name media_type payload : List ℕ) (crc : ℕ)
-    : Type 0 where
-  pub shows : ShowsAttachment content log_time create_time name media_type payload crc
-  pub behind : place ≡ 32 + length name + length media_type + length payload
-  pub stands : NumberAt 4 content place crc (place + 4)
+pub record CrcStandsAt (content : List ℕ) (place : ℕ) (f : AttachmentFields) : Type 0 where
+  pub shows : ShowsAttachment content f
+  pub behind : place ≡ 32 + length f.name + length f.media_type + length f.payload
+  pub stands : NumberAt 4 content place f.crc (place + 4)
 
 -- a content shows some Attachment whose CRC stands at this place
 abbrev pub HasCrcAt : List ℕ → ℕ → Type 0
-HasCrcAt content place = (log_time create_time : ℕ) × (name media_type payload : List ℕ) × (crc : ℕ)
-    × CrcStandsAt content place log_time create_time name media_type payload crc
+HasCrcAt content place = (f : AttachmentFields) × CrcStandsAt content place f

@@ -2,12 +2,14 @@
 ghost use Rattle.std.specs.Prelude.{◌≡◌, ◌+◌, ◌^◌, ◌<◌, ◌≤◌, ℕ, List, ◌++◌, length, vec_capacity, IfOk, IfErr, OnOk, OnErr};
 ghost use Rattle.mcap_wire.specs.Layout.{framed};
 ghost use Rattle.mcap_wire.specs.Writing.{LacksRoom};
+ghost use Rattle.rec_data.specs.Fields.{AttachmentFields};
+ghost use Rattle.rec_data.specs.Parsed.{attachment_fields};
 ghost use Rattle.rec_data.specs.Records.{attachment_opcode, attachment_text, ShowsAttachment, AttachmentFails, CrcStandsAt, HasCrcAt};
 
-use crate::faults::{ATTACHMENT, Bad, at_field};
+use crate::opcodes::ATTACHMENT;
 use mcap_wire::{
-    Memory, add_bytes64, add_head, add_text, add_u32, add_u64, make_room, take_bytes64, take_text,
-    take_u32, take_u64,
+    Bad, Memory, add_bytes64, add_head, add_text, add_u32, add_u64, at_field, make_room,
+    take_bytes64, take_text, take_u32, take_u64,
 };
 
 /// A file that goes along with the messages: when it was logged and when it was created, both in nanoseconds, its name, its
@@ -25,11 +27,8 @@ pub struct Attachment<'a> {
 impl<'a> Attachment<'a> {
     /// Reads the fields from a content. Bytes after the last field are allowed.
     pub fn parse(content: &'a [u8]) -> Result<Self, Bad>
-        ensures shown { IfOk result (λ a. ShowsAttachment content.now
-            a.log_time a.create_time a.name.now a.media_type.now a.payload.now a.crc) }
-        ensures none { OnErr result
-            ((log_time create_time : ℕ) (name media_type payload : List ℕ) (crc : ℕ)
-            → ShowsAttachment content.now log_time create_time name media_type payload crc → ⊥) }
+        ensures shown { IfOk result (λ a. ShowsAttachment content.now (attachment_fields a)) }
+        ensures none { OnErr result ((f : AttachmentFields) → ShowsAttachment content.now f → ⊥) }
         ensures first_fault { IfErr result (λ bad. AttachmentFails content.now bad.field bad.why) }
     {
         match Self::read(content) {
@@ -40,11 +39,8 @@ impl<'a> Attachment<'a> {
 
     // The fields, and the place of the last.
     fn read(content: &'a [u8]) -> Result<(Self, usize), Bad>
-        ensures shown { IfOk result (λ r. CrcStandsAt content.now r.1
-            r.0.log_time r.0.create_time r.0.name.now r.0.media_type.now r.0.payload.now r.0.crc) }
-        ensures none { OnErr result
-            ((log_time create_time : ℕ) (name media_type payload : List ℕ) (crc : ℕ)
-            → ShowsAttachment content.now log_time create_time name media_type payload crc → ⊥) }
+        ensures shown { IfOk result (λ r. CrcStandsAt content.now r.1 (attachment_fields r.0)) }
+        ensures none { OnErr result ((f : AttachmentFields) → ShowsAttachment content.now f → ⊥) }
         ensures first_fault { IfErr result (λ bad. AttachmentFails content.now bad.field bad.why) }
     {
         let (log_time, at) = at_field(1, take_u64(content, 0))?;
@@ -70,8 +66,7 @@ impl<'a> Attachment<'a> {
         requires name_fits { length self.now.name.now < 2 ^ 32 }
         requires media_type_fits { length self.now.media_type.now < 2 ^ 32 }
         ensures ok { OnOk result (out.new.items ≡ out.old.items ++ framed attachment_opcode
-            (attachment_text self.now.log_time self.now.create_time
-            self.now.name.now self.now.media_type.now self.now.payload.now self.now.crc)) }
+            (attachment_text (attachment_fields self.now))) }
         ensures err { OnErr result (out.new.items ≡ out.old.items) }
         ensures full { OnErr result (LacksRoom out.old (45 + length self.now.name.now
             + length self.now.media_type.now + length self.now.payload.now)) }
@@ -94,9 +89,7 @@ impl<'a> Attachment<'a> {
 /// where `Attachment::parse` refuses the content, with the same field and reason.
 pub fn attachment_crc_place(content: &[u8]) -> Result<usize, Bad>
     ensures place { IfOk result (HasCrcAt content.now) }
-    ensures none { OnErr result
-        ((log_time create_time : ℕ) (name media_type payload : List ℕ) (crc : ℕ)
-        → ShowsAttachment content.now log_time create_time name media_type payload crc → ⊥) }
+    ensures none { OnErr result ((f : AttachmentFields) → ShowsAttachment content.now f → ⊥) }
     ensures first_fault { IfErr result (λ bad. AttachmentFails content.now bad.field bad.why) }
 {
     match Attachment::read(content) {

@@ -3,13 +3,15 @@ ghost use Rattle.std.specs.Prelude.{◌≡◌, ◌+◌, ◌^◌, ◌<◌, ◌≤
 ghost use Rattle.mcap_wire.specs.Layout.{framed};
 ghost use Rattle.mcap_wire.specs.Maps.{pair_texts};
 ghost use Rattle.mcap_wire.specs.Writing.{LacksRoom};
+ghost use Rattle.rec_data.specs.Fields.{ChannelFields};
+ghost use Rattle.rec_data.specs.Parsed.{channel_fields};
 ghost use Rattle.rec_data.specs.Records.{channel_opcode, channel_text, ShowsChannel, ChannelFails};
 
-use crate::faults::{Bad, CHANNEL, at_field};
+use crate::opcodes::CHANNEL;
 use crate::schema::SchemaDef;
 use mcap_wire::{
-    Memory, Pairs, PairsRef, Text, add_head, add_pairs, add_text, add_u16, make_room, take_pairs,
-    take_text, take_u16,
+    Bad, Memory, Pairs, PairsRef, Text, add_head, add_pairs, add_text, add_u16, at_field,
+    make_room, take_pairs, take_text, take_u16,
 };
 use std::alloc::Global;
 
@@ -70,10 +72,8 @@ impl ChannelDef {
 impl<'a> Channel<'a> {
     /// Reads the fields from a content. Bytes after the last field are allowed.
     pub fn parse(content: &'a [u8]) -> Result<Self, Bad>
-        ensures shown { IfOk result (λ c. ShowsChannel content.now
-            c.id c.schema_id c.topic.now c.message_encoding.now c.metadata) }
-        ensures none { OnErr result ((id schema_id : ℕ) (topic encoding : List ℕ) (metadata : List (List ℕ × List ℕ))
-            → ShowsChannel content.now id schema_id topic encoding metadata → ⊥) }
+        ensures shown { IfOk result (λ c. ShowsChannel content.now c.id (channel_fields c)) }
+        ensures none { OnErr result ((id : ℕ) (f : ChannelFields) → ShowsChannel content.now id f → ⊥) }
         ensures first_fault { IfErr result (λ bad. ChannelFails content.now bad.field bad.why) }
     {
         let (id, at) = at_field(1, take_u16(content, 0))?;
@@ -97,8 +97,7 @@ impl<'a> Channel<'a> {
         requires encoding_fits { length self.now.message_encoding.now < 2 ^ 32 }
         requires metadata_fits { length (pair_texts self.now.metadata) < 2 ^ 32 }
         ensures ok { OnOk result (out.new.items ≡ out.old.items ++ framed channel_opcode
-            (channel_text self.now.id self.now.schema_id self.now.topic.now self.now.message_encoding.now
-            self.now.metadata)) }
+            (channel_text self.now.id (channel_fields self.now))) }
         ensures err { OnErr result (out.new.items ≡ out.old.items) }
         ensures full { OnErr result (LacksRoom out.old (25 + length self.now.topic.now
             + length self.now.message_encoding.now + length (pair_texts self.now.metadata))) }

@@ -2,10 +2,14 @@
 ghost use Rattle.std.specs.Prelude.{◌≡◌, ◌≤◌, ℕ, ◌++◌, vec_capacity, IfOk, IfErr, OnOk, OnErr};
 ghost use Rattle.mcap_wire.specs.Layout.{framed};
 ghost use Rattle.mcap_wire.specs.Writing.{LacksRoom};
+ghost use Rattle.rec_data.specs.Fields.{FooterFields};
+ghost use Rattle.rec_data.specs.Parsed.{footer_fields};
 ghost use Rattle.rec_data.specs.Records.{footer_opcode, footer_text, ShowsFooter, FooterFails};
 
-use crate::faults::{Bad, FOOTER, at_field};
-use mcap_wire::{Memory, Why, add_head, add_u32, add_u64, make_room, take_u32, take_u64};
+use crate::opcodes::FOOTER;
+use mcap_wire::{
+    Bad, Memory, Why, add_head, add_u32, add_u64, at_field, make_room, take_u32, take_u64,
+};
 
 /// The last record of a file: where its summary and the offsets of the summary start (0 where there is none), and
 /// the CRC-32 of the summary (0 where there is none).
@@ -19,10 +23,8 @@ pub struct Footer {
 impl Footer {
     /// Reads the fields from a content. Bytes after the last field are refused at field 4.
     pub fn parse(content: &[u8]) -> Result<Self, Bad>
-        ensures shown { IfOk result
-            (λ f. ShowsFooter content.now f.summary_start f.summary_offset_start f.summary_crc) }
-        ensures none { OnErr result
-            ((start offset_start crc : ℕ) → ShowsFooter content.now start offset_start crc → ⊥) }
+        ensures shown { IfOk result (λ f. ShowsFooter content.now (footer_fields f)) }
+        ensures none { OnErr result ((f : FooterFields) → ShowsFooter content.now f → ⊥) }
         ensures first_fault { IfErr result (λ bad. FooterFails content.now bad.field bad.why) }
     {
         let (summary_start, at) = at_field(1, take_u64(content, 0))?;
@@ -45,7 +47,7 @@ impl Footer {
     /// bytes.
     pub fn frame(&self, out: &mut Vec<u8>) -> Result<(), Memory>
         ensures ok { OnOk result (out.new.items ≡ out.old.items ++ framed footer_opcode
-            (footer_text self.now.summary_start self.now.summary_offset_start self.now.summary_crc)) }
+            (footer_text (footer_fields self.now))) }
         ensures err { OnErr result (out.new.items ≡ out.old.items) }
         ensures full { OnErr result (LacksRoom out.old 29) }
         ensures capacity { vec_capacity out.old ≤ vec_capacity out.new }

@@ -2,10 +2,12 @@
 ghost use Rattle.std.specs.Prelude.{◌≡◌, ◌+◌, ◌^◌, ◌<◌, ◌≤◌, ℕ, List, ◌++◌, length, vec_capacity, IfOk, IfErr, OnOk, OnErr};
 ghost use Rattle.mcap_wire.specs.Layout.{framed};
 ghost use Rattle.mcap_wire.specs.Writing.{LacksRoom};
+ghost use Rattle.rec_data.specs.Fields.{HeaderFields};
+ghost use Rattle.rec_data.specs.Parsed.{header_fields};
 ghost use Rattle.rec_data.specs.Records.{header_opcode, header_text, ShowsHeader, HeaderFails};
 
-use crate::faults::{Bad, HEADER, at_field};
-use mcap_wire::{Memory, add_head, add_text, make_room, take_text};
+use crate::opcodes::HEADER;
+use mcap_wire::{Bad, Memory, add_head, add_text, at_field, make_room, take_text};
 
 /// The first record of a file: the profile that its messages follow and the library that wrote it.
 #[derive(Clone, Copy, Debug, PartialEq, Eq)]
@@ -17,9 +19,8 @@ pub struct Header<'a> {
 impl<'a> Header<'a> {
     /// Reads the fields from a content. Bytes after the last field are allowed.
     pub fn parse(content: &'a [u8]) -> Result<Self, Bad>
-        ensures shown { IfOk result (λ h. ShowsHeader content.now h.profile.now h.library.now) }
-        ensures none { OnErr result
-            ((profile library : List ℕ) → ShowsHeader content.now profile library → ⊥) }
+        ensures shown { IfOk result (λ h. ShowsHeader content.now (header_fields h)) }
+        ensures none { OnErr result ((f : HeaderFields) → ShowsHeader content.now f → ⊥) }
         ensures first_fault { IfErr result (λ bad. HeaderFails content.now bad.field bad.why) }
     {
         let (profile, end) = at_field(1, take_text(content, 0))?;
@@ -33,7 +34,7 @@ impl<'a> Header<'a> {
         requires profile_fits { length self.now.profile.now < 2 ^ 32 }
         requires library_fits { length self.now.library.now < 2 ^ 32 }
         ensures ok { OnOk result (out.new.items ≡ out.old.items
-            ++ framed header_opcode (header_text self.now.profile.now self.now.library.now)) }
+            ++ framed header_opcode (header_text (header_fields self.now))) }
         ensures err { OnErr result (out.new.items ≡ out.old.items) }
         ensures full { OnErr result
             (LacksRoom out.old (17 + length self.now.profile.now + length self.now.library.now)) }

@@ -1,11 +1,11 @@
 //! What is framed is read back, and a content shows one record: each law as the contract of a function that does nothing.
 ghost use Rattle.mcap_wire.specs.Contents.{RowReadsBack};
-ghost use Rattle.rec_data.specs.Records.{schema_kinds, channel_kinds, attachment_kinds, metadata_kinds};
-ghost use Rattle.rec_data.specs.Laws.{HeadersReadBack, FootersReadBack, DataEndsReadBack, MessagesReadBack, MessagesAreLongEnough, MessagesChangeChannel};
+ghost use Rattle.rec_data.specs.Records.{header_kinds, data_end_kinds, schema_kinds, channel_kinds, attachment_kinds, metadata_kinds};
+ghost use Rattle.rec_data.specs.Laws.{FootersReadBack, MessagesReadBack, MessagesAreLongEnough, MessagesChangeChannel, RecsReadBack};
 
 /// A Header that is framed is read back, and no content shows two.
 pub fn headers_read_back()
-    ensures { HeadersReadBack }
+    ensures { RowReadsBack header_kinds }
 {}
 
 /// A Footer that is framed is read back, and no content shows two.
@@ -15,7 +15,7 @@ pub fn footers_read_back()
 
 /// A Data End that is framed is read back, and no content shows two.
 pub fn data_ends_read_back()
-    ensures { DataEndsReadBack }
+    ensures { RowReadsBack data_end_kinds }
 {}
 
 /// A Schema that is framed is read back, and no content shows two.
@@ -51,4 +51,9 @@ pub fn messages_change_channel()
 /// An Attachment that is framed is read back, and no content shows two.
 pub fn attachments_read_back()
     ensures { RowReadsBack attachment_kinds }
+{}
+
+/// The bytes that a Schema, a Channel or a Message is framed to are that record, and no bytes are two.
+pub fn recs_read_back()
+    ensures { RecsReadBack }
 {}

@@ -3,23 +3,23 @@
 
 mod attachment;
 mod channel;
-mod faults;
 mod footer;
 mod header;
 pub mod laws;
 mod message;
 mod metadata;
+mod opcodes;
 mod owned;
 mod schema;
 mod section;
 
 pub use attachment::{Attachment, attachment_crc_place};
 pub use channel::{Channel, ChannelDef};
-pub use faults::{ATTACHMENT, Bad, CHANNEL, DATA_END, FOOTER, HEADER, MESSAGE, METADATA, SCHEMA};
 pub use footer::Footer;
 pub use header::Header;
 pub use message::Message;
 pub use metadata::Metadata;
+pub use opcodes::{ATTACHMENT, CHANNEL, DATA_END, FOOTER, HEADER, MESSAGE, METADATA, SCHEMA};
 pub use owned::{Rec, RecRefused};
 pub use schema::{Schema, SchemaDef};
 pub use section::DataEnd;

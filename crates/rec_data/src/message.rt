@@ -2,11 +2,14 @@
 ghost use Rattle.std.specs.Prelude.{◌≡◌, ◌+◌, ◌<◌, ◌≤◌, ℕ, List, ◌++◌, length, vec_capacity, IfOk, IfErr, OnOk, OnErr};
 ghost use Rattle.mcap_wire.specs.Layout.{framed};
 ghost use Rattle.mcap_wire.specs.Writing.{LacksRoom};
+ghost use Rattle.rec_data.specs.Fields.{MessageFields};
+ghost use Rattle.rec_data.specs.Parsed.{message_fields};
 ghost use Rattle.rec_data.specs.Records.{message_opcode, message_text, ShowsMessage, MessageFails};
 
-use crate::faults::{Bad, MESSAGE, at_field};
+use crate::opcodes::MESSAGE;
 use mcap_wire::{
-    Memory, add_bytes, add_head, add_u16, add_u32, add_u64, make_room, take_u16, take_u32, take_u64,
+    Bad, Memory, add_bytes, add_head, add_u16, add_u32, add_u64, at_field, make_room, take_u16,
+    take_u32, take_u64,
 };
 
 /// A message on a channel: its number on that channel, when it was logged and when it was published, both in nanoseconds,
@@ -23,11 +26,9 @@ pub struct Message<'a> {
 impl<'a> Message<'a> {
     /// Reads the fields from a content. All bytes after the publish time are the data.
     pub fn parse(content: &'a [u8]) -> Result<Self, Bad>
-        ensures shown { IfOk result (λ m. ShowsMessage content.now
-            m.channel_id m.sequence m.log_time m.publish_time m.payload.now) }
-        ensures none { OnErr result
-            ((channel_id sequence log_time publish_time : ℕ) (payload : List ℕ)
-            → ShowsMessage content.now channel_id sequence log_time publish_time payload → ⊥) }
+        ensures shown { IfOk result (λ m. ShowsMessage content.now m.channel_id (message_fields m)) }
+        ensures none { OnErr result ((channel_id : ℕ) (f : MessageFields)
+            → ShowsMessage content.now channel_id f → ⊥) }
         ensures first_fault { IfErr result (λ bad. MessageFails content.now bad.field bad.why) }
     {
         let (channel_id, at) = at_field(1, take_u16(content, 0))?;
@@ -47,8 +48,7 @@ impl<'a> Message<'a> {
     /// bytes.
     pub fn frame(&self, out: &mut Vec<u8>) -> Result<(), Memory>
         ensures ok { OnOk result (out.new.items ≡ out.old.items ++ framed message_opcode
-            (message_text self.now.channel_id self.now.sequence self.now.log_time
-            self.now.publish_time self.now.payload.now)) }
+            (message_text self.now.channel_id (message_fields self.now))) }
         ensures err { OnErr result (out.new.items ≡ out.old.items) }
         ensures full { OnErr result (LacksRoom out.old (31 + length self.now.payload.now)) }
         ensures capacity { vec_capacity out.old ≤ vec_capacity out.new }

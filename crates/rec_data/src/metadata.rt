@@ -3,11 +3,14 @@ ghost use Rattle.std.specs.Prelude.{◌≡◌, ◌+◌, ◌^◌, ◌<◌, ◌≤
 ghost use Rattle.mcap_wire.specs.Layout.{framed};
 ghost use Rattle.mcap_wire.specs.Maps.{pair_texts};
 ghost use Rattle.mcap_wire.specs.Writing.{LacksRoom};
+ghost use Rattle.rec_data.specs.Fields.{MetadataFields};
+ghost use Rattle.rec_data.specs.Parsed.{metadata_fields};
 ghost use Rattle.rec_data.specs.Records.{metadata_opcode, metadata_text, ShowsMetadata, MetadataFails};
 
-use crate::faults::{Bad, METADATA, at_field};
+use crate::opcodes::METADATA;
 use mcap_wire::{
-    Memory, PairsRef, add_head, add_pairs, add_text, make_room, take_pairs, take_text,
+    Bad, Memory, PairsRef, add_head, add_pairs, add_text, at_field, make_room, take_pairs,
+    take_text,
 };
 
 /// A map of texts under a name.
@@ -20,9 +23,8 @@ pub struct Metadata<'a> {
 impl<'a> Metadata<'a> {
     /// Reads the fields from a content. Bytes after the last field are allowed.
     pub fn parse(content: &'a [u8]) -> Result<Self, Bad>
-        ensures shown { IfOk result (λ m. ShowsMetadata content.now m.name.now m.metadata) }
-        ensures none { OnErr result ((name : List ℕ) (metadata : List (List ℕ × List ℕ))
-            → ShowsMetadata content.now name metadata → ⊥) }
+        ensures shown { IfOk result (λ m. ShowsMetadata content.now (metadata_fields m)) }
+        ensures none { OnErr result ((f : MetadataFields) → ShowsMetadata content.now f → ⊥) }
         ensures first_fault { IfErr result (λ bad. MetadataFails content.now bad.field bad.why) }
     {
         let (name, at) = at_field(1, take_text(content, 0))?;
@@ -36,7 +38,7 @@ impl<'a> Metadata<'a> {
         requires name_fits { length self.now.name.now < 2 ^ 32 }
         requires metadata_fits { length (pair_texts self.now.metadata) < 2 ^ 32 }
         ensures ok { OnOk result (out.new.items ≡ out.old.items
-            ++ framed metadata_opcode (metadata_text self.now.name.now self.now.metadata)) }
+            ++ framed metadata_opcode (metadata_text (metadata_fields self.now))) }
         ensures err { OnErr result (out.new.items ≡ out.old.items) }
         ensures full { OnErr result
             (LacksRoom out.old (17 + length self.now.name.now + length (pair_texts self.now.metadata))) }

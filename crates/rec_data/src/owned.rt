@@ -1,13 +1,13 @@
 //! Records that own what they hold: Schema, Channel and Message.
 ghost use Rattle.std.specs.Prelude.{◌≡◌, ◌≤◌, ◌++◌, length, vec_capacity, OnOk, OnErr};
 ghost use Rattle.mcap_wire.specs.Writing.{LacksRoom};
-ghost use Rattle.rec_data.specs.Owned.{rec_bytes, LengthsFit, ContentRead, FramedRead};
+ghost use Rattle.rec_data.specs.Owned.{rec_bytes, LengthsFit, ContentRead, Unframed, FramedRead};
 
 use crate::channel::Channel;
-use crate::faults::{CHANNEL, MESSAGE, SCHEMA};
 use crate::message::Message;
+use crate::opcodes::{CHANNEL, MESSAGE, SCHEMA};
 use crate::schema::{Schema, SchemaDef};
-use mcap_wire::{Bytes, Memory, PairList, PairsRef, Text, cut};
+use mcap_wire::{Bytes, Head, Memory, PairList, PairsRef, Text, take_head};
 use std::alloc::Global;
 
 /// A record of the data section that owns what it holds (MCAP specification, "Schema", "Channel", "Message").
@@ -123,21 +123,30 @@ impl Rec {
     pub fn from_framed(alloc: Global, bytes: &[u8]) -> Result<Rec, RecRefused>
         ensures { FramedRead bytes.now result }
     {
-        let found = match cut(bytes, 0) {
-            Ok(found) => found,
-            Err(_) => return Err(RecRefused::Bad),
-        };
-        if (found.to as usize) < bytes.len() {
+        let Some((op, content)) = unframed(bytes) else {
             return Err(RecRefused::Bad);
-        }
-        let content = &bytes[9..];
-        match found.op {
+        };
+        match op {
             SCHEMA => return schema_of(alloc, content),
             CHANNEL => return channel_of(alloc, content),
             MESSAGE => return message_of(alloc, content),
             _ => return Err(RecRefused::Bad),
         }
     }
+}
+
+// The opcode and the content of the one record that the bytes are.
+fn unframed(bytes: &[u8]) -> Option<(u8, &[u8])>
+    ensures { Unframed bytes.now result }
+{
+    let Head { op, len } = match take_head(bytes, 0) {
+        Ok(head) => head,
+        Err(_) => return None,
+    };
+    if len != (bytes.len() - 9) as u64 {
+        return None;
+    }
+    return Some((op, &bytes[9..]));
 }
 
 // The Schema that a content shows.

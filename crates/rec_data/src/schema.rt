@@ -2,12 +2,14 @@
 ghost use Rattle.std.specs.Prelude.{◌≡◌, ◌+◌, ◌^◌, ◌<◌, ◌≤◌, ℕ, List, ◌++◌, length, vec_capacity, IfOk, IfErr, OnOk, OnErr};
 ghost use Rattle.mcap_wire.specs.Layout.{framed};
 ghost use Rattle.mcap_wire.specs.Writing.{LacksRoom};
+ghost use Rattle.rec_data.specs.Fields.{SchemaFields};
+ghost use Rattle.rec_data.specs.Parsed.{schema_fields};
 ghost use Rattle.rec_data.specs.Records.{schema_opcode, schema_text, ShowsSchema, SchemaFails};
 
-use crate::faults::{Bad, SCHEMA, at_field};
+use crate::opcodes::SCHEMA;
 use mcap_wire::{
-    Bytes, Memory, Text, add_bytes32, add_head, add_text, add_u16, make_room, take_bytes32,
-    take_text, take_u16,
+    Bad, Bytes, Memory, Text, add_bytes32, add_head, add_text, add_u16, at_field, make_room,
+    take_bytes32, take_text, take_u16,
 };
 use std::alloc::Global;
 
@@ -54,10 +56,8 @@ impl SchemaDef {
 impl<'a> Schema<'a> {
     /// Reads the fields from a content. Bytes after the last field are allowed.
     pub fn parse(content: &'a [u8]) -> Result<Self, Bad>
-        ensures shown { IfOk result
-            (λ s. ShowsSchema content.now s.id s.name.now s.encoding.now s.payload.now) }
-        ensures none { OnErr result ((id : ℕ) (name encoding payload : List ℕ)
-            → ShowsSchema content.now id name encoding payload → ⊥) }
+        ensures shown { IfOk result (λ s. ShowsSchema content.now s.id (schema_fields s)) }
+        ensures none { OnErr result ((id : ℕ) (f : SchemaFields) → ShowsSchema content.now id f → ⊥) }
         ensures first_fault { IfErr result (λ bad. SchemaFails content.now bad.field bad.why) }
     {
         let (id, at) = at_field(1, take_u16(content, 0))?;
@@ -79,8 +79,7 @@ impl<'a> Schema<'a> {
         requires encoding_fits { length self.now.encoding.now < 2 ^ 32 }
         requires payload_fits { length self.now.payload.now < 2 ^ 32 }
         ensures ok { OnOk result (out.new.items ≡ out.old.items ++ framed schema_opcode
-            (schema_text
-            self.now.id self.now.name.now self.now.encoding.now self.now.payload.now)) }
+            (schema_text self.now.id (schema_fields self.now))) }
         ensures err { OnErr result (out.new.items ≡ out.old.items) }
         ensures full { OnErr result (LacksRoom out.old
             (23 + length self.now.name.now

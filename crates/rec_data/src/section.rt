@@ -4,8 +4,8 @@ ghost use Rattle.mcap_wire.specs.Layout.{framed};
 ghost use Rattle.mcap_wire.specs.Writing.{LacksRoom};
 ghost use Rattle.rec_data.specs.Records.{data_end_opcode, data_end_text, ShowsDataEnd, DataEndFails};
 
-use crate::faults::{Bad, DATA_END, at_field};
-use mcap_wire::{Memory, add_head, add_u32, make_room, take_u32};
+use crate::opcodes::DATA_END;
+use mcap_wire::{Bad, Memory, add_head, add_u32, at_field, make_room, take_u32};
 
 /// The end of the data section: the CRC-32 of all bytes before this record (0 where there is none).
 #[derive(Clone, Copy, Debug, PartialEq, Eq)]

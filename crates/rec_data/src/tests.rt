@@ -1,5 +1,5 @@
 use super::*;
-use mcap_wire::{Bytes, Cut, Pairs, Text, Why, cut};
+use mcap_wire::{Bad, Bytes, Cut, Pairs, Text, Why, cut};
 use std::test::Fail;
 
 // A Header with the profile "ros2" and the library "wire".

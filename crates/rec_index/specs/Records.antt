@@ -2,6 +2,7 @@
 use Rattle.std.specs.Prelude.{ℕ, List, [], ◌∷◌}
 use Rattle.mcap_wire.specs.declared.faults.Why.{Why}
 use Rattle.mcap_wire.specs.Contents.{Kind, a_number, a_text, some_bytes, an_array, a_count_map, Values, row, Shows, Fails}
+use Rattle.rec_index.specs.Fields.{ChunkFields, ChunkIndexFields, AttachmentIndexFields, MetadataIndexFields, StatisticsFields, SummaryOffsetFields}
 
 -- ---- the opcodes
 
@@ -28,23 +29,19 @@ summary_offset_opcode = 14
 
 -- ---- Summary Offset
 
--- the fields of a Summary Offset: the opcode of the records of a group of the summary, where the group starts and how long it is
 abbrev pub summary_offset_kinds : List Kind
 summary_offset_kinds = a_number 1 ∷ a_number 8 ∷ a_number 8 ∷ []
 
-abbrev pub summary_offset_values : ℕ → ℕ → ℕ → Values summary_offset_kinds
-summary_offset_values group_opcode group_start group_length =
-    (group_opcode, (group_start, (group_length, tt)))
+abbrev pub summary_offset_values : SummaryOffsetFields → Values summary_offset_kinds
+summary_offset_values f = (f.op, (f.offset, (f.size, tt)))
 
 -- the content of a Summary Offset
-abbrev pub summary_offset_text : ℕ → ℕ → ℕ → List ℕ
-summary_offset_text group_opcode group_start group_length =
-    row summary_offset_kinds (summary_offset_values group_opcode group_start group_length) []
+abbrev pub summary_offset_text : SummaryOffsetFields → List ℕ
+summary_offset_text f = row summary_offset_kinds (summary_offset_values f) []
 
 -- a content shows these fields, whatever follows them
-abbrev pub ShowsSummaryOffset : List ℕ → ℕ → ℕ → ℕ → Type 0
-ShowsSummaryOffset content group_opcode group_start group_length =
-    Shows summary_offset_kinds content (summary_offset_values group_opcode group_start group_length)
+abbrev pub ShowsSummaryOffset : List ℕ → SummaryOffsetFields → Type 0
+ShowsSummaryOffset content f = Shows summary_offset_kinds content (summary_offset_values f)
 
 -- the first of its fields that can't be read
 abbrev pub SummaryOffsetFails : List ℕ → ℕ → Why → Type 0
@@ -52,23 +49,19 @@ SummaryOffsetFails content field why = Fails summary_offset_kinds content field 
 
 -- ---- Metadata Index
 
--- the fields of a Metadata Index: where a Metadata record starts, how long it is, and its name
 abbrev pub metadata_index_kinds : List Kind
 metadata_index_kinds = a_number 8 ∷ a_number 8 ∷ a_text ∷ []
 
-abbrev pub metadata_index_values : ℕ → ℕ → List ℕ → Values metadata_index_kinds
-metadata_index_values offset size name =
-    (offset, (size, (name, tt)))
+abbrev pub metadata_index_values : MetadataIndexFields → Values metadata_index_kinds
+metadata_index_values f = (f.offset, (f.size, (f.name, tt)))
 
 -- the content of a Metadata Index
-abbrev pub metadata_index_text : ℕ → ℕ → List ℕ → List ℕ
-metadata_index_text offset size name =
-    row metadata_index_kinds (metadata_index_values offset size name) []
+abbrev pub metadata_index_text : MetadataIndexFields → List ℕ
+metadata_index_text f = row metadata_index_kinds (metadata_index_values f) []
 
 -- a content shows these fields, whatever follows them
-abbrev pub ShowsMetadataIndex : List ℕ → ℕ → ℕ → List ℕ → Type 0
-ShowsMetadataIndex content offset size name =
-    Shows metadata_index_kinds content (metadata_index_values offset size name)
+abbrev pub ShowsMetadataIndex : List ℕ → MetadataIndexFields → Type 0
+ShowsMetadataIndex content f = Shows metadata_index_kinds content (metadata_index_values f)
 
 -- the first of its fields that can't be read
 abbrev pub MetadataIndexFails : List ℕ → ℕ → Why → Type 0
@@ -76,24 +69,19 @@ MetadataIndexFails content field why = Fails metadata_index_kinds content field 
 
 -- ---- Attachment Index
 
--- the fields of an Attachment Index: where an Attachment starts, how long it is, its two times, the size of its data, its name and its media type
 abbrev pub attachment_index_kinds : List Kind
 attachment_index_kinds = a_number 8 ∷ a_number 8 ∷ a_number 8 ∷ a_number 8 ∷ a_number 8 ∷ a_text ∷ a_text ∷ []
 
-abbrev pub attachment_index_values : ℕ → ℕ → ℕ → ℕ → ℕ → List ℕ → List ℕ → Values attachment_index_kinds
-attachment_index_values offset size log_time create_time data_size name media_type =
-    (offset, (size, (log_time, (create_time, (data_size, (name, (media_type, tt)))))))
+abbrev pub attachment_index_values : AttachmentIndexFields → Values attachment_index_kinds
+attachment_index_values f = (f.offset, (f.size, (f.log_time, (f.create_time, (f.payload_size, (f.name, (f.media_type, tt)))))))
 
 -- the content of an Attachment Index
-abbrev pub attachment_index_text : ℕ → ℕ → ℕ → ℕ → ℕ → List ℕ → List ℕ → List ℕ
-attachment_index_text offset size log_time create_time data_size name media_type =
-    row attachment_index_kinds (attachment_index_values offset size log_time create_time data_size name media_type) []
+abbrev pub attachment_index_text : AttachmentIndexFields → List ℕ
+attachment_index_text f = row attachment_index_kinds (attachment_index_values f) []
 
 -- a content shows these fields, whatever follows them
-abbrev pub ShowsAttachmentIndex : List ℕ → ℕ → ℕ → ℕ → ℕ → ℕ → List ℕ → List ℕ → Type 0
-ShowsAttachmentIndex content offset size log_time create_time data_size name media_type =
-    Shows attachment_index_kinds content
-    (attachment_index_values offset size log_time create_time data_size name media_type)
+abbrev pub ShowsAttachmentIndex : List ℕ → AttachmentIndexFields → Type 0
+ShowsAttachmentIndex content f = Shows attachment_index_kinds content (attachment_index_values f)
 
 -- the first of its fields that can't be read
 abbrev pub AttachmentIndexFails : List ℕ → ℕ → Why → Type 0
@@ -101,26 +89,19 @@ AttachmentIndexFails content field why = Fails attachment_index_kinds content fi
 
 -- ---- Chunk
 
--- the fields of a Chunk: the first and the last log time of its messages, the size and the CRC of its records before compression, the compression, and the records as they are compressed
 abbrev pub chunk_kinds : List Kind
 chunk_kinds = a_number 8 ∷ a_number 8 ∷ a_number 8 ∷ a_number 4 ∷ a_text ∷ some_bytes 8 ∷ []
 
-abbrev pub chunk_values : ℕ → ℕ → ℕ → ℕ → List ℕ → List ℕ → Values chunk_kinds
-chunk_values message_start_time message_end_time uncompressed_size uncompressed_crc compression records =
-    (message_start_time, (message_end_time, (uncompressed_size, (uncompressed_crc, (compression, (records, tt))))))
+abbrev pub chunk_values : ChunkFields → Values chunk_kinds
+chunk_values f = (f.start, (f.end, (f.size, (f.crc, (f.compression, (f.records, tt))))))
 
 -- the content of a Chunk
-abbrev pub chunk_text : ℕ → ℕ → ℕ → ℕ → List ℕ → List ℕ → List ℕ
-chunk_text message_start_time message_end_time uncompressed_size uncompressed_crc compression records =
-    row chunk_kinds
-    (chunk_values message_start_time message_end_time uncompressed_size uncompressed_crc compression records)
-    []
+abbrev pub chunk_text : ChunkFields → List ℕ
+chunk_text f = row chunk_kinds (chunk_values f) []
 
 -- a content shows these fields, whatever follows them
-abbrev pub ShowsChunk : List ℕ → ℕ → ℕ → ℕ → ℕ → List ℕ → List ℕ → Type 0
-ShowsChunk content message_start_time message_end_time uncompressed_size uncompressed_crc compression records =
-    Shows chunk_kinds content
-    (chunk_values message_start_time message_end_time uncompressed_size uncompressed_crc compression records)
+abbrev pub ShowsChunk : List ℕ → ChunkFields → Type 0
+ShowsChunk content f = Shows chunk_kinds content (chunk_values f)
 
 -- the first of its fields that can't be read
 abbrev pub ChunkFails : List ℕ → ℕ → Why → Type 0
@@ -152,23 +133,19 @@ MessageIndexFails content field why = Fails message_index_kinds content field wh
 
 -- ---- Chunk Index
 
--- the fields of a Chunk Index: the times of its messages, where the Chunk starts and how long it is, where the Message Index of each channel starts, their length together, the compression and the sizes with and without it
 abbrev pub chunk_index_kinds : List Kind
 chunk_index_kinds = a_number 8 ∷ a_number 8 ∷ a_number 8 ∷ a_number 8 ∷ a_count_map ∷ a_number 8 ∷ a_text ∷ a_number 8 ∷ a_number 8 ∷ []
 
-abbrev pub chunk_index_values : ℕ → ℕ → ℕ → ℕ → List (ℕ × ℕ) → ℕ → List ℕ → ℕ → ℕ → Values chunk_index_kinds
-chunk_index_values message_start_time message_end_time chunk_start_offset chunk_length message_index_offsets message_index_length compression compressed_size uncompressed_size =
-    (message_start_time, (message_end_time, (chunk_start_offset, (chunk_length, (message_index_offsets, (message_index_length, (compression, (compressed_size, (uncompressed_size, tt)))))))))
+abbrev pub chunk_index_values : ChunkIndexFields → Values chunk_index_kinds
+chunk_index_values f = (f.start, (f.end, (f.offset, (f.size, (f.indexes, (f.indexes_size, (f.compression, (f.compressed, (f.uncompressed, tt)))))))))
 
 -- the content of a Chunk Index
-abbrev pub chunk_index_text : ℕ → ℕ → ℕ → ℕ → List (ℕ × ℕ) → ℕ → List ℕ → ℕ → ℕ → List ℕ
-chunk_index_text message_start_time message_end_time chunk_start_offset chunk_length message_index_offsets message_index_length compression compressed_size uncompressed_size =
-    row chunk_index_kinds (chunk_index_values message_start_time message_end_time chunk_start_offset chunk_length message_index_offsets message_index_length compression compressed_size uncompressed_size) []
+abbrev pub chunk_index_text : ChunkIndexFields → List ℕ
+chunk_index_text f = row chunk_index_kinds (chunk_index_values f) []
 
 -- a content shows these fields, whatever follows them
-abbrev pub ShowsChunkIndex : List ℕ → ℕ → ℕ → ℕ → ℕ → List (ℕ × ℕ) → ℕ → List ℕ → ℕ → ℕ → Type 0
-ShowsChunkIndex content message_start_time message_end_time chunk_start_offset chunk_length message_index_offsets message_index_length compression compressed_size uncompressed_size =
-    Shows chunk_index_kinds content (chunk_index_values message_start_time message_end_time chunk_start_offset chunk_length message_index_offsets message_index_length compression compressed_size uncompressed_size)
+abbrev pub ShowsChunkIndex : List ℕ → ChunkIndexFields → Type 0
+ShowsChunkIndex content f = Shows chunk_index_kinds content (chunk_index_values f)
 
 -- the first of its fields that can't be read
 abbrev pub ChunkIndexFails : List ℕ → ℕ → Why → Type 0
@@ -176,23 +153,19 @@ ChunkIndexFails content field why = Fails chunk_index_kinds content field why
 
 -- ---- Statistics
 
--- the fields of a Statistics: the counts of messages, schemas, channels, attachments, metadata and chunks, the times of the messages, and the count of the messages of each channel
 abbrev pub statistics_kinds : List Kind
 statistics_kinds = a_number 8 ∷ a_number 2 ∷ a_number 4 ∷ a_number 4 ∷ a_number 4 ∷ a_number 4 ∷ a_number 8 ∷ a_number 8 ∷ a_count_map ∷ []
 
-abbrev pub statistics_values : ℕ → ℕ → ℕ → ℕ → ℕ → ℕ → ℕ → ℕ → List (ℕ × ℕ) → Values statistics_kinds
-statistics_values message_count schema_count channel_count attachment_count metadata_count chunk_count message_start_time message_end_time channel_message_counts =
-    (message_count, (schema_count, (channel_count, (attachment_count, (metadata_count, (chunk_count, (message_start_time, (message_end_time, (channel_message_counts, tt)))))))))
+abbrev pub statistics_values : StatisticsFields → Values statistics_kinds
+statistics_values f = (f.messages, (f.schemas, (f.channels, (f.attachments, (f.metadata, (f.chunks, (f.start, (f.end, (f.counts, tt)))))))))
 
 -- the content of a Statistics
-abbrev pub statistics_text : ℕ → ℕ → ℕ → ℕ → ℕ → ℕ → ℕ → ℕ → List (ℕ × ℕ) → List ℕ
-statistics_text message_count schema_count channel_count attachment_count metadata_count chunk_count message_start_time message_end_time channel_message_counts =
-    row statistics_kinds (statistics_values message_count schema_count channel_count attachment_count metadata_count chunk_count message_start_time message_end_time channel_message_counts) []
+abbrev pub statistics_text : StatisticsFields → List ℕ
+statistics_text f = row statistics_kinds (statistics_values f) []
 
 -- a content shows these fields, whatever follows them
-abbrev pub ShowsStatistics : List ℕ → ℕ → ℕ → ℕ → ℕ → ℕ → ℕ → ℕ → ℕ → List (ℕ × ℕ) → Type 0
-ShowsStatistics content message_count schema_count channel_count attachment_count metadata_count chunk_count message_start_time message_end_time channel_message_counts =
-    Shows statistics_kinds content (statistics_values message_count schema_count channel_count attachment_count metadata_count chunk_count message_start_time message_end_time channel_message_counts)
+abbrev pub ShowsStatistics : List ℕ → StatisticsFields → Type 0
+ShowsStatistics content f = Shows statistics_kinds content (statistics_values f)
 
 -- the first of its fields that can't be read
 abbrev pub StatisticsFails : List ℕ → ℕ → Why → Type 0

@@ -2,10 +2,14 @@
 ghost use Rattle.std.specs.Prelude.{◌≡◌, ◌+◌, ◌^◌, ◌<◌, ◌≤◌, ℕ, List, ◌++◌, length, vec_capacity, IfOk, IfErr, OnOk, OnErr};
 ghost use Rattle.mcap_wire.specs.Layout.{framed};
 ghost use Rattle.mcap_wire.specs.Writing.{LacksRoom};
+ghost use Rattle.rec_index.specs.Fields.{AttachmentIndexFields};
+ghost use Rattle.rec_index.specs.Parsed.{attachment_index_fields};
 ghost use Rattle.rec_index.specs.Records.{attachment_index_opcode, attachment_index_text, ShowsAttachmentIndex, AttachmentIndexFails};
 
-use crate::faults::{ATTACHMENT_INDEX, Bad, at_field};
-use mcap_wire::{Memory, add_head, add_text, add_u64, make_room, take_text, take_u64};
+use crate::opcodes::ATTACHMENT_INDEX;
+use mcap_wire::{
+    Bad, Memory, add_head, add_text, add_u64, at_field, make_room, take_text, take_u64,
+};
 
 /// An Attachment of the file: where it starts and how long the whole record is, both in bytes, when it was logged and when
 /// it was created, both in nanoseconds, how many bytes its data has, its name and its media type.
@@ -23,13 +27,8 @@ pub struct AttachmentIndex<'a> {
 impl<'a> AttachmentIndex<'a> {
     /// Reads the fields from a content. Bytes after the last field are allowed.
     pub fn parse(content: &'a [u8]) -> Result<Self, Bad>
-        ensures shown { IfOk result (λ i. ShowsAttachmentIndex content.now
-            i.offset i.length i.log_time i.create_time i.data_size i.name.now i.media_type.now) }
-        ensures none { OnErr result
-            ((offset size log_time create_time data_size : ℕ) (name media_type : List ℕ)
-            → ShowsAttachmentIndex content.now
-            offset size log_time create_time data_size name media_type
-            → ⊥) }
+        ensures shown { IfOk result (λ i. ShowsAttachmentIndex content.now (attachment_index_fields i)) }
+        ensures none { OnErr result ((f : AttachmentIndexFields) → ShowsAttachmentIndex content.now f → ⊥) }
         ensures first_fault { IfErr result
             (λ bad. AttachmentIndexFails content.now bad.field bad.why) }
     {
@@ -57,9 +56,7 @@ impl<'a> AttachmentIndex<'a> {
         requires name_fits { length self.now.name.now < 2 ^ 32 }
         requires media_type_fits { length self.now.media_type.now < 2 ^ 32 }
         ensures ok { OnOk result (out.new.items ≡ out.old.items ++ framed attachment_index_opcode
-            (attachment_index_text self.now.offset self.now.length self.now.log_time
-            self.now.create_time self.now.data_size
-            self.now.name.now self.now.media_type.now)) }
+            (attachment_index_text (attachment_index_fields self.now))) }
         ensures err { OnErr result (out.new.items ≡ out.old.items) }
         ensures full { OnErr result (LacksRoom out.old
             (57 + length self.now.name.now + length self.now.media_type.now)) }

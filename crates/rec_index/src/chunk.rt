@@ -2,12 +2,14 @@
 ghost use Rattle.std.specs.Prelude.{◌≡◌, ◌+◌, ◌^◌, ◌<◌, ◌≤◌, ℕ, List, ◌++◌, length, vec_capacity, IfOk, IfErr, OnOk, OnErr};
 ghost use Rattle.mcap_wire.specs.Layout.{framed};
 ghost use Rattle.mcap_wire.specs.Writing.{LacksRoom};
+ghost use Rattle.rec_index.specs.Fields.{ChunkFields};
+ghost use Rattle.rec_index.specs.Parsed.{chunk_fields};
 ghost use Rattle.rec_index.specs.Records.{chunk_opcode, chunk_text, ShowsChunk, ChunkFails};
 
-use crate::faults::{Bad, CHUNK, at_field};
+use crate::opcodes::CHUNK;
 use mcap_wire::{
-    Memory, add_bytes64, add_head, add_text, add_u32, add_u64, make_room, take_bytes64, take_text,
-    take_u32, take_u64,
+    Bad, Memory, add_bytes64, add_head, add_text, add_u32, add_u64, at_field, make_room,
+    take_bytes64, take_text, take_u32, take_u64,
 };
 
 /// A batch of records: the first and the last log time of its messages in nanoseconds (0 where it has none), the size in
@@ -26,12 +28,8 @@ pub struct Chunk<'a> {
 impl<'a> Chunk<'a> {
     /// Reads the fields from a content. Bytes after the last field are allowed.
     pub fn parse(content: &'a [u8]) -> Result<Self, Bad>
-        ensures shown { IfOk result (λ c. ShowsChunk content.now
-            c.message_start_time c.message_end_time c.uncompressed_size c.uncompressed_crc
-            c.compression.now c.records.now) }
-        ensures none { OnErr result
-            ((start_time end_time size crc : ℕ) (compression records : List ℕ)
-            → ShowsChunk content.now start_time end_time size crc compression records → ⊥) }
+        ensures shown { IfOk result (λ c. ShowsChunk content.now (chunk_fields c)) }
+        ensures none { OnErr result ((f : ChunkFields) → ShowsChunk content.now f → ⊥) }
         ensures first_fault { IfErr result (λ bad. ChunkFails content.now bad.field bad.why) }
     {
         let (message_start_time, at) = at_field(1, take_u64(content, 0))?;
@@ -55,9 +53,7 @@ impl<'a> Chunk<'a> {
     pub fn frame(&self, out: &mut Vec<u8>) -> Result<(), Memory>
         requires { length self.now.compression.now < 2 ^ 32 }
         ensures ok { OnOk result (out.new.items ≡ out.old.items ++ framed chunk_opcode
-            (chunk_text self.now.message_start_time self.now.message_end_time
-            self.now.uncompressed_size self.now.uncompressed_crc
-            self.now.compression.now self.now.records.now)) }
+            (chunk_text (chunk_fields self.now))) }
         ensures err { OnErr result (out.new.items ≡ out.old.items) }
         ensures full { OnErr result (LacksRoom out.old
             (49 + length self.now.compression.now + length self.now.records.now)) }

@@ -3,12 +3,14 @@ ghost use Rattle.std.specs.Prelude.{◌≡◌, ◌+◌, ◌^◌, ◌<◌, ◌≤
 ghost use Rattle.mcap_wire.specs.Arrays.{entry_texts};
 ghost use Rattle.mcap_wire.specs.Layout.{framed};
 ghost use Rattle.mcap_wire.specs.Writing.{LacksRoom};
+ghost use Rattle.rec_index.specs.Fields.{ChunkIndexFields};
+ghost use Rattle.rec_index.specs.Parsed.{chunk_index_fields};
 ghost use Rattle.rec_index.specs.Records.{chunk_index_opcode, chunk_index_text, ShowsChunkIndex, ChunkIndexFails};
 
-use crate::faults::{Bad, CHUNK_INDEX, at_field};
+use crate::opcodes::CHUNK_INDEX;
 use mcap_wire::{
-    CountsRef, Memory, add_counts, add_head, add_text, add_u64, make_room, take_counts, take_text,
-    take_u64,
+    Bad, CountsRef, Memory, add_counts, add_head, add_text, add_u64, at_field, make_room,
+    take_counts, take_text, take_u64,
 };
 
 /// A Chunk of the file: the first and the last log time of its messages in nanoseconds, where the whole record starts and how
@@ -30,12 +32,8 @@ pub struct ChunkIndex<'a> {
 impl<'a> ChunkIndex<'a> {
     /// Reads the fields from a content. Bytes after the last field are allowed.
     pub fn parse(content: &'a [u8]) -> Result<Self, Bad>
-        ensures shown { IfOk result (λ i. ShowsChunkIndex content.now
-            i.message_start_time i.message_end_time i.chunk_start_offset i.chunk_length i.message_index_offsets i.message_index_length i.compression.now i.compressed_size i.uncompressed_size) }
-        ensures none { OnErr result
-            ((message_start_time message_end_time chunk_start_offset chunk_length : ℕ) (message_index_offsets : List (ℕ × ℕ)) (message_index_length : ℕ) (compression : List ℕ) (compressed_size uncompressed_size : ℕ)
-            → ShowsChunkIndex content.now
-            message_start_time message_end_time chunk_start_offset chunk_length message_index_offsets message_index_length compression compressed_size uncompressed_size → ⊥) }
+        ensures shown { IfOk result (λ i. ShowsChunkIndex content.now (chunk_index_fields i)) }
+        ensures none { OnErr result ((f : ChunkIndexFields) → ShowsChunkIndex content.now f → ⊥) }
         ensures first_fault { IfErr result (λ bad. ChunkIndexFails content.now bad.field bad.why) }
     {
         let (message_start_time, at) = at_field(1, take_u64(content, 0))?;
@@ -66,7 +64,7 @@ impl<'a> ChunkIndex<'a> {
         requires message_index_offsets_fit { length (entry_texts 2 self.now.message_index_offsets) < 2 ^ 32 }
         requires compression_fits { length self.now.compression.now < 2 ^ 32 }
         ensures ok { OnOk result (out.new.items ≡ out.old.items ++ framed chunk_index_opcode
-            (chunk_index_text self.now.message_start_time self.now.message_end_time self.now.chunk_start_offset self.now.chunk_length self.now.message_index_offsets self.now.message_index_length self.now.compression.now self.now.compressed_size self.now.uncompressed_size)) }
+            (chunk_index_text (chunk_index_fields self.now))) }
         ensures err { OnErr result (out.new.items ≡ out.old.items) }
         ensures full { OnErr result (LacksRoom out.old
             (73 + length (entry_texts 2 self.now.message_index_offsets) + length self.now.compression.now)) }

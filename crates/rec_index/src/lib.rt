@@ -5,22 +5,21 @@
 mod attachment_index;
 mod chunk;
 mod chunk_index;
-mod faults;
 pub mod laws;
 mod message_index;
 mod metadata_index;
+mod opcodes;
 mod summary_offset;
 mod summary_statistics;
 
 pub use attachment_index::AttachmentIndex;
 pub use chunk::Chunk;
 pub use chunk_index::ChunkIndex;
-pub use faults::{
-    ATTACHMENT_INDEX, Bad, CHUNK, CHUNK_INDEX, MESSAGE_INDEX, METADATA_INDEX, STATISTICS,
-    SUMMARY_OFFSET,
-};
 pub use message_index::MessageIndex;
 pub use metadata_index::MetadataIndex;
+pub use opcodes::{
+    ATTACHMENT_INDEX, CHUNK, CHUNK_INDEX, MESSAGE_INDEX, METADATA_INDEX, STATISTICS, SUMMARY_OFFSET,
+};
 pub use summary_offset::SummaryOffset;
 pub use summary_statistics::Statistics;
 

@@ -5,9 +5,10 @@ ghost use Rattle.mcap_wire.specs.Layout.{framed};
 ghost use Rattle.mcap_wire.specs.Writing.{LacksRoom};
 ghost use Rattle.rec_index.specs.Records.{message_index_opcode, message_index_text, ShowsMessageIndex, MessageIndexFails};
 
-use crate::faults::{Bad, MESSAGE_INDEX, at_field};
+use crate::opcodes::MESSAGE_INDEX;
 use mcap_wire::{
-    EntriesRef, Memory, add_entries, add_head, add_u16, make_room, take_entries, take_u16,
+    Bad, EntriesRef, Memory, add_entries, add_head, add_u16, at_field, make_room, take_entries,
+    take_u16,
 };
 
 /// The messages of a channel in the chunk before it: the channel's id, and an array of entries, each the log time of a message in

@@ -2,10 +2,14 @@
 ghost use Rattle.std.specs.Prelude.{◌≡◌, ◌+◌, ◌^◌, ◌<◌, ◌≤◌, ℕ, List, ◌++◌, length, vec_capacity, IfOk, IfErr, OnOk, OnErr};
 ghost use Rattle.mcap_wire.specs.Layout.{framed};
 ghost use Rattle.mcap_wire.specs.Writing.{LacksRoom};
+ghost use Rattle.rec_index.specs.Fields.{MetadataIndexFields};
+ghost use Rattle.rec_index.specs.Parsed.{metadata_index_fields};
 ghost use Rattle.rec_index.specs.Records.{metadata_index_opcode, metadata_index_text, ShowsMetadataIndex, MetadataIndexFails};
 
-use crate::faults::{Bad, METADATA_INDEX, at_field};
-use mcap_wire::{Memory, add_head, add_text, add_u64, make_room, take_text, take_u64};
+use crate::opcodes::METADATA_INDEX;
+use mcap_wire::{
+    Bad, Memory, add_head, add_text, add_u64, at_field, make_room, take_text, take_u64,
+};
 
 /// A Metadata record of the file: where it starts and how long the whole record is, both in bytes, and its name.
 #[derive(Clone, Copy, Debug, PartialEq, Eq)]
@@ -18,10 +22,8 @@ pub struct MetadataIndex<'a> {
 impl<'a> MetadataIndex<'a> {
     /// Reads the fields from a content. Bytes after the last field are allowed.
     pub fn parse(content: &'a [u8]) -> Result<Self, Bad>
-        ensures shown { IfOk result (λ i.
-            ShowsMetadataIndex content.now i.offset i.length i.name.now) }
-        ensures none { OnErr result ((offset size : ℕ) (name : List ℕ)
-            → ShowsMetadataIndex content.now offset size name → ⊥) }
+        ensures shown { IfOk result (λ i. ShowsMetadataIndex content.now (metadata_index_fields i)) }
+        ensures none { OnErr result ((f : MetadataIndexFields) → ShowsMetadataIndex content.now f → ⊥) }
         ensures first_fault { IfErr result
             (λ bad. MetadataIndexFails content.now bad.field bad.why) }
     {
@@ -40,7 +42,7 @@ impl<'a> MetadataIndex<'a> {
     pub fn frame(&self, out: &mut Vec<u8>) -> Result<(), Memory>
         requires { length self.now.name.now < 2 ^ 32 }
         ensures ok { OnOk result (out.new.items ≡ out.old.items ++ framed metadata_index_opcode
-            (metadata_index_text self.now.offset self.now.length self.now.name.now)) }
+            (metadata_index_text (metadata_index_fields self.now))) }
         ensures err { OnErr result (out.new.items ≡ out.old.items) }
         ensures full { OnErr result (LacksRoom out.old (29 + length self.now.name.now)) }
         ensures capacity { vec_capacity out.old ≤ vec_capacity out.new }

@@ -2,10 +2,12 @@
 ghost use Rattle.std.specs.Prelude.{◌≡◌, ◌≤◌, ℕ, ◌++◌, vec_capacity, IfOk, IfErr, OnOk, OnErr};
 ghost use Rattle.mcap_wire.specs.Layout.{framed};
 ghost use Rattle.mcap_wire.specs.Writing.{LacksRoom};
+ghost use Rattle.rec_index.specs.Fields.{SummaryOffsetFields};
+ghost use Rattle.rec_index.specs.Parsed.{summary_offset_fields};
 ghost use Rattle.rec_index.specs.Records.{summary_offset_opcode, summary_offset_text, ShowsSummaryOffset, SummaryOffsetFails};
 
-use crate::faults::{Bad, SUMMARY_OFFSET, at_field};
-use mcap_wire::{Memory, add_head, add_u8, add_u64, make_room, take_u8, take_u64};
+use crate::opcodes::SUMMARY_OFFSET;
+use mcap_wire::{Bad, Memory, add_head, add_u8, add_u64, at_field, make_room, take_u8, take_u64};
 
 /// A group of the summary, of records with one opcode: that opcode, and where the group starts in the file and how long it
 /// is, both in bytes.
@@ -19,10 +21,8 @@ pub struct SummaryOffset {
 impl SummaryOffset {
     /// Reads the fields from a content. Bytes after the last field are allowed.
     pub fn parse(content: &[u8]) -> Result<Self, Bad>
-        ensures shown { IfOk result (λ o.
-            ShowsSummaryOffset content.now o.group_opcode o.group_start o.group_length) }
-        ensures none { OnErr result ((group_opcode group_start group_length : ℕ)
-            → ShowsSummaryOffset content.now group_opcode group_start group_length → ⊥) }
+        ensures shown { IfOk result (λ o. ShowsSummaryOffset content.now (summary_offset_fields o)) }
+        ensures none { OnErr result ((f : SummaryOffsetFields) → ShowsSummaryOffset content.now f → ⊥) }
         ensures first_fault { IfErr result
             (λ bad. SummaryOffsetFails content.now bad.field bad.why) }
     {
@@ -40,8 +40,7 @@ impl SummaryOffset {
     /// bytes.
     pub fn frame(&self, out: &mut Vec<u8>) -> Result<(), Memory>
         ensures ok { OnOk result (out.new.items ≡ out.old.items ++ framed summary_offset_opcode
-            (summary_offset_text
-            self.now.group_opcode self.now.group_start self.now.group_length)) }
+            (summary_offset_text (summary_offset_fields self.now))) }
         ensures err { OnErr result (out.new.items ≡ out.old.items) }
         ensures full { OnErr result (LacksRoom out.old 26) }
         ensures capacity { vec_capacity out.old ≤ vec_capacity out.new }

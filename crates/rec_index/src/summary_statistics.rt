@@ -3,12 +3,14 @@ ghost use Rattle.std.specs.Prelude.{◌≡◌, ◌+◌, ◌^◌, ◌<◌, ◌≤
 ghost use Rattle.mcap_wire.specs.Arrays.{entry_texts};
 ghost use Rattle.mcap_wire.specs.Layout.{framed};
 ghost use Rattle.mcap_wire.specs.Writing.{LacksRoom};
+ghost use Rattle.rec_index.specs.Fields.{StatisticsFields};
+ghost use Rattle.rec_index.specs.Parsed.{statistics_fields};
 ghost use Rattle.rec_index.specs.Records.{statistics_opcode, statistics_text, ShowsStatistics, StatisticsFails};
 
-use crate::faults::{Bad, STATISTICS, at_field};
+use crate::opcodes::STATISTICS;
 use mcap_wire::{
-    CountsRef, Memory, add_counts, add_head, add_u16, add_u32, add_u64, make_room, take_counts,
-    take_u16, take_u32, take_u64,
+    Bad, CountsRef, Memory, add_counts, add_head, add_u16, add_u32, add_u64, at_field, make_room,
+    take_counts, take_u16, take_u32, take_u64,
 };
 
 /// How many records of each kind the file has, the first and the last log time of its messages in nanoseconds, and how many
@@ -29,12 +31,8 @@ pub struct Statistics<'a> {
 impl<'a> Statistics<'a> {
     /// Reads the fields from a content. Bytes after the last field are allowed.
     pub fn parse(content: &'a [u8]) -> Result<Self, Bad>
-        ensures shown { IfOk result (λ i. ShowsStatistics content.now
-            i.message_count i.schema_count i.channel_count i.attachment_count i.metadata_count i.chunk_count i.message_start_time i.message_end_time i.channel_message_counts) }
-        ensures none { OnErr result
-            ((message_count schema_count channel_count attachment_count metadata_count chunk_count message_start_time message_end_time : ℕ) (channel_message_counts : List (ℕ × ℕ))
-            → ShowsStatistics content.now
-            message_count schema_count channel_count attachment_count metadata_count chunk_count message_start_time message_end_time channel_message_counts → ⊥) }
+        ensures shown { IfOk result (λ i. ShowsStatistics content.now (statistics_fields i)) }
+        ensures none { OnErr result ((f : StatisticsFields) → ShowsStatistics content.now f → ⊥) }
         ensures first_fault { IfErr result (λ bad. StatisticsFails content.now bad.field bad.why) }
     {
         let (message_count, at) = at_field(1, take_u64(content, 0))?;
@@ -64,7 +62,7 @@ impl<'a> Statistics<'a> {
     pub fn frame(&self, out: &mut Vec<u8>) -> Result<(), Memory>
         requires { length (entry_texts 2 self.now.channel_message_counts) < 2 ^ 32 }
         ensures ok { OnOk result (out.new.items ≡ out.old.items ++ framed statistics_opcode
-            (statistics_text self.now.message_count self.now.schema_count self.now.channel_count self.now.attachment_count self.now.metadata_count self.now.chunk_count self.now.message_start_time self.now.message_end_time self.now.channel_message_counts)) }
+            (statistics_text (statistics_fields self.now))) }
         ensures err { OnErr result (out.new.items ≡ out.old.items) }
         ensures full { OnErr result (LacksRoom out.old
             (55 + length (entry_texts 2 self.now.channel_message_counts))) }

@@ -1,5 +1,5 @@
 use super::*;
-use mcap_wire::{Cut, Why, cut};
+use mcap_wire::{Bad, Cut, Why, cut};
 use std::test::Fail;
 
 // A Summary Offset of the group of opcode 5, which starts at 0x0102 and has 0x0304 bytes.

@@ -11,13 +11,13 @@ loop-at-init c =
 
 pub returns-in-Err : goal.returns-in-Err
 returns-in-Err c =
-    counts_stop c.args.bytes.now c.loop-at.count c.loop-at.at BadLength c.loop-at.invariant.0 c.loop-at.invariant.2
-    (c.loop-at-test.true, inl (number_is_short 2 c.args.bytes.now c.loop-at.at c.in-Err.field-0 c.in-Err.ensures))
+    counts_stop c.args.bytes.now c.loop-at.count c.loop-at.at BadLength c.loop-at-test.true c.loop-at.invariant.2
+    (inl (number_is_short 2 c.args.bytes.now c.loop-at.at c.in-Err.field-0 c.in-Err.ensures))
 
 pub returns-in-Err-take_u64 : goal.returns-in-Err-take_u64
 returns-in-Err-take_u64 c =
-    counts_stop c.args.bytes.now c.loop-at.count c.loop-at.at BadLength c.loop-at.invariant.0 c.loop-at.invariant.2
-    (c.loop-at-test.true, inr (c.in-Ok.read.0, c.in-Ok.read.1, c.in-Ok.ensures, c.if-not-is_new.ensures, number_is_short 8 c.args.bytes.now c.in-Ok.read.1 c.in-Err-take_u64.field-0 c.in-Err-take_u64.ensures))
+    counts_stop c.args.bytes.now c.loop-at.count c.loop-at.at BadLength c.loop-at-test.true c.loop-at.invariant.2
+    (inr (c.in-Ok.read.0, c.in-Ok.read.1, c.in-Ok.ensures, c.if-not-is_new.ensures, number_is_short 8 c.args.bytes.now c.in-Ok.read.1 c.in-Err-take_u64.field-0 c.in-Err-take_u64.ensures))
 
 pub loop-at-preserved : goal.loop-at-preserved
 loop-at-preserved c =

@@ -12,18 +12,18 @@ loop-at-init c = (omega arith, omega arith, no_counts c.args.bytes.now, marks_no
 
 pub returns-in-Err : goal.returns-in-Err
 returns-in-Err c =
-    counts_stop c.args.bytes.now c.loop-at.count c.loop-at.at BadLength c.loop-at.invariant.0 c.loop-at.invariant.2
-    (c.loop-at-test.true, inl (number_is_short 2 c.args.bytes.now c.loop-at.at c.in-Err.field-0 c.in-Err.ensures))
+    counts_stop c.args.bytes.now c.loop-at.count c.loop-at.at BadLength c.loop-at-test.true c.loop-at.invariant.2
+    (inl (number_is_short 2 c.args.bytes.now c.loop-at.at c.in-Err.field-0 c.in-Err.ensures))
 
 pub returns-then-not-mark : goal.returns-then-not-mark
 returns-then-not-mark c =
-    counts_stop c.args.bytes.now c.loop-at.count c.loop-at.at DoubleKey c.loop-at.invariant.0 c.loop-at.invariant.2
+    counts_stop c.args.bytes.now c.loop-at.count c.loop-at.at DoubleKey c.loop-at-test.true c.loop-at.invariant.2
     (c.in-Ok.read.0, c.in-Ok.read.1, c.in-Ok.ensures, marked_stands _ _ c.in-Ok.read.0 c.in-Ok.ensures.fits c.loop-at.invariant.3 c.if-not-mark.ensures.new)
 
 pub returns-in-Err-take_u64 : goal.returns-in-Err-take_u64
 returns-in-Err-take_u64 c =
-    counts_stop c.args.bytes.now c.loop-at.count c.loop-at.at BadLength c.loop-at.invariant.0 c.loop-at.invariant.2
-    (c.loop-at-test.true, inr (c.in-Ok.read.0, c.in-Ok.read.1, c.in-Ok.ensures, unmarked_lacks _ _ c.in-Ok.read.0 c.in-Ok.ensures.fits c.loop-at.invariant.3 c.if-not-mark.ensures.new, number_is_short 8 c.args.bytes.now c.in-Ok.read.1 c.in-Err-take_u64.field-0 c.in-Err-take_u64.ensures))
+    counts_stop c.args.bytes.now c.loop-at.count c.loop-at.at BadLength c.loop-at-test.true c.loop-at.invariant.2
+    (inr (c.in-Ok.read.0, c.in-Ok.read.1, c.in-Ok.ensures, unmarked_lacks _ _ c.in-Ok.read.0 c.in-Ok.ensures.fits c.loop-at.invariant.3 c.if-not-mark.ensures.new, number_is_short 8 c.args.bytes.now c.in-Ok.read.1 c.in-Err-take_u64.field-0 c.in-Err-take_u64.ensures))
 
 pub loop-at-preserved : goal.loop-at-preserved
 loop-at-preserved c =

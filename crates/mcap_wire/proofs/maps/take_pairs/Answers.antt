@@ -1,10 +1,11 @@
 use Rattle.std.proofs.Common.{◌≡◌, ◌+◌, ◌-◌, ◌≤◌, List, ℕ, length, take, sym, ap, subst, ◌∙◌, arith}
 use Rattle.std.proofs.lemmas.List.{length-drop}
 use Rattle.mcap_wire.specs.Reading.{text_bytes}
-use Rattle.mcap_wire.specs.Maps.{PairsAt, PairsStop}
+use Rattle.mcap_wire.specs.Maps.{a_string, PairsAt, MapStops}
 use Rattle.mcap_wire.specs.PairBytes.{pairs_in}
 use Rattle.mcap_wire.proofs.Fields.{number_there}
-use Rattle.mcap_wire.proofs.TextMaps.{Pair, pairs_read, pairs_fail}
+use Rattle.mcap_wire.proofs.TextMaps.{Pair, pairs_read}
+use Rattle.mcap_wire.proofs.MapWalks.{map_fails}
 use Rattle.mcap_wire.proofs.maps.take_pairs.Goals as goal
 
 pub returns-then-rest-len : goal.returns-then-rest-len
@@ -34,5 +35,5 @@ returns-in-Err-count_pairs c =
     let size : length c.rest_from-rest.result.now ≡ length content - from = ap length c.rest_from-rest.ensures ∙ length-drop from content in
     let at_is : from ≡ c.args.at + 4 = c.in-Ok.ensures.size in
     let bytes : text_bytes content c.args.at ≡ take c.in-Ok.read.0 c.rest_from-rest.result.now = rw (len, ← at_is, c.rest_from-rest.ensures) in
-    pairs_fail content c.args.at c.in-Err-count_pairs.why (omega (arith, len, at_is, size, c.in-Ok.ensures.field.ends))
-    (subst (λ (b : List ℕ). PairsStop b c.in-Err-count_pairs.why) (sym bytes) c.in-Err-count_pairs.ensures)
+    map_fails a_string a_string content c.args.at c.in-Err-count_pairs.why (omega (arith, len, at_is, size, c.in-Ok.ensures.field.ends))
+    (subst (λ (b : List ℕ). MapStops a_string a_string b c.in-Err-count_pairs.why) (sym bytes) c.in-Err-count_pairs.ensures)

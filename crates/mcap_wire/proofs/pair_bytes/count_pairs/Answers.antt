@@ -1,41 +1,38 @@
 use Rattle.std.proofs.Common.{◌≡◌, false, List, ℕ, [], take, sym, subst, arith}
 use Rattle.std.specs.Ordering.{nat_cmp, is_gt}
 use Rattle.std.specs.Cmp.Lexicographic.{slice_cmp}
+use Rattle.mcap_wire.specs.declared.faults.Why.TheVariants.{DoubleKey}
 use Rattle.mcap_wire.specs.Maps.{HasKey, LacksKey}
 use Rattle.mcap_wire.specs.PairBytes.{pairs_in, NoneAbove}
 use Rattle.mcap_wire.proofs.TextMaps.{Pair}
-use Rattle.mcap_wire.proofs.PairWalks.{length-pairs_in, one_more, stands_before, empty_is_held, none_above_more, value_fails}
+use Rattle.mcap_wire.proofs.PairWalks.{length-pairs_in, one_more, empty_is_held, none_above_more, pairs_stop, key_fails, value_fails}
 use Rattle.mcap_wire.proofs.pair_bytes.count_pairs.Goals as goal
 
 pub loop-at-init : goal.loop-at-init
 loop-at-init c =
     (omega arith, omega arith, empty_is_held c.args.bytes.now, λ k d lt. absurd (omega (arith, length-pairs_in 0 [])))
 
+pub returns-in-Err : goal.returns-in-Err
+returns-in-Err c =
+    let bytes = c.args.bytes.now in
+    pairs_stop bytes c.loop-at.count c.loop-at.at c.in-Err.why c.loop-at-test.true c.loop-at.invariant.2
+    (key_fails (pairs_in c.loop-at.count (take c.loop-at.at bytes)) bytes c.loop-at.at c.in-Err.why c.in-Err.ensures)
+
 pub returns-then-not-is_new : goal.returns-then-not-is_new
 returns-then-not-is_new c =
     let bytes = c.args.bytes.now in
     let before = pairs_in c.loop-at.count (take c.loop-at.at bytes) in
     let double : HasKey before c.in-Ok.read.0.now = subst (λ (key : List ℕ). HasKey before key) c.as_bytes.ensures.value c.if-not-is_new.ensures in
-    record {
-      before = before;
-      at = c.loop-at.at;
-      field = stands_before bytes c.loop-at.count c.loop-at.at c.loop-at.invariant.0 c.loop-at.invariant.2;
-      is_map = c.loop-at.invariant.2.is_map;
-      fails = (c.in-Ok.read.0.now, c.in-Ok.read.1, c.in-Ok.ensures, double);
-    }
+    pairs_stop bytes c.loop-at.count c.loop-at.at DoubleKey c.loop-at-test.true c.loop-at.invariant.2
+    (c.in-Ok.read.0.now, c.in-Ok.read.1, c.in-Ok.ensures, double)
 
 pub returns-in-Err-take_part : goal.returns-in-Err-take_part
 returns-in-Err-take_part c =
     let bytes = c.args.bytes.now in
     let before = pairs_in c.loop-at.count (take c.loop-at.at bytes) in
     let new : LacksKey before c.in-Ok.read.0.now = subst (λ (key : List ℕ). LacksKey before key) c.as_bytes.ensures.value c.if-not-is_new.ensures in
-    record {
-      before = before;
-      at = c.loop-at.at;
-      field = stands_before bytes c.loop-at.count c.loop-at.at c.loop-at.invariant.0 c.loop-at.invariant.2;
-      is_map = c.loop-at.invariant.2.is_map;
-      fails = value_fails before bytes c.loop-at.at c.in-Ok.read.0.now c.in-Ok.read.1 c.in-Err-take_part.why c.loop-at-test.true c.in-Ok.ensures new c.in-Err-take_part.ensures;
-    }
+    pairs_stop bytes c.loop-at.count c.loop-at.at c.in-Err-take_part.why c.loop-at-test.true c.loop-at.invariant.2
+    (value_fails before bytes c.loop-at.at c.in-Ok.read.0.now c.in-Ok.read.1 c.in-Err-take_part.why c.in-Ok.ensures new c.in-Err-take_part.ensures)
 
 pub loop-at-preserved : goal.loop-at-preserved
 loop-at-preserved c =

@@ -1,5 +1,6 @@
-use Rattle.rec_data.proofs.Contents.{data_end_shown, data_end_decided}
+use Rattle.mcap_wire.proofs.Contents.{rows_back}
+use Rattle.rec_data.specs.Records.{data_end_kinds}
 use Rattle.rec_data.proofs.laws.data_ends_read_back.Goals as goal
 
 pub returns : goal.returns
-returns c = record { shown = data_end_shown; decided = data_end_decided }
+returns c = rows_back data_end_kinds

@@ -66,4 +66,4 @@ returns-clause-shown c =
     let fourth : TextAt content c.in_ok-name.at c.in_ok-media_type.media_type.now c.in_ok-media_type.at = subst (ReadsText content c.in_ok-name.at) c.in_ok-media_type.ensures.ok c.take_text-2.ensures in
     let fifth : BytesAt 8 content c.in_ok-media_type.at c.in_ok-payload.payload.now c.in_ok-payload.at = subst (ReadsBytes 8 content c.in_ok-media_type.at) c.in_ok-payload.ensures.ok c.take_bytes64.ensures in
     let sixth : NumberAt 4 content c.in_ok-payload.at c.in_ok-crc.crc c.in_ok-crc._after = subst (ReadsNumber 4 content c.in_ok-payload.at) c.in_ok-crc.ensures.ok c.take_u32.ensures in
-    attachment_read content _ _ _ _ _ _ _ _ _ _ _ _ first second third fourth fifth sixth
+    attachment_read content (record { log_time = c.in_ok-log_time.log_time; create_time = c.in_ok-create_time.create_time; name = c.in_ok-name.name.now; media_type = c.in_ok-media_type.media_type.now; payload = c.in_ok-payload.payload.now; crc = c.in_ok-crc.crc }) _ _ _ _ _ _ first second third fourth fifth sixth

@@ -13,4 +13,4 @@ pub returns-in_err-summary_crc-clause-none : goal.returns-in_err-summary_crc-cla
 returns-in_err-summary_crc-clause-none c = footer_none c.args.content.now c.from_residual-in_err-summary_crc.result (search rules)
 
 pub returns-then-at-content-clause-none : goal.returns-then-at-content-clause-none
-returns-then-at-content-clause-none c = footer_not_refused c.args.content.now 4 BadLength (search rules)
+returns-then-at-content-clause-none c = λ f. footer_not_refused c.args.content.now 4 BadLength f (search rules)

@@ -1,4 +1,5 @@
 use Rattle.std.proofs.Common.{refl}
+use Rattle.rec_index.specs.Parsed.{attachment_index_fields}
 use Rattle.rec_index.proofs.Contents.{attachment_index_framed}
 use Rattle.rec_index.proofs.attachment_index.AttachmentIndex.frame.Goals as goal
 
@@ -16,4 +17,4 @@ returns-clause-ok c =
       c.add_head.ensures.items,
       c.make_room.ensures.items,
     )
-    (attachment_index_framed _ _ self.offset self.length self.log_time self.create_time self.data_size self.name.now self.media_type.now refl)
+    (attachment_index_framed _ _ (attachment_index_fields self) refl)

@@ -1,4 +1,5 @@
 use Rattle.std.proofs.Common.{◌+◌, length, arith}
+use Rattle.rec_index.specs.Parsed.{chunk_index_fields}
 use Rattle.rec_index.proofs.MapContents.{chunk_index_framed}
 use Rattle.rec_index.proofs.chunk_index.ChunkIndex.frame.Goals as goal
 
@@ -18,4 +19,4 @@ returns-clause-ok c =
       c.add_head.ensures.items,
       c.make_room.ensures.items,
     )
-    (chunk_index_framed c.args.out.now.items (64 + c.byte_len.result + length self.compression.now) self.message_start_time self.message_end_time self.chunk_start_offset self.chunk_length self.message_index_offsets self.message_index_length self.compression.now self.compressed_size self.uncompressed_size (omega (arith, c.byte_len.ensures)))
+    (chunk_index_framed c.args.out.now.items (64 + c.byte_len.result + length self.compression.now) (chunk_index_fields self) (omega (arith, c.byte_len.ensures)))

@@ -1,4 +1,5 @@
 use Rattle.std.proofs.Common.{◌+◌, arith}
+use Rattle.rec_index.specs.Parsed.{statistics_fields}
 use Rattle.rec_index.proofs.MapContents.{statistics_framed}
 use Rattle.rec_index.proofs.summary_statistics.Statistics.frame.Goals as goal
 
@@ -18,4 +19,4 @@ returns-clause-ok c =
       c.add_head.ensures.items,
       c.make_room.ensures.items,
     )
-    (statistics_framed c.args.out.now.items (46 + c.byte_len-len.result) self.message_count self.schema_count self.channel_count self.attachment_count self.metadata_count self.chunk_count self.message_start_time self.message_end_time self.channel_message_counts (omega (arith, c.byte_len-len.ensures)))
+    (statistics_framed c.args.out.now.items (46 + c.byte_len-len.result) (statistics_fields self) (omega (arith, c.byte_len-len.ensures)))
