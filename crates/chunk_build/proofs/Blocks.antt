@@ -52,12 +52,12 @@ all_parts records at (id ∷ ids) =
     part : ℕ → ℕ → ℕ → IndexPart
     part channel offset count = record { channel = channel; offset = offset; count = count }
 
-pub length-chunk_bytes : (records : List Rec) (bytes : List ℕ) (start end size crc : ℕ) → length (framed 6 (chunk_text start end size crc [] bytes)) ≡ 49 + length bytes
+pub length-chunk_bytes : (records : List Rec) (bytes : List ℕ) (start end size crc : ℕ) → length (framed 6 (chunk_text (record { start = start; end = end; size = size; crc = crc; compression = []; records = bytes }))) ≡ 49 + length bytes
 length-chunk_bytes records bytes start end size crc =
     let f = string [] ++ (prefixed 8 bytes ++ []) in
     omega (
       arith,
-      length-framed 6 (chunk_text start end size crc [] bytes),
+      length-framed 6 (chunk_text (record { start = start; end = end; size = size; crc = crc; compression = []; records = bytes })),
       length-append (le 8 start) (le 8 end ++ (le 8 size ++ (le 4 crc ++ f))),
       length-append (le 8 end) (le 8 size ++ (le 4 crc ++ f)),
       length-append (le 8 size) (le 4 crc ++ f),

@@ -30,7 +30,7 @@ same_rows f g c (x ∷ xs) others above =
     let other = others x (λ same. omega (arith, same, above.0)) in
     ap (λ (l : List ℕ). (x, l) ∷ map (row_at g) xs) other ∙ ap (λ (ls : List (ℕ × List ℕ)). (x, f x) ∷ ls) (same_rows f g c xs others above.1)
 
-above_out : (c : ℕ) (ids : List ℕ) → Above c ids → IsIn c ids → ⊥
+pub above_out : (c : ℕ) (ids : List ℕ) → Above c ids → IsIn c ids → ⊥
 above_out c [] above there = there
 above_out c (x ∷ xs) above there = elim there [
   | inl here ↦ omega (arith, here, above.0)

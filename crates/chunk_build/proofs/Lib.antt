@@ -1,5 +1,5 @@
 mod RowLemmas
 mod Marks
-mod Growing
+pub mod Growing
 mod Blocks
 mod Putting

@@ -8,11 +8,11 @@ use Rattle.rec_data.specs.declared.owned.Rec.{Rec}
 use Rattle.rec_data.specs.declared.owned.Rec.TheVariants.{Schema, Channel, Message}
 use Rattle.rec_data.specs.Owned.{rec_opcode, rec_text, rec_bytes}
 use Rattle.rec_data.specs.Records.{ShowsMessage}
-use Rattle.rec_data.proofs.Contents.{message_decided}
-use Rattle.rec_data.proofs.OwnedLengths.{length-message_text}
+use Rattle.rec_data.proofs.Contents.{message_decided, length-message_text}
 use Rattle.chunk_build.specs.declared.building.Mark.{Mark}
 use Rattle.chunk_build.specs.Building.{mark_of, IsLong}
 use Rattle.chunk_build.specs.Chunker.{AreFramed}
+use Rattle.rec_data.specs.Fields.{MessageFields}
 
 abbrev pub some_mark : ℕ → ℕ → Option Mark
 some_mark channel time = Some (record { channel = channel; time = time })
@@ -22,7 +22,7 @@ pub rec_long : (r : Rec) → IsLong (length (rec_bytes r)) (mark_of r)
 rec_long (Schema id schema) = omega (arith, length-framed 3 (rec_text (Schema id schema)))
 rec_long (Channel id schema topic encoding metadata) = omega (arith, length-framed 4 (rec_text (Channel id schema topic encoding metadata)))
 rec_long (Message channel sequence log_time publish_time payload) =
-    omega (arith, length-framed 5 (rec_text (Message channel sequence log_time publish_time payload)), length-message_text channel sequence log_time publish_time payload)
+    omega (arith, length-framed 5 (rec_text (Message channel sequence log_time publish_time payload)), length-message_text channel (record { sequence = sequence; log_time = log_time; publish_time = publish_time; payload = payload }))
 
 pub bytes_long : (bytes : List ℕ) (r : Rec) → AreFramed bytes r → IsLong (length bytes) (mark_of r)
 bytes_long bytes r is = subst (λ (l : List ℕ). IsLong (length l) (mark_of r)) (sym is.spelled) (rec_long r)
@@ -49,25 +49,25 @@ no_mark bytes (Message channel sequence log_time publish_time payload) is other 
     absurd (other (first_is bytes (Message channel sequence log_time publish_time payload) is))
 
 -- one that does is the Message that its content shows
-pub one_mark : (bytes : List ℕ) (r : Rec) (channel sequence log_time publish_time : ℕ) (payload : List ℕ) → AreFramed bytes r → get_or bytes 0 0 ≡ 5
-    → ShowsMessage (take (length bytes - 9) (drop 9 bytes)) channel sequence log_time publish_time payload
-    → some_mark channel log_time ≡ mark_of r
-one_mark bytes (Schema id schema) channel sequence log_time publish_time payload is first shown =
+pub one_mark : (bytes : List ℕ) (r : Rec) (channel : ℕ) (m : MessageFields) → AreFramed bytes r → get_or bytes 0 0 ≡ 5
+    → ShowsMessage (take (length bytes - 9) (drop 9 bytes)) channel m → some_mark channel m.log_time ≡ mark_of r
+one_mark bytes (Schema id schema) channel m is first shown =
     absurd (omega (arith, first, first_is bytes (Schema id schema) is))
-one_mark bytes (Channel id schema topic encoding metadata) channel sequence log_time publish_time payload is first shown =
+one_mark bytes (Channel id schema topic encoding metadata) channel m is first shown =
     absurd (omega (arith, first, first_is bytes (Channel id schema topic encoding metadata) is))
-one_mark bytes (Message channel' sequence' log_time' publish_time' payload') channel sequence log_time publish_time payload is first shown =
-    let r = Message channel' sequence' log_time' publish_time' payload' in
-    let own = subst (λ (l : List ℕ). ShowsMessage l channel' sequence' log_time' publish_time' payload') (sym (content_is bytes r is)) is.shown.1 in
-    let same = message_decided (take (length bytes - 9) (drop 9 bytes)) channel sequence log_time publish_time payload channel' sequence' log_time' publish_time' payload' shown own in
-    ap (λ (n : ℕ). some_mark n log_time) same.0 ∙ ap (λ (n : ℕ). some_mark channel' n) same.2
+one_mark bytes (Message id sequence log_time publish_time payload) channel m is first shown =
+    let r = Message id sequence log_time publish_time payload in
+    let n : MessageFields = record { sequence = sequence; log_time = log_time; publish_time = publish_time; payload = payload } in
+    let own = subst (λ (l : List ℕ). ShowsMessage l id n) (sym (content_is bytes r is)) is.shown.1 in
+    let same = message_decided (take (length bytes - 9) (drop 9 bytes)) channel id m n shown own in
+    ap (λ (k : ℕ). some_mark k m.log_time) same.0 ∙ ap (λ (f : MessageFields). some_mark id f.log_time) same.1
 
 -- a Message's content shows it, where the record begins with the opcode of a Message
 pub some_message : (bytes : List ℕ) (r : Rec) → AreFramed bytes r → get_or bytes 0 0 ≡ 5
-    → ((channel sequence log_time publish_time : ℕ) (payload : List ℕ) → ShowsMessage (take (length bytes - 9) (drop 9 bytes)) channel sequence log_time publish_time payload → ⊥) → ⊥
+    → ((channel : ℕ) (m : MessageFields) → ShowsMessage (take (length bytes - 9) (drop 9 bytes)) channel m → ⊥) → ⊥
 some_message bytes (Schema id schema) is first none = omega (arith, first, first_is bytes (Schema id schema) is)
 some_message bytes (Channel id schema topic encoding metadata) is first none = omega (arith, first, first_is bytes (Channel id schema topic encoding metadata) is)
 some_message bytes (Message channel sequence log_time publish_time payload) is first none =
     let r = Message channel sequence log_time publish_time payload in
-    none channel sequence log_time publish_time payload
-    (subst (λ (l : List ℕ). ShowsMessage l channel sequence log_time publish_time payload) (sym (content_is bytes r is)) is.shown.1)
+    let m : MessageFields = record { sequence = sequence; log_time = log_time; publish_time = publish_time; payload = payload } in
+    none channel m (subst (λ (l : List ℕ). ShowsMessage l channel m) (sym (content_is bytes r is)) is.shown.1)

@@ -2,10 +2,9 @@
 ghost use Rattle.std.specs.Prelude.{◌≡◌, ◌+◌, ◌*◌, ◌^◌, ◌<◌, ◌≤◌, ◌++◌, ◌==◌, ℕ, [], length, drop, min, if◌then◌else◌, vec_len, vec_capacity, IfOk, OnOk, Option, Some, None};
 ghost use Rattle.mcap_wire.specs.Layout.{framed};
 ghost use Rattle.mcap_wire.specs.Writing.{HasRoom};
-ghost use Rattle.mcap_crc.specs.Remainder.{remainder};
 ghost use Rattle.rec_index.specs.Records.{chunk_text};
 ghost use Rattle.chunk_build.specs.Rows.{HasRow};
-ghost use Rattle.chunk_build.specs.Opened.{opened, with_message, IsBuilt};
+ghost use Rattle.chunk_build.specs.Opened.{plain_chunk, opened, with_message, IsBuilt};
 ghost use Rattle.chunk_build.specs.Building.{seen, IsSound, RowReady, CanClose, IsReady, noted, StandsBehind, CanCloseBy, Settles};
 
 use crate::row::{Row, add_entry, add_indexes, clear, row_for};
@@ -251,7 +250,7 @@ pub(crate) fn settle(
 fn add_chunk_head(head: &mut Vec<u8>, start: u64, end: u64, records: &[u8])
     requires room { HasRoom head.old 49 }
     requires empty { head.old.items ≡ [] }
-    ensures framed { head.new.items ++ records.now ≡ framed 6 (chunk_text start end (length records.now) (remainder records.now) [] records.now) }
+    ensures framed { head.new.items ++ records.now ≡ framed 6 (chunk_text (plain_chunk start end records.now)) }
     ensures len { length head.new.items ≡ 49 }
 {
     let len = records.len() as u64;

@@ -9,7 +9,8 @@ use Rattle.mcap_model.specs.declared.tables.Tables.{Tables}
 use Rattle.mcap_model.specs.Made.{top}
 use Rattle.mcap_model.specs.Declarations.{FirstOf, SomeFirst, TablesOf}
 use Rattle.mcap_model.proofs.Firsts.{first_other, first_again, first_new}
-use Rattle.mcap_model.proofs.Maps.{schema_once, shows_once, message_once, same_refl, same_sym, same_trans}
+use Rattle.mcap_model.proofs.Maps.{schema_once, shows_once, message_once, same_trans}
+use Rattle.mcap_model.proofs.Copies.{channel_refl, channel_sym}
 
 abbrev SchemasOf : List Top → List Declared → Type 0
 SchemasOf records first = FirstOf 3 IsSchema (λ (f : SchemaFields) (g : SchemaFields). f ≡ g) records first
@@ -102,7 +103,7 @@ channel_agrees records tables t id f k d was at_k ids is known same = record {
       let entry : c.1 ≡ d = was.channels.apart c.0 k c.1 d c.3 at_k (c.4 ∙ sym once.0 ∙ sym ids) in
       let shown : IsChannel (top 4 d.content) i c.2 = subst (λ (x : Declared). IsChannel (top 4 x.content) i c.2) entry c.5 in
       let first : SameChannel c.2 g = subst (λ (x : ChannelFields). SameChannel c.2 x) once.1 (same i c.2 shown) in
-      same_trans h c.2 g (same_sym c.2 h c.6) first;
+      same_trans h c.2 g (channel_sym c.2 h c.6) first;
   schema = λ i g is_t.
       let once = shows_once t id i f g is is_t in
       subst (λ (x : ChannelFields). (x.schema ≡ 0) ⊎ HasSchema records x.schema) once.1 (schema_there records tables.schemas f.schema was.schemas known);
@@ -156,7 +157,7 @@ channel_new records old new d f was same more is lacks = record {
   channels = subst (ChannelsOf (records ++ top 4 d.content ∷ [])) (sym more)
       (first_new 4 IsChannel SameChannel records old.channels d f was.channels is (λ i g is_t.
       let once = shows_once (top 4 d.content) d.id i f g is is_t in
-      (once.0, subst (λ (x : ChannelFields). SameChannel f x) once.1 (same_refl f))) lacks);
+      (once.0, subst (λ (x : ChannelFields). SameChannel f x) once.1 (channel_refl f))) lacks);
 }
 
 -- ---- Messages

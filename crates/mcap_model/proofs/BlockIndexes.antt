@@ -8,20 +8,23 @@ use Rattle.mcap_model.specs.Places.{At, Has, Each}
 use Rattle.mcap_model.specs.Tops.{Top, spelled, offset_behind, inner_tops}
 use Rattle.mcap_model.specs.Fields.{MessageFields, IsMessage, IsMessageIndex}
 use Rattle.mcap_model.specs.History.{rec_top}
-use Rattle.mcap_model.specs.Blocks.{Piece, block, logged_channels, entries_for, chunk_bytes, indexes_bytes}
+use Rattle.mcap_model.specs.Blocks.{Piece, block, logged_channels, entries_for, chunk_bytes, indexes_bytes, written_fields}
 use Rattle.mcap_model.specs.Whole.{indexes_behind, AreEntries, IndexIsRight, BelongsTo, IsIndexed, IsIndexOf, IsNamed, NamesIndexes}
 use Rattle.mcap_model.specs.Laws.{IsReadBack, IsNumberedRec, IsExtra, chunk_top, index_top}
-use Rattle.mcap_model.proofs.ReadBack.{at_map, at_mapped, message_back}
-use Rattle.mcap_model.proofs.WrittenChunks.{written_fields, written_shows}
-use Rattle.mcap_model.proofs.Lists.{some_same, pairs_at, has_taken, take_second, each_taken}
+use Rattle.mcap_model.proofs.ReadBack.{at_map, message_back}
+use Rattle.mcap_model.proofs.WrittenChunks.{written_shows}
+use Rattle.mcap_model.proofs.Lists.{pairs_at, has_taken, take_second, each_taken}
 use Rattle.mcap_model.proofs.Cutting.{last_of}
 use Rattle.mcap_model.proofs.Places.{at_within, at_last, last_apart}
 use Rattle.mcap_model.proofs.Shape.{whole}
 use Rattle.mcap_model.proofs.Section.{piece_recs, piece_tops, PieceIsSound, written_chunk, indexes_spelled}
 use Rattle.mcap_model.proofs.Logged.{channels_ascend, written_entries, message_channel}
-use Rattle.mcap_model.proofs.ShownBack.{index_shown, index_shows, offset_is, is_offset, written_index}
+use Rattle.mcap_model.proofs.ShownBack.{index_shown, index_shows, offset_is, is_offset}
 use Rattle.mcap_model.proofs.Groups.{in_front}
 use Rattle.mcap_model.proofs.Standing.{BlockStands, block_stands, behind_block, chunk_there, chunk_offset, index_offset, in_block}
+use Rattle.mcap_model.specs.Summary.{written_index}
+use Rattle.std.proofs.lemmas.Option.{same_Some}
+use Rattle.mcap_model.proofs.Flat.{at_mapped}
 
 -- ---- a block that stands among records
 
@@ -160,7 +163,7 @@ module _ (header : Top) (ps : List Piece) (extras summary : List Top) (foot : To
       by b.k b.records b.at b.i b.at_top b.there
     where
       by : (k : ℕ) (records : List Rec) → At ps k (block records) → (i : ℕ) → At (piece_tops (block records)) i t → j ≡ in_front piece_tops ps k + i → BelongsTo (take (suc j) (whole (header ∷ (flat_map piece_tops ps ++ extras)) summary foot)) t
-      by k records at_p zero at_t there = absurd (omega (arith, kind, ap (λ (x : Top). x.op) (some_same (chunk_top records) t at_t)))
+      by k records at_p zero at_t there = absurd (omega (arith, kind, ap (λ (x : Top). x.op) (same_Some (chunk_top records) t at_t)))
       by k records at_p (suc i) at_t there =
           let tops = whole (header ∷ (flat_map piece_tops ps ++ extras)) summary foot in
           let before = header ∷ flat_map piece_tops (take k ps) in
@@ -187,7 +190,7 @@ module _ (header : Top) (ps : List Piece) (extras summary : List Top) (foot : To
       by b.k b.records b.at b.i b.at_top b.there
     where
       by : (k : ℕ) (records : List Rec) → At ps k (block records) → (i : ℕ) → At (piece_tops (block records)) i t → j ≡ in_front piece_tops ps k + i → IsChunkOf j t
-      by k records at_p zero at_t there = record { k = k; records = records; at = at_p; is = sym (some_same (chunk_top records) t at_t); there = omega (arith, there) }
+      by k records at_p zero at_t there = record { k = k; records = records; at = at_p; is = sym (same_Some (chunk_top records) t at_t); there = omega (arith, there) }
       by k records at_p (suc i) at_t there =
           let (id, at_id, same) = at_map (index_top records) (logged_channels records) i t at_t in
           absurd (omega (arith, kind, ap (λ (x : Top). x.op) same))

@@ -5,7 +5,6 @@ use Rattle.std.specs.List.{flat_map}
 use Rattle.std.proofs.lemmas.List.{append-nil, length-append}
 use Rattle.std.proofs.lemmas.Grind.{flat_map-append}
 use Rattle.rec_data.specs.declared.owned.Rec.{Rec}
-use Rattle.rec_data.proofs.Contents.{header_shown}
 use Rattle.mcap_model.specs.declared.options.FileOptions.{FileOptions}
 use Rattle.mcap_model.specs.Places.{At, Each}
 use Rattle.mcap_model.specs.Tops.{Top, top_bytes, spelled, offset_behind, flattened, flat}
@@ -18,6 +17,8 @@ use Rattle.mcap_model.proofs.Lists.{each_joined, cut_flat}
 use Rattle.mcap_model.proofs.Edges.{header_top, end_top, ascii}
 use Rattle.mcap_model.proofs.Section.{piece_recs, piece_tops, pieces_hold, PieceIsSound, IsRight, piece_flat, extra_right, piece_right, each_parts, each_flat, pieces_flat, extras_flat, block_has, block_within}
 use Rattle.mcap_model.proofs.Files.{body_tops, section_tops, summary_at, summary_tops, summary_foot, written_tops, file_spelled, length-spelled_append, length-file}
+use Rattle.mcap_wire.proofs.Contents.{row_shown}
+use Rattle.rec_data.specs.Records.{header_kinds}
 
 -- what is asked of records and extras where they are written, or where they are read
 pub record CanStand (options : FileOptions) (extras : List Top) (history : List Rec) : Type 0 where
@@ -42,7 +43,7 @@ standing options extras history written = record {
 
 module _ (options : FileOptions) (extras : List Top) (history : List Rec) (written : CanStand options extras history) where
   pub header_is : IsHeader (header_top options.profile)
-  header_is = record { kind = refl; profile = options.profile; library = library; layout = header_shown options.profile library written.profile_fits (omega arith) written.profile ascii }
+  header_is = record { kind = refl; profile = options.profile; library = library; layout = row_shown header_kinds (options.profile, (library, tt)) ((written.profile_fits, written.profile), ((omega arith, ascii), tt)) }
 
   -- the records up to the Data End are shorter than the file
   pub section_within : offset_behind (section_tops options extras history ++ end_top ∷ []) < 2 ^ 64

@@ -12,14 +12,18 @@ use Rattle.mcap_model.proofs.Smallest.{offset, footer, crc_smallest, tops_smalle
 use Rattle.mcap_model.proofs.Places.{at_kept, at_last}
 use Rattle.mcap_model.proofs.Lists.{at_second}
 use Rattle.mcap_model.proofs.Files.{length-spelled_append}
+use Rattle.rec_index.specs.Fields.{StatisticsFields}
 
 -- ---- Statistics of one message, where there is none
 
-abbrev counts_one : Top
-counts_one = record { op = 11; content = statistics_text 1 0 0 0 0 0 0 0 [] }
+abbrev one_counted : StatisticsFields
+one_counted = record { messages = 1; schemas = 0; channels = 0; attachments = 0; metadata = 0; chunks = 0; start = 0; end = 0; counts = [] }
 
-one_shown : ShowsStatistics (statistics_text 1 0 0 0 0 0 0 0 []) 1 0 0 0 0 0 0 0 []
-one_shown = row_shown statistics_kinds (statistics_values 1 0 0 0 0 0 0 0 []) (omega arith, (omega arith, (omega arith, (omega arith, (omega arith, (omega arith, (omega arith, (omega arith, ((omega arith, (λ k d less. absurd (omega (arith, less))), λ i j d less within. absurd (omega (arith, within))), tt)))))))))
+abbrev counts_one : Top
+counts_one = record { op = 11; content = statistics_text one_counted }
+
+one_shown : ShowsStatistics (statistics_text one_counted) one_counted
+one_shown = row_shown statistics_kinds (statistics_values one_counted) (omega arith, (omega arith, (omega arith, (omega arith, (omega arith, (omega arith, (omega arith, (omega arith, ((omega arith, (λ k d less. absurd (omega (arith, less))), λ i j d less within. absurd (omega (arith, within))), tt)))))))))
 
 first_top : Top → List Top → Top
 first_top t [] = t

@@ -12,12 +12,12 @@ use Rattle.mcap_model.specs.File.{library}
 use Rattle.mcap_model.proofs.Histories.{header_meets, within_there, flat_none}
 
 abbrev pub header_top : List ℕ → Top
-header_top profile = record { op = 1; content = header_text profile library }
+header_top profile = record { op = 1; content = header_text (record { profile = profile; library = library }) }
 
 abbrev pub end_top : Top
 end_top = record { op = 15; content = data_end_text 0 }
 
-pub header_fits : (profile : List ℕ) → IsHeader (header_top profile) → length (header_text profile library) ≤ 268435456 → Fits reading_limits [] (header_top profile)
+pub header_fits : (profile : List ℕ) → IsHeader (header_top profile) → length (header_text (record { profile = profile; library = library })) ≤ 268435456 → Fits reading_limits [] (header_top profile)
 header_fits profile is short = record {
   v3 = is;
   v5 = λ e. omega (arith, e);
@@ -26,7 +26,7 @@ header_fits profile is short = record {
   v8 = λ f chunk. absurd (omega (arith, chunk.kind));
   v10 = λ f place kind. absurd (omega (arith, kind));
   plain = λ name named. let chunk = named.is in absurd (omega (arith, chunk.kind));
-  within = within_there 8 (length (header_text profile library)) short (omega (arith, short));
+  within = within_there 8 (length (header_text (record { profile = profile; library = library }))) short (omega (arith, short));
   unended = λ e. e;
 }
 

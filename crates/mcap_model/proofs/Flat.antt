@@ -17,9 +17,8 @@ use Rattle.mcap_model.specs.Scan.{Seen, HasTopic, IsSeen, is_message_top, tops_o
 use Rattle.mcap_model.specs.Laws.{GoodListsAgree, GoodListsAreScanned}
 use Rattle.mcap_model.proofs.Places.{at_none, at_one, each_more, each_at}
 use Rattle.mcap_model.proofs.Unpacking.{chunks_are_opened}
-
-some_one : {X : Type 0} (x y : X) → Some x ≡ Some y → x ≡ y
-some_one x y e = cc
+use Rattle.std.proofs.lemmas.Option.{same_Some}
+use Rattle.mcap_model.proofs.Lists.{each_joined}
 
 -- ---- lists of lists
 
@@ -30,12 +29,7 @@ each_join {X} P xs (y ∷ ys) each more =
     subst (EachBehind P) (append_assoc xs (y ∷ []) ys)
     (each_join P (xs ++ y ∷ []) ys (each_more P xs y each first) (λ n z at. subst (λ (l : List X). P l z) (sym (append_assoc xs (y ∷ []) (take n ys))) (more (suc n) z at)))
 
-pub each_both : {X : Type 0} (P : X → Type 0) (xs ys : List X) → Each P xs → Each P ys → Each P (xs ++ ys)
-each_both P [] ys one other n z at = other n z at
-each_both P (x ∷ xs) ys one other zero z at = one zero z at
-each_both P (x ∷ xs) ys one other (suc n) z at = each_both P xs ys (λ k y there. one (suc k) y there) other n z at
-
-each_filter : {X : Type 0} (P : X → Type 0) (test : X → Bool) (xs : List X) → Each P xs → Each P (filter test xs)
+pub each_filter : {X : Type 0} (P : X → Type 0) (test : X → Bool) (xs : List X) → Each P xs → Each P (filter test xs)
 each_filter P test [] each = each
 each_filter P test (x ∷ xs) each = by (test x) (each_filter P test xs (λ n y at. each (suc n) y at))
   where
@@ -46,7 +40,7 @@ each_filter P test (x ∷ xs) each = by (test x) (each_filter P test xs (λ n y 
 
 -- ---- V7 on flat records
 
-flat_more : (done : List Top) (t : Top) → flat (done ++ t ∷ []) ≡ flat done ++ flattened t
+pub flat_more : (done : List Top) (t : Top) → flat (done ++ t ∷ []) ≡ flat done ++ flattened t
 flat_more done t = flat_map-append flattened done (t ∷ []) ∙ ap (λ (l : List Top). flat done ++ l) (append-nil (flattened t))
 
 agree_more : (done rs : List Top) → EachBehind V7 (done ++ rs) → EachBehind Agrees (flat done) → EachBehind Agrees (flat (done ++ rs))
@@ -72,14 +66,14 @@ opened_by t true is v6 v8 plain =
 opened_by t false is v6 v8 plain = λ n u at. subst V6 (some_alone t n u at) v6
   where
     some_alone : (t : Top) (n : ℕ) (u : Top) → At (t ∷ []) n u → t ≡ u
-    some_alone t zero u at = some_one t u at
+    some_alone t zero u at = same_Some t u at
     some_alone t (suc n) u at = absurd (at_none n u at)
 
 flat_meets : (limits : Limits) (before tops : List Top) → Each (λ t. V6 t × V8 t × ((other : List ℕ) → NamesCompression t other → ⊥)) tops → Each V6 (flat tops)
 flat_meets limits before [] each = λ n x at. absurd (at_none n x at)
 flat_meets limits before (t ∷ ts) each =
     let here = each 0 t refl in
-    each_both V6 (flattened t) (flat ts) (each_filter V6 is_flat_kind (opened t) (opened_by t (is_chunk t) refl here.0 here.1 here.2)) (flat_meets limits before ts (λ n x at. each (suc n) x at))
+    each_joined V6 (flattened t) (flat ts) (each_filter V6 is_flat_kind (opened t) (opened_by t (is_chunk t) refl here.0 here.1 here.2)) (flat_meets limits before ts (λ n x at. each (suc n) x at))
 
 pub good_lists_agree : GoodListsAgree
 good_lists_agree limits tops good = (
@@ -143,7 +137,7 @@ at_taken (y ∷ xs) (suc n) (suc k) x at less = at_taken xs n k x at (omega (ari
 
 channel_once : (t : Top) (id : ℕ) (f g : ChannelFields) → IsChannel t id f → IsChannel t id g → f.topic ≡ g.topic
 channel_once t id f g one other =
-    ap (λ v. v.1.1.0) (shows_decided channel_kinds t.content (channel_values id f.schema f.topic f.encoding f.metadata) (channel_values id g.schema g.topic g.encoding g.metadata) one.layout other.layout)
+    ap (λ v. v.1.1.0) (shows_decided channel_kinds t.content (channel_values id f) (channel_values id g) one.layout other.layout)
 
 topic_before : (records : List Top) (channel : ℕ) (a b : List ℕ) → EachBehind Agrees records → (one : HasTopic records channel a) → (other : HasTopic records channel b) → one.place < other.place → a ≡ b
 topic_before records channel a b agree one other less =
@@ -171,7 +165,7 @@ seen_once : (records : List Top) (p : Placed) (s r : Seen) → EachBehind Agrees
 seen_once records p s r agree one other =
     let a = one.is in
     let b = other.is in
-    let same = begins_decided message_kinds p.top.content (message_values s.channel s.message.sequence s.message.log_time s.message.publish_time) (message_values r.channel r.message.sequence r.message.log_time r.message.publish_time) s.message.payload r.message.payload a.layout b.layout in
+    let same = begins_decided message_kinds p.top.content (message_values s.channel s.message) (message_values r.channel r.message) s.message.payload r.message.payload a.layout b.layout in
     let channel : s.channel ≡ r.channel = ap (λ v. v.0) same.0 in
     let known : HasTopic records r.channel s.topic = subst (λ (c : ℕ). HasTopic records c s.topic) channel one.known in
     let topic : s.topic ≡ r.topic = topic_once records r.channel s.topic r.topic agree known other.known in
@@ -225,7 +219,7 @@ zips records n (p ∷ ps) meets agree there =
 
 pub at_mapped : {X Y : Type 0} (f : X → Y) (xs : List X) (n : ℕ) (x : X) → At xs n x → At (map f xs) n (f x)
 at_mapped f [] n x at = absurd (at_none n x at)
-at_mapped f (y ∷ xs) zero x at = ap (λ (z : _). Some (f z)) (some_one y x at)
+at_mapped f (y ∷ xs) zero x at = ap (λ (z : _). Some (f z)) (same_Some y x at)
 at_mapped f (y ∷ xs) (suc n) x at = at_mapped f xs n x at
 
 pub good_lists_are_scanned : GoodListsAreScanned

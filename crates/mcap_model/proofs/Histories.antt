@@ -1,5 +1,5 @@
 -- The records of a history, as a file holds them.
-use Rattle.std.proofs.Common.{◌≡◌, ◌⊎◌, ℕ, zero, suc, ◌+◌, ◌<◌, ◌≤◌, false, List, [], ◌∷◌, ◌++◌, take, drop, map, Some, refl, sym, ap, subst, inl, inr, ◌∙◌, arith}
+use Rattle.std.proofs.Common.{◌≡◌, ◌⊎◌, ℕ, zero, suc, ◌+◌, ◌<◌, ◌≤◌, false, List, [], ◌∷◌, ◌++◌, take, drop, map, refl, sym, ap, subst, inl, inr, ◌∙◌, arith}
 use Rattle.std.specs.Prelude.{nat_lt, filter}
 use Rattle.std.proofs.lemmas.Bool.{or_from, le-ltb}
 use Rattle.std.proofs.lemmas.List.{take-append-drop}
@@ -15,10 +15,9 @@ use Rattle.mcap_model.specs.History.{rec_top, schema_of, channel_of, message_of,
 use Rattle.mcap_model.specs.Written.{IdsAgree}
 use Rattle.mcap_model.specs.Laws.{IsReadBack, IsNumberedRec, NumberedIdsAgree}
 use Rattle.mcap_model.proofs.Places.{at_none, each_front}
-use Rattle.mcap_model.proofs.ReadBack.{schema_back, channel_back, message_back, at_map, at_mapped, schema_id_below, channel_id_below}
-
-some_one : {X : Type 0} (x y : X) → Some x ≡ Some y → x ≡ y
-some_one x y e = cc
+use Rattle.mcap_model.proofs.ReadBack.{schema_back, channel_back, message_back, at_map, schema_id_below, channel_id_below}
+use Rattle.mcap_model.proofs.Flat.{at_mapped}
+use Rattle.mcap_model.proofs.Lists.{each_taken}
 
 -- ---- a record of one kind meets its layout
 
@@ -215,12 +214,6 @@ take-map : {X Y : Type 0} (f : X → Y) (xs : List X) (n : ℕ) → take n (map 
 take-map f xs zero = refl
 take-map f [] (suc n) = refl
 take-map f (x ∷ xs) (suc n) = ap (λ l. f x ∷ l) (take-map f xs n)
-
-each_taken : {X : Type 0} (P : X → Type 0) (xs : List X) (n : ℕ) → Each P xs → Each P (take n xs)
-each_taken P xs zero each k x at = absurd (at_none k x at)
-each_taken P [] (suc n) each k x at = absurd (at_none k x at)
-each_taken P (y ∷ xs) (suc n) each zero x at = each 0 x at
-each_taken P (y ∷ xs) (suc n) each (suc k) x at = each_taken P xs n (λ j z there. each (suc j) z there) k x at
 
 behind_taken : {X : Type 0} (P : List X → X → Type 0) (xs : List X) (n : ℕ) → EachBehind P xs → EachBehind P (take n xs)
 behind_taken {X} P xs n each = each_front P (take n xs) (drop n xs) (subst (λ (l : List X). EachBehind P l) (sym (take-append-drop n xs)) each)

@@ -12,25 +12,25 @@ use Rattle.mcap_model.specs.Tops.{Top, top_bytes, spelled, offset_behind, flat}
 use Rattle.mcap_model.specs.Fields.{IsHeader, MessageFields, IsMessage, IsChannel, ChunkIndexFields, IsChunkIndex, AttachmentFields, IsAttachment, AttachmentIndexFields, IsAttachmentIndex, IsMetadata, IsMetadataIndex}
 use Rattle.mcap_model.specs.Rules.{Agrees, stands_in_section}
 use Rattle.mcap_model.specs.History.{rec_top, channel_of, is_channel, without_repeats}
-use Rattle.mcap_model.specs.Blocks.{Piece, block, Logged, logged, logged_channels, entries_for, least, greatest, chunk_bytes, indexes_bytes, pieces_bytes}
-use Rattle.mcap_model.specs.Summary.{Noted, Group, groups_of, of_kind, statistics_content, chunk_index_content, attachment_index_content, metadata_index_content, channels_of}
+use Rattle.mcap_model.specs.Blocks.{Piece, block, Logged, logged, logged_channels, entries_for, least, greatest, chunk_bytes, indexes_bytes, pieces_bytes, written_fields}
+use Rattle.mcap_model.specs.Summary.{Noted, Group, groups_of, of_kind, statistics_content, chunk_index_content, attachment_index_content, metadata_index_content, channels_of, written_index, indexed_attachment}
 use Rattle.mcap_model.specs.File.{blocks_from, extras_from}
 use Rattle.mcap_model.specs.Whole.{StandsAt, InSummary, ChunkIndexIsRight, V12, AttachmentIndexIsRight, MetadataIndexIsRight, V13}
 use Rattle.mcap_model.specs.Valid.{Keeps, HasIndex, SummaryHasChannel}
 use Rattle.mcap_model.specs.Laws.{IsReadBack, IsNumberedRec, IsExtra, chunk_top, index_top}
 use Rattle.mcap_model.proofs.Places.{at_within, at_kept}
-use Rattle.mcap_model.proofs.ReadBack.{at_map, at_mapped}
+use Rattle.mcap_model.proofs.ReadBack.{at_map}
 use Rattle.mcap_model.proofs.Readings.{top_of}
 use Rattle.mcap_model.proofs.Histories.{channel_shown}
-use Rattle.mcap_model.proofs.WrittenChunks.{written_fields, each_map}
+use Rattle.mcap_model.proofs.WrittenChunks.{each_map}
 use Rattle.mcap_model.proofs.Lists.{each_cons, each_joined, at_second, take_second, has_taken, filter_passed, pairs_at}
 use Rattle.mcap_model.proofs.Edges.{end_top}
 use Rattle.mcap_model.proofs.Shape.{whole, summary_there, within_summary}
 use Rattle.mcap_model.proofs.Section.{piece_recs, piece_tops, PieceIsSound, IsRight, pieces_spelled, each_flat}
 use Rattle.mcap_model.proofs.Files.{groups_tops, group_tops, offset_tops, footer_top, length-spelled_append}
 use Rattle.mcap_model.proofs.Logged.{logs_channel}
-use Rattle.mcap_model.proofs.ShownBack.{length-offsets, is_offset, written_index, chunk_index_shown, chunk_index_shows}
-use Rattle.mcap_model.proofs.ExtraIndexes.{attachment_fields, attachment_index_shows, metadata_index_shows}
+use Rattle.mcap_model.proofs.ShownBack.{length-offsets, is_offset, chunk_index_shown, chunk_index_shows}
+use Rattle.mcap_model.proofs.ExtraIndexes.{attachment_index_shows, metadata_index_shows}
 use Rattle.mcap_model.proofs.Distinct.{rec_id, as_channel}
 use Rattle.mcap_model.proofs.Groups.{in_front, IsOfKind, of_kind_there, kinds_rise, content_there}
 use Rattle.mcap_model.proofs.Standing.{bytes_before, blocks_are, are_blocks, blocks_rise, extras_are, extras_rise, block_stands}
@@ -41,6 +41,7 @@ use Rattle.mcap_model.proofs.StatisticsRight.{id_of_channel, either_has}
 use Rattle.mcap_model.proofs.SummaryRules.{foot_is, never}
 use Rattle.mcap_model.proofs.Files.{summary_crc}
 use Rattle.mcap_model.specs.Summary.{group_bytes}
+use Rattle.mcap_model.proofs.Flat.{at_mapped}
 
 -- the offset of the first piece
 abbrev pub body_at : Top → ℕ
@@ -197,7 +198,7 @@ module _ (header : Top) (ps : List Piece) (extras : List Top) (history : List Re
   attachment_is : (j : ℕ) (t : Top) (a : IsExtraAt 10 9 attachment_index_content j t) → (f : AttachmentFields) × IsAttachment a.extra.1 f
   attachment_is j t a = let both = a.fits_there in let meets = both.0.v6 in meets.attachment a.own_kind
 
-  attachment_shows : (j : ℕ) (t : Top) (f : AttachmentIndexFields) (a : IsExtraAt 10 9 attachment_index_content j t) (g : AttachmentFields) → IsAttachment a.extra.1 g → IsAttachmentIndex t f → attachment_fields a.extra.0 a.extra.1 g ≡ f
+  attachment_shows : (j : ℕ) (t : Top) (f : AttachmentIndexFields) (a : IsExtraAt 10 9 attachment_index_content j t) (g : AttachmentFields) → IsAttachment a.extra.1 g → IsAttachmentIndex t f → indexed_attachment a.extra.0 a.extra.1 g ≡ f
   attachment_shows j t f a g is_g is = attachment_index_shows a.extra.0 a.extra.1 g f is_g a.fits_there.1 (subst (λ (x : Top). IsAttachmentIndex x f) a.is is)
 
   attachment_right : (p : ℕ) (t : Top) → At tops p t → (f : AttachmentIndexFields) → IsAttachmentIndex t f → AttachmentIndexIsRight tops p f

@@ -10,7 +10,6 @@ use Rattle.mcap_model.specs.Places.{At, Each}
 use Rattle.mcap_model.specs.Tops.{Top, top_bytes, spelled, records_in, is_flat_kind}
 use Rattle.mcap_model.specs.Rules.{V6, Agrees, stands_in_chunk}
 use Rattle.mcap_model.proofs.Places.{at_none, at_last, each_more, each_at}
-use Rattle.mcap_model.proofs.Flat.{each_both}
 use Rattle.mcap_model.specs.declared.inner.Inner.{Inner}
 use Rattle.mcap_model.specs.declared.tables.Tables.{Tables}
 use Rattle.mcap_model.specs.declared.times.Times.{Times}
@@ -22,6 +21,7 @@ use Rattle.mcap_model.specs.declared.tables.Ruling.TheVariants as rulings
 use Rattle.mcap_model.specs.Made.{top}
 use Rattle.mcap_model.specs.Chunked.{flat_of, AgreeBehind, IsInner, BreaksInner, InnerTaken, AreWhole, AllTaken}
 use Rattle.mcap_model.proofs.Meets.{unknown_meets}
+use Rattle.mcap_model.proofs.Lists.{each_joined}
 
 -- ---- kinds
 
@@ -107,8 +107,8 @@ walk_steps before records rest tables more_tables times more_times inner at at_n
     record {
       found = was.found ∙ ap (λ (l : List Top). inner ++ l) step.first ∙ sym (append_assoc inner (t ∷ []) (records_in rest_new));
       bytes = was.bytes ∙ ap (λ (l : List ℕ). spelled inner ++ l) step.split ∙ sym (append_assoc (spelled inner) (top_bytes t) rest_new) ∙ ap (λ (l : List ℕ). l ++ rest_new) (sym (spelled_more inner t));
-      kinds = each_both (λ u. stands_in_chunk u.op ≡ true) inner (t ∷ []) was.kinds (each_one (λ u. stands_in_chunk u.op ≡ true) t is.kind);
-      layouts = each_both V6 inner (t ∷ []) was.layouts (each_one V6 t is.layout);
+      kinds = each_joined (λ u. stands_in_chunk u.op ≡ true) inner (t ∷ []) was.kinds (each_one (λ u. stands_in_chunk u.op ≡ true) t is.kind);
+      layouts = each_joined V6 inner (t ∷ []) was.layouts (each_one V6 t is.layout);
       agrees = by (is_flat_kind t) refl;
       tables_are = tables_are;
       times_are = times_are;

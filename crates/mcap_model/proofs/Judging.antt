@@ -4,7 +4,7 @@ use Rattle.std.specs.Prelude.{nat_le, if◌then◌else◌}
 use Rattle.std.specs.List.{list_any}
 use Rattle.std.proofs.lemmas.Bool.{both_ways, ne_eqb, le-leb, or_right}
 use Rattle.std.proofs.lemmas.List.{append-nil}
-use Rattle.std.proofs.lemmas.Grind.{flat_map-append, common_steps}
+use Rattle.std.proofs.lemmas.Grind.{common_steps}
 use Rattle.mcap_wire.proofs.Contents.{shows_decided}
 use Rattle.rec_index.specs.Records.{chunk_kinds, chunk_values}
 use Rattle.mcap_model.specs.Places.{At}
@@ -23,11 +23,9 @@ use Rattle.mcap_model.specs.Chunked.{flat_of, AgreeBehind, ChunkTaken}
 use Rattle.mcap_model.specs.Judging.{as_judged, kept_or_breaks, IsPlain, Keeps, JudgedAs}
 use Rattle.mcap_model.proofs.Meets.{chunk_meets, unknown_meets}
 use Rattle.mcap_model.proofs.Inside.{unknown_not_flat}
+use Rattle.mcap_model.proofs.Flat.{flat_more}
 
 -- ---- flat records
-
-pub flat_more : (done : List Top) (t : Top) → flat (done ++ t ∷ []) ≡ flat done ++ flattened t
-flat_more done t = flat_map-append flattened done (t ∷ []) ∙ ap (λ (l : List Top). flat done ++ l) (append-nil (flattened t))
 
 -- a record that stands for itself alone
 flat_alone : (t : Top) → flattened t ≡ t ∷ [] → (before : List Top) → Agrees before t → (n : ℕ) (u : Top) → At (flattened t) n u → Agrees (before ++ take n (flattened t)) u
@@ -121,7 +119,7 @@ breaks_plain tops op n content rule is closed breaks =
 
 chunk_once : (t : Top) (f g : ChunkFields) → IsChunk t f → IsChunk t g → f ≡ g
 chunk_once t f g one other =
-    let same = shows_decided chunk_kinds t.content (chunk_values f.start f.end f.size f.crc f.compression f.records) (chunk_values g.start g.end g.size g.crc g.compression g.records) one.layout other.layout in
+    let same = shows_decided chunk_kinds t.content (chunk_values f) (chunk_values g) one.layout other.layout in
     ap (λ v. record { start = v.0; end = v.1.0; size = v.1.1.0; crc = v.1.1.1.0; compression = v.1.1.1.1.0; records = v.1.1.1.1.1.0 }) same
 
 chunk_plain : (t : Top) (f : ChunkFields) → IsChunk t f → f.compression ≡ [] → IsPlain t

@@ -58,8 +58,8 @@ pub mod Walks
 pub mod Inside
 pub mod Judging
 mod TakenRecords
-mod ShownMessages
-mod NamedTopics
-mod Replays
-mod PlacesApart
+pub mod ShownMessages
+pub mod NamedTopics
+pub mod Replays
+pub mod PlacesApart
 pub mod Pieces

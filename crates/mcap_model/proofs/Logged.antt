@@ -21,11 +21,13 @@ use Rattle.mcap_model.specs.Summary.{messages_on}
 use Rattle.mcap_model.specs.Whole.{offset_among, AreEntries}
 use Rattle.mcap_model.specs.Laws.{IsReadBack}
 use Rattle.mcap_model.proofs.Places.{at_none}
-use Rattle.mcap_model.proofs.ReadBack.{at_map, at_mapped, message_back}
+use Rattle.mcap_model.proofs.ReadBack.{at_map, message_back}
 use Rattle.mcap_model.proofs.Readings.{length-top}
 use Rattle.mcap_model.proofs.Histories.{message_shown}
 use Rattle.mcap_model.proofs.WrittenChunks.{spelled_recs}
-use Rattle.mcap_model.proofs.Lists.{some_same, cut_at, filter_passed, filter_has, pairs_at, pairs_from, pairs_cons}
+use Rattle.mcap_model.proofs.Lists.{cut_at, filter_passed, filter_has, pairs_at, pairs_from, pairs_cons}
+use Rattle.std.proofs.lemmas.Option.{same_Some}
+use Rattle.mcap_model.proofs.Flat.{at_mapped}
 
 -- ---- messages and their offsets
 
@@ -58,7 +60,7 @@ logged_is at (Channel id schema topic encoding metadata ∷ rs) k e there =
     let r = Channel id schema topic encoding metadata in later at r rs e (logged_is (at + length (rec_bytes r)) rs k e there)
 logged_is at (Message own sequence log_time publish_time payload ∷ rs) zero e there =
     let first : Logged = record { channel = own; time = log_time; offset = at } in
-    subst (IsLoggedAt at (Message own sequence log_time publish_time payload ∷ rs)) (some_same first e there) (record {
+    subst (IsLoggedAt at (Message own sequence log_time publish_time payload ∷ rs)) (same_Some first e there) (record {
       place = zero;
       message = record { sequence = sequence; log_time = log_time; publish_time = publish_time; payload = payload };
       at = refl;
@@ -81,7 +83,7 @@ pub logged_has : (at : ℕ) (records : List Rec) (n channel : ℕ) (m : MessageF
 logged_has at [] n channel m there = absurd (at_none n (message_of channel m) there)
 logged_has at (r ∷ rs) zero channel m there =
     let same : at ≡ at + size_before (r ∷ rs) 0 = omega arith in
-    subst (λ (x : Rec). Has (logged_from at (x ∷ rs)) (logged_as channel m.log_time (at + size_before (r ∷ rs) 0))) (sym (some_same r (message_of channel m) there))
+    subst (λ (x : Rec). Has (logged_from at (x ∷ rs)) (logged_as channel m.log_time (at + size_before (r ∷ rs) 0))) (sym (same_Some r (message_of channel m) there))
     (zero, ap (λ (k : ℕ). Some (logged_as channel m.log_time k)) same)
 logged_has at (Schema id s ∷ rs) (suc n) channel m there =
     let r = Schema id s in offset_more at r rs n channel m.log_time (logged_from at (r ∷ rs)) (logged_has (at + length (rec_bytes r)) rs n channel m there)
@@ -112,12 +114,12 @@ before_within records n r at =
 -- ---- channels
 
 pub has_id : (xs : List ℕ) (id c : ℕ) → Has (with_id xs id) c → (c ≡ id) ⊎ Has xs c
-has_id [] id c (zero, there) = inl (sym (some_same id c there))
+has_id [] id c (zero, there) = inl (sym (same_Some id c there))
 has_id [] id c (suc k, there) = absurd (at_none k c there)
 has_id (x ∷ xs) id c has = by (nat_lt id x) (id == x) (λ more. has_id xs id c more) has
   where
     by : (a b : Bool) → (Has (with_id xs id) c → (c ≡ id) ⊎ Has xs c) → Has (if a then id ∷ x ∷ xs else if b then x ∷ xs else x ∷ with_id xs id) c → (c ≡ id) ⊎ Has (x ∷ xs) c
-    by true b rest (zero, there) = inl (sym (some_same id c there))
+    by true b rest (zero, there) = inl (sym (same_Some id c there))
     by true b rest (suc k, there) = inr (k, there)
     by false true rest has = inr has
     by false false rest (zero, there) = inr (zero, there)
@@ -156,7 +158,7 @@ with_ascends (x ∷ xs) id up =
     above n y at = pairs_at (λ a b. a < b) (x ∷ xs) up 0 (suc n) x y (omega arith) refl at
 
     first_of : id < x → Each (λ y. id < y) (x ∷ xs)
-    first_of less zero y at = let same = some_same x y at in omega (arith, less, same)
+    first_of less zero y at = let same = same_Some x y at in omega (arith, less, same)
     first_of less (suc n) y at = let more = above n y at in omega (arith, less, more)
 
     behind : x < id → (y : ℕ) → (y ≡ id) ⊎ Has xs y → x < y
@@ -186,7 +188,7 @@ has_fold : (acc ids : List ℕ) (c : ℕ) → Has acc c ⊎ Has ids c → Has (f
 has_fold acc [] c (inl old) = old
 has_fold acc [] c (inr new) = absurd (at_none new.0 c new.1)
 has_fold acc (id ∷ ids) c (inl old) = has_fold (with_id acc id) ids c (inl (id_has acc id c (inr old)))
-has_fold acc (id ∷ ids) c (inr (zero, there)) = has_fold (with_id acc id) ids c (inl (id_has acc id c (inl (sym (some_same id c there)))))
+has_fold acc (id ∷ ids) c (inr (zero, there)) = has_fold (with_id acc id) ids c (inl (id_has acc id c (inl (sym (same_Some id c there)))))
 has_fold acc (id ∷ ids) c (inr (suc k, there)) = has_fold (with_id acc id) ids c (inr (k, there))
 
 fold_ascends : (acc ids : List ℕ) → Ascends acc → Ascends (fold with_id acc ids)

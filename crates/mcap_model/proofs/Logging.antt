@@ -1,5 +1,5 @@
 -- The Message Indexes that are written of records.
-use Rattle.std.proofs.Common.{◌≡◌, ℕ, zero, suc, ◌+◌, ◌*◌, ◌^◌, ◌<◌, ◌≤◌, Bool, true, false, ◌==◌, List, [], ◌∷◌, length, map, get_or, Some, refl, subst, arith}
+use Rattle.std.proofs.Common.{◌≡◌, ℕ, suc, ◌+◌, ◌*◌, ◌^◌, ◌<◌, ◌≤◌, Bool, true, false, ◌==◌, List, [], ◌∷◌, length, map, get_or, refl, arith}
 use Rattle.std.specs.Prelude.{All, fold, filter, cond, nat_lt, if◌then◌else◌}
 use Rattle.std.proofs.lemmas.List.{length-append, length-map}
 use Rattle.mcap_wire.specs.Arrays.{IsEntry, entry_texts}
@@ -20,25 +20,12 @@ use Rattle.mcap_model.specs.Laws.{IsReadBack, IndexesAreWritten}
 use Rattle.mcap_model.proofs.Places.{at_none, at_read}
 use Rattle.mcap_model.proofs.Readings.{length-top}
 use Rattle.mcap_model.proofs.WrittenChunks.{each_map}
-
-some_one : {X : Type 0} (x y : X) → Some x ≡ Some y → x ≡ y
-some_one x y e = cc
+use Rattle.mcap_model.proofs.Flat.{each_filter}
+use Rattle.mcap_model.proofs.Lists.{each_cons}
 
 -- ---- lists
 
-each_cons : {X : Type 0} (P : X → Type 0) (x : X) (xs : List X) → P x → Each P xs → Each P (x ∷ xs)
-each_cons P x xs first rest zero y at = subst P (some_one x y at) first
-each_cons P x xs first rest (suc n) y at = rest n y at
-
-each_filter : {X : Type 0} (P : X → Type 0) (test : X → Bool) (xs : List X) → Each P xs → Each P (filter test xs)
-each_filter P test [] each = λ n x at. absurd (at_none n x at)
-each_filter P test (x ∷ xs) each = by (test x) (each_filter P test xs (λ n y at. each (suc n) y at))
-  where
-    by : (b : Bool) → Each P (filter test xs) → Each P (cond b (x ∷ filter test xs) (filter test xs))
-    by true rest = each_cons P x (filter test xs) (each 0 x refl) rest
-    by false rest = rest
-
-few_filtered : {X : Type 0} (test : X → Bool) (xs : List X) → length (filter test xs) ≤ length xs
+pub few_filtered : {X : Type 0} (test : X → Bool) (xs : List X) → length (filter test xs) ≤ length xs
 few_filtered test [] = omega arith
 few_filtered test (x ∷ xs) = by (test x) (few_filtered test xs)
   where

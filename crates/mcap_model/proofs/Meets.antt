@@ -1,7 +1,7 @@
 -- A record that shows one kind meets its layout.
 use Rattle.std.proofs.Common.{ℕ, ◌≤◌, List, arith}
 use Rattle.mcap_model.specs.Tops.{Top}
-use Rattle.mcap_model.specs.Fields.{SchemaFields, IsSchema, ChannelFields, IsChannel, MessageFields, IsMessage, IsMetadata, ChunkFields, IsChunk, IsMessageIndex, ChunkIndexFields, IsChunkIndex, AttachmentFields, IsAttachment, AttachmentIndexFields, IsAttachmentIndex, StatisticsFields, IsStatistics, IsMetadataIndex, IsSummaryOffset, IsFooter}
+use Rattle.mcap_model.specs.Fields.{SchemaFields, IsSchema, ChannelFields, IsChannel, MessageFields, IsMessage, IsMetadata, ChunkFields, IsChunk, ChunkIndexFields, IsChunkIndex, AttachmentFields, IsAttachment, AttachmentIndexFields, IsAttachmentIndex, StatisticsFields, IsStatistics, IsMetadataIndex, IsSummaryOffset, IsFooter}
 use Rattle.mcap_model.specs.Rules.{V6}
 
 pub footer_meets : (t : Top) (summary offsets crc : ℕ) → IsFooter t summary offsets crc → V6 t
@@ -32,25 +32,6 @@ chunk_meets t f is = record {
   message = λ e. absurd (omega (arith, is.kind, e));
   chunk = λ e. (f, is);
   message_index = λ e. absurd (omega (arith, is.kind, e));
-  chunk_index = λ e. absurd (omega (arith, is.kind, e));
-  attachment = λ e. absurd (omega (arith, is.kind, e));
-  attachment_index = λ e. absurd (omega (arith, is.kind, e));
-  statistics = λ e. absurd (omega (arith, is.kind, e));
-  metadata = λ e. absurd (omega (arith, is.kind, e));
-  metadata_index = λ e. absurd (omega (arith, is.kind, e));
-  summary_offset = λ e. absurd (omega (arith, is.kind, e));
-  data_end = λ e. absurd (omega (arith, is.kind, e));
-}
-
-pub message_index_meets : (t : Top) (channel : ℕ) (entries : List (ℕ × ℕ)) → IsMessageIndex t channel entries → V6 t
-message_index_meets t channel entries is = record {
-  header = λ e. absurd (omega (arith, is.kind, e));
-  footer = λ e. absurd (omega (arith, is.kind, e));
-  schema = λ e. absurd (omega (arith, is.kind, e));
-  channel = λ e. absurd (omega (arith, is.kind, e));
-  message = λ e. absurd (omega (arith, is.kind, e));
-  chunk = λ e. absurd (omega (arith, is.kind, e));
-  message_index = λ e. (channel, entries, is);
   chunk_index = λ e. absurd (omega (arith, is.kind, e));
   attachment = λ e. absurd (omega (arith, is.kind, e));
   attachment_index = λ e. absurd (omega (arith, is.kind, e));

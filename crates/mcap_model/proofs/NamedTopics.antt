@@ -7,7 +7,7 @@ use Rattle.std.proofs.lemmas.List.Kept.{AllPairs-from_increasing}
 use Rattle.mcap_wire.specs.declared.faults.Cut.{Cut}
 use Rattle.mcap_wire.proofs.Contents.{shows_decided, begins_decided}
 use Rattle.rec_data.specs.Records.{ShowsChannel, channel_kinds, channel_values, message_kinds, message_values}
-use Rattle.mcap_model.specs.Fields.{IsChannel}
+use Rattle.mcap_model.specs.Fields.{IsChannel, ChannelFields}
 use Rattle.mcap_model.specs.declared.replay.Place.{Place}
 use Rattle.mcap_model.specs.declared.replay.Shown.{Shown}
 use Rattle.mcap_model.specs.declared.replay.Topic.{Topic}
@@ -24,10 +24,11 @@ use Rattle.mcap_model.specs.Made.{top}
 use Rattle.mcap_model.specs.Showing.{shown_as, TopicsOf}
 use Rattle.mcap_model.specs.Plain.{ReadTo, TakesRecord, cut_top, IsShown, AddsThose, IsNamed, DeclareChannels, AreDeclared, HaveTopics, AreNamed, PlacesDiffer, IsScanned}
 use Rattle.mcap_model.proofs.Places.{at_none, at_within, at_read, at_one}
-use Rattle.mcap_model.proofs.Lists.{some_same, pairs_at, pairs_from}
+use Rattle.mcap_model.proofs.Lists.{pairs_at, pairs_from}
 use Rattle.mcap_model.proofs.Flat.{topic_once, at_mapped, placed_tops, good_lists_agree, good_lists_are_scanned}
 use Rattle.mcap_model.proofs.TakenRecords.{ended, ended_more, more_read, fresh}
 use Rattle.mcap_model.proofs.ShownMessages.{adds_none}
+use Rattle.std.proofs.lemmas.Option.{same_Some}
 
 -- ---- places
 
@@ -39,19 +40,19 @@ has_there {X} xs x (n, within, is) = (n, subst (λ (y : X). At xs n y) is (at_re
 
 pub unmapped : {X Y : Type 0} (f : X → Y) (xs : List X) (n : ℕ) (y : Y) → At (map f xs) n y → (x : X) × At xs n x × (f x ≡ y)
 unmapped f [] n y at = absurd (at_none n y at)
-unmapped f (x ∷ xs) zero y at = (x, refl, some_same (f x) y at)
+unmapped f (x ∷ xs) zero y at = (x, refl, same_Some (f x) y at)
 unmapped f (x ∷ xs) (suc n) y at = unmapped f xs n y at
 
 zip_front : {X Y : Type 0} (R : X → Y → Type 0) (xs : List X) (ys : List Y) (n : ℕ) (x : X) → AllZip R xs ys → At xs n x → (y : Y) × At ys n y × R x y
 zip_front R [] ys n x zip at = absurd (at_none n x at)
 zip_front R (z ∷ xs) [] n x zip at = absurd zip
-zip_front {X} R (z ∷ xs) (y ∷ ys) zero x zip at = (y, refl, subst (λ (w : X). R w y) (some_same z x at) zip.0)
+zip_front {X} R (z ∷ xs) (y ∷ ys) zero x zip at = (y, refl, subst (λ (w : X). R w y) (same_Some z x at) zip.0)
 zip_front R (z ∷ xs) (y ∷ ys) (suc n) x zip at = zip_front R xs ys n x zip.1 at
 
 pub zip_back : {X Y : Type 0} (R : X → Y → Type 0) (xs : List X) (ys : List Y) (n : ℕ) (y : Y) → AllZip R xs ys → At ys n y → (x : X) × At xs n x × R x y
 zip_back R xs [] n y zip at = absurd (at_none n y at)
 zip_back R [] (z ∷ ys) n y zip at = absurd zip
-zip_back {X} {Y} R (x ∷ xs) (z ∷ ys) zero y zip at = (x, refl, subst (λ (w : Y). R x w) (some_same z y at) zip.0)
+zip_back {X} {Y} R (x ∷ xs) (z ∷ ys) zero y zip at = (x, refl, subst (λ (w : Y). R x w) (same_Some z y at) zip.0)
 zip_back R (x ∷ xs) (z ∷ ys) (suc n) y zip at = zip_back R xs ys n y zip.1 at
 
 zip_next : {X Y : Type 0} (R : X → Y → Type 0) (xs : List X) (ys : List Y) (i : ℕ) (x : X) (y : Y) → i < length xs → x ≡ get_or xs i x → AllZip R (take i xs) ys → R x y → AllZip R (take (suc i) xs) (ys ++ y ∷ [])
@@ -113,27 +114,27 @@ topics_named channels shown ids topics rising ids_are zip = record {
 
 -- what is found of an id is the content of its channel
 pub unnamed : (channels : List Declared) (id : ℕ) (content : List ℕ) → (k : ℕ) × (d : Declared) × At channels k d × (d.id ≡ id) × (d.content ≡ content) → DeclareChannels channels
-    → ((other schema : ℕ) (topic encoding : List ℕ) (metadata : List (List ℕ × List ℕ)) → ShowsChannel content other schema topic encoding metadata → ⊥) → ⊥
+    → ((other : ℕ) (g : ChannelFields) → ShowsChannel content other g → ⊥) → ⊥
 unnamed channels id content (k, d, at, id_is, same) are none =
     let f = are.are k d at in
     let is = subst (λ (l : List ℕ). IsChannel (top 4 l) d.id f.0) same f.1 in
-    none d.id f.0.schema f.0.topic f.0.encoding f.0.metadata is.layout
+    none d.id f.0 is.layout
 
-pub named : (channels : List Declared) (id : ℕ) (content : List ℕ) (other schema : ℕ) (topic encoding : List ℕ) (metadata : List (List ℕ × List ℕ)) → (k : ℕ) × (d : Declared) × At channels k d × (d.id ≡ id) × (d.content ≡ content) → DeclareChannels channels
-    → ShowsChannel content other schema topic encoding metadata → IsNamed channels id topic
-named channels id content other schema topic encoding metadata (k, d, at, id_is, same) are shows =
+pub named : (channels : List Declared) (id : ℕ) (content : List ℕ) (other : ℕ) (g : ChannelFields) → (k : ℕ) × (d : Declared) × At channels k d × (d.id ≡ id) × (d.content ≡ content) → DeclareChannels channels
+    → ShowsChannel content other g → IsNamed channels id g.topic
+named channels id content other g (k, d, at, id_is, same) are shows =
     let f = are.are k d at in
     let is = subst (λ (l : List ℕ). IsChannel (top 4 l) d.id f.0) same f.1 in
-    let topics : f.0.topic ≡ topic = ap (λ v. v.1.1.0) (shows_decided channel_kinds content (channel_values d.id f.0.schema f.0.topic f.0.encoding f.0.metadata) (channel_values other schema topic encoding metadata) is.layout shows) in
+    let topics : f.0.topic ≡ g.topic = ap (λ v. v.1.1.0) (shows_decided channel_kinds content (channel_values d.id f.0) (channel_values other g) is.layout shows) in
     record { place = k; declared = d; shown = f.0; at = at; id_is = id_is; is = subst (λ (n : ℕ). IsChannel (top 4 d.content) n f.0) id_is f.1; topic_is = topics }
 
 -- ---- the messages of a scan
 
-shown_once : (records : List Top) (p : Placed) (m : Seen) (s : Shown) → IsSeen records p m → IsShown p s → s ≡ shown_as m
+pub shown_once : (records : List Top) (p : Placed) (m : Seen) (s : Shown) → IsSeen records p m → IsShown p s → s ≡ shown_as m
 shown_once records p m s one other =
     let a = other.is in
     let b = one.is in
-    let same = begins_decided message_kinds p.top.content (message_values s.channel s.sequence s.log_time s.publish_time) (message_values m.channel m.message.sequence m.message.log_time m.message.publish_time) s.payload m.message.payload a.layout b.layout in
+    let same = begins_decided message_kinds p.top.content (message_values s.channel (record { sequence = s.sequence; log_time = s.log_time; publish_time = s.publish_time; payload = s.payload })) (message_values m.channel m.message) s.payload m.message.payload a.layout b.layout in
     let place : s.place ≡ m.place = sym other.place ∙ one.place in
     ap (λ v. made s.place v.0 v.1.0 v.1.1.0 v.1.1.1.0 s.payload) same.0
     ∙ ap (λ (l : List ℕ). made s.place m.channel m.message.sequence m.message.log_time m.message.publish_time l) same.1
@@ -142,7 +143,7 @@ shown_once records p m s one other =
     made : Place → ℕ → ℕ → ℕ → ℕ → List ℕ → Shown
     made place channel sequence log_time publish_time payload = record { place = place; log_time = log_time; publish_time = publish_time; channel = channel; sequence = sequence; payload = payload }
 
-zip_shown : (records : List Top) (ps : List Placed) (messages : List Seen) (shown : List Shown) → AllZip (IsSeen records) ps messages → AllZip IsShown ps shown → shown ≡ map shown_as messages
+pub zip_shown : (records : List Top) (ps : List Placed) (messages : List Seen) (shown : List Shown) → AllZip (IsSeen records) ps messages → AllZip IsShown ps shown → shown ≡ map shown_as messages
 zip_shown records [] [] [] a b = refl
 zip_shown records [] [] (s ∷ ss) a b = absurd b
 zip_shown records [] (m ∷ ms) shown a b = absurd a
@@ -152,18 +153,18 @@ zip_shown records (p ∷ ps) (m ∷ ms) (s ∷ ss) a b =
     ap (λ (x : Shown). x ∷ ss) (shown_once records p m s a.0 b.0) ∙ ap (λ (l : List Shown). shown_as m ∷ l) (zip_shown records ps ms ss a.1 b.1)
 
 -- each message has its topic among the records
-abbrev AreKnown : List Top → List Seen → Type 0
+abbrev pub AreKnown : List Top → List Seen → Type 0
 AreKnown records messages = (s : Seen) → Has messages s → HasTopic records s.channel s.topic
 
-known_all : (records : List Top) (ps : List Placed) (messages : List Seen) → AllZip (IsSeen records) ps messages → AreKnown records messages
+pub known_all : (records : List Top) (ps : List Placed) (messages : List Seen) → AllZip (IsSeen records) ps messages → AreKnown records messages
 known_all records ps messages zip s has = let seen = (zip_back (IsSeen records) ps messages has.0 s zip has.1).2 in seen.known
 
-are_channels : (records : List Top) (tables : Tables) → TablesOf records tables → DeclareChannels tables.channels
+pub are_channels : (records : List Top) (tables : Tables) → TablesOf records tables → DeclareChannels tables.channels
 are_channels records tables are =
     let channels = are.channels in
     record { are = λ k d at. let held = channels.holds k d at in (held.0, held.1); apart = channels.apart }
 
-are_declared : (records : List Top) (tables : Tables) (messages : List Seen) (shown : List Shown) → TablesOf records tables → AreKnown records messages → shown ≡ map shown_as messages → AreDeclared tables.channels shown
+pub are_declared : (records : List Top) (tables : Tables) (messages : List Seen) (shown : List Shown) → TablesOf records tables → AreKnown records messages → shown ≡ map shown_as messages → AreDeclared tables.channels shown
 are_declared records tables messages shown are known same s has =
     let channels = are.channels in
     let m = unmapped shown_as messages has.0 s (subst (λ (l : List Shown). At l has.0 s) same has.1) in
@@ -171,14 +172,14 @@ are_declared records tables messages shown are known same s has =
     let first = channels.covers named.place m.0.channel named.top named.shown named.at named.is in
     (first.0, first.1, first.3, first.4 ∙ ap (λ (z : Shown). z.channel) m.2)
 
-named_topic : (records : List Top) (tables : Tables) (id : ℕ) (topic : List ℕ) → TablesOf records tables → IsNamed tables.channels id topic → HasTopic records id topic
+pub named_topic : (records : List Top) (tables : Tables) (id : ℕ) (topic : List ℕ) → TablesOf records tables → IsNamed tables.channels id topic → HasTopic records id topic
 named_topic records tables id topic are named =
     let channels = are.channels in
     let held = channels.holds named.place named.declared named.at in
     let has = held.2 in
     record { place = has.0; top = top 4 named.declared.content; shown = named.shown; at = has.1; is = named.is; topic_is = named.topic_is }
 
-topics_right : (records : List Top) (tables : Tables) (messages : List Seen) (shown : List Shown) (topics : List Topic) → EachBehind Agrees records → TablesOf records tables → AreKnown records messages → shown ≡ map shown_as messages → HaveTopics tables.channels shown topics → TopicsOf messages topics
+pub topics_right : (records : List Top) (tables : Tables) (messages : List Seen) (shown : List Shown) (topics : List Topic) → EachBehind Agrees records → TablesOf records tables → AreKnown records messages → shown ≡ map shown_as messages → HaveTopics tables.channels shown topics → TopicsOf messages topics
 topics_right records tables messages shown topics agree are known same have = record {
   rises = have.rises;
   are = λ t has.
@@ -209,7 +210,7 @@ pub record ScansSoFar (bytes : List ℕ) (at : ℕ) (tables : Tables) (shown : L
   pub adds : AddsThose (placed tops) [] shown
   pub within : at ≤ length bytes
 
-none_first : {F : Type 0} (op : ℕ) (Is : Top → ℕ → F → Type 0) (Same : F → F → Type 0) (first : List Declared) → first ≡ [] → FirstOf op Is Same [] first
+pub none_first : {F : Type 0} (op : ℕ) (Is : Top → ℕ → F → Type 0) (Same : F → F → Type 0) (first : List Declared) → first ≡ [] → FirstOf op Is Same [] first
 none_first op Is Same first none = record {
   holds = λ k d at. absurd (at_none k d (subst (λ (l : List Declared). At l k d) none at));
   covers = λ n id t g at is. absurd (at_none n t at);

@@ -20,11 +20,10 @@ use Rattle.mcap_model.specs.Whole.{offset_of, indexes_behind, offset_among, IsEn
 use Rattle.mcap_model.specs.Laws.{IsReadBack, chunk_top, index_top}
 use Rattle.mcap_model.proofs.Places.{at_none, at_last, last_apart}
 use Rattle.mcap_model.proofs.Edges.{header_top, end_top}
-use Rattle.mcap_model.proofs.WrittenChunks.{written_fields, written_shows}
+use Rattle.mcap_model.proofs.WrittenChunks.{written_shows}
 use Rattle.mcap_model.proofs.Sizes.{channel_a, first}
-
-some_one : {X : Type 0} (x y : X) → Some x ≡ Some y → x ≡ y
-some_one x y e = cc
+use Rattle.mcap_model.specs.Blocks.{written_fields}
+use Rattle.std.proofs.lemmas.Option.{same_Some}
 
 abbrev pub one : List Rec
 one = channel_a ∷ first ∷ []
@@ -57,11 +56,11 @@ abbrev shown_message : MessageFields
 shown_message = record { sequence = 1; log_time = 10; publish_time = 9; payload = 170 ∷ [] }
 
 message_there : IsMessage (rec_top first) 1 shown_message
-message_there = record { kind = refl; layout = message_shown 1 1 10 9 (170 ∷ []) (omega arith) (omega arith) (omega arith) (omega arith) }
+message_there = record { kind = refl; layout = message_shown 1 shown_message (omega arith) (omega arith) (omega arith) (omega arith) }
 
 message_is : (channel : ℕ) (m : MessageFields) → IsMessage (rec_top first) channel m → (1 ≡ channel) × (10 ≡ m.log_time)
 message_is channel m is =
-    let same = (begins_decided message_kinds (message_text 1 1 10 9 (170 ∷ [])) (message_values 1 1 10 9) (message_values channel m.sequence m.log_time m.publish_time) (170 ∷ []) m.payload message_there.layout is.layout).0 in
+    let same = (begins_decided message_kinds (message_text 1 shown_message) (message_values 1 shown_message) (message_values channel m) (170 ∷ []) m.payload message_there.layout is.layout).0 in
     (ap (λ v. v.0) same, ap (λ v. v.1.1.0) same)
 
 place_27 : offset_among inside 1 ≡ 27
@@ -85,9 +84,9 @@ entry_is : (channel : ℕ) (entry : ℕ × ℕ) → IsEntryOf inside channel ent
 entry_is channel entry is = by is.place is.top is.message is.at is.is is.time is.offset
   where
     by : (place : ℕ) (top : Top) (m : MessageFields) → At inside place top → IsMessage top channel m → entry.0 ≡ m.log_time → entry.1 ≡ offset_among inside place → (1 ≡ channel) × (◌≡◌ {A = ℕ × ℕ} (10, 27) entry)
-    by zero top m at is time offset = absurd (omega (arith, is.kind, ap (λ (t : Top). t.op) (some_one (rec_top channel_a) top at)))
+    by zero top m at is time offset = absurd (omega (arith, is.kind, ap (λ (t : Top). t.op) (same_Some (rec_top channel_a) top at)))
     by (suc zero) top m at is time offset =
-        let here = message_is channel m (subst (λ (t : Top). IsMessage t channel m) (sym (some_one (rec_top first) top at)) is) in
+        let here = message_is channel m (subst (λ (t : Top). IsMessage t channel m) (sym (same_Some (rec_top first) top at)) is) in
         (here.0, pair_of entry (here.1 ∙ sym time) (sym place_27 ∙ sym offset))
     by (suc (suc n)) top m at is time offset = absurd (at_none n top at)
 
@@ -116,7 +115,7 @@ only_entry = record {
 }
   where
     alone : (entry : ℕ × ℕ) (n : ℕ) → At ((10, 27) ∷ []) n entry → ◌≡◌ {A = ℕ × ℕ} (10, 27) entry
-    alone entry zero at = some_one (10, 27) entry at
+    alone entry zero at = same_Some (10, 27) entry at
     alone entry (suc n) at = absurd (at_none n entry at)
 
     zero_of : (n : ℕ) (entry : ℕ × ℕ) → At ((10, 27) ∷ []) n entry → n ≡ 0
@@ -151,9 +150,9 @@ chunk_keeps = ((λ kind. absurd (omega (arith, kind))), λ kind followed. inr (�
   where
     found : (j channel : ℕ) (u : Top) (m : MessageFields) → At inside j u → IsMessage u channel m
         → (k : ℕ) × (i : Top) × (entries : List (ℕ × ℕ)) × At (indexes_behind (tops (index_of ((10, 27) ∷ []))) 1) k i × IsMessageIndex i channel entries
-    found zero channel u m at is = absurd (omega (arith, is.kind, ap (λ (t : Top). t.op) (some_one (rec_top channel_a) u at)))
+    found zero channel u m at is = absurd (omega (arith, is.kind, ap (λ (t : Top). t.op) (same_Some (rec_top channel_a) u at)))
     found (suc zero) channel u m at is =
-        let here = message_is channel m (subst (λ (t : Top). IsMessage t channel m) (sym (some_one (rec_top first) u at)) is) in
+        let here = message_is channel m (subst (λ (t : Top). IsMessage t channel m) (sym (same_Some (rec_top first) u at)) is) in
         (0, index_of ((10, 27) ∷ []), (10, 27) ∷ [], refl, subst (λ (c : ℕ). IsMessageIndex (index_of ((10, 27) ∷ [])) c ((10, 27) ∷ [])) here.0 (record { kind = refl; layout = entries_fit }))
     found (suc (suc n)) channel u m at is = absurd (at_none n u at)
 
@@ -197,8 +196,8 @@ second_astray = (
 )
   where
     no_chunk : (n : ℕ) (c : Top) → At (header_top [] ∷ index_of [] ∷ []) n c → c.op ≡ 6 → ⊥
-    no_chunk zero c at six = omega (arith, six, ap (λ (t : Top). t.op) (some_one (header_top []) c at))
-    no_chunk (suc zero) c at six = omega (arith, six, ap (λ (t : Top). t.op) (some_one (index_of []) c at))
+    no_chunk zero c at six = omega (arith, six, ap (λ (t : Top). t.op) (same_Some (header_top []) c at))
+    no_chunk (suc zero) c at six = omega (arith, six, ap (λ (t : Top). t.op) (same_Some (index_of []) c at))
     no_chunk (suc (suc n)) c at six = at_none n c at
 
 -- ---- V12
@@ -208,7 +207,7 @@ index_fields = record { start = 10; end = 10; offset = 34; size = 108; indexes =
 
 channel_back : IsReadBack channel_a
 unfolding lib.Utf8.encode
-channel_back = (refl, row_shown channel_kinds (channel_values 1 0 (47 ∷ 97 ∷ []) [] []) (omega arith, (omega arith, ((omega arith, topic), ((omega arith, ([], (refl, refl))), ((omega arith, no_pairs), tt))))))
+channel_back = (refl, row_shown channel_kinds (channel_values 1 (record { schema = 0; topic = 47 ∷ 97 ∷ []; encoding = []; metadata = [] })) (omega arith, (omega arith, ((omega arith, topic), ((omega arith, ([], (refl, refl))), ((omega arith, no_pairs), tt))))))
   where
     topic : IsUtf8 (47 ∷ 97 ∷ [])
     topic = (47 ∷ 97 ∷ [], (refl, refl))
@@ -217,8 +216,8 @@ channel_back = (refl, row_shown channel_kinds (channel_values 1 0 (47 ∷ 97 ∷
     no_pairs = record { texts = λ k d less. absurd (omega (arith, less)); keys_differ = λ i j d less within. absurd (omega (arith, within)) }
 
 pub one_back : Each IsReadBack one
-one_back zero r at = subst IsReadBack (some_one channel_a r at) channel_back
-one_back (suc zero) r at = subst IsReadBack (some_one first r at) (refl, message_shown 1 1 10 9 (170 ∷ []) (omega arith) (omega arith) (omega arith) (omega arith))
+one_back zero r at = subst IsReadBack (same_Some channel_a r at) channel_back
+one_back (suc zero) r at = subst IsReadBack (same_Some first r at) (refl, message_shown 1 shown_message (omega arith) (omega arith) (omega arith) (omega arith))
 one_back (suc (suc n)) r at = absurd (at_none n r at)
 
 abbrev pub with_index : List Top
@@ -256,7 +255,7 @@ chunk_index_right =
 
     named : (channel offset k : ℕ) → At {X = ℕ × ℕ} ((1, 142) ∷ []) k (channel, offset) → (entries : List (ℕ × ℕ)) × IsNamed with_index 1 channel offset entries
     named channel offset zero at =
-        let same = some_one {X = ℕ × ℕ} (1, 142) (channel, offset) at in
+        let same = same_Some {A = ℕ × ℕ} (1, 142) (channel, offset) at in
         ((10, 27) ∷ [], subst (λ (p : ℕ × ℕ). IsNamed with_index 1 p.0 p.1 ((10, 27) ∷ [])) same there)
     named channel offset (suc k) at = absurd (at_none {X = ℕ × ℕ} k (channel, offset) at)
 
@@ -265,16 +264,16 @@ chunk_index_right =
       where
         by : (place : ℕ) (top : Top) → At (indexes_behind with_index 1) place top → IsMessageIndex top channel entries → offset ≡ offset_of with_index (2 + place) → Has {X = ℕ × ℕ} ((1, 142) ∷ []) (channel, offset)
         by zero top at is place =
-            let shown = subst (λ (t : Top). IsMessageIndex t channel entries) (sym (some_one (index_of ((10, 27) ∷ [])) top at)) is in
+            let shown = subst (λ (t : Top). IsMessageIndex t channel entries) (sym (same_Some (index_of ((10, 27) ∷ [])) top at)) is in
             let same = shows_one ((10, 27) ∷ []) entries_fit channel entries shown in
             (0, ap {B = Option (ℕ × ℕ)} (λ (c : ℕ). Some (c, 142)) same.0 ∙ ap {B = Option (ℕ × ℕ)} (λ (o : ℕ). Some (channel, o)) (numbers_there.3 ∙ sym place))
         by (suc n) top at is place = absurd (at_none n top at)
 
     none : (i : ℕ) (u : Top) → At with_index i u → u.op ≡ 8 → ⊥
-    none zero u at e = omega (arith, e, ap (λ (t : Top). t.op) (some_one (header_top []) u at))
-    none (suc zero) u at e = omega (arith, e, ap (λ (t : Top). t.op) (some_one (chunk_top one) u at))
-    none (suc (suc zero)) u at e = omega (arith, e, ap (λ (t : Top). t.op) (some_one (index_of ((10, 27) ∷ [])) u at))
-    none (suc (suc (suc zero))) u at e = omega (arith, e, ap (λ (t : Top). t.op) (some_one end_top u at))
+    none zero u at e = omega (arith, e, ap (λ (t : Top). t.op) (same_Some (header_top []) u at))
+    none (suc zero) u at e = omega (arith, e, ap (λ (t : Top). t.op) (same_Some (chunk_top one) u at))
+    none (suc (suc zero)) u at e = omega (arith, e, ap (λ (t : Top). t.op) (same_Some (index_of ((10, 27) ∷ [])) u at))
+    none (suc (suc (suc zero))) u at e = omega (arith, e, ap (λ (t : Top). t.op) (same_Some end_top u at))
     none (suc (suc (suc (suc n)))) u at e = at_none n u at
 
 -- a Chunk Index with another offset is that of no chunk
@@ -282,10 +281,10 @@ other_offset : (f : ChunkIndexFields) (k : ℕ) (c : Top) (g : ChunkFields) → 
 other_offset f k c g other is = by k c is.at is.is.kind is.offset
   where
     by : (k : ℕ) (c : Top) → At with_index k c → c.op ≡ 6 → f.offset ≡ offset_of with_index k → ⊥
-    by zero c at kind there = omega (arith, kind, ap (λ (t : Top). t.op) (some_one (header_top []) c at))
+    by zero c at kind there = omega (arith, kind, ap (λ (t : Top). t.op) (same_Some (header_top []) c at))
     by (suc zero) c at kind there = omega (arith, other, there, numbers_there.0)
-    by (suc (suc zero)) c at kind there = omega (arith, kind, ap (λ (t : Top). t.op) (some_one (index_of ((10, 27) ∷ [])) c at))
-    by (suc (suc (suc zero))) c at kind there = omega (arith, kind, ap (λ (t : Top). t.op) (some_one end_top c at))
+    by (suc (suc zero)) c at kind there = omega (arith, kind, ap (λ (t : Top). t.op) (same_Some (index_of ((10, 27) ∷ [])) c at))
+    by (suc (suc (suc zero))) c at kind there = omega (arith, kind, ap (λ (t : Top). t.op) (same_Some end_top c at))
     by (suc (suc (suc (suc n)))) c at kind there = at_none n c at
 
 offset_breaks : (n : ℕ) (f : ChunkIndexFields) → f.offset ≡ 35 → ChunkIndexIsRight with_index n f → ⊥

@@ -9,6 +9,7 @@ use Rattle.mcap_model.specs.File.{front, data_end, section, noted, tail_by, file
 use Rattle.mcap_model.specs.Pieces.{joined, back_of, pieces_before}
 use Rattle.mcap_model.specs.Laws.{PiecesMakeFiles, StopsLeavePrefixes}
 use Rattle.mcap_model.proofs.Lists.{cut_at}
+use Rattle.mcap_model.proofs.Files.{join_whole}
 
 abbrev whole_piece : List ℕ → List ℕ
 whole_piece piece = piece
@@ -34,9 +35,6 @@ pieces_make_files options extras history =
     ∙ ap (λ (l : List ℕ). l ++ (back ++ [])) (joined_map top_bytes extras)))
     ∙ join_four head (pieces_bytes ps) (spelled extras) data_end tail
 
-join_rest : (done some rest behind : List ℕ) → (done ++ some) ++ (rest ++ behind) ≡ done ++ ((some ++ rest) ++ behind)
-join_rest done some rest behind = simp append_assoc refl
-
 pub stops_leave_prefixes : StopsLeavePrefixes
 stops_leave_prefixes pieces place stop text bytes stopped =
     let cut = cut_at pieces place stopped.next stopped.at in
@@ -47,7 +45,7 @@ stops_leave_prefixes pieces place stop text bytes stopped =
     ap joined cut.1 ∙ flat_map-append whole_piece (take place pieces) (stopped.next ∷ cut.0) in (
       rest ++ joined cut.0,
       ap (λ (l : List ℕ). l ++ (rest ++ joined cut.0)) stopped.split
-          ∙ join_rest done some rest (joined cut.0)
+          ∙ join_whole done some rest (joined cut.0)
           ∙ ap (λ (l : List ℕ). done ++ (l ++ joined cut.0)) (take-append-drop stopped.some stopped.next)
           ∙ sym all,
     )

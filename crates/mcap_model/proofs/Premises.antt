@@ -1,6 +1,5 @@
 -- What the premises of the laws on written files say, and that some files meet them.
 use Rattle.std.proofs.Common.{◌≡◌, ℕ, zero, suc, ◌+◌, ◌^◌, ◌<◌, List, [], ◌∷◌, ◌++◌, length, drop, map, Some, refl, sym, ap, subst, inl, ◌∙◌, arith}
-use Rattle.std.specs.Prelude.{IsUtf8}
 use Rattle.std.proofs.lemmas.List.{length-append}
 use Rattle.mcap_wire.specs.Layout.{le, string, prefixed}
 use Rattle.mcap_wire.proofs.Numbers.{length-le}
@@ -21,16 +20,18 @@ use Rattle.mcap_model.specs.File.{file_of}
 use Rattle.mcap_model.specs.Valid.{IsFullyIndexed}
 use Rattle.mcap_model.specs.Laws.{IsReadBack, IsNumberedRec, IsExtra, EntriesFit, CanBeWritten, GoodHistoriesAgree}
 use Rattle.mcap_model.proofs.Places.{at_none}
-use Rattle.mcap_model.proofs.ReadBack.{schema_back, at_mapped}
+use Rattle.mcap_model.proofs.ReadBack.{schema_back}
 use Rattle.mcap_model.proofs.Histories.{recs_flat, recs_are_flat, numbered_ids_agree}
 use Rattle.mcap_model.proofs.Meets.{attachment_meets}
-use Rattle.mcap_model.proofs.Lists.{some_same, each_cons}
+use Rattle.mcap_model.proofs.Lists.{each_cons}
 use Rattle.mcap_model.proofs.ExtraIndexes.{behind_field}
 use Rattle.mcap_model.proofs.Distinct.{rec_id}
-use Rattle.mcap_model.proofs.Flat.{good_lists_agree}
+use Rattle.mcap_model.proofs.Flat.{good_lists_agree, at_mapped}
 use Rattle.mcap_model.proofs.Validity.{files_are_indexed}
 use Rattle.mcap_model.proofs.Sizes.{in_chunks, channel_a, first, attachment, size_attachment}
 use Rattle.mcap_model.proofs.OneMessage.{one, one_back}
+use Rattle.std.proofs.lemmas.Option.{same_Some}
+use Rattle.mcap_model.proofs.WrittenChunks.{empty_utf8}
 
 -- ---- ids agree in a good list
 
@@ -50,7 +51,7 @@ good_histories_agree header history back kind good =
 
 -- ---- an Attachment has a CRC
 
-crc_stands : (t : Top) (f : AttachmentFields) → IsAttachment t f → CrcStandsAt t.content (32 + length f.name + length f.media_type + length f.payload) f.log_time f.create_time f.name f.media_type f.payload f.crc
+crc_stands : (t : Top) (f : AttachmentFields) → IsAttachment t f → CrcStandsAt t.content (32 + length f.name + length f.media_type + length f.payload) f
 crc_stands t f is =
     let row = is.layout.1 in
     let rest = is.layout.0 in
@@ -105,27 +106,24 @@ crc_stands t f is =
 -- ---- a file of one message and one Attachment
 
 one_numbered : Numbered one
-one_numbered zero r at = subst (Follows []) (some_same channel_a r at) (record {
+one_numbered zero r at = subst (Follows []) (same_Some channel_a r at) (record {
   numbered = omega arith;
   schema = inl refl;
   order = λ i j d less within. absurd (omega (arith, within));
   is_new = λ n other g there same. at_none n (channel_of other g) there;
 })
-one_numbered (suc zero) r at = subst (Follows (channel_a ∷ [])) (some_same first r at) (0, record { schema = 0; topic = 47 ∷ 97 ∷ []; encoding = []; metadata = [] }, refl)
+one_numbered (suc zero) r at = subst (Follows (channel_a ∷ [])) (same_Some first r at) (0, record { schema = 0; topic = 47 ∷ 97 ∷ []; encoding = []; metadata = [] }, refl)
 one_numbered (suc (suc n)) r at = absurd (at_none n r at)
 
-empty_utf8 : IsUtf8 []
-empty_utf8 = ([], (refl, refl))
-
 attachment_is : IsAttachment attachment (record { log_time = 0; create_time = 0; name = []; media_type = []; payload = []; crc = 0 })
-attachment_is = record { kind = refl; layout = row_shown attachment_kinds (attachment_values 0 0 [] [] [] 0) (omega arith, (omega arith, ((omega arith, empty_utf8), ((omega arith, empty_utf8), (omega arith, (omega arith, tt)))))) }
+attachment_is = record { kind = refl; layout = row_shown attachment_kinds (attachment_values (record { log_time = 0; create_time = 0; name = []; media_type = []; payload = []; crc = 0 })) (omega arith, (omega arith, ((omega arith, empty_utf8), ((omega arith, empty_utf8), (omega arith, (omega arith, tt)))))) }
 
 attachment_right : IsExtra attachment
 attachment_right = record {
   kind = inl refl;
   v6 = attachment_meets attachment _ attachment_is;
   v10 = λ f place kind stands.
-      let same = shows_decided attachment_kinds attachment.content (attachment_values f.log_time f.create_time f.name f.media_type f.payload f.crc) (attachment_values 0 0 [] [] [] 0) stands.shows attachment_is.layout in
+      let same = shows_decided attachment_kinds attachment.content (attachment_values f) (attachment_values (record { log_time = 0; create_time = 0; name = []; media_type = []; payload = []; crc = 0 })) stands.shows attachment_is.layout in
       inl (ap (λ v. v.1.1.1.1.1.0) same);
 }
 

@@ -13,9 +13,9 @@ use Rattle.mcap_model.specs.Rules.{HasSchema, HasChannel, Agrees}
 use Rattle.mcap_model.specs.History.{rec_top, schema_of, channel_of, declare_same, kept_with, without_repeats}
 use Rattle.mcap_model.specs.Laws.{IsReadBack, IsNumberedRec, RepeatsMayGo}
 use Rattle.mcap_model.proofs.Places.{at_none, at_kept, at_last, at_more, has_kept, has_last, each_more, each_at}
-use Rattle.mcap_model.proofs.ReadBack.{schema_back, channel_back, at_map, at_mapped}
+use Rattle.mcap_model.proofs.ReadBack.{schema_back, channel_back, at_map}
 use Rattle.mcap_model.proofs.Histories.{schema_shown, channel_shown, recs_are_flat}
-use Rattle.mcap_model.proofs.Flat.{map-append}
+use Rattle.mcap_model.proofs.Flat.{map-append, at_mapped}
 
 -- ---- what declares the same id
 

@@ -23,9 +23,10 @@ use Rattle.mcap_model.specs.Scan.{Seen, InRange, OnTopic, IsAsked, ComesBefore, 
 use Rattle.mcap_model.specs.Showing.{shown_as, topic_as, TopicsOf, Shows}
 use Rattle.mcap_model.specs.Plain.{is_used, is_before, is_within, is_named, is_chosen, PlacesDiffer, NotBehind, InOrder}
 use Rattle.mcap_model.proofs.Places.{at_none, at_within, at_read, at_one}
-use Rattle.mcap_model.proofs.Lists.{some_same, pairs_at, pairs_from, pairs_cons, filter_passed, filter_has}
+use Rattle.mcap_model.proofs.Lists.{pairs_at, pairs_from, pairs_cons, filter_passed, filter_has}
 use Rattle.mcap_model.proofs.Flat.{at_mapped}
 use Rattle.mcap_model.proofs.NamedTopics.{contained, has_there, unmapped}
+use Rattle.std.proofs.lemmas.Option.{same_Some}
 
 -- ---- places that differ, in any order
 
@@ -136,10 +137,10 @@ comes_before topics s r (inr (e, inr (f, q))) differ = elim (cases_lt s.place.in
   | inr more ↦ absurd (differ (same_parts s.place r.place (f, omega (arith, q, more))))
 ]
 
-first_found : (topics : List Topic) → AllPairs (λ t u. t.channel < u.channel) topics → (n : ℕ) (t : Topic) → At topics n t → first_topic topics t.channel ≡ t.topic
+pub first_found : (topics : List Topic) → AllPairs (λ t u. t.channel < u.channel) topics → (n : ℕ) (t : Topic) → At topics n t → first_topic topics t.channel ≡ t.topic
 first_found [] rises n t at = absurd (at_none n t at)
 first_found (u ∷ us) rises zero t at =
-    let same : u ≡ t = some_same u t at in
+    let same : u ≡ t = same_Some u t at in
     subst (λ (v : Topic). first_topic (u ∷ us) v.channel ≡ v.topic) same (ap (λ (b : Bool). cond b u.topic (first_topic us u.channel)) ((Decides-eqb u.channel u.channel).1 refl))
 first_found (u ∷ us) rises (suc n) t at =
     let less : u.channel < t.channel = pairs_at (λ (v : Topic) (w : Topic). v.channel < w.channel) (u ∷ us) rises 0 (suc n) u t (omega arith) refl at in
@@ -166,11 +167,11 @@ before_decided None time = (λ yes e is. absurd (none_some e is), λ all. refl)
     none_some : (e : ℕ) → None ≡ Some e → ⊥
     none_some e is = cc
 before_decided (Some end) time = (
-  λ yes e is. subst (λ (n : ℕ). time < n) (some_same end e is) ((Decides-ltb time end).0 yes),
+  λ yes e is. subst (λ (n : ℕ). time < n) (same_Some end e is) ((Decides-ltb time end).0 yes),
   λ all. (Decides-ltb time end).1 (all end refl),
 )
 
-range_decided : (range : Range) (time : ℕ) → Decides (is_within range time) (InRange range time)
+pub range_decided : (range : Range) (time : ℕ) → Decides (is_within range time) (InRange range time)
 range_decided range time =
     Decides-like (is_within range time) (λ e. record { from = e.0; before = e.1 }) (λ in_range. (in_range.from, in_range.before))
     (Decides-and (nat_le range.start time) (is_before range.end time) (leb-true range.start time, le-leb range.start time) (before_decided range.end time))
@@ -181,7 +182,7 @@ gives channel asked t = (t.channel == channel) && pointwise nat_eq t.topic asked
 gives_decided : (channel : ℕ) (asked : List ℕ) (t : Topic) → Decides (gives channel asked t) ((t.channel ≡ channel) × (t.topic ≡ asked))
 gives_decided channel asked t = Decides-and (t.channel == channel) (pointwise nat_eq t.topic asked) (Decides-eqb t.channel channel) (bytes_decides t.topic asked)
 
-topic_decided : (messages : List Seen) (topics : List Topic) (m : Seen) (asked : Option (List ℕ)) → TopicsOf messages topics → Has messages m → Decides (is_named topics m.channel asked) (OnTopic asked m.topic)
+pub topic_decided : (messages : List Seen) (topics : List Topic) (m : Seen) (asked : Option (List ℕ)) → TopicsOf messages topics → Has messages m → Decides (is_named topics m.channel asked) (OnTopic asked m.topic)
 topic_decided messages topics m None of has = (λ yes t is. absurd (none_some t is), λ all. refl)
   where
     none_some : (t : List ℕ) → None ≡ Some t → ⊥
@@ -196,13 +197,13 @@ topic_decided messages topics m (Some asked) of has =
           ∙ ap (first_topic topics) (sym parts.0)
           ∙ first_found topics of.rises any.0 any.1 at
           ∙ parts.1
-          ∙ some_same asked t is,
+          ∙ same_Some asked t is,
       λ all.
           let c = contained topics (topic_as m) there in
           list_any-from_Any (gives m.channel asked) topics (c.0, topic_as m, c.1, c.2, (gives_decided m.channel asked (topic_as m)).1 (refl, all asked refl)),
     )
 
-asked_decided : (messages : List Seen) (topics : List Topic) (range : Range) (topic : Option (List ℕ)) (m : Seen) → TopicsOf messages topics → Has messages m → Decides (is_chosen topics range topic (shown_as m)) (IsAsked range topic m)
+pub asked_decided : (messages : List Seen) (topics : List Topic) (range : Range) (topic : Option (List ℕ)) (m : Seen) → TopicsOf messages topics → Has messages m → Decides (is_chosen topics range topic (shown_as m)) (IsAsked range topic m)
 asked_decided messages topics range topic m of has =
     Decides-and (is_within range m.message.log_time) (is_named topics m.channel topic) (range_decided range m.message.log_time) (topic_decided messages topics m topic of has)
 
@@ -243,7 +244,7 @@ chosen_there all range topic messages chosen shown m shows put has asked =
     let there = has_there shown (shown_as m) (Contains-permutation chosen shown (shown_as m) put.moved (contained chosen (shown_as m) in_chosen)) in
     (there.0, subst (At (map (seen_as topics) shown) there.0) (seen_back messages topics m shows.topics has) (at_mapped (seen_as topics) shown there.0 (shown_as m) there.1))
 
-used_there : (shown : List Shown) (s : Shown) (channel : ℕ) → Has shown s → s.channel ≡ channel → is_used shown channel ≡ true
+pub used_there : (shown : List Shown) (s : Shown) (channel : ℕ) → Has shown s → s.channel ≡ channel → is_used shown channel ≡ true
 used_there shown s channel has is =
     let c = contained shown s has in
     list_any-from_Any (λ r. r.channel == channel) shown (c.0, s, c.1, c.2, (Decides-eqb s.channel channel).1 is)

@@ -1,10 +1,10 @@
 -- The file of a history is read to its Data End, and its messages are those of the history.
-use Rattle.std.proofs.Common.{◌≡◌, ℕ, zero, suc, ◌+◌, ◌≤◌, Bool, true, false, List, [], ◌∷◌, ◌++◌, length, take, map, Some, refl, sym, ap, subst, inl, inr, ◌∙◌, append_assoc, cond, arith}
+use Rattle.std.proofs.Common.{◌≡◌, ℕ, zero, suc, ◌+◌, ◌≤◌, Bool, true, false, List, [], ◌∷◌, ◌++◌, length, take, map, refl, sym, ap, subst, inl, inr, ◌∙◌, append_assoc, cond, arith}
 use Rattle.std.specs.Prelude.{filter, IsUtf8}
 use Rattle.std.specs.List.{flat_map, AllZip}
 use Rattle.std.proofs.lemmas.List.{append-nil, length-append, take-append-le}
 use Rattle.std.proofs.lemmas.Grind.{flat_map-append}
-use Rattle.mcap_wire.specs.Layout.{magic}
+use Rattle.mcap_wire.specs.Layout.{magic, le}
 use Rattle.mcap_wire.proofs.Numbers.{length-le}
 use Rattle.rec_data.specs.declared.owned.Rec.{Rec}
 use Rattle.rec_data.specs.declared.owned.Rec.TheVariants.{Schema, Channel, Message}
@@ -36,9 +36,7 @@ use Rattle.mcap_model.proofs.Histories.{header_meets, data_end_meets, within_the
 use Rattle.mcap_model.proofs.Edges.{header_top, end_top}
 use Rattle.mcap_model.proofs.WrittenChunks.{each_map}
 use Rattle.mcap_model.proofs.Flat.{placed_tops}
-
-some_one : {X : Type 0} (x y : X) → Some x ≡ Some y → x ≡ y
-some_one x y e = cc
+use Rattle.std.proofs.lemmas.Option.{same_Some}
 
 -- ---- the messages, from the flat records alone
 
@@ -110,7 +108,7 @@ good_of_sound header tops is short sound agree near n t at = fits n t at (cut_at
 
     fits : (n : ℕ) (t : Top) → At (header ∷ (tops ++ end_top ∷ [])) n t → (more : List Top) × ((header ∷ (tops ++ end_top ∷ [])) ≡ take n (header ∷ (tops ++ end_top ∷ [])) ++ t ∷ more) → Fits reading_limits (take n (header ∷ (tops ++ end_top ∷ []))) t
     fits zero t at split =
-        let same = some_one header t at in
+        let same = same_Some header t at in
         subst (Fits reading_limits []) same (record {
           v3 = is;
           v5 = λ e. omega (arith, is.kind, e);
@@ -144,7 +142,7 @@ good_of_sound header tops is short sound agree near n t at = fits n t at (cut_at
                 unended = λ ended. unended_by (take n (tops ++ end_top ∷ [])) (subst (Each (λ x. x.op ≡ 15 → ⊥)) (sym front) (each_take (λ x. x.op ≡ 15 → ⊥) tops n (λ k x there. let one = sound k x there in let right = one.right in right.unended))) ended;
               }
           | inr here ↦
-              let size : length (data_end_text 0) ≡ 4 = length-le 4 0 in
+              let size : length (data_end_text 0) ≡ 4 = ap length (append-nil (le 4 0)) ∙ length-le 4 0 in
               let front : take n (tops ++ end_top ∷ []) ≡ tops = ap (λ (m : ℕ). take m (tops ++ end_top ∷ [])) here.0 ∙ take-append_seam tops (end_top ∷ []) in
               subst (Fits reading_limits (header ∷ take n (tops ++ end_top ∷ []))) (sym here.1) (record {
                 v3 = tt;
@@ -181,7 +179,7 @@ piece_short (alone r) fits = each_cons (λ t. length t.content ≤ 268435456) (r
 stand_of : (options : FileOptions) (extras : List Top) (history : List Rec) → IsUtf8 options.profile → Each IsReadBack history → Each IsNumberedRec history → Each IsExtra extras → CanBeRead options extras history → CanStand options extras history
 stand_of options extras history utf8 back numbered are readable = record {
   profile = utf8;
-  profile_fits = (let size = length-header_text options.profile library in let short = readable.header in omega (arith, size, short));
+  profile_fits = (let size = length-header_text (record { profile = options.profile; library = library }) in let short = readable.header in omega (arith, size, short));
   records_fit = back;
   numbered = numbered;
   extras_meet = are;

@@ -15,17 +15,18 @@ use Rattle.mcap_model.specs.Fields.{IsChunk}
 use Rattle.mcap_model.specs.Rules.{V6, V8, V10, stands_in_section}
 use Rattle.mcap_model.specs.Kept.{NamesCompression}
 use Rattle.mcap_model.specs.History.{rec_top, history_bytes}
-use Rattle.mcap_model.specs.Blocks.{Piece, block, alone, Cuts, no_cuts, cut_behind, put_behind, cuts, last_piece, pieces_of, reaches, chunk_content, chunk_bytes, index_bytes, indexes_bytes, logged_channels, piece_bytes, pieces_bytes, blocks_in}
+use Rattle.mcap_model.specs.Blocks.{Piece, block, alone, Cuts, no_cuts, cut_behind, put_behind, cuts, last_piece, pieces_of, reaches, chunk_content, chunk_bytes, index_bytes, indexes_bytes, logged_channels, piece_bytes, pieces_bytes, blocks_in, written_fields}
 use Rattle.mcap_model.specs.Laws.{IsReadBack, IsNumberedRec, chunk_top, index_top, IsExtra, EntriesFit}
 use Rattle.mcap_model.proofs.Places.{at_none, at_kept}
 use Rattle.mcap_model.proofs.Readings.{length-top}
-use Rattle.mcap_model.proofs.Lists.{some_same, at_second, each_cons, each_joined}
+use Rattle.mcap_model.proofs.Lists.{at_second, each_cons, each_joined}
 use Rattle.mcap_model.proofs.Histories.{rec_meets, rec_not, rec_low, rec_flat, recs_are_flat}
-use Rattle.mcap_model.proofs.Meets.{message_index_meets}
 use Rattle.mcap_model.proofs.Edges.{cuts_alone}
-use Rattle.mcap_model.proofs.WrittenChunks.{chunks_are_written, written_fields, written_shows, each_map}
+use Rattle.mcap_model.proofs.WrittenChunks.{chunks_are_written, written_shows, each_map}
 use Rattle.mcap_model.proofs.Flat.{map-append}
 use Rattle.mcap_model.proofs.ShownBack.{index_shown}
+use Rattle.mcap_model.proofs.Logging.{index_meets}
+use Rattle.std.proofs.lemmas.Option.{same_Some}
 
 -- ---- pieces
 
@@ -101,7 +102,7 @@ pub record IsRight (t : Top) : Type 0 where
 
 pub text_within : (records : List Rec) (n : ℕ) (r : Rec) → At records n r → length (rec_text r) ≤ length (history_bytes records)
 text_within [] n r at = absurd (at_none n r at)
-text_within (x ∷ xs) zero r at = let same = ap (λ (y : Rec). length (rec_text y)) (some_same x r at) in omega (arith, same, length-append (rec_bytes x) (history_bytes xs), length-top (rec_top x))
+text_within (x ∷ xs) zero r at = let same = ap (λ (y : Rec). length (rec_text y)) (same_Some x r at) in omega (arith, same, length-append (rec_bytes x) (history_bytes xs), length-top (rec_top x))
 text_within (x ∷ xs) (suc n) r at = let more = text_within xs n r at in omega (arith, more, length-append (rec_bytes x) (history_bytes xs))
 
 pub written_chunk : (records : List Rec) → Each IsReadBack records → Each IsNumberedRec records → length (history_bytes records) < 2 ^ 64 → (inner_tops (chunk_top records) ≡ map rec_top records) × V6 (chunk_top records) × V8 (chunk_top records)
@@ -152,7 +153,7 @@ chunk_right records v6 v8 is = record {
       let g = named.shown in
       let f = written_fields records in
       let chunk = named.is in
-      let same = shows_decided chunk_kinds (chunk_content records) (chunk_values f.start f.end f.size f.crc f.compression f.records) (chunk_values g.start g.end g.size g.crc g.compression g.records) is.layout chunk.layout in
+      let same = shows_decided chunk_kinds (chunk_content records) (chunk_values f) (chunk_values g) is.layout chunk.layout in
       let none : [] ≡ g.compression = ap (λ v. v.1.1.1.1.0) same in
       let some = named.some in
       some (sym named.named ∙ sym none);
@@ -202,14 +203,14 @@ piece_right (block records) back some fits =
     let chunk = written_chunk records back some fits.0 in
     let is = written_shows records back fits.0 in
     each_cons IsRight (chunk_top records) (map (index_top records) (logged_channels records)) (chunk_right records chunk.1 chunk.2 is)
-    (each_map (index_top records) IsRight (logged_channels records) (λ n id at. index_right records id (message_index_meets (index_top records id) id _ (index_shown records id back (n, at) (fits.1 n id at) fits.0))))
+    (each_map (index_top records) IsRight (logged_channels records) (λ n id at. index_right records id (index_meets (index_top records id) id _ (index_shown records id back (n, at) (fits.1 n id at) fits.0))))
 piece_right (alone r) back some fits = each_cons IsRight (rec_top r) [] (rec_right r (back 0 r refl) (some 0 r refl)) (λ n y at. absurd (at_none n y at))
 
 -- ---- all pieces
 
 pub each_parts : {X Y : Type 0} (P : Y → Type 0) (f : X → List Y) (xs : List X) → Each P (flat_map f xs) → (n : ℕ) (x : X) → At xs n x → Each P (f x)
 each_parts P f [] each n x at = absurd (at_none n x at)
-each_parts {X} P f (z ∷ xs) each zero x at = subst (λ (w : X). Each P (f w)) (some_same z x at) (λ k y there. each k y (at_kept (f z) (flat_map f xs) k y there))
+each_parts {X} P f (z ∷ xs) each zero x at = subst (λ (w : X). Each P (f w)) (same_Some z x at) (λ k y there. each k y (at_kept (f z) (flat_map f xs) k y there))
 each_parts P f (z ∷ xs) each (suc n) x at = each_parts P f xs (λ k y there. each (length (f z) + k) y (at_second (f z) (flat_map f xs) k y there)) n x at
 
 pub each_flat : {X Y : Type 0} (P : Y → Type 0) (f : X → List Y) (xs : List X) → ((n : ℕ) (x : X) → At xs n x → Each P (f x)) → Each P (flat_map f xs)
@@ -231,7 +232,7 @@ extras_flat (t ∷ ts) each = ap (λ (l : List Top). l ++ flat ts) (extra_flat t
 -- a block among pieces is one of their blocks
 pub block_has : (ps : List Piece) (n : ℕ) (records : List Rec) → At ps n (block records) → Has (blocks_in ps) records
 block_has [] n records at = absurd (at_none n (block records) at)
-block_has (p ∷ ps) zero records at = subst (λ (q : Piece). Has (blocks_in (q ∷ ps)) records) (sym (some_same p (block records) at)) (0, refl)
+block_has (p ∷ ps) zero records at = subst (λ (q : Piece). Has (blocks_in (q ∷ ps)) records) (sym (same_Some p (block records) at)) (0, refl)
 block_has (block b ∷ ps) (suc n) records at = let more = block_has ps n records at in (suc more.0, more.1)
 block_has (alone r ∷ ps) (suc n) records at = block_has ps n records at
 

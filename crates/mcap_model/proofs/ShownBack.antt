@@ -10,14 +10,15 @@ use Rattle.rec_index.specs.Records.{message_index_kinds, message_index_values, c
 use Rattle.mcap_model.specs.Places.{At, Has, Each}
 use Rattle.mcap_model.specs.Fields.{IsMessageIndex, ChunkIndexFields, IsChunkIndex, IsSummaryOffset}
 use Rattle.mcap_model.specs.History.{message_of, history_bytes}
-use Rattle.mcap_model.specs.Blocks.{logged_channels, log_times, least, greatest, entries_for, index_bytes, indexes_bytes, chunk_bytes}
-use Rattle.mcap_model.specs.Summary.{messages_on, index_offsets, chunk_index_content}
+use Rattle.mcap_model.specs.Blocks.{logged_channels, log_times, entries_for, index_bytes, indexes_bytes, chunk_bytes}
+use Rattle.mcap_model.specs.Summary.{messages_on, index_offsets, chunk_index_content, written_index}
 use Rattle.mcap_model.specs.Laws.{IsReadBack, index_top}
 use Rattle.mcap_model.proofs.Places.{at_none}
 use Rattle.mcap_model.proofs.Readings.{top_of}
 use Rattle.mcap_model.proofs.WrittenChunks.{time_fits, least_fits, greatest_fits, empty_utf8}
-use Rattle.mcap_model.proofs.Lists.{some_same, pairs_at, pairs_from, all_from}
+use Rattle.mcap_model.proofs.Lists.{pairs_at, pairs_from, all_from}
 use Rattle.mcap_model.proofs.Logged.{before_within, channels_ascend, channels_fit, few_channels, entries_are, length-entries, count_entries}
+use Rattle.std.proofs.lemmas.Option.{same_Some}
 
 -- ---- a Message Index
 
@@ -62,7 +63,7 @@ length-offsets records at (id ∷ ids) = ap suc (length-offsets records (at + le
 pub offset_is : (records : List Rec) (at : ℕ) (ids : List ℕ) (k : ℕ) (p : ℕ × ℕ) → At (index_offsets records at ids) k p → At ids k p.0 × (p.1 ≡ at + length (indexes_bytes records (take k ids)))
 offset_is records at [] k p there = absurd (at_none k p there)
 offset_is records at (id ∷ ids) zero p there =
-    let same = some_same {X = ℕ × ℕ} (id, at) p there in
+    let same = same_Some {A = ℕ × ℕ} (id, at) p there in
     (ap (λ (q : ℕ × ℕ). Some q.0) same, sym (ap (λ (q : ℕ × ℕ). q.1) same) ∙ omega arith)
 offset_is records at (id ∷ ids) (suc k) p there =
     let more = offset_is records (at + length (index_bytes records id)) ids k p there in
@@ -72,7 +73,7 @@ offset_is records at (id ∷ ids) (suc k) p there =
 pub is_offset : (records : List Rec) (at : ℕ) (ids : List ℕ) (k id : ℕ) → At ids k id → At {X = ℕ × ℕ} (index_offsets records at ids) k (id, at + length (indexes_bytes records (take k ids)))
 is_offset records at [] k id there = absurd (at_none k id there)
 is_offset records at (x ∷ ids) zero id there =
-    ap {B = Option (ℕ × ℕ)} (λ (n : ℕ). Some (n, at)) (some_same x id there) ∙ ap {B = Option (ℕ × ℕ)} (λ (n : ℕ). Some (id, n)) (omega arith)
+    ap {B = Option (ℕ × ℕ)} (λ (n : ℕ). Some (n, at)) (same_Some x id there) ∙ ap {B = Option (ℕ × ℕ)} (λ (n : ℕ). Some (id, n)) (omega arith)
 is_offset records at (x ∷ ids) (suc k) id there =
     let more = is_offset records (at + length (index_bytes records x)) ids k id there in
     let same : (at + length (index_bytes records x)) + length (indexes_bytes records (take k ids)) ≡ at + length (indexes_bytes records (take (suc k) (x ∷ ids))) = omega (arith, length-append (index_bytes records x) (indexes_bytes records (take k ids))) in
@@ -86,19 +87,6 @@ some_indexes records (id ∷ ids) (suc k) = let more = some_indexes records ids 
 
 -- ---- a Chunk Index
 
-abbrev pub written_index : ℕ → List Rec → ChunkIndexFields
-written_index offset records = record {
-  start = least (log_times records);
-  end = greatest (log_times records);
-  offset = offset;
-  size = length (chunk_bytes records);
-  indexes = index_offsets records (offset + length (chunk_bytes records)) (logged_channels records);
-  indexes_size = length (indexes_bytes records (logged_channels records));
-  compression = [];
-  compressed = length (history_bytes records);
-  uncompressed = length (history_bytes records);
-}
-
 pub chunk_index_shown : (offset : ℕ) (records : List Rec) → Each IsReadBack records → length (history_bytes records) < 2 ^ 64 → offset + length (chunk_bytes records) + length (indexes_bytes records (logged_channels records)) < 2 ^ 64
     → IsChunkIndex (top_of 8 (chunk_index_content (offset, records))) (written_index offset records)
 chunk_index_shown offset records back small room =
@@ -106,7 +94,7 @@ chunk_index_shown offset records back small room =
     let fit = λ (x : ℕ) (has : Has (log_times records) x). time_fits records x back has in
     record {
       kind = refl;
-      layout = row_shown chunk_index_kinds (chunk_index_values f.start f.end f.offset f.size f.indexes f.indexes_size f.compression f.compressed f.uncompressed)
+      layout = row_shown chunk_index_kinds (chunk_index_values f)
           (least_fits (log_times records) fit, (greatest_fits (log_times records) fit, (omega (arith, room), (omega (arith, room), ((map_small, all_from (IsEntry 2) (written_index offset records).indexes entry, differ), (omega (arith, room), ((omega arith, empty_utf8), (small, (small, tt)))))))));
     }
   where
@@ -134,19 +122,19 @@ chunk_index_shown offset records back small room =
 pub chunk_index_shows : (offset : ℕ) (records : List Rec) (f : ChunkIndexFields) → IsChunkIndex (top_of 8 (chunk_index_content (offset, records))) (written_index offset records) → IsChunkIndex (top_of 8 (chunk_index_content (offset, records))) f → written_index offset records ≡ f
 chunk_index_shows offset records f shown is =
     let w = written_index offset records in
-    let same = shows_decided chunk_index_kinds (chunk_index_content (offset, records)) (chunk_index_values w.start w.end w.offset w.size w.indexes w.indexes_size w.compression w.compressed w.uncompressed) (chunk_index_values f.start f.end f.offset f.size f.indexes f.indexes_size f.compression f.compressed f.uncompressed) shown.layout is.layout in
+    let same = shows_decided chunk_index_kinds (chunk_index_content (offset, records)) (chunk_index_values w) (chunk_index_values f) shown.layout is.layout in
     ap (λ v. record { start = v.0; end = v.1.0; offset = v.1.1.0; size = v.1.1.1.0; indexes = v.1.1.1.1.0; indexes_size = v.1.1.1.1.1.0; compression = v.1.1.1.1.1.1.0; compressed = v.1.1.1.1.1.1.1.0; uncompressed = v.1.1.1.1.1.1.1.1.0 }) same
 
 -- ---- a Summary Offset
 
-pub summary_offset_shown : (op at size : ℕ) → op < 256 → at + size < 2 ^ 64 → IsSummaryOffset (top_of 14 (summary_offset_text op at size)) op at size
+pub summary_offset_shown : (op at size : ℕ) → op < 256 → at + size < 2 ^ 64 → IsSummaryOffset (top_of 14 (summary_offset_text (record { op = op; offset = at; size = size }))) op at size
 summary_offset_shown op at size low room = record {
   kind = refl;
-  layout = row_shown summary_offset_kinds (summary_offset_values op at size) (omega (arith, low), (omega (arith, room), (omega (arith, room), tt)));
+  layout = row_shown summary_offset_kinds (summary_offset_values (record { op = op; offset = at; size = size })) (omega (arith, low), (omega (arith, room), (omega (arith, room), tt)));
 }
 
-pub summary_offset_shows : (own_op own_at own_size op at size : ℕ) → own_op < 256 → own_at + own_size < 2 ^ 64 → IsSummaryOffset (top_of 14 (summary_offset_text own_op own_at own_size)) op at size → (own_op ≡ op) × (own_at ≡ at) × (own_size ≡ size)
+pub summary_offset_shows : (own_op own_at own_size op at size : ℕ) → own_op < 256 → own_at + own_size < 2 ^ 64 → IsSummaryOffset (top_of 14 (summary_offset_text (record { op = own_op; offset = own_at; size = own_size }))) op at size → (own_op ≡ op) × (own_at ≡ at) × (own_size ≡ size)
 summary_offset_shows own_op own_at own_size op at size low room is =
     let shown = summary_offset_shown own_op own_at own_size low room in
-    let same = shows_decided summary_offset_kinds (summary_offset_text own_op own_at own_size) (summary_offset_values own_op own_at own_size) (summary_offset_values op at size) shown.layout is.layout in
+    let same = shows_decided summary_offset_kinds (summary_offset_text (record { op = own_op; offset = own_at; size = own_size })) (summary_offset_values (record { op = own_op; offset = own_at; size = own_size })) (summary_offset_values (record { op = op; offset = at; size = size })) shown.layout is.layout in
     (ap (λ v. v.0) same, ap (λ v. v.1.0) same, ap (λ v. v.1.1.0) same)

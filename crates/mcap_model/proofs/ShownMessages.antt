@@ -19,12 +19,12 @@ use Rattle.mcap_model.specs.Plain.{IsShown, AddsThose, AddsMessage, AddsInside, 
 use Rattle.mcap_model.proofs.Unpacking.{chunks_are_opened}
 use Rattle.mcap_model.proofs.Flat.{named_or}
 
-abbrev is_message_placed : Placed → Bool
+abbrev pub is_message_placed : Placed → Bool
 is_message_placed p = is_message_top p.top
 
 -- ---- lists
 
-zip_joined : {X Y : Type 0} (R : X → Y → Type 0) (xs us : List X) (ys vs : List Y) → AllZip R xs ys → AllZip R us vs → AllZip R (xs ++ us) (ys ++ vs)
+pub zip_joined : {X Y : Type 0} (R : X → Y → Type 0) (xs us : List X) (ys vs : List Y) → AllZip R xs ys → AllZip R us vs → AllZip R (xs ++ us) (ys ++ vs)
 zip_joined R [] us [] vs one other = other
 zip_joined R [] us (y ∷ ys) vs one other = absurd one
 zip_joined R (x ∷ xs) us [] vs one other = absurd one
@@ -51,7 +51,7 @@ other_kind p old other = record {
 
 -- ---- the kinds that are flat
 
-flat_first : (ps : List Placed) → filter is_message_placed (filter (λ p. is_flat_kind p.top) ps) ≡ filter is_message_placed ps
+pub flat_first : (ps : List Placed) → filter is_message_placed (filter (λ p. is_flat_kind p.top) ps) ≡ filter is_message_placed ps
 flat_first [] = refl
 flat_first (p ∷ ps) = by (is_message_top p.top) refl (flat_first ps)
   where
@@ -93,7 +93,7 @@ pub record AddsSoFar (records : List ℕ) (offset at : ℕ) (rest : List ℕ) (o
 pub inside_none : (records : List ℕ) (offset at : ℕ) (rest : List ℕ) (old : List Shown) → at ≡ 0 → rest ≡ records → AddsSoFar records offset at rest old old
 inside_none records offset at rest old is all = record { done = []; place = is; split = ap records_in (sym all); adds = λ meet. adds_none old }
 
-inside_joined : (offset at : ℕ) (done : List Top) (t : Top) → placed_inside offset at (done ++ t ∷ []) ≡ placed_inside offset at done ++ record { place = record { top = offset; inner = at + length (spelled done) }; top = t } ∷ []
+pub inside_joined : (offset at : ℕ) (done : List Top) (t : Top) → placed_inside offset at (done ++ t ∷ []) ≡ placed_inside offset at done ++ record { place = record { top = offset; inner = at + length (spelled done) }; top = t } ∷ []
 inside_joined offset at [] t = ap (λ (n : ℕ). placed_at offset n t ∷ []) (omega arith)
   where
     placed_at : ℕ → ℕ → Top → Placed
@@ -176,7 +176,7 @@ other_silent offset op content old none closed v6 v8 plain =
 
 -- ---- records of the top level, one behind the other
 
-placed_joined : (at : ℕ) (tops : List Top) (t : Top) → placed_from at (tops ++ t ∷ []) ≡ placed_from at tops ++ placed_one (at + length (spelled tops)) t
+pub placed_joined : (at : ℕ) (tops : List Top) (t : Top) → placed_from at (tops ++ t ∷ []) ≡ placed_from at tops ++ placed_one (at + length (spelled tops)) t
 placed_joined at [] t = append-nil (placed_one at t) ∙ ap (λ (n : ℕ). placed_one n t) (omega arith)
 placed_joined at (u ∷ us) t =
     ap (λ (l : List Placed). placed_one at u ++ l)

@@ -1,12 +1,12 @@
 -- The smallest indexed file is fully indexed.
-use Rattle.std.proofs.Common.{◌≡◌, ℕ, zero, suc, ◌+◌, ◌^◌, ◌<◌, ◌≤◌, List, [], ◌∷◌, ◌++◌, length, take, Some, refl, sym, ap, subst, inl, inr, ◌∙◌, arith}
+use Rattle.std.proofs.Common.{◌≡◌, ℕ, zero, suc, ◌+◌, ◌^◌, ◌<◌, ◌≤◌, List, [], ◌∷◌, ◌++◌, length, take, refl, sym, ap, subst, inl, inr, ◌∙◌, arith}
 use Rattle.std.specs.Prelude.{◌≢◌}
 use Rattle.mcap_wire.specs.Layout.{le, number, magic, part}
 use Rattle.mcap_wire.proofs.Contents.{row_shown, shows_decided}
 use Rattle.mcap_crc.specs.Remainder.{remainder}
 use Rattle.mcap_crc.proofs.RemainderLemmas.{remainder-lt}
 use Rattle.rec_data.specs.Records.{footer_text}
-use Rattle.rec_data.proofs.Contents.{footer_shown, footer_decided, data_end_shown}
+use Rattle.rec_data.proofs.Contents.{footer_shown, data_end_shown}
 use Rattle.rec_index.specs.Records.{statistics_text, statistics_kinds, statistics_values, summary_offset_text, summary_offset_kinds, summary_offset_values, ShowsStatistics}
 use Rattle.mcap_model.specs.Places.{At, Each}
 use Rattle.mcap_model.specs.Tops.{Top, top_bytes, spelled, flat}
@@ -14,22 +14,31 @@ use Rattle.mcap_model.specs.Fields.{StatisticsFields, IsStatistics, IsSummaryOff
 use Rattle.mcap_model.specs.Rules.{HasDataEnd, V3, V5, V6, V7}
 use Rattle.mcap_model.specs.Whole.{offset_of, InSummary, V2, V5Behind, NamesSummary, IsInPlace, V11, AreIds, StatisticsAreRight, V14, V15, V16, V17, IsGroup}
 use Rattle.mcap_model.specs.Valid.{Keeps, Valid, FullyIndexed}
-use Rattle.mcap_model.specs.Summary.{summary_text}
+use Rattle.mcap_model.specs.Summary.{summary_text, footer_fields}
 use Rattle.mcap_model.specs.File.{front, data_end, file_of}
 use Rattle.mcap_model.proofs.Places.{at_none}
 use Rattle.mcap_model.proofs.Histories.{header_meets, data_end_meets, flat_none}
 use Rattle.mcap_model.proofs.Edges.{header_top, end_top}
 use Rattle.mcap_model.proofs.Readouts.{is_header}
 use Rattle.mcap_model.proofs.Sizes.{in_chunks}
+use Rattle.rec_index.specs.Fields.{SummaryOffsetFields}
+use Rattle.mcap_model.proofs.Files.{footer_once}
+use Rattle.std.proofs.lemmas.Option.{same_Some}
+
+abbrev no_statistics : StatisticsFields
+no_statistics = record { messages = 0; schemas = 0; channels = 0; attachments = 0; metadata = 0; chunks = 0; start = 0; end = 0; counts = [] }
+
+abbrev offset_fields : SummaryOffsetFields
+offset_fields = record { op = 11; offset = 47; size = 55 }
 
 abbrev pub statistics : Top
-statistics = record { op = 11; content = statistics_text 0 0 0 0 0 0 0 0 [] }
+statistics = record { op = 11; content = statistics_text no_statistics }
 
 abbrev pub offset : Top
-offset = record { op = 14; content = summary_offset_text 11 47 55 }
+offset = record { op = 14; content = summary_offset_text offset_fields }
 
 abbrev pub footer : ℕ → Top
-footer crc = record { op = 2; content = footer_text 47 102 crc }
+footer crc = record { op = 2; content = footer_text (footer_fields 47 102 crc) }
 
 abbrev file_smallest : List ℕ
 file_smallest = file_of (in_chunks 786432) [] []
@@ -44,16 +53,13 @@ whole_smallest : file_smallest ≡ magic ++ (spelled tops_smallest ++ magic)
 unfolding file_of front data_end le summary_text number remainder
 whole_smallest = refl
 
-some_one : {X : Type 0} (x y : X) → Some x ≡ Some y → x ≡ y
-some_one x y e = cc
-
 -- what holds of each of the five records holds of what stands at a place
 pub by_place : (P : ℕ → Top → Type 0) → P 0 (header_top []) → P 1 end_top → P 2 statistics → P 3 offset → P 4 (footer crc_smallest) → (n : ℕ) (t : Top) → At tops_smallest n t → P n t
-by_place P a b c d e zero t at = subst (P 0) (some_one (header_top []) t at) a
-by_place P a b c d e (suc zero) t at = subst (P 1) (some_one end_top t at) b
-by_place P a b c d e (suc (suc zero)) t at = subst (P 2) (some_one statistics t at) c
-by_place P a b c d e (suc (suc (suc zero))) t at = subst (P 3) (some_one offset t at) d
-by_place P a b c d e (suc (suc (suc (suc zero)))) t at = subst (P 4) (some_one (footer crc_smallest) t at) e
+by_place P a b c d e zero t at = subst (P 0) (same_Some (header_top []) t at) a
+by_place P a b c d e (suc zero) t at = subst (P 1) (same_Some end_top t at) b
+by_place P a b c d e (suc (suc zero)) t at = subst (P 2) (same_Some statistics t at) c
+by_place P a b c d e (suc (suc (suc zero))) t at = subst (P 3) (same_Some offset t at) d
+by_place P a b c d e (suc (suc (suc (suc zero)))) t at = subst (P 4) (same_Some (footer crc_smallest) t at) e
 by_place P a b c d e (suc (suc (suc (suc (suc n))))) t at = absurd (at_none n t at)
 
 pub no_end : HasDataEnd (header_top [] ∷ []) → ⊥
@@ -81,19 +87,19 @@ footer_crc_fits : crc_smallest < 2 ^ 32
 footer_crc_fits = remainder-lt (spelled (statistics ∷ offset ∷ []) ++ take 25 (top_bytes (footer 0)))
 
 v17 : V17 tops_smallest
-v17 = (header_top [] ∷ end_top ∷ statistics ∷ offset ∷ [], footer crc_smallest, refl, (47, 102, crc_smallest, record { kind = refl; layout = footer_shown 47 102 crc_smallest (omega arith) (omega arith) footer_crc_fits }), none)
+v17 = (header_top [] ∷ end_top ∷ statistics ∷ offset ∷ [], footer crc_smallest, refl, (47, 102, crc_smallest, record { kind = refl; layout = footer_shown (footer_fields 47 102 crc_smallest) (omega arith) (omega arith) footer_crc_fits }), none)
   where
     none : Each (λ u. u.op ≢ 2) (header_top [] ∷ end_top ∷ statistics ∷ offset ∷ [])
-    none zero u at e = omega (arith, e, ap (λ (t : Top). t.op) (some_one (header_top []) u at))
-    none (suc zero) u at e = omega (arith, e, ap (λ (t : Top). t.op) (some_one end_top u at))
-    none (suc (suc zero)) u at e = omega (arith, e, ap (λ (t : Top). t.op) (some_one statistics u at))
-    none (suc (suc (suc zero))) u at e = omega (arith, e, ap (λ (t : Top). t.op) (some_one offset u at))
+    none zero u at e = omega (arith, e, ap (λ (t : Top). t.op) (same_Some (header_top []) u at))
+    none (suc zero) u at e = omega (arith, e, ap (λ (t : Top). t.op) (same_Some end_top u at))
+    none (suc (suc zero)) u at e = omega (arith, e, ap (λ (t : Top). t.op) (same_Some statistics u at))
+    none (suc (suc (suc zero))) u at e = omega (arith, e, ap (λ (t : Top). t.op) (same_Some offset u at))
     none (suc (suc (suc (suc n)))) u at e = at_none n u at
 
 -- ---- V16
 
 footer_is : (summary offsets crc : ℕ) → IsFooter (footer crc_smallest) summary offsets crc → (summary ≡ 47) × (offsets ≡ 102) × (crc ≡ crc_smallest)
-footer_is summary offsets crc is = footer_decided (footer_text 47 102 crc_smallest) summary offsets crc 47 102 crc_smallest is.layout (footer_shown 47 102 crc_smallest (omega arith) (omega arith) footer_crc_fits)
+footer_is summary offsets crc is = footer_once (footer_text (footer_fields 47 102 crc_smallest)) summary offsets crc 47 102 crc_smallest is.layout (footer_shown (footer_fields 47 102 crc_smallest) (omega arith) (omega arith) footer_crc_fits)
 
 crc_there : crc_smallest ≡ remainder (part 47 (offset_of tops_smallest 4 + 25) file_smallest)
 unfolding file_of front data_end le summary_text number remainder
@@ -120,7 +126,7 @@ offset_of_3 = refl
 
 offset_is : (op at size : ℕ) → IsSummaryOffset offset op at size → (op ≡ 11) × (at ≡ 47) × (size ≡ 55)
 offset_is op at size is =
-    let same = shows_decided summary_offset_kinds (summary_offset_text 11 47 55) (summary_offset_values op at size) (summary_offset_values 11 47 55) is.layout (row_shown summary_offset_kinds (summary_offset_values 11 47 55) (omega arith, (omega arith, (omega arith, tt)))) in
+    let same = shows_decided summary_offset_kinds (summary_offset_text offset_fields) (summary_offset_values (record { op = op; offset = at; size = size })) (summary_offset_values offset_fields) is.layout (row_shown summary_offset_kinds (summary_offset_values offset_fields) (omega arith, (omega arith, (omega arith, tt)))) in
     (ap (λ v. v.0) same, ap (λ v. v.1.0) same, ap (λ v. v.1.1.0) same)
 
 group : IsGroup tops_smallest 11 47 55
@@ -141,7 +147,7 @@ group = record {
 }
   where
     alone : Each (λ u. u.op ≢ 11) (offset ∷ [])
-    alone zero u at e = omega (arith, e, ap (λ (t : Top). t.op) (some_one offset u at))
+    alone zero u at e = omega (arith, e, ap (λ (t : Top). t.op) (same_Some offset u at))
     alone (suc n) u at e = at_none n u at
 
 v15 : Keeps V15 tops_smallest
@@ -156,9 +162,9 @@ v15 = by_place (V15 tops_smallest)
     (λ op at size is. absurd (omega (arith, is.kind)))
   where
     none : (i : ℕ) (u : Top) → i < 3 → At tops_smallest i u → u.op ≡ 14 → ⊥
-    none zero u less at e = omega (arith, e, ap (λ (t : Top). t.op) (some_one (header_top []) u at))
-    none (suc zero) u less at e = omega (arith, e, ap (λ (t : Top). t.op) (some_one end_top u at))
-    none (suc (suc zero)) u less at e = omega (arith, e, ap (λ (t : Top). t.op) (some_one statistics u at))
+    none zero u less at e = omega (arith, e, ap (λ (t : Top). t.op) (same_Some (header_top []) u at))
+    none (suc zero) u less at e = omega (arith, e, ap (λ (t : Top). t.op) (same_Some end_top u at))
+    none (suc (suc zero)) u less at e = omega (arith, e, ap (λ (t : Top). t.op) (same_Some statistics u at))
     none (suc (suc (suc i))) u less at e = omega (arith, less)
 
 -- ---- V11
@@ -187,7 +193,7 @@ third_in_place = record {
 }
   where
     alone : Each (λ u. u.op ≢ 14) (statistics ∷ [])
-    alone zero u at e = omega (arith, e, ap (λ (t : Top). t.op) (some_one statistics u at))
+    alone zero u at e = omega (arith, e, ap (λ (t : Top). t.op) (same_Some statistics u at))
     alone (suc n) u at e = at_none n u at
 
 v11 : Keeps V11 tops_smallest
@@ -239,13 +245,13 @@ right = record {
   );
 }
 
-zeros_shown : ShowsStatistics (statistics_text 0 0 0 0 0 0 0 0 []) 0 0 0 0 0 0 0 0 []
-zeros_shown = row_shown statistics_kinds (statistics_values 0 0 0 0 0 0 0 0 []) (omega arith, (omega arith, (omega arith, (omega arith, (omega arith, (omega arith, (omega arith, (omega arith, ((omega arith, (λ k d less. absurd (omega (arith, less))), λ i j d less within. absurd (omega (arith, within))), tt)))))))))
+zeros_shown : ShowsStatistics (statistics_text no_statistics) no_statistics
+zeros_shown = row_shown statistics_kinds (statistics_values no_statistics) (omega arith, (omega arith, (omega arith, (omega arith, (omega arith, (omega arith, (omega arith, (omega arith, ((omega arith, (λ k d less. absurd (omega (arith, less))), λ i j d less within. absurd (omega (arith, within))), tt)))))))))
 
 statistics_is : (f : StatisticsFields) → IsStatistics statistics f → f ≡ zeros
 unfolding zeros
 statistics_is f is =
-    let same = shows_decided statistics_kinds (statistics_text 0 0 0 0 0 0 0 0 []) (statistics_values f.messages f.schemas f.channels f.attachments f.metadata f.chunks f.start f.end f.counts) (statistics_values 0 0 0 0 0 0 0 0 []) is.layout zeros_shown in
+    let same = shows_decided statistics_kinds (statistics_text no_statistics) (statistics_values f) (statistics_values no_statistics) is.layout zeros_shown in
     ap (λ v. record { messages = v.0; schemas = v.1.0; channels = v.1.1.0; attachments = v.1.1.1.0; metadata = v.1.1.1.1.0; chunks = v.1.1.1.1.1.0; start = v.1.1.1.1.1.1.0; end = v.1.1.1.1.1.1.1.0; counts = v.1.1.1.1.1.1.1.1.0 }) same
 
 v14 : Keeps V14 tops_smallest
@@ -293,14 +299,14 @@ offset_meets = record {
   statistics = λ e. absurd (omega (arith, e));
   metadata = λ e. absurd (omega (arith, e));
   metadata_index = λ e. absurd (omega (arith, e));
-  summary_offset = λ e. (11, 47, 55, record { kind = refl; layout = row_shown summary_offset_kinds (summary_offset_values 11 47 55) (omega arith, (omega arith, (omega arith, tt))) });
+  summary_offset = λ e. (11, 47, 55, record { kind = refl; layout = row_shown summary_offset_kinds (summary_offset_values offset_fields) (omega arith, (omega arith, (omega arith, tt))) });
   data_end = λ e. absurd (omega (arith, e));
 }
 
 footer_meets : V6 (footer crc_smallest)
 footer_meets = record {
   header = λ e. absurd (omega (arith, e));
-  footer = λ e. (47, 102, crc_smallest, record { kind = refl; layout = footer_shown 47 102 crc_smallest (omega arith) (omega arith) footer_crc_fits });
+  footer = λ e. (47, 102, crc_smallest, record { kind = refl; layout = footer_shown (footer_fields 47 102 crc_smallest) (omega arith) (omega arith) footer_crc_fits });
   schema = λ e. absurd (omega (arith, e));
   channel = λ e. absurd (omega (arith, e));
   message = λ e. absurd (omega (arith, e));

@@ -15,12 +15,12 @@ use Rattle.mcap_model.specs.Fields.{IsSchema, IsChannel, MessageFields}
 use Rattle.mcap_model.specs.Rules.{HasSchema, HasChannel, TimesAre}
 use Rattle.mcap_model.specs.History.{rec_top, schema_of, channel_of, message_of}
 use Rattle.mcap_model.specs.Blocks.{Piece, block, alone, Logged, logged_from, logged, logged_channels, log_times, least, greatest, blocks_in}
-use Rattle.mcap_model.specs.Summary.{capped, of_kind, messages_on, schemas_of, channels_of}
+use Rattle.mcap_model.specs.Summary.{capped, of_kind, messages_on, schemas_of, channels_of, written_statistics}
 use Rattle.mcap_model.specs.File.{blocks_from, extras_from}
 use Rattle.mcap_model.specs.Whole.{IsSection, count_of, AreChannels, on_channel, AreIds, StatisticsAreRight}
 use Rattle.mcap_model.specs.Laws.{IsReadBack, IsNumberedRec, IsExtra, chunk_top, index_top}
 use Rattle.mcap_model.proofs.Places.{at_none, at_kept}
-use Rattle.mcap_model.proofs.ReadBack.{at_map, at_mapped, schema_back, channel_back}
+use Rattle.mcap_model.proofs.ReadBack.{at_map, schema_back, channel_back}
 use Rattle.mcap_model.proofs.Histories.{schema_shown, channel_shown, message_shown, rec_not}
 use Rattle.mcap_model.proofs.WrittenChunks.{written_times, each_map}
 use Rattle.mcap_model.proofs.Lists.{at_either, each_cons}
@@ -30,7 +30,8 @@ use Rattle.mcap_model.proofs.Section.{piece_tops, each_flat}
 use Rattle.mcap_model.proofs.Logged.{logs_channel}
 use Rattle.mcap_model.proofs.Distinct.{rec_id, schema_ids, schema_ids_apart, schema_id_is, is_schema_id, channel_ids, channel_ids_apart, channel_id_is, is_channel_id}
 use Rattle.mcap_model.proofs.Standing.{count_blocks}
-use Rattle.mcap_model.proofs.Tails.{count_entry, written_statistics, few_channel_ids}
+use Rattle.mcap_model.proofs.Tails.{count_entry, few_channel_ids}
+use Rattle.mcap_model.proofs.Flat.{at_mapped}
 
 -- ---- counts by kind
 

@@ -1,18 +1,16 @@
 -- Places of declarations in a table that grows.
-use Rattle.std.proofs.Common.{◌≡◌, ℕ, zero, suc, ◌-◌, ◌<◌, ◌≤◌, List, [], ◌∷◌, ◌++◌, length, get_or, set, Some, sym, ap, subst, inl, inr, arith}
+use Rattle.std.proofs.Common.{◌≡◌, ℕ, zero, suc, ◌-◌, ◌<◌, ◌≤◌, List, [], ◌∷◌, ◌++◌, length, get_or, set, sym, ap, subst, inl, inr, arith}
 use Rattle.std.specs.Prelude.{replicate}
 use Rattle.mcap_model.specs.Places.{At}
 use Rattle.mcap_model.proofs.Places.{at_within, at_none, at_one, at_read, at_kept, at_last, at_more, at_set, at_set_same, at_set_other}
 use Rattle.mcap_model.specs.declared.table.Declared.{Declared}
 use Rattle.mcap_model.specs.Indexed.{IsIndexed}
-
-some_one : (x y : ℕ) → Some x ≡ Some y → x ≡ y
-some_one x y e = cc
+use Rattle.std.proofs.lemmas.Option.{same_Some}
 
 -- zeros name nothing
 zeros_none : (n k m : ℕ) → At (replicate n 0) k (suc m) → ⊥
 zeros_none zero k m at = at_none k (suc m) at
-zeros_none (suc n) zero m at = let same = some_one 0 (suc m) at in omega (arith, same)
+zeros_none (suc n) zero m at = let same = same_Some 0 (suc m) at in omega (arith, same)
 zeros_none (suc n) (suc k) m at = zeros_none n k m at
 
 pub behind_zeros : (places : List ℕ) (n k m : ℕ) → At (places ++ replicate n 0) k (suc m) → At places k (suc m)

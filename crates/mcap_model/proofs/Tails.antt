@@ -1,6 +1,6 @@
 -- The records of a summary meet their layouts, and the flat ones are copies.
-use Rattle.std.proofs.Common.{◌≡◌, ℕ, suc, ◌+◌, ◌^◌, ◌<◌, ◌≤◌, Bool, true, false, eqb, List, [], ◌∷◌, ◌++◌, length, take, map, refl, sym, ap, subst, ◌∙◌, arith}
-use Rattle.std.specs.Prelude.{filter, cond, AllPairs, ◌==◌, ◌≢◌}
+use Rattle.std.proofs.Common.{◌≡◌, ℕ, suc, ◌+◌, ◌^◌, ◌<◌, ◌≤◌, true, false, eqb, List, [], ◌∷◌, ◌++◌, length, take, map, refl, sym, ap, subst, ◌∙◌, arith}
+use Rattle.std.specs.Prelude.{AllPairs, ◌==◌, ◌≢◌}
 use Rattle.std.specs.List.{flat_map}
 use Rattle.std.proofs.lemmas.Bool.{both_ways, eqb-true}
 use Rattle.std.proofs.lemmas.Bool.Decides.{Decides-eqb}
@@ -20,24 +20,25 @@ use Rattle.mcap_model.specs.Places.{At, Has, Each}
 use Rattle.mcap_model.specs.Tops.{Top, top_bytes, flattened, flat}
 use Rattle.mcap_model.specs.Fields.{StatisticsFields, IsStatistics}
 use Rattle.mcap_model.specs.History.{rec_top, schema_of, channel_of, is_schema, is_channel, history_bytes, without_repeats}
-use Rattle.mcap_model.specs.Blocks.{Logged, logged, logged_channels, log_times, least, greatest, chunk_bytes, indexes_bytes}
-use Rattle.mcap_model.specs.Summary.{Noted, Group, group_bytes, groups_of, has_some, schemas_of, channels_of, capped, of_kind, messages_on, statistics_content, chunk_index_content, attachment_index_content, metadata_index_content, offset_contents}
+use Rattle.mcap_model.specs.Blocks.{Logged, logged, logged_channels, log_times, chunk_bytes, indexes_bytes}
+use Rattle.mcap_model.specs.Summary.{Noted, Group, group_bytes, groups_of, has_some, schemas_of, channels_of, of_kind, messages_on, statistics_content, chunk_index_content, attachment_index_content, metadata_index_content, offset_contents, written_index, indexed_attachment, written_statistics, group_fields}
 use Rattle.mcap_model.specs.Laws.{IsReadBack, IsNumberedRec, IsExtra}
 use Rattle.mcap_model.proofs.Places.{at_none, pairs_more}
-use Rattle.mcap_model.proofs.ReadBack.{at_map, at_mapped}
+use Rattle.mcap_model.proofs.ReadBack.{at_map}
 use Rattle.mcap_model.proofs.Readings.{top_of}
 use Rattle.mcap_model.proofs.Histories.{rec_meets, recs_flat}
 use Rattle.mcap_model.proofs.WrittenChunks.{time_fits, least_fits, greatest_fits, each_map}
 use Rattle.mcap_model.proofs.Lists.{each_cons, each_joined, filter_passed, pairs_at, pairs_from, pairs_cons, all_from}
 use Rattle.mcap_model.proofs.Logged.{channels_ascend, channels_fit, few_channels, length-entries}
-use Rattle.mcap_model.proofs.ShownBack.{chunk_index_shown, summary_offset_shown, written_index}
-use Rattle.mcap_model.proofs.ExtraIndexes.{attachment_index_shown, metadata_index_shown, attachment_fields}
+use Rattle.mcap_model.proofs.ShownBack.{chunk_index_shown, summary_offset_shown}
+use Rattle.mcap_model.proofs.ExtraIndexes.{attachment_index_shown, metadata_index_shown}
 use Rattle.mcap_model.proofs.Distinct.{any_has, repeats_are, rec_id, schema_ids, schema_ids_apart, schema_id_is, channel_ids, channel_ids_apart, channel_id_is}
 use Rattle.mcap_model.proofs.Meets.{chunk_index_meets, attachment_index_meets, metadata_index_meets, statistics_meets, summary_offset_meets}
 use Rattle.mcap_model.proofs.Files.{group_tops, groups_tops, offset_tops}
 use Rattle.mcap_model.proofs.Groups.{in_front_all, groups_filter, offset_group}
-use Rattle.mcap_model.proofs.Flat.{map-append}
+use Rattle.mcap_model.proofs.Flat.{map-append, at_mapped}
 use Rattle.mcap_model.proofs.Front.{IsTail}
+use Rattle.mcap_model.proofs.Logging.{few_filtered}
 
 -- ---- the groups
 
@@ -229,29 +230,8 @@ few_channel_ids history back =
     let few = few_apart (channel_ids history) (2 ^ 16) (channel_ids_apart history) (channel_ids_fit history back) in
     omega (arith, few, length-map (channels_of history) rec_id)
 
-pub filter_short : {X : Type 0} (test : X → Bool) (xs : List X) → length (filter test xs) ≤ length xs
-filter_short test [] = omega arith
-filter_short {X} test (x ∷ xs) = by (test x) (filter_short test xs)
-  where
-    by : (b : Bool) → length (filter test xs) ≤ length xs → length (cond b (x ∷ filter test xs) (filter test xs)) ≤ length (x ∷ xs)
-    by true less = omega (arith, less)
-    by false less = omega (arith, less)
-
 abbrev pub count_entry : List Rec → ℕ → ℕ × ℕ
 count_entry records id = (id, messages_on records id)
-
-abbrev pub written_statistics : Noted → StatisticsFields
-written_statistics n = record {
-  messages = length (logged n.records);
-  schemas = length (schemas_of n.records);
-  channels = capped (length (channels_of n.records));
-  attachments = capped (length (of_kind 9 n.extras));
-  metadata = capped (length (of_kind 12 n.extras));
-  chunks = capped (length n.blocks);
-  start = least (log_times n.records);
-  end = greatest (log_times n.records);
-  counts = map (count_entry n.records) (logged_channels n.records);
-}
 
 statistics_fields : ℕ → ℕ → ℕ → ℕ → ℕ → ℕ → ℕ → ℕ → List (ℕ × ℕ) → StatisticsFields
 statistics_fields messages schemas channels attachments metadata chunks start end counts = record {
@@ -274,7 +254,7 @@ statistics_shown n at fits =
     let messages = fits.messages in
     record {
       kind = refl;
-      layout = row_shown statistics_kinds (statistics_values f.messages f.schemas f.channels f.attachments f.metadata f.chunks f.start f.end f.counts)
+      layout = row_shown statistics_kinds (statistics_values f)
           (omega (arith, messages), (omega (arith, schemas), (omega arith, (omega arith, (omega arith, (omega arith, (least_fits (log_times n.records) fit, (greatest_fits (log_times n.records) fit, ((map_small, all_from (IsEntry 2) (map (count_entry n.records) (logged_channels n.records)) entry, differ), tt)))))))));
     }
   where
@@ -291,7 +271,7 @@ statistics_shown n at fits =
         let low = channels_fit n.records fits.back k id at_id in
         let first : p.0 ≡ id = ap (λ (q : ℕ × ℕ). q.0) same in
         let second : p.1 ≡ messages_on n.records id = ap (λ (q : ℕ × ℕ). q.1) same in
-        let few : messages_on n.records id ≤ length (logged n.records) = filter_short (λ (e : Logged). e.channel == id) (logged n.records) in
+        let few : messages_on n.records id ≤ length (logged n.records) = few_filtered (λ (e : Logged). e.channel == id) (logged n.records) in
         let messages = fits.messages in
         record { first_fits = omega (arith, low, first); second_fits = omega (arith, second, few, messages) }
 
@@ -308,7 +288,7 @@ pub statistics_shows : (n : Noted) (at : ℕ) (f : StatisticsFields) → NotedFi
 unfolding statistics_fields
 statistics_shows n at f fits is =
     let w = written_statistics n in
-    let same = shows_decided statistics_kinds (statistics_content n) (statistics_values w.messages w.schemas w.channels w.attachments w.metadata w.chunks w.start w.end w.counts) (statistics_values f.messages f.schemas f.channels f.attachments f.metadata f.chunks f.start f.end f.counts) (statistics_shown n at fits).layout is.layout in
+    let same = shows_decided statistics_kinds (statistics_content n) (statistics_values w) (statistics_values f) (statistics_shown n at fits).layout is.layout in
     ap (λ v. statistics_fields v.0 v.1.0 v.1.1.0 v.1.1.1.0 v.1.1.1.1.0 v.1.1.1.1.1.0 v.1.1.1.1.1.1.0 v.1.1.1.1.1.1.1.0 v.1.1.1.1.1.1.1.1.0) same
 
 -- ---- each record of the summary
@@ -363,7 +343,7 @@ summary_tail n at fits = each_joined IsTail (groups_tops (groups_of n)) (offset_
         let one = fits.extras has.0 e has.1 in
         let meets = one.0.v6 in
         let (f, is) = meets.attachment (eqb-true e.1.op 9 kind) in
-        record { kind = refl; v6 = attachment_index_meets (top_of 10 (attachment_index_content e)) (attachment_fields e.0 e.1 f) (attachment_index_shown e.0 e.1 f is one.1) }))
+        record { kind = refl; v6 = attachment_index_meets (top_of 10 (attachment_index_content e)) (indexed_attachment e.0 e.1 f) (attachment_index_shown e.0 e.1 f is one.1) }))
 
     metadata : Each IsTail (group_tops (metadata_index_group n))
     metadata = each_map (top_of 13) IsTail (map metadata_index_content (of_kind 12 n.extras)) (each_map metadata_index_content (λ c. IsTail (top_of 13 c)) (of_kind 12 n.extras) (λ k e there.
@@ -385,4 +365,4 @@ summary_tail n at fits = each_joined IsTail (groups_tops (groups_of n)) (offset_
         let low = six_kinds (λ k. k < 256) (omega arith) (omega arith) (omega arith) (omega arith) (omega arith) (omega arith) n k g own in
         let start = at + length (flat_map group_bytes (take k (groups_of n))) in
         let shown = summary_offset_shown g.op start (length (group_bytes g)) low (group_room n at k g fits own) in
-        subst (λ (x : List ℕ). IsTail (top_of 14 x)) (sym same) (record { kind = refl; v6 = summary_offset_meets (top_of 14 (summary_offset_text g.op start (length (group_bytes g)))) g.op start (length (group_bytes g)) shown }))
+        subst (λ (x : List ℕ). IsTail (top_of 14 x)) (sym same) (record { kind = refl; v6 = summary_offset_meets (top_of 14 (summary_offset_text (group_fields g start))) g.op start (length (group_bytes g)) shown }))

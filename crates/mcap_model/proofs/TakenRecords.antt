@@ -1,5 +1,5 @@
 -- Records that are taken, one behind the other, from a file that lies in memory.
-use Rattle.std.proofs.Common.{◌≡◌, ◌↔◌, ℕ, ◌+◌, ◌-◌, ◌≤◌, Bool, true, false, List, [], ◌∷◌, ◌++◌, length, get_or, take, drop, IsTrue, refl, sym, ap, subst, inl, inr, ◌∙◌, append_assoc, arith}
+use Rattle.std.proofs.Common.{◌≡◌, ◌↔◌, ℕ, ◌+◌, ◌-◌, ◌≤◌, Bool, true, false, List, [], ◌∷◌, ◌++◌, length, get_or, take, drop, IsTrue, refl, sym, ap, subst, inl, inr, ◌∙◌, arith}
 use Rattle.std.specs.Prelude.{nat_lt}
 use Rattle.std.proofs.lemmas.Bool.{or_parts, ltb-false, le-leb, lt-leb}
 use Rattle.std.proofs.lemmas.List.{append-nil, length-append, length-drop, length-take, drop-drop, get_or-drop}
@@ -24,6 +24,7 @@ use Rattle.mcap_model.specs.Plain.{ReadTo, TakesRecord, cut_top}
 use Rattle.mcap_model.proofs.Places.{at_none, each_more}
 use Rattle.mcap_model.proofs.Readings.{Begun, begun, length-top, halts_are_last}
 use Rattle.mcap_model.proofs.Histories.{header_meets}
+use Rattle.mcap_model.proofs.Prefixes.{next_stands}
 
 -- ---- where a reading halts
 
@@ -85,10 +86,10 @@ no_tops : (tops : List Top) → offset_behind tops ≡ 8 → tops ≡ []
 no_tops [] is = refl
 no_tops (t ∷ ts) is = absurd (omega (arith, is, length-append (top_bytes t) (spelled ts), length-top t))
 
-header_silent : (t : Top) → t.op ≡ 1 → flat (t ∷ []) ≡ []
+pub header_silent : (t : Top) → t.op ≡ 1 → flat (t ∷ []) ≡ []
 header_silent t is = append-nil (flattened t) ∙ subst (λ (n : ℕ). flattened (top n t.content) ≡ []) (sym is) refl
 
-first_by : (op : ℕ) (content : List ℕ) (tables : Tables) (how : Judged) → FirstJudged (top op content) how → TablesOf [] tables → JudgedAs [] (top op content) tables how
+pub first_by : (op : ℕ) (content : List ℕ) (tables : Tables) (how : Judged) → FirstJudged (top op content) how → TablesOf [] tables → JudgedAs [] (top op content) tables how
 first_by op content tables judged.Fits is are = (
   record {
     v3 = is;
@@ -223,21 +224,14 @@ cut_taken bytes at c tables new tops was is near (keeps, are) =
 
 -- ---- a record more
 
-spelled_more : (tops : List Top) (t : Top) → spelled (tops ++ t ∷ []) ≡ spelled tops ++ top_bytes t
+pub spelled_more : (tops : List Top) (t : Top) → spelled (tops ++ t ∷ []) ≡ spelled tops ++ top_bytes t
 spelled_more tops t = flat_map-append top_bytes tops (t ∷ []) ∙ ap (λ (l : List ℕ). spelled tops ++ l) (append-nil (top_bytes t))
-
-tops_more : (bytes : List ℕ) (tops : List Top) (t : Top) (rest after : List ℕ) → Tops bytes tops rest → rest ≡ top_bytes t ++ after → Tops bytes (tops ++ t ∷ []) after
-tops_more bytes tops t rest after stands split = record {
-  split = stands.split
-      ∙ ap (λ (l : List ℕ). magic ++ (spelled tops ++ l)) split
-      ∙ ap (λ (l : List ℕ). magic ++ l) (sym (append_assoc (spelled tops) (top_bytes t) after) ∙ ap (λ (l : List ℕ). l ++ after) (sym (spelled_more tops t)));
-}
 
 pub ended_more : (tops : List Top) (t : Top) → t.op ≡ 15 → HasDataEnd (tops ++ t ∷ [])
 ended_more [] t is = inl is
 ended_more (x ∷ xs) t is = inr (ended_more xs t is)
 
-unended_more : (tops : List Top) (t : Top) → (HasDataEnd tops → ⊥) → (t.op ≡ 15 → ⊥) → HasDataEnd (tops ++ t ∷ []) → ⊥
+pub unended_more : (tops : List Top) (t : Top) → (HasDataEnd tops → ⊥) → (t.op ≡ 15 → ⊥) → HasDataEnd (tops ++ t ∷ []) → ⊥
 unended_more [] t none other (inl is) = other is
 unended_more [] t none other (inr more) = more
 unended_more (x ∷ xs) t none other (inl is) = none (inl is)
@@ -253,7 +247,7 @@ pub more_read : (bytes : List ℕ) (at : ℕ) (c : Cut) (tables new : Tables) (t
 more_read bytes at c tables new tops was takes =
     let t = cut_top bytes c in
     record {
-      stands = tops_more bytes tops t (drop at bytes) (drop c.to bytes) was.stands takes.split;
+      stands = next_stands bytes tops t (drop at bytes) (drop c.to bytes) was.stands takes.split;
       good = each_more (Fits reading_limits) tops t was.good takes.fits;
       place =
           let size : length (spelled (tops ++ t ∷ [])) ≡ length (spelled tops) + length (top_bytes t) = ap length (spelled_more tops t) ∙ length-append (spelled tops) (top_bytes t) in

@@ -1,29 +1,17 @@
 -- The records inside a chunk, one after the other.
-use Rattle.std.proofs.Common.{◌≡◌, ◌≢◌, ℕ, zero, suc, ◌+◌, ◌-◌, ◌^◌, ◌<◌, ◌≤◌, Bool, true, false, not, ◌&&◌, eqb, List, [], ◌∷◌, ◌++◌, length, take, drop, refl, sym, ap, ◌∙◌, arith}
+use Rattle.std.proofs.Common.{◌≡◌, ◌≢◌, ℕ, zero, suc, ◌+◌, ◌-◌, ◌^◌, ◌<◌, ◌≤◌, Bool, false, not, eqb, List, [], ◌∷◌, ◌++◌, length, take, drop, refl, sym, ap, ◌∙◌, arith}
 use Rattle.std.specs.Prelude.{if◌then◌else◌}
-use Rattle.std.proofs.lemmas.Bool.{and_from, not_from_false, ne_eqb, lt-leb}
-use Rattle.std.proofs.lemmas.List.{drop_at, drop-drop, length-append, length-drop, length-take}
+use Rattle.std.proofs.lemmas.Bool.{lt-leb}
+use Rattle.std.proofs.lemmas.List.{drop-drop, length-append, length-drop, length-take}
 use Rattle.mcap_wire.specs.Layout.{number, part}
 use Rattle.mcap_wire.specs.Reading.{NumberAt, Stands}
 use Rattle.mcap_wire.proofs.Fields.{number_there}
 use Rattle.mcap_model.specs.Tops.{Top, top_bytes, opcode, declared_length, has_head, is_whole, first_top, behind_first, begins_record, first_records, records_in}
 use Rattle.mcap_model.specs.Laws.{IsFound}
-use Rattle.mcap_model.proofs.Readings.{Begun, begun, length-top}
+use Rattle.mcap_model.proofs.Readings.{begun, length-top}
 use Rattle.mcap_model.specs.Made.{top}
 use Rattle.mcap_model.proofs.Bits.{last_false}
-
-none_begins : (n : ℕ) (rest : List ℕ) → begins_record rest ≡ false → first_records n rest ≡ []
-none_begins zero rest none = refl
-none_begins (suc n) rest none = ap (λ (b : Bool). if b then first_top rest ∷ first_records n (behind_first rest) else []) none
-
-begins_found : (rest : List ℕ) (t : Top) → Begun rest t → (t.op ≡ 0 → ⊥) → begins_record rest ≡ true
-begins_found rest t front valid =
-    let op : not (eqb (opcode rest) 0) ≡ true = not_from_false (eqb (opcode rest) 0) (ne_eqb (opcode rest) 0 (λ (e : opcode rest ≡ 0). valid (sym front.op_is ∙ e))) in
-    and_from (has_head rest) (not (eqb (opcode rest) 0) && is_whole rest) front.head (and_from (not (eqb (opcode rest) 0)) (is_whole rest) op front.whole)
-
-left_behind : (rest : List ℕ) (t : Top) (behind : List ℕ) → rest ≡ top_bytes t ++ behind → Begun rest t → behind_first rest ≡ behind
-left_behind rest t behind is front =
-    ap (λ (n : ℕ). drop (9 + n) rest) front.len_is ∙ ap (drop (9 + length t.content)) is ∙ drop_at (top_bytes t) behind (9 + length t.content) (length-top t)
+use Rattle.mcap_model.proofs.Unpacking.{none_begins, begins_found, left_behind}
 
 nothing_begins : (bytes : List ℕ) → length bytes ≤ 0 → begins_record bytes ≡ false
 nothing_begins [] few = refl

@@ -16,7 +16,7 @@ use Rattle.mcap_model.specs.Scan.{Seen, Scan, Replay}
 use Rattle.mcap_model.specs.History.{schema_of, message_of, is_message, Numbered, history_bytes, rec_top, flat_history, without_repeats}
 use Rattle.mcap_model.specs.Blocks.{Piece, block, alone, chunk_content, entries_for, index_content, logged_channels, reaches, Ripens, AreBlocks, blocks_in, pieces_of, pieces_by}
 use Rattle.mcap_model.specs.Written.{IdsAgree}
-use Rattle.mcap_model.specs.Summary.{messages_on, attachment_index_content, metadata_index_content}
+use Rattle.mcap_model.specs.Summary.{messages_on, attachment_index_content, indexed_attachment, metadata_index_content}
 use Rattle.mcap_model.specs.declared.ends.Stop.{Stop}
 use Rattle.mcap_model.specs.File.{library, file_of, IsPrefix}
 use Rattle.mcap_model.specs.Pieces.{joined, file_pieces, StoppedAt}
@@ -102,9 +102,9 @@ IndexesAreWritten = (records : List Rec) → Each IsReadBack records → length 
 -- what is indexed of an Attachment, and of a Metadata, is what it shows
 abbrev pub ExtrasAreIndexed : Type 0
 ExtrasAreIndexed = ((offset : ℕ) (t : Top) (f : AttachmentFields) → IsAttachment t f
-    → attachment_index_content (offset, t) ≡ attachment_index_text offset (length (top_bytes t)) f.log_time f.create_time (length f.payload) f.name f.media_type)
+    → attachment_index_content (offset, t) ≡ attachment_index_text (indexed_attachment offset t f))
     × ((offset : ℕ) (t : Top) (name : List ℕ) (metadata : List (List ℕ × List ℕ)) → IsMetadata t name metadata
-    → metadata_index_content (offset, t) ≡ metadata_index_text offset (length (top_bytes t)) name)
+    → metadata_index_content (offset, t) ≡ metadata_index_text (record { offset = offset; size = length (top_bytes t); name = name }))
 
 -- a replay of some messages is one list
 abbrev pub ReplaysAreOne : Type 0
@@ -163,7 +163,7 @@ PieceIsShort (block records) = length (chunk_content records) ≤ 268435456
 
 -- no content up to the Data End, and not the file, is longer than what is read
 pub record CanBeRead (options : FileOptions) (extras : List Top) (history : List Rec) : Type 0 where
-  pub header : length (header_text options.profile library) ≤ 268435456
+  pub header : length (header_text (record { profile = options.profile; library = library })) ≤ 268435456
   pub pieces : Each PieceIsShort (pieces_of options.chunk history)
   pub extras_short : Each (λ t. length t.content ≤ 268435456) extras
   pub file : length (file_of options extras history) ≤ 1099511627776

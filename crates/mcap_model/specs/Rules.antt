@@ -122,7 +122,7 @@ V8 t = (f : ChunkFields) → IsChunk t f → f.compression ≡ [] → ChunkIsRig
 -- ---- V10: the CRC of an Attachment is 0, or that of the fields before it
 
 abbrev pub V10 : Top → Type 0
-V10 t = (f : AttachmentFields) (place : ℕ) → t.op ≡ 9 → CrcStandsAt t.content place f.log_time f.create_time f.name f.media_type f.payload f.crc → (f.crc ≡ 0) ⊎ (f.crc ≡ remainder (take place t.content))
+V10 t = (f : AttachmentFields) (place : ℕ) → t.op ≡ 9 → CrcStandsAt t.content place f → (f.crc ≡ 0) ⊎ (f.crc ≡ remainder (take place t.content))
 
 -- the record breaks the rule of that number
 pub data Breaks (before : List Top) (t : Top) : ℕ → Type 0 where

@@ -6,7 +6,9 @@ use Rattle.mcap_wire.specs.Reading.{text_length, text_bytes, bytes_length}
 use Rattle.mcap_crc.specs.Remainder.{remainder}
 use Rattle.rec_data.specs.declared.owned.Rec.{Rec}
 use Rattle.rec_data.specs.Owned.{rec_text}
+use Rattle.rec_data.specs.Fields.{FooterFields, AttachmentFields}
 use Rattle.rec_data.specs.Records.{footer_text}
+use Rattle.rec_index.specs.Fields.{ChunkIndexFields, AttachmentIndexFields, StatisticsFields, SummaryOffsetFields}
 use Rattle.rec_index.specs.Records.{chunk_index_text, attachment_index_text, statistics_text, metadata_index_text, summary_offset_text}
 use Rattle.mcap_model.specs.Tops.{Top, top_bytes}
 use Rattle.mcap_model.specs.History.{is_schema, is_channel, history_bytes, without_repeats}
@@ -38,36 +40,74 @@ messages_on records channel = length (filter (λ e. e.channel == channel) (logge
 abbrev pub of_kind : ℕ → List (ℕ × Top) → List (ℕ × Top)
 of_kind op extras = filter (λ e. e.1.op == op) extras
 
+abbrev pub written_statistics : Noted → StatisticsFields
+written_statistics n = record {
+  messages = length (logged n.records);
+  schemas = length (schemas_of n.records);
+  channels = capped (length (channels_of n.records));
+  attachments = capped (length (of_kind 9 n.extras));
+  metadata = capped (length (of_kind 12 n.extras));
+  chunks = capped (length n.blocks);
+  start = least (log_times n.records);
+  end = greatest (log_times n.records);
+  counts = map (λ id. (id, messages_on n.records id)) (logged_channels n.records);
+}
+
 abbrev pub statistics_content : Noted → List ℕ
-statistics_content n =
-    statistics_text (length (logged n.records)) (length (schemas_of n.records)) (capped (length (channels_of n.records)))
-    (capped (length (of_kind 9 n.extras))) (capped (length (of_kind 12 n.extras))) (capped (length n.blocks))
-    (least (log_times n.records)) (greatest (log_times n.records))
-    (map (λ id. (id, messages_on n.records id)) (logged_channels n.records))
+statistics_content n = statistics_text (written_statistics n)
 
 -- the offset of the Message Index of each channel, where the first one stands at that offset
 abbrev pub index_offsets : List Rec → ℕ → List ℕ → List (ℕ × ℕ)
 index_offsets records at [] = []
 index_offsets records at (id ∷ ids) = (id, at) ∷ index_offsets records (at + length (index_bytes records id)) ids
 
+-- the fields of the Chunk Index of a chunk of some records that stands at that offset
+abbrev pub written_index : ℕ → List Rec → ChunkIndexFields
+written_index offset records = record {
+  start = least (log_times records);
+  end = greatest (log_times records);
+  offset = offset;
+  size = length (chunk_bytes records);
+  indexes = index_offsets records (offset + length (chunk_bytes records)) (logged_channels records);
+  indexes_size = length (indexes_bytes records (logged_channels records));
+  compression = [];
+  compressed = length (history_bytes records);
+  uncompressed = length (history_bytes records);
+}
+
 abbrev pub chunk_index_content : ℕ × List Rec → List ℕ
-chunk_index_content block =
-    let records = block.1 in
-    let size = length (chunk_bytes records) in
-    chunk_index_text (least (log_times records)) (greatest (log_times records)) block.0 size
-    (index_offsets records (block.0 + size) (logged_channels records)) (length (indexes_bytes records (logged_channels records)))
-    [] (length (history_bytes records)) (length (history_bytes records))
+chunk_index_content block = chunk_index_text (written_index block.0 block.1)
 
 -- An Attachment's two times stand in front of its name, its media type and its data, each behind its length.
 abbrev pub attachment_index_content : ℕ × Top → List ℕ
 attachment_index_content extra =
     let content = extra.1.content in
     let media = 20 + text_length content 16 in
-    attachment_index_text extra.0 (length (top_bytes extra.1)) (number (part 0 8 content)) (number (part 8 16 content))
-    (bytes_length 8 content (media + 4 + text_length content media)) (text_bytes content 16) (text_bytes content media)
+    attachment_index_text (record {
+      offset = extra.0;
+      size = length (top_bytes extra.1);
+      log_time = number (part 0 8 content);
+      create_time = number (part 8 16 content);
+      payload_size = bytes_length 8 content (media + 4 + text_length content media);
+      name = text_bytes content 16;
+      media_type = text_bytes content media;
+    })
+
+-- the fields of the Attachment Index of an Attachment that stands at that offset
+abbrev pub indexed_attachment : ℕ → Top → AttachmentFields → AttachmentIndexFields
+indexed_attachment offset t f = record {
+  offset = offset;
+  size = length (top_bytes t);
+  log_time = f.log_time;
+  create_time = f.create_time;
+  payload_size = length f.payload;
+  name = f.name;
+  media_type = f.media_type;
+}
 
 abbrev pub metadata_index_content : ℕ × Top → List ℕ
-metadata_index_content extra = metadata_index_text extra.0 (length (top_bytes extra.1)) (text_bytes extra.1.content 0)
+metadata_index_content extra =
+    metadata_index_text (record { offset = extra.0; size = length (top_bytes extra.1); name = text_bytes extra.1.content 0 })
 
 -- ---- its groups
 
@@ -93,10 +133,17 @@ groups_of n = filter (λ g. has_some g.contents) (
     ∷ record { op = 10; contents = map attachment_index_content (of_kind 9 n.extras) }
     ∷ record { op = 13; contents = map metadata_index_content (of_kind 12 n.extras) } ∷ [])
 
+-- the fields of the Summary Offset of a group that stands at that offset
+abbrev pub group_fields : Group → ℕ → SummaryOffsetFields
+group_fields g at = record { op = g.op; offset = at; size = length (group_bytes g) }
+
 -- a Summary Offset for each group, the first of which stands at that offset
 abbrev pub offset_contents : ℕ → List Group → List (List ℕ)
 offset_contents at [] = []
-offset_contents at (g ∷ gs) = summary_offset_text g.op at (length (group_bytes g)) ∷ offset_contents (at + length (group_bytes g)) gs
+offset_contents at (g ∷ gs) = summary_offset_text (group_fields g at) ∷ offset_contents (at + length (group_bytes g)) gs
+
+abbrev pub footer_fields : ℕ → ℕ → ℕ → FooterFields
+footer_fields summary offsets crc = record { summary_start = summary; summary_offset_start = offsets; summary_crc = crc }
 
 -- The summary at that offset, its Summary Offsets, the Footer and the magic. The Footer's CRC is that of all before it,
 -- and of the Footer's front with the two offsets.
@@ -105,5 +152,5 @@ summary_text n at =
     let groups = flat_map group_bytes (groups_of n) in
     let offsets = flat_map (framed 14) (offset_contents at (groups_of n)) in
     let behind = at + length groups in
-    let front = take 25 (framed 2 (footer_text at behind 0)) in
-    groups ++ (offsets ++ (framed 2 (footer_text at behind (remainder (groups ++ (offsets ++ front)))) ++ magic))
+    let front = take 25 (framed 2 (footer_text (footer_fields at behind 0))) in
+    groups ++ (offsets ++ (framed 2 (footer_text (footer_fields at behind (remainder (groups ++ (offsets ++ front))))) ++ magic))

@@ -34,8 +34,10 @@ pub use options::FileOptions;
 pub use plain::scan_plain;
 pub use refusals::PlainRefused;
 pub use replay::{Place, Range, Replayed, Shown, Topic};
-pub use replaying::replay_plain;
+pub use replaying::{is_within, put_in_order, replay_plain};
+pub use table::Table;
 pub use tables::Tables;
+pub use topics::topics_of;
 pub use tops::{Judged, judge, judge_first};
 
 #[cfg(test)]

@@ -11,8 +11,8 @@ use crate::topics::used_topics;
 use mcap_wire::{Memory, Text};
 use std::alloc::Global;
 
-// Whether a time lies in the range.
-fn is_within(range: Range, time: u64) -> bool
+/// Whether a time lies in the range.
+pub fn is_within(range: Range, time: u64) -> bool
     ensures { result ≡ within range time }
 {
     match range.end {
@@ -96,8 +96,8 @@ fn is_in_order(shown: &[Shown]) -> bool
     return true;
 }
 
-// Puts messages in the order of log time and place.
-fn put_in_order(shown: &mut Vec<Shown>)
+/// Puts messages in the order of log time and place.
+pub fn put_in_order(shown: &mut Vec<Shown>)
     ensures same { IsPermutation shown.old.items shown.new.items }
     ensures order { InOrder shown.new.items }
 {

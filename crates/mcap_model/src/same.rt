@@ -2,7 +2,8 @@
 ghost use Rattle.std.specs.Prelude.{◌≡◌, ◌↔◌, ℕ, List, IsTrue, IfOk, IsPermutation};
 ghost use Rattle.mcap_model.specs.Fields.{SchemaFields, IsSchema, ChannelFields, IsChannel, SameChannel};
 ghost use Rattle.mcap_wire.specs.Maps.{KeysAscend};
-ghost use Rattle.mcap_model.specs.Made.{top, schema_made, channel_made};
+ghost use Rattle.rec_data.specs.Parsed.{schema_fields, channel_fields};
+ghost use Rattle.mcap_model.specs.Made.{top};
 
 use mcap_wire::{Memory, Pairs, PairsRef, Text};
 use rec_data::{Channel, Schema};
@@ -10,7 +11,7 @@ use std::alloc::Global;
 
 // Whether two Schemas have equal fields beside their ids.
 fn has_fields(first: &Schema<'_>, schema: &Schema<'_>) -> bool
-    ensures { IsTrue result ↔ (schema_made first.now.name.now first.now.encoding.now first.now.payload.now ≡ schema_made schema.now.name.now schema.now.encoding.now schema.now.payload.now) }
+    ensures { IsTrue result ↔ (schema_fields first.now ≡ schema_fields schema.now) }
 {
     first.name == schema.name
         && first.encoding == schema.encoding
@@ -19,7 +20,7 @@ fn has_fields(first: &Schema<'_>, schema: &Schema<'_>) -> bool
 
 /// Whether the content shows a Schema with the fields of this one.
 pub(crate) fn is_same_schema(content: &[u8], schema: &Schema<'_>) -> bool
-    ensures { (id : ℕ) (f : SchemaFields) → IsSchema (top 3 content.now) id f → IsTrue result ↔ (f ≡ schema_made schema.now.name.now schema.now.encoding.now schema.now.payload.now) }
+    ensures { (id : ℕ) (f : SchemaFields) → IsSchema (top 3 content.now) id f → IsTrue result ↔ (f ≡ schema_fields schema.now) }
 {
     match Schema::parse(content) {
         Ok(first) => return has_fields(&first, schema),
@@ -83,7 +84,7 @@ pub(crate) fn is_same_channel(
     content: &[u8],
     channel: &Channel<'_>,
 ) -> Result<bool, Memory>
-    ensures { IfOk result (λ same. (id : ℕ) (f : ChannelFields) → IsChannel (top 4 content.now) id f → IsTrue same ↔ SameChannel f (channel_made channel.now.schema_id channel.now.topic.now channel.now.message_encoding.now channel.now.metadata)) }
+    ensures { IfOk result (λ same. (id : ℕ) (f : ChannelFields) → IsChannel (top 4 content.now) id f → IsTrue same ↔ SameChannel f (channel_fields channel.now)) }
 {
     match Channel::parse(content) {
         Ok(first) => {

@@ -49,11 +49,7 @@ fn add_topic(alloc: Global, tables: &Tables, id: u16, topics: &mut Vec<Topic>) -
 }
 
 /// The topics of the channels of messages, as they were declared.
-pub(crate) fn topics_of(
-    alloc: Global,
-    tables: &Tables,
-    shown: &[Shown],
-) -> Result<Vec<Topic>, Memory>
+pub fn topics_of(alloc: Global, tables: &Tables, shown: &[Shown]) -> Result<Vec<Topic>, Memory>
     ensures { IfOk result (λ topics. AreNamed tables.now.channels shown.now topics.items) }
 {
     let ids = match channels_of(alloc, shown) {

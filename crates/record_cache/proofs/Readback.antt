@@ -9,11 +9,11 @@ use Rattle.mcap_wire.proofs.Numbers.{length-le, number-le}
 use Rattle.mcap_wire.proofs.Framing.{length-string, length-framed}
 use Rattle.rec_data.specs.declared.owned.Rec.{Rec}
 use Rattle.rec_data.specs.declared.owned.Rec.TheVariants.{Schema, Channel, Message}
-use Rattle.rec_data.specs.Owned.{rec_opcode, rec_text, rec_bytes}
+use Rattle.rec_data.specs.Owned.{rec_opcode, rec_text, rec_bytes, RecFits}
 use Rattle.rec_data.specs.Records.{schema_text, channel_text, message_text}
 use Rattle.mcap_model.specs.History.{history_bytes}
 use Rattle.record_cache.specs.Reading.{first_text, behind_text, pairs_within, schema_read, map_read, channel_read, message_read, record_read, records_within, records_shown}
-use Rattle.record_cache.specs.Buffers.{RecFits, IsKept}
+use Rattle.record_cache.specs.Buffers.{IsKept}
 
 -- ---- numbers and texts
 
@@ -104,7 +104,7 @@ schema_same : (i id : ℕ) (a b c d e f : List ℕ) → i ≡ id → a ≡ b →
 schema_same i id a b c d e f one two three four = cc
 
 schema_found : (id : ℕ) (name encoding payload : List ℕ) → id < 256 ^ 2 → length name < 2 ^ 32 → length encoding < 2 ^ 32 → length payload < 2 ^ 32
-    → schema_read (schema_text id name encoding payload) ≡ schema id name encoding payload
+    → schema_read (schema_text id (record { name = name; encoding = encoding; payload = payload })) ≡ schema id name encoding payload
 unfolding schema_read
 schema_found id name encoding payload id_fits name_fits encoding_fits payload_fits =
     let third = string payload ++ [] in
@@ -124,7 +124,7 @@ channel_same : (i id s schema : ℕ) (a b c d : List ℕ) (m n : List (List ℕ 
 channel_same i id s schema a b c d m n one two three four five = cc
 
 channel_found : (id schema : ℕ) (topic encoding : List ℕ) (metadata : List (List ℕ × List ℕ)) → id < 256 ^ 2 → schema < 256 ^ 2 → length topic < 2 ^ 32 → length encoding < 2 ^ 32
-    → length (pair_texts metadata) < 2 ^ 32 → IsTextMap metadata → channel_read (channel_text id schema topic encoding metadata) ≡ Channel id schema topic encoding metadata
+    → length (pair_texts metadata) < 2 ^ 32 → IsTextMap metadata → channel_read (channel_text id (record { schema = schema; topic = topic; encoding = encoding; metadata = metadata })) ≡ Channel id schema topic encoding metadata
 unfolding channel_read
 channel_found id schema topic encoding metadata id_fits schema_fits topic_fits encoding_fits metadata_fits is_map =
     let third = string (pair_texts metadata) ++ [] in
@@ -147,7 +147,7 @@ message_same : (a b c d e f g h : ℕ) (p q : List ℕ) → a ≡ b → c ≡ d 
 message_same a b c d e f g h p q one two three four five = cc
 
 message_found : (channel sequence log_time publish_time : ℕ) (payload : List ℕ) → channel < 256 ^ 2 → sequence < 256 ^ 4 → log_time < 256 ^ 8 → publish_time < 256 ^ 8
-    → message_read (message_text channel sequence log_time publish_time payload) ≡ Message channel sequence log_time publish_time payload
+    → message_read (message_text channel (record { sequence = sequence; log_time = log_time; publish_time = publish_time; payload = payload })) ≡ Message channel sequence log_time publish_time payload
 unfolding message_read
 message_found channel sequence log_time publish_time payload channel_fits sequence_fits log_fits publish_fits =
     let third = le 8 publish_time ++ payload in

@@ -1,5 +1,5 @@
 -- A walk over the records of a buffer, from 0 on.
-use Rattle.std.proofs.Common.{◌≡◌, ◌⊎◌, ℕ, suc, ◌+◌, ◌<◌, ◌≤◌, List, length, take, refl, ap, inl, inr, arith}
+use Rattle.std.proofs.Common.{◌≡◌, ◌⊎◌, ℕ, suc, ◌<◌, ◌≤◌, List, length, take, refl, ap, inl, inr, arith}
 use Rattle.std.proofs.lemmas.List.{take_all}
 use Rattle.mcap_wire.proofs.Framing.{length-framed}
 use Rattle.rec_data.specs.declared.owned.Rec.{Rec}

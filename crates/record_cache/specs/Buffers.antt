@@ -1,18 +1,9 @@
 -- What a buffer of records is to its callers.
 use Rattle.std.specs.Prelude.{◌≡◌, ℕ, ◌+◌, ◌≤◌, List, ◌++◌, length, All}
-use Rattle.mcap_wire.specs.Contents.{AllFit}
 use Rattle.rec_data.specs.declared.owned.Rec.{Rec}
-use Rattle.rec_data.specs.declared.owned.Rec.TheVariants.{Schema, Channel, Message}
-use Rattle.rec_data.specs.Owned.{rec_bytes}
-use Rattle.rec_data.specs.Records.{schema_kinds, schema_values, channel_kinds, channel_values, message_kinds, message_values}
+use Rattle.rec_data.specs.Owned.{rec_bytes, RecFits}
 use Rattle.mcap_model.specs.History.{history_bytes}
 use Rattle.record_cache.specs.Reading.{records_shown}
-
--- each number and length of the record fits its field, its texts are UTF-8 and the keys of its map differ
-abbrev pub RecFits : Rec → Type 0
-RecFits (Schema id s) = AllFit schema_kinds (schema_values id s.name s.encoding s.payload)
-RecFits (Channel id schema_id topic encoding metadata) = AllFit channel_kinds (channel_values id schema_id topic encoding metadata)
-RecFits (Message channel_id sequence log_time publish_time payload) = AllFit message_kinds (message_values channel_id sequence log_time publish_time)
 
 -- a record that a buffer may keep
 pub record IsKept (r : Rec) : Type 0 where

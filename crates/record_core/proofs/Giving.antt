@@ -23,13 +23,7 @@ use Rattle.record_core.specs.Ids.{Ids, schemas_in, channels_in, with_ids, same_s
 use Rattle.record_core.specs.Tables.{content_in, ids_in, HasSchema, HasSchemas, GivesAt, GivesSchema, Gives, schemas_lack, ids_lack, IdsDeclared, AreLast, number_of, id_of, schema_with}
 use Rattle.record_core.proofs.Places.{map_same, found_more, found_last}
 use Rattle.record_core.proofs.Searches.{schema_own, schemas_more, channels_more}
-use Rattle.record_core.proofs.TableIds.{schema_stands, schema_missed, schema_lacking, schema_found, channel_missed}
-
-some_none : (k : ℕ) → Some k ≡ None → ⊥
-some_none k e = cc
-
-some_same : (a b : ℕ) → Some a ≡ Some b → a ≡ b
-some_same a b e = cc
+use Rattle.record_core.proofs.TableIds.{schema_stands, schema_missed, schema_lacking, schema_found, channel_missed, some_none}
 
 -- ---- the records that are given with ids
 

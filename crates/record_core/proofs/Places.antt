@@ -5,21 +5,19 @@ use Rattle.std.specs.List.{position_from}
 use Rattle.std.proofs.lemmas.Iterator.Adapters.{position_from-zero}
 use Rattle.mcap_model.specs.Places.{At, Each}
 use Rattle.mcap_model.proofs.Places.{at_none}
-
-some_one : {X : Type 0} (x y : X) → Some x ≡ Some y → x ≡ y
-some_one x y e = cc
+use Rattle.std.proofs.lemmas.Option.{same_Some}
 
 -- ---- a list of values
 
 module _ {X Y : Type 0} (f : X → Y) where
   pub at_map : (xs : List X) (n : ℕ) (x : X) → At xs n x → At (map f xs) n (f x)
   at_map [] n x at = absurd (at_none n x at)
-  at_map (z ∷ xs) zero x at = ap (λ (y : X). Some (f y)) (some_one z x at)
+  at_map (z ∷ xs) zero x at = ap (λ (y : X). Some (f y)) (same_Some z x at)
   at_map (z ∷ xs) (suc n) x at = at_map xs n x at
 
   pub map_at : (xs : List X) (n : ℕ) (y : Y) → At (map f xs) n y → (x : X) × At xs n x × (f x ≡ y)
   map_at [] n y at = absurd (at_none n y at)
-  map_at (z ∷ xs) zero y at = (z, refl, some_one (f z) y at)
+  map_at (z ∷ xs) zero y at = (z, refl, same_Some (f z) y at)
   map_at (z ∷ xs) (suc n) y at = map_at xs n y at
 
   pub map_same : (g : X → Y) (xs : List X) → Each (λ x. f x ≡ g x) xs → map f xs ≡ map g xs

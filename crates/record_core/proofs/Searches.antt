@@ -14,9 +14,7 @@ use Rattle.mcap_model.specs.History.{schema_of, channel_of, schema_count, channe
 use Rattle.mcap_model.proofs.Places.{at_none}
 use Rattle.record_core.specs.Ids.{schema_in, schemas_in, channel_in, channels_in, same_schema, same_pair, same_channel}
 use Rattle.mcap_model.proofs.Maps.{fields_one}
-
-some_one : {X : Type 0} (x y : X) → Some x ≡ Some y → x ≡ y
-some_one x y e = cc
+use Rattle.std.proofs.lemmas.Option.{same_Some}
 
 -- ---- what a search finds
 
@@ -28,7 +26,7 @@ module _ {X : Type 0} (p : X → Bool) where
 
   here_or_later : (x : X) (xs : List X) (i k : ℕ) (b : Bool) → p x ≡ b → cond b (Some i) (position_from p (i + 1) xs) ≡ Some k
       → (position_from p (i + 1) xs ≡ Some k → (j : ℕ) × (k ≡ i + 1 + j) × Finds xs j) → (j : ℕ) × (k ≡ i + j) × Finds (x ∷ xs) j
-  here_or_later x xs i k true is e more = (0, omega (arith, some_one i k e), record { element = x; at = refl; passes = is })
+  here_or_later x xs i k true is e more = (0, omega (arith, same_Some i k e), record { element = x; at = refl; passes = is })
   here_or_later x xs i k false is e more =
       let later = more e in
       let there = later.2 in
@@ -44,7 +42,7 @@ module _ {X : Type 0} (p : X → Bool) where
   fails_here : (y : X) (xs : List X) (i : ℕ) (b : Bool) → p y ≡ b → cond b (Some i) (position_from p (i + 1) xs) ≡ None
       → (position_from p (i + 1) xs ≡ None → (j : ℕ) (x : X) → At xs j x → p x ≡ true → ⊥) → (j : ℕ) (x : X) → At (y ∷ xs) j x → p x ≡ true → ⊥
   fails_here y xs i true is e more j x at passes = none_some i (sym e)
-  fails_here y xs i false is e more zero x at passes = both_ways (p y) is (ap p (some_one y x at) ∙ passes)
+  fails_here y xs i false is e more zero x at passes = both_ways (p y) is (ap p (same_Some y x at) ∙ passes)
   fails_here y xs i false is e more (suc j) x at passes = more e j x at passes
 
   none_from : (xs : List X) (i : ℕ) → position_from p i xs ≡ None → (j : ℕ) (x : X) → At xs j x → p x ≡ true → ⊥
@@ -138,7 +136,7 @@ channels_more xs ys = flat_map-append channel_in xs ys
 -- the Schema that has this content stands behind as many as there are contents before it
 pub schema_there : (history : List Rec) (k : ℕ) (f : SchemaFields) → At (schemas_in history) k f → (n : ℕ) × (id : ℕ) × At history n (schema_of id f) × (schema_count (take n history) ≡ k)
 schema_there [] k f at = absurd (at_none k f at)
-schema_there (Schema id s ∷ rs) zero f at = (0, id, ap (λ (g : SchemaFields). Some (schema_of id g)) (some_one (made s.name s.encoding s.payload) f at), refl)
+schema_there (Schema id s ∷ rs) zero f at = (0, id, ap (λ (g : SchemaFields). Some (schema_of id g)) (same_Some (made s.name s.encoding s.payload) f at), refl)
 schema_there (Schema id s ∷ rs) (suc k) f at = let more = schema_there rs k f at in (suc more.0, more.1, more.2, ap suc more.3)
 schema_there (Channel id schema topic encoding metadata ∷ rs) k f at = let more = schema_there rs k f at in (suc more.0, more.1, more.2, more.3)
 schema_there (Message channel sequence log_time publish_time payload ∷ rs) k f at = let more = schema_there rs k f at in (suc more.0, more.1, more.2, more.3)
@@ -146,21 +144,21 @@ schema_there (Message channel sequence log_time publish_time payload ∷ rs) k f
 pub channel_there : (history : List Rec) (k : ℕ) (f : ChannelFields) → At (channels_in history) k f → (n : ℕ) × (id : ℕ) × At history n (channel_of id f) × (channel_count (take n history) ≡ k)
 channel_there [] k f at = absurd (at_none k f at)
 channel_there (Schema id s ∷ rs) k f at = let more = channel_there rs k f at in (suc more.0, more.1, more.2, more.3)
-channel_there (Channel id schema topic encoding metadata ∷ rs) zero f at = (0, id, ap (λ (g : ChannelFields). Some (channel_of id g)) (some_one (record { schema = schema; topic = topic; encoding = encoding; metadata = metadata }) f at), refl)
+channel_there (Channel id schema topic encoding metadata ∷ rs) zero f at = (0, id, ap (λ (g : ChannelFields). Some (channel_of id g)) (same_Some (record { schema = schema; topic = topic; encoding = encoding; metadata = metadata }) f at), refl)
 channel_there (Channel id schema topic encoding metadata ∷ rs) (suc k) f at = let more = channel_there rs k f at in (suc more.0, more.1, more.2, ap suc more.3)
 channel_there (Message channel sequence log_time publish_time payload ∷ rs) k f at = let more = channel_there rs k f at in (suc more.0, more.1, more.2, more.3)
 
 -- the content of a Schema stands among the contents
 pub schema_content : (history : List Rec) (n id : ℕ) (f : SchemaFields) → At history n (schema_of id f) → (k : ℕ) × At (schemas_in history) k f
 schema_content [] n id f at = absurd (at_none n (schema_of id f) at)
-schema_content (r ∷ rs) zero id f at = (0, subst (λ (x : Rec). At (schema_in x ++ schemas_in rs) 0 f) (sym (some_one r (schema_of id f) at)) refl)
+schema_content (r ∷ rs) zero id f at = (0, subst (λ (x : Rec). At (schema_in x ++ schemas_in rs) 0 f) (sym (same_Some r (schema_of id f) at)) refl)
 schema_content (Schema other s ∷ rs) (suc n) id f at = let more = schema_content rs n id f at in (suc more.0, more.1)
 schema_content (Channel other schema topic encoding metadata ∷ rs) (suc n) id f at = schema_content rs n id f at
 schema_content (Message channel sequence log_time publish_time payload ∷ rs) (suc n) id f at = schema_content rs n id f at
 
 pub channel_content : (history : List Rec) (n id : ℕ) (f : ChannelFields) → At history n (channel_of id f) → (k : ℕ) × At (channels_in history) k f
 channel_content [] n id f at = absurd (at_none n (channel_of id f) at)
-channel_content (r ∷ rs) zero id f at = (0, subst (λ (x : Rec). At (channel_in x ++ channels_in rs) 0 f) (sym (some_one r (channel_of id f) at)) refl)
+channel_content (r ∷ rs) zero id f at = (0, subst (λ (x : Rec). At (channel_in x ++ channels_in rs) 0 f) (sym (same_Some r (channel_of id f) at)) refl)
 channel_content (Schema other s ∷ rs) (suc n) id f at = channel_content rs n id f at
 channel_content (Channel other schema topic encoding metadata ∷ rs) (suc n) id f at = let more = channel_content rs n id f at in (suc more.0, more.1)
 channel_content (Message channel sequence log_time publish_time payload ∷ rs) (suc n) id f at = channel_content rs n id f at

@@ -8,12 +8,12 @@ use Rattle.mcap_wire.proofs.Framing.{length-framed}
 use Rattle.rec_data.specs.declared.owned.Rec.{Rec}
 use Rattle.rec_data.specs.declared.schema.SchemaDef.{SchemaDef}
 use Rattle.rec_data.specs.declared.channel.ChannelDef.{ChannelDef}
-use Rattle.rec_data.specs.Owned.{rec_bytes}
+use Rattle.rec_data.specs.Owned.{rec_bytes, RecFits}
 use Rattle.rec_data.specs.Records.{schema_text, channel_text}
 use Rattle.rec_data.proofs.OwnedLengths.{length-schema_text, length-channel_text}
 use Rattle.mcap_model.specs.Fields.{SchemaFields}
 use Rattle.mcap_model.specs.History.{schema_of, channel_of}
-use Rattle.record_cache.specs.Buffers.{RecFits, IsKept}
+use Rattle.record_cache.specs.Buffers.{IsKept}
 use Rattle.id_table.specs.declared.given.Given.{Given}
 use Rattle.id_table.specs.declared.given.Given.TheVariants.{Known, New}
 use Rattle.record_core.specs.Ids.{fields_of_schema, fields_with}
@@ -22,11 +22,11 @@ use Rattle.record_core.specs.Desk.{schema_size, declared_size}
 use Rattle.record_core.specs.Sights.{FirstFits, SchemaKept}
 
 schema_length : (id : ℕ) (f : SchemaFields) → length (rec_bytes (schema_of id f)) ≡ 9 + (14 + length f.name + length f.encoding + length f.payload)
-schema_length id f = length-framed 3 (schema_text id f.name f.encoding f.payload) ∙ ap (λ (n : ℕ). 9 + n) (length-schema_text id f.name f.encoding f.payload)
+schema_length id f = length-framed 3 (schema_text id f) ∙ ap (λ (n : ℕ). 9 + n) (length-schema_text id f)
 
 channel_length : (id schema : ℕ) (topic encoding : List ℕ) (metadata : List (List ℕ × List ℕ)) → length (rec_bytes (channel_of id (record { schema = schema; topic = topic; encoding = encoding; metadata = metadata })))
     ≡ 9 + (16 + length topic + length encoding + length (pair_texts metadata))
-channel_length id schema topic encoding metadata = length-framed 4 (channel_text id schema topic encoding metadata) ∙ ap (λ (n : ℕ). 9 + n) (length-channel_text id schema topic encoding metadata)
+channel_length id schema topic encoding metadata = length-framed 4 (channel_text id (record { schema = schema; topic = topic; encoding = encoding; metadata = metadata })) ∙ ap (λ (n : ℕ). 9 + n) (length-channel_text id (record { schema = schema; topic = topic; encoding = encoding; metadata = metadata }))
 
 -- the size of a Channel doesn't depend on ids
 same_length : (c : ChannelDef) (id schema : ℕ) → length (rec_bytes (channel_of id (fields_with c schema))) ≡ length (rec_bytes (channel_of 0 (fields_with c 0)))

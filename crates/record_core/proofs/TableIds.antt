@@ -13,11 +13,8 @@ use Rattle.record_core.specs.Tables.{content_in, ids_in, HasSchema, HasSchemas, 
 use Rattle.record_core.proofs.Places.{at_map, map_at}
 use Rattle.record_core.proofs.Searches.{found, not_found, schema_own, schema_same, channel_own, channel_same}
 
-some_none : (k : ℕ) → Some k ≡ None → ⊥
+pub some_none : (k : ℕ) → Some k ≡ None → ⊥
 some_none k e = cc
-
-some_same : (a b : ℕ) → Some a ≡ Some b → a ≡ b
-some_same a b e = cc
 
 -- ---- schemas
 

@@ -10,9 +10,9 @@ use Rattle.record_core.specs.Tables.{IsIdAt, ids_lack}
 use Rattle.record_core.specs.Desk.{DeskView, held, accepted, declare_refusal, declared_size}
 use Rattle.rec_data.specs.declared.owned.Rec.{Rec}
 use Rattle.record_cache.specs.declared.cache.OfferRefused.{OfferRefused}
-use Rattle.rec_data.specs.Owned.{rec_bytes}
+use Rattle.rec_data.specs.Owned.{rec_bytes, RecFits}
 use Rattle.record_cache.specs.declared.records.RecRef.{RecRef}
-use Rattle.record_cache.specs.Buffers.{RecFits, IsKept, Buffer}
+use Rattle.record_cache.specs.Buffers.{IsKept, Buffer}
 use Rattle.record_cache.specs.Offers.{rec_of, Offered}
 
 -- the lengths of a declaration fit in front of what they count

@@ -4,7 +4,8 @@ ghost use Rattle.mcap_model.specs.History.{schema_of, channel_of};
 ghost use Rattle.record_cache.specs.Offers.{rec_of};
 ghost use Rattle.record_core.specs.Ids.{fields_of_schema, fields_with};
 ghost use Rattle.record_core.specs.Desk.{schema_size, declared_size};
-ghost use Rattle.record_cache.specs.Buffers.{RecFits, IsKept};
+ghost use Rattle.rec_data.specs.Owned.{RecFits};
+ghost use Rattle.record_cache.specs.Buffers.{IsKept};
 ghost use Rattle.record_core.specs.Tables.{id_of, schema_with};
 ghost use Rattle.record_core.specs.Sights.{SchemaFits, DefFits, recs_of, FirstFits, SchemaKept, CountedOffer};
 

@@ -3,17 +3,44 @@ use Rattle.std.specs.Prelude.{ℕ, zero, suc, ◌+◌, List, [], ◌++◌, lengt
 use Rattle.mcap_wire.specs.Layout.{framed, magic}
 use Rattle.mcap_crc.specs.Remainder.{remainder}
 use Rattle.rec_data.specs.Records.{footer_text}
+use Rattle.rec_index.specs.Fields.{StatisticsFields}
 use Rattle.rec_index.specs.Records.{statistics_text, summary_offset_text}
-use Rattle.mcap_model.specs.Summary.{capped}
+use Rattle.mcap_model.specs.Summary.{capped, footer_fields}
+use Rattle.summary_write.specs.declared.text.Numbers.{Numbers}
 use Rattle.summary_write.specs.Tally.{Tally}
 
--- the Statistics of so many messages, schemas, channels and blocks, no extras, the two times, and the counts of channels
-abbrev pub statistics_record : ℕ → ℕ → ℕ → ℕ → ℕ → ℕ → List (ℕ × ℕ) → List ℕ
-statistics_record messages schemas channels blocks start end counts =
-    framed 11 (statistics_text messages schemas (capped channels) 0 0 (capped blocks) start end counts)
+-- the fields of the Statistics of these numbers, without extras
+abbrev pub counted : Numbers → StatisticsFields
+counted n = record {
+  messages = n.messages;
+  schemas = n.schemas;
+  channels = capped n.channels;
+  attachments = 0;
+  metadata = 0;
+  chunks = capped n.blocks;
+  start = n.start;
+  end = n.end;
+  counts = n.counts.now;
+}
+
+abbrev pub statistics_record : StatisticsFields → List ℕ
+statistics_record f = framed 11 (statistics_text f)
+
+abbrev pub tally_fields : Tally → StatisticsFields
+tally_fields t = record {
+  messages = t.messages;
+  schemas = length t.schema_ids;
+  channels = capped (length t.channel_ids);
+  attachments = 0;
+  metadata = 0;
+  chunks = capped t.blocks;
+  start = t.start;
+  end = t.end;
+  counts = t.counts;
+}
 
 abbrev pub statistics_of : Tally → List ℕ
-statistics_of t = statistics_record t.messages (length t.schema_ids) (length t.channel_ids) t.blocks t.start t.end t.counts
+statistics_of t = statistics_record (tally_fields t)
 
 abbrev pub groups_of_tally : Tally → List ℕ
 groups_of_tally t = t.schemas ++ (t.channels ++ (statistics_of t ++ t.chunk_indexes))
@@ -21,7 +48,7 @@ groups_of_tally t = t.schemas ++ (t.channels ++ (statistics_of t ++ t.chunk_inde
 -- the Summary Offset of a group of so many bytes, if it is there
 abbrev pub offset_of : ℕ → ℕ → ℕ → List ℕ
 offset_of op at zero = []
-offset_of op at (suc len) = framed 14 (summary_offset_text op at (suc len))
+offset_of op at (suc len) = framed 14 (summary_offset_text (record { op = op; offset = at; size = suc len }))
 
 abbrev pub offsets_of_tally : Tally → ℕ → List ℕ
 offsets_of_tally t at =
@@ -32,7 +59,7 @@ offsets_of_tally t at =
 
 -- behind these bytes the Footer of a summary that starts at one offset, its Summary Offsets at another, and the magic
 abbrev pub closed_by : List ℕ → ℕ → ℕ → List ℕ
-closed_by bytes at behind = bytes ++ (framed 2 (footer_text at behind (remainder (bytes ++ take 25 (framed 2 (footer_text at behind 0))))) ++ magic)
+closed_by bytes at behind = bytes ++ (framed 2 (footer_text (footer_fields at behind (remainder (bytes ++ take 25 (framed 2 (footer_text (footer_fields at behind 0))))))) ++ magic)
 
 unfoldable pub text_of : Tally → ℕ → List ℕ
 text_of t at = closed_by (groups_of_tally t ++ offsets_of_tally t at) at (at + length (groups_of_tally t))

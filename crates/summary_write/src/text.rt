@@ -2,7 +2,7 @@
 ghost use Rattle.std.specs.Prelude.{◌≡◌, ◌+◌, ◌^◌, ◌<◌, ◌++◌, length, IfOk, OnOk, All};
 ghost use Rattle.mcap_model.specs.Summary.{capped};
 ghost use Rattle.summary_write.specs.Counts.{CountsRise};
-ghost use Rattle.summary_write.specs.Writing.{statistics_record, offset_of, closed_by};
+ghost use Rattle.summary_write.specs.Writing.{counted, statistics_record, offset_of, closed_by};
 
 use mcap_crc::crc_of;
 use mcap_wire::{CountsRef, MAGIC, Memory, put_bytes};
@@ -34,9 +34,9 @@ pub(crate) fn put_statistics(out: &mut Vec<u8>, n: &Numbers<'_>) -> Result<u64, 
     requires rise { CountsRise n.now.counts.now }
     requires ids { All (λ c. c.0 < 2 ^ 16) n.now.counts.now }
     ensures items { IfOk result (λ len. out.new.items ≡ out.old.items
-        ++ statistics_record n.now.messages n.now.schemas n.now.channels n.now.blocks n.now.start n.now.end n.now.counts.now) }
+        ++ statistics_record (counted n.now)) }
     ensures len { IfOk result (λ len. len ≡ length
-        (statistics_record n.now.messages n.now.schemas n.now.channels n.now.blocks n.now.start n.now.end n.now.counts.now)) }
+        (statistics_record (counted n.now))) }
 {
     let before = out.len();
     let statistics = Statistics {

@@ -17,6 +17,6 @@ put_framed-requires c =
       r,
       record {
         spelled = c.as_slice.ensures.value ∙ c.in_ok-frame.ensures.ok ∙ ap (λ (l : List ℕ). l ++ rec_bytes r) c.new-framed.ensures.items;
-        shown = read_back is.0 is.1 r is.4;
+        shown = read_back is.0 is.1 r is.3;
       },
     )

@@ -10,6 +10,6 @@ pub returns-in-Ok-push : goal.returns-in-Ok-push
 returns-in-Ok-push c = λ are there. (
   c.in-Ok-copied.topic,
   subst (IsNamed c.args.tables.now.channels c.args.id) (sym c.in-Ok-copied.ensures)
-      (named c.args.tables.now.channels c.args.id c.in-Some.content.now _ _ _ _ _ c.in-Some.ensures are c.in-Ok.ensures.shown),
+      (named c.args.tables.now.channels c.args.id c.in-Some.content.now _ _ c.in-Some.ensures are c.in-Ok.ensures.shown),
   c.in-Ok-push.ensures.items,
 )

@@ -6,10 +6,11 @@ use Rattle.mcap_model.proofs.Histories.{data_end_meets}
 use Rattle.mcap_model.specs.declared.tables.Ruling.TheVariants as rulings
 use Rattle.mcap_model.specs.Made.{top}
 use Rattle.mcap_model.specs.Judging.{JudgedAs}
-use Rattle.mcap_model.proofs.Meets.{message_meets, message_index_meets, metadata_meets, attachment_meets}
+use Rattle.mcap_model.proofs.Meets.{message_meets, metadata_meets, attachment_meets}
 use Rattle.mcap_model.proofs.Agreeing.{other_more}
 use Rattle.mcap_model.proofs.Judging.{flat_judged, silent_fits, attachment_fits, attachment_broken, breaks_plain, judged_by, misplaced, other_section}
 use Rattle.mcap_model.proofs.tops.judge.Goals as goal
+use Rattle.mcap_model.proofs.Logging.{index_meets}
 
 pub returns-in-3 : goal.returns-in-3
 returns-in-3 c = λ first more unended stands.
@@ -43,7 +44,7 @@ returns-in-7 c = λ first more unended stands.
     let is = c.is_message_index.ensures in
     subst (JudgedAs (first ∷ more) (top c.args.op c.args.content.now) c.args.tables.now) (sym c.kept_or.ensures)
     (judged_by (first ∷ more) (top c.args.op c.args.content.now) c.args.tables.now c.is_message_index.result 6
-    (λ yes. let s = is.0 yes in silent_fits first more c.args.op 7 c.args.content.now c.args.tables.now c.in-7.is refl (λ e. omega (arith, e)) (λ e. omega (arith, e)) (λ e. omega (arith, e)) refl (message_index_meets t s.0 s.1 s.2) stands)
+    (λ yes. let s = is.0 yes in silent_fits first more c.args.op 7 c.args.content.now c.args.tables.now c.in-7.is refl (λ e. omega (arith, e)) (λ e. omega (arith, e)) (λ e. omega (arith, e)) refl (index_meets t s.0 s.1 s.2) stands)
     (λ no. breaks_plain (first ∷ more) c.args.op 7 c.args.content.now 6 c.in-7.is (λ e. omega (arith, e)) (breaks_6 (λ v6. both_ways c.is_message_index.result no (is.1 (v6.message_index refl))))))
 
 pub returns-in-None : goal.returns-in-None

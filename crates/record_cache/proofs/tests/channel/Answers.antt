@@ -19,7 +19,7 @@ no_pairs = record { texts = λ k d less. absurd (omega (arith, less)); keys_diff
 kept : IsKept (Channel 1 0 (47 ∷ 97 ∷ []) [] [])
 kept = record {
   fits = (omega arith, (omega arith, ((omega arith, topic), ((omega arith, ([], (refl, refl))), ((omega arith, no_pairs), tt)))));
-  short = omega (arith, length-framed 4 (channel_text 1 0 (47 ∷ 97 ∷ []) [] []), length-channel_text 1 0 (47 ∷ 97 ∷ []) [] []);
+  short = omega (arith, length-framed 4 (channel_text 1 (record { schema = 0; topic = 47 ∷ 97 ∷ []; encoding = []; metadata = [] })), length-channel_text 1 (record { schema = 0; topic = 47 ∷ 97 ∷ []; encoding = []; metadata = [] }));
 }
 
 pub returns-clause-kept : goal.returns-clause-kept
@@ -27,4 +27,4 @@ returns-clause-kept c = subst (λ (pairs : List (List ℕ × List ℕ)). IsKept 
 
 pub returns-clause-short : goal.returns-clause-short
 returns-clause-short c = subst (λ (pairs : List (List ℕ × List ℕ)). length (rec_bytes (Channel 1 0 (47 ∷ 97 ∷ []) [] pairs)) ≤ 100) (sym c.of.ensures)
-    (omega (arith, length-framed 4 (channel_text 1 0 (47 ∷ 97 ∷ []) [] []), length-channel_text 1 0 (47 ∷ 97 ∷ []) [] []))
+    (omega (arith, length-framed 4 (channel_text 1 (record { schema = 0; topic = 47 ∷ 97 ∷ []; encoding = []; metadata = [] })), length-channel_text 1 (record { schema = 0; topic = 47 ∷ 97 ∷ []; encoding = []; metadata = [] })))

@@ -12,8 +12,8 @@ name = (115 ∷ [], (refl, refl))
 pub returns-clause-kept : goal.returns-clause-kept
 returns-clause-kept c = record {
   fits = (omega arith, ((omega arith, name), ((omega arith, ([], (refl, refl))), (omega arith, tt))));
-  short = omega (arith, length-framed 3 (schema_text 1 (115 ∷ []) [] (1 ∷ 2 ∷ [])), length-schema_text 1 (115 ∷ []) [] (1 ∷ 2 ∷ []));
+  short = omega (arith, length-framed 3 (schema_text 1 (record { name = 115 ∷ []; encoding = []; payload = 1 ∷ 2 ∷ [] })), length-schema_text 1 (record { name = 115 ∷ []; encoding = []; payload = 1 ∷ 2 ∷ [] }));
 }
 
 pub returns-clause-short : goal.returns-clause-short
-returns-clause-short c = omega (arith, length-framed 3 (schema_text 1 (115 ∷ []) [] (1 ∷ 2 ∷ [])), length-schema_text 1 (115 ∷ []) [] (1 ∷ 2 ∷ []))
+returns-clause-short c = omega (arith, length-framed 3 (schema_text 1 (record { name = 115 ∷ []; encoding = []; payload = 1 ∷ 2 ∷ [] })), length-schema_text 1 (record { name = 115 ∷ []; encoding = []; payload = 1 ∷ 2 ∷ [] }))

@@ -4,20 +4,22 @@ use Rattle.std.proofs.lemmas.Slice.Eq.{bytes_eq-Decides}
 use Rattle.mcap_model.specs.Fields.{ChannelFields, SameChannel, IsChannel}
 use Rattle.mcap_model.specs.declared.table.Declared.{Declared}
 use Rattle.mcap_model.specs.declared.tables.Tables.{Tables}
-use Rattle.mcap_model.specs.Made.{top, channel_made}
+use Rattle.rec_data.specs.Parsed.{channel_fields}
+use Rattle.mcap_model.specs.Made.{top}
 use Rattle.mcap_model.proofs.Meets.{channel_meets}
-use Rattle.mcap_model.proofs.Maps.{shows_once, same_refl}
+use Rattle.mcap_model.proofs.Maps.{shows_once}
 use Rattle.mcap_model.proofs.Agreeing.{channel_agrees, channel_new_agrees, channel_homeless, channel_apart, channel_again, channel_new}
 use Rattle.mcap_model.proofs.tables.Tables.take_channel.Goals as goal
+use Rattle.mcap_model.proofs.Copies.{channel_refl}
 
 pub returns-in-Err : goal.returns-in-Err
-returns-in-Err c = λ records was. inl (refl, λ v6. let s = v6.channel refl in c.in-Err.ensures.none s.0 s.1.schema s.1.topic s.1.encoding s.1.metadata s.2.layout)
+returns-in-Err c = λ records was. inl (refl, λ v6. let s = v6.channel refl in c.in-Err.ensures.none s.0 s.1 s.2.layout)
 
 pub returns-then-not-has_schema : goal.returns-then-not-has_schema
 returns-then-not-has_schema c = λ records was.
     let s = c.in-Ok.channel in
     let t = top 4 c.args.content.now in
-    let f = channel_made s.schema_id s.topic.now s.message_encoding.now s.metadata in
+    let f = channel_fields s in
     let is : IsChannel t s.id f = record { kind = refl; layout = c.in-Ok.ensures.shown } in
     inr (refl, channel_meets t s.id f is, channel_homeless records c.args.self.now t s.id f was is (λ known. both_ways c.has_schema.result c.if-not-has_schema.true (c.has_schema.ensures.1 known)))
 
@@ -25,13 +27,13 @@ pub returns-then-eq : goal.returns-then-eq
 returns-then-eq c = λ records was.
     let s = c.in-Ok.channel in
     let t = top 4 c.args.content.now in
-    let f = channel_made s.schema_id s.topic.now s.message_encoding.now s.metadata in
+    let f = channel_fields s in
     let is : IsChannel t s.id f = record { kind = refl; layout = c.in-Ok.ensures.shown } in
     let known = c.has_schema.ensures.0 c.if-not-has_schema.false in
     let found = c.in-Some.ensures in
     let d = found.1 in
     let same = λ (i : ℕ) (h : ChannelFields) (shown : IsChannel (top 4 d.content) i h).
-    subst (SameChannel h) (shows_once t i s.id h f (subst (λ (l : List ℕ). IsChannel (top 4 l) i h) (found.4 ∙ equal_contents) shown) is).1 (same_refl h) in
+    subst (SameChannel h) (shows_once t i s.id h f (subst (λ (l : List ℕ). IsChannel (top 4 l) i h) (found.4 ∙ equal_contents) shown) is).1 (channel_refl h) in
     (channel_meets t s.id f is, channel_agrees records c.args.self.now t s.id f found.0 d was found.2 found.3 is known same, channel_again records c.args.self.now t s.id f found.0 d was found.2 found.3 is same)
   where
     equal_contents : c.in-Some.first.now ≡ c.args.content.now
@@ -41,7 +43,7 @@ pub returns-in-Ok-true : goal.returns-in-Ok-true
 returns-in-Ok-true c = λ records was.
     let s = c.in-Ok.channel in
     let t = top 4 c.args.content.now in
-    let f = channel_made s.schema_id s.topic.now s.message_encoding.now s.metadata in
+    let f = channel_fields s in
     let is : IsChannel t s.id f = record { kind = refl; layout = c.in-Ok.ensures.shown } in
     let known = c.has_schema.ensures.0 c.if-not-has_schema.false in
     let found = c.in-Some.ensures in
@@ -54,7 +56,7 @@ pub returns-in-Ok-false : goal.returns-in-Ok-false
 returns-in-Ok-false c = λ records was.
     let s = c.in-Ok.channel in
     let t = top 4 c.args.content.now in
-    let f = channel_made s.schema_id s.topic.now s.message_encoding.now s.metadata in
+    let f = channel_fields s in
     let is : IsChannel t s.id f = record { kind = refl; layout = c.in-Ok.ensures.shown } in
     let found = c.in-Some.ensures in
     let d = found.1 in
@@ -66,7 +68,7 @@ pub returns-in-Ok-add : goal.returns-in-Ok-add
 returns-in-Ok-add c = λ records was.
     let s = c.in-Ok.channel in
     let t = top 4 c.args.content.now in
-    let f = channel_made s.schema_id s.topic.now s.message_encoding.now s.metadata in
+    let f = channel_fields s in
     let is : IsChannel t s.id f = record { kind = refl; layout = c.in-Ok.ensures.shown } in
     let known = c.has_schema.ensures.0 c.if-not-has_schema.false in
     let d : Declared = record { id = s.id; content = c.args.content.now } in

@@ -4,14 +4,15 @@ use Rattle.std.proofs.lemmas.Slice.Eq.{bytes_eq-Decides}
 use Rattle.mcap_model.specs.Fields.{SchemaFields, IsSchema}
 use Rattle.mcap_model.specs.declared.table.Declared.{Declared}
 use Rattle.mcap_model.specs.declared.tables.Tables.{Tables}
-use Rattle.mcap_model.specs.Made.{top, schema_made}
+use Rattle.rec_data.specs.Parsed.{schema_fields}
+use Rattle.mcap_model.specs.Made.{top}
 use Rattle.mcap_model.proofs.Meets.{schema_meets}
 use Rattle.mcap_model.proofs.Maps.{schema_once, schema_id}
 use Rattle.mcap_model.proofs.Agreeing.{schema_agrees, schema_new_agrees, schema_apart, schema_again, schema_new}
 use Rattle.mcap_model.proofs.tables.Tables.take_schema.Goals as goal
 
 pub returns-in-Err : goal.returns-in-Err
-returns-in-Err c = λ records was. inl (refl, λ v6. let s = v6.schema refl in c.in-Err.ensures.none s.0 s.1.name s.1.encoding s.1.payload s.2.layout)
+returns-in-Err c = λ records was. inl (refl, λ v6. let s = v6.schema refl in c.in-Err.ensures.none s.0 s.1 s.2.layout)
 
 pub returns-then-schema-eq0 : goal.returns-then-schema-eq0
 returns-then-schema-eq0 c = λ records was. inl (
@@ -19,14 +20,14 @@ returns-then-schema-eq0 c = λ records was. inl (
   λ v6.
       let s = v6.schema refl in
       let is = s.2 in
-      is.some (schema_id c.args.content.now s.0 c.in-Ok.schema.id s.1 c.in-Ok.schema.name.now c.in-Ok.schema.encoding.now c.in-Ok.schema.payload.now is c.in-Ok.ensures.shown ∙ c.if-schema-eq0.true),
+      is.some (schema_id c.args.content.now s.0 c.in-Ok.schema.id s.1 _ is c.in-Ok.ensures.shown ∙ c.if-schema-eq0.true),
 )
 
 pub returns-then-eq : goal.returns-then-eq
 returns-then-eq c = λ records was.
     let s = c.in-Ok.schema in
     let t = top 3 c.args.content.now in
-    let f = schema_made s.name.now s.encoding.now s.payload.now in
+    let f = schema_fields s in
     let is : IsSchema t s.id f = record { kind = refl; layout = c.in-Ok.ensures.shown; some = c.if-schema-eq0.false } in
     let found = c.in-Some.ensures in
     let d = found.1 in
@@ -41,7 +42,7 @@ pub returns-then-is_same_schema : goal.returns-then-is_same_schema
 returns-then-is_same_schema c = λ records was.
     let s = c.in-Ok.schema in
     let t = top 3 c.args.content.now in
-    let f = schema_made s.name.now s.encoding.now s.payload.now in
+    let f = schema_fields s in
     let is : IsSchema t s.id f = record { kind = refl; layout = c.in-Ok.ensures.shown; some = c.if-schema-eq0.false } in
     let found = c.in-Some.ensures in
     let d = found.1 in
@@ -53,7 +54,7 @@ pub returns-in-Some : goal.returns-in-Some
 returns-in-Some c = λ records was.
     let s = c.in-Ok.schema in
     let t = top 3 c.args.content.now in
-    let f = schema_made s.name.now s.encoding.now s.payload.now in
+    let f = schema_fields s in
     let is : IsSchema t s.id f = record { kind = refl; layout = c.in-Ok.ensures.shown; some = c.if-schema-eq0.false } in
     let found = c.in-Some.ensures in
     let d = found.1 in
@@ -65,7 +66,7 @@ pub returns-in-Ok-add : goal.returns-in-Ok-add
 returns-in-Ok-add c = λ records was.
     let s = c.in-Ok.schema in
     let t = top 3 c.args.content.now in
-    let f = schema_made s.name.now s.encoding.now s.payload.now in
+    let f = schema_fields s in
     let is : IsSchema t s.id f = record { kind = refl; layout = c.in-Ok.ensures.shown; some = c.if-schema-eq0.false } in
     let d : Declared = record { id = s.id; content = c.args.content.now } in
     let new : Tables = record { schemas = c.add.new.self; channels = c.args.self.now.channels } in
