@@ -1,2 +1,2 @@
 mod Taking
-mod Scanning
+pub mod Scanning

@@ -5,7 +5,7 @@ use Rattle.std.proofs.lemmas.Bool.{or_parts, ltb-false, eqb-true, eqb-false}
 use Rattle.std.proofs.lemmas.List.{append-nil, length-append, take-append-drop, drop_at}
 use Rattle.std.proofs.lemmas.Grind.{flat_map-append}
 use Rattle.mcap_wire.specs.Layout.{magic}
-use Rattle.mcap_io.specs.Outside.{Rose}
+use Rattle.mcap_io.specs.Outside.{SourceState, RisesOnce}
 use Rattle.mcap_model.specs.Places.{At}
 use Rattle.mcap_model.specs.Tops.{Top, Tops, top_bytes, spelled, offset_behind, opcode, declared_length, behind_first, flattened, flat}
 use Rattle.mcap_model.specs.Rules.{V1, HasDataEnd, Breaks, breaks_3}
@@ -26,10 +26,10 @@ use Rattle.mcap_model.specs.declared.tops.Judged.TheVariants as judged
 use Rattle.mcap_model.specs.Made.{top}
 use Rattle.mcap_model.specs.Declarations.{TablesOf}
 use Rattle.mcap_model.specs.Judging.{IsPlain, Keeps, JudgedAs, FirstJudged}
-use Rattle.mcap_scan.specs.Sources.{SourceState, ReadTo, unread_behind, IsCutOff}
+use Rattle.mcap_scan.specs.Sources.{ReadTo, unread_behind, IsCutOff}
 use Rattle.mcap_scan.specs.Taking.{RefusalCause, MagicRefused, RecordRefused, TakesRecord, IsTakable}
 use Rattle.mcap_scan.proofs.Taking.{unread_broken}
-use Rattle.mcap_scan.specs.Scanning.{IsReading, IsEnded, HaltsSo, RefusalStands, IsFresh, StageStands, Stands, Advanced, Given, IsGoing, Moves}
+use Rattle.mcap_scan.specs.Scanning.{IsReading, IsEnded, HaltsSo, MemoryStands, RefusalStands, IsFresh, StageStands, Stands, Advanced, Given, IsGoing, Moves}
 
 -- ---- where a reading halts
 
@@ -48,8 +48,8 @@ halts_so tables offset before now now_new tops halt was same there = record {
   leaves = λ bytes known. let r = was.read bytes known in let t = there r.0 r.1 in inr (r.0, r.2, t.1);
 }
 
-pub ended_so : (offset : ℕ) (before now : SourceState) (tops : List Top) → IsEnded offset before now tops → HaltsSo before now tops (at_end offset)
-ended_so offset before now tops was = record {
+pub ended_so : (tables : Tables) (offset : ℕ) (before now : SourceState) (tops : List Top) → IsEnded tables offset before now tops → HaltsSo before now tops (at_end offset)
+ended_so tables offset before now tops was = record {
   still = was.still;
   halts = λ bytes known.
       let r = was.read bytes known in
@@ -79,9 +79,8 @@ cut_off part tops rest offset place stands good unended there = record {
 pub record_refused : (tables : Tables) (offset : ℕ) (before now now_new : SourceState) (tops : List Top) (why : ScanRefused) → IsReading tables offset before now tops
     → RefusalCause now.faults now_new.faults why → ((rest : List ℕ) → now.left ≡ Some rest → RecordRefused rest offset now_new.left why) → RefusalStands why before now_new tops
 record_refused tables offset before now now_new tops (refusals.Fault faults) was cause refused = record {
-  later = let still = was.still in omega (arith, still, cause.0);
-  rose = subst (λ (n : ℕ). Rose n now_new.faults) was.still cause.1;
-  carried = cause.2;
+  rises = subst (λ (n : ℕ). RisesOnce n now_new.faults) was.still cause.0;
+  carried = cause.1;
   leaves = λ bytes known.
       let r = was.read bytes known in
       let f = refused r.0 r.1 in
@@ -138,9 +137,8 @@ magic_refused tables offset before now now_new tops why was cause refused =
   where
     by : (w : ScanRefused) → RefusalCause now.faults now_new.faults w → ((bytes : List ℕ) → now.left ≡ Some bytes → MagicRefused bytes now_new.left w) → RefusalStands w now now_new []
     by (refusals.Fault faults) c r = record {
-      later = c.0;
-      rose = c.1;
-      carried = c.2;
+      rises = c.0;
+      carried = c.1;
       leaves = λ bytes known.
           let f = r bytes known in
           record {
@@ -270,6 +268,7 @@ stage_of tops op content tables new offset offset_new before now now_new true is
   good = good_more tops (top op content) was.good keeps (subst (λ (n : ℕ). is_beyond reading_limits n (length content) ≡ false) was.place takable.within) was.unended;
   ended = ended_more tops (top op content) (eqb-true op 15 is);
   place = place;
+  tables_are = are;
   still = same ∙ was.still;
   read = read_more before now now_new tops op content was.read taken;
 }
@@ -284,6 +283,48 @@ stage_of tops op content tables new offset offset_new before now now_new false i
     read = read_more before now now_new tops op content was.read taken;
   };
 }
+
+-- a reader of records that keeps no refusal has their tables
+pub tables_stand : (reader : Reader) (before now : SourceState) (tops : List Top) → IsGoing reader.stage → Stands reader before now tops → TablesOf (flat tops) reader.tables
+tables_stand reader before now tops going stands = by reader.stage going stands
+  where
+    by : (s : Stage) → IsGoing s → StageStands s reader.tables reader.offset before now tops → TablesOf (flat tops) reader.tables
+    by stages.Fresh going was = subst (λ (l : List Top). TablesOf (flat l) reader.tables) (sym was.none) was.tables_are
+    by stages.Inside going was = was.reading.tables_are
+    by stages.Ended going was = was.tables_are
+    by (stages.Stopped why) going was = absurd going
+
+-- and they are good
+pub good_stand : (reader : Reader) (before now : SourceState) (tops : List Top) → IsGoing reader.stage → Stands reader before now tops → Good reading_limits tops
+good_stand reader before now tops going stands = by reader.stage going stands
+  where
+    by : (s : Stage) → IsGoing s → StageStands s reader.tables reader.offset before now tops → Good reading_limits tops
+    by stages.Fresh going was = subst (Good reading_limits) (sym was.none) none_good
+    by stages.Inside going was = was.reading.good
+    by stages.Ended going was = was.good
+    by (stages.Stopped why) going was = absurd going
+
+-- memory that lacks for another need leaves a reader's records as they are
+pub lacks_behind : (reader : Reader) (before now : SourceState) (tops : List Top) → IsGoing reader.stage → Stands reader before now tops → MemoryStands before now tops
+lacks_behind reader before now tops going stands = by reader.stage going stands
+  where
+    by : (s : Stage) → IsGoing s → StageStands s reader.tables reader.offset before now tops → MemoryStands before now tops
+    by stages.Fresh going was = record {
+      still = ap (λ (s : SourceState). s.faults) was.unread;
+      good = subst (Good reading_limits) (sym was.none) none_good;
+      leaves = λ bytes known. inl (was.none, ap (λ (s : SourceState). s.left) was.unread ∙ known);
+    }
+    by stages.Inside going was = record {
+      still = was.reading.still;
+      good = was.reading.good;
+      leaves = λ bytes known. let r = was.reading.read bytes known in inr (r.0, r.2, inl r.1);
+    }
+    by stages.Ended going was = record {
+      still = was.still;
+      good = was.good;
+      leaves = λ bytes known. let r = was.read bytes known in inr (r.0, r.2, inl r.1);
+    }
+    by (stages.Stopped why) going was = absurd going
 
 going_on : (b : Bool) → IsGoing (if b then stages.Ended else stages.Inside)
 going_on true = tt

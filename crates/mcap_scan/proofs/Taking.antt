@@ -1,19 +1,21 @@
 -- The head and the content of the record at the front of what a source has left.
-use Rattle.std.proofs.Common.{◌≡◌, ◌⊎◌, ℕ, zero, suc, ◌+◌, ◌<◌, ◌≤◌, min, Bool, true, false, eqb, if◌then◌else◌, List, [], ◌∷◌, ◌++◌, length, get_or, take, drop, Option, Some, Err, refl, sym, ap, subst, inl, inr, ◌∙◌, append_assoc, arith}
+use Rattle.std.proofs.Common.{◌≡◌, ℕ, zero, suc, ◌+◌, ◌<◌, ◌≤◌, min, Bool, true, false, eqb, if◌then◌else◌, List, [], ◌∷◌, ◌++◌, length, get_or, take, drop, Option, Some, Err, refl, sym, ap, subst, inl, inr, ◌∙◌, append_assoc, arith}
+use Rattle.std.specs.Prelude.{IsErrOf}
 use Rattle.std.proofs.lemmas.List.{take-append-drop, drop_at, drop-drop, drop-take, take-take, length-take, length-append, get_or-take}
 use Rattle.std.proofs.lemmas.Bool.{le-leb, lt-leb, eqb-true}
 use Rattle.mcap_wire.specs.Layout.{le, number, magic}
+use Rattle.mcap_wire.specs.Reading.{HeadAt, HasZeroOpcode}
 use Rattle.mcap_wire.proofs.Fields.{number_bytes, number_there}
 use Rattle.mcap_wire.proofs.Numbers.{length-le}
 use Rattle.mcap_io.specs.declared.outside.ReadRefused.{ReadRefused}
 use Rattle.mcap_io.specs.declared.outside.ReadRefused.TheVariants as reads
-use Rattle.mcap_io.specs.Outside.{StretchTaken, ReadCause}
+use Rattle.mcap_io.specs.Outside.{SourceState, StretchTaken, ReadCause}
 use Rattle.mcap_model.specs.Tops.{Top, offset_behind, opcode, declared_length, has_head, is_whole, behind_first}
 use Rattle.mcap_model.specs.Rules.{V1}
 use Rattle.mcap_model.specs.Kept.{reading_limits, is_beyond, HasOpcode, grammar, beyond, HaltsThere, short_head, zero_opcode, past_limit, cut_short}
 use Rattle.mcap_scan.specs.declared.answers.ScanRefused.{ScanRefused}
 use Rattle.mcap_scan.specs.Sources.{unread_behind}
-use Rattle.mcap_scan.specs.Taking.{DueAny, Failure, RefusalCause, MagicRefused, IsHead, TakesHead, HaltsAny, RecordRefused, TakesRecord}
+use Rattle.mcap_scan.specs.Taking.{DueAny, Failure, RefusalCause, MagicRefused, TakesHead, HaltsAny, RecordRefused, TakesRecord}
 
 -- ---- what halts any reading that comes to an offset
 
@@ -64,15 +66,15 @@ unread_broken rest at rule other = unread_other rest (opcode rest) other
 
 -- ---- heads
 
-pub head_taken : (rest bytes : List ℕ) (left : Option (List ℕ)) (op len : ℕ) → bytes ≡ take 9 rest → left ≡ Some (drop 9 rest) → IsHead bytes op len → TakesHead rest left op len
+pub head_taken : (rest bytes : List ℕ) (left : Option (List ℕ)) (op len : ℕ) → bytes ≡ take 9 rest → left ≡ Some (drop 9 rest) → HeadAt bytes 0 op len → TakesHead rest left op len
 head_taken [] bytes left op len is left_is head =
     let size : length bytes ≡ 0 = ap length is in
-    absurd (omega (arith, head.size))
+    absurd (omega (arith, head.len_there.field.ends, size))
 head_taken (r ∷ rs) bytes left op len is left_is head =
     let long : length bytes ≡ min 9 (length (r ∷ rs)) = ap length is ∙ length-take 9 (r ∷ rs) in
-    let enough : 9 ≤ length (r ∷ rs) = omega (arith, head.size) in
+    let enough : 9 ≤ length (r ∷ rs) = omega (arith, head.len_there.field.ends, long) in
     let first : get_or bytes 0 0 ≡ r = ap (λ (l : List ℕ). get_or l 0 0) is in
-    let op_is : op ≡ r = head.op_is ∙ first in
+    let op_is : op ≡ r = head.opcode ∙ first in
     let behind : drop 1 bytes ≡ take 8 rs = ap (drop 1) is in
     let length_bytes : take 8 rs ≡ le 8 len =
     sym (take-take 8 8 rs (omega arith)) ∙ ap (take 8) (sym behind) ∙ number_bytes 8 bytes 1 len 9 head.len_there in
@@ -82,34 +84,37 @@ head_taken (r ∷ rs) bytes left op len is left_is head =
       begins = le-leb 9 (length (r ∷ rs)) enough;
       op_is = sym op_is;
       len_is = value;
-      no_zero = head.no_zero;
+      no_zero = head.valid;
       after = drop 8 rs;
       split = ap (λ (b : ℕ). b ∷ rs) (sym op_is) ∙ ap (λ (l : List ℕ). op ∷ l) (sym (take-append-drop 8 rs) ∙ ap (λ (l : List ℕ). l ++ drop 8 rs) length_bytes);
       left_after = left_is;
     }
 
 -- why a head wasn't read
-pub head_refused : (rest : List ℕ) (at : ℕ) (old new : Option (List ℕ)) (got : List ℕ) (faults : ℕ) (why : ReadRefused) (end : ScanRefused) → old ≡ Some rest → StretchTaken old new 9 got (Err why) → Failure faults why end → RecordRefused rest at new end
-head_refused rest at old new got faults reads.Failed end told taken is =
+pub head_refused : (rest : List ℕ) (at : ℕ) (old new : SourceState) (got : List ℕ) (faults : ℕ) (why : ReadRefused) (end : ScanRefused) → old.left ≡ Some rest → StretchTaken old.left new.left 9 got (Err why) → (IsErrOf {T = Unit {0}} (Err why) reads.Memory → 9 ≤ 65536 → new ≡ old) → Failure faults why end → RecordRefused rest at new.left end
+head_refused rest at old new got faults reads.Failed end told taken unread is =
     let lost = taken rest told in
     let size = length-take lost.0 rest in
     let few : length (take lost.0 rest) < 9 = omega (arith, lost.1) in
-    subst (λ (e : ScanRefused). RecordRefused rest at new e) (sym is) (lost.0, lost.2, headless_there (take lost.0 rest) at (lt-leb 9 (length (take lost.0 rest)) few))
-head_refused rest at old new got faults reads.Memory end told taken is =
-    subst (λ (e : ScanRefused). RecordRefused rest at new e) (sym is) (inl (taken ∙ told))
+    subst (λ (e : ScanRefused). RecordRefused rest at new.left e) (sym is) (lost.0, lost.2, headless_there (take lost.0 rest) at (lt-leb 9 (length (take lost.0 rest)) few))
+head_refused rest at old new got faults reads.Memory end told taken unread is =
+    subst (λ (e : ScanRefused). RecordRefused rest at new.left e) (sym is) (inl (ap (λ (s : SourceState). s.left) (unread refl (omega arith)) ∙ told))
 
--- fewer than nine bytes, or opcode 0
-pub head_broken : (rest bytes : List ℕ) (at rule : ℕ) (left : Option (List ℕ)) → bytes ≡ take 9 rest → left ≡ Some (drop 9 rest) → ((rule ≡ 4) × (length bytes < 9)) ⊎ ((rule ≡ 5) × (length bytes ≡ 9) × (get_or bytes 0 0 ≡ 0)) → HaltsAny rest at (grammar at rule) × (left ≡ Some (unread_behind rest (grammar at rule)))
-head_broken rest bytes at rule left is left_is (inl short) =
+-- fewer than nine bytes
+pub head_short : (rest bytes : List ℕ) (at : ℕ) (left : Option (List ℕ)) → bytes ≡ take 9 rest → left ≡ Some (drop 9 rest) → length bytes < 9 → HaltsAny rest at (grammar at 4) × (left ≡ Some (unread_behind rest (grammar at 4)))
+head_short rest bytes at left is left_is short =
     let size : length bytes ≡ min 9 (length rest) = ap length is ∙ length-take 9 rest in
-    let few : length rest < 9 = omega (arith, size, short.1) in
-    (subst (λ (k : ℕ). HaltsAny rest at (grammar at k)) (sym short.0) (headless_there rest at (lt-leb 9 (length rest) few)), left_is ∙ ap Some (sym (unread_short rest (eqb (opcode rest) 0) few)))
-head_broken rest bytes at rule left is left_is (inr zero_op) =
+    let few : length rest < 9 = omega (arith, size, short) in
+    (headless_there rest at (lt-leb 9 (length rest) few), left_is ∙ ap Some (sym (unread_short rest (eqb (opcode rest) 0) few)))
+
+-- nine bytes of opcode 0
+pub head_zero : (rest bytes : List ℕ) (at : ℕ) (left : Option (List ℕ)) → bytes ≡ take 9 rest → left ≡ Some (drop 9 rest) → HasZeroOpcode bytes 0 → HaltsAny rest at (grammar at 5) × (left ≡ Some (unread_behind rest (grammar at 5)))
+head_zero rest bytes at left is left_is zero_op =
     let size : length bytes ≡ min 9 (length rest) = ap length is ∙ length-take 9 rest in
-    let enough : 9 ≤ length rest = omega (arith, size, zero_op.1) in
+    let enough : 9 ≤ length rest = omega (arith, size, zero_op.0) in
     let first : get_or bytes 0 0 ≡ get_or rest 0 0 = ap (λ (l : List ℕ). get_or l 0 0) is ∙ get_or-take 9 rest 0 0 (omega arith) in
-    let none : opcode rest ≡ 0 = sym first ∙ zero_op.2 in
-    (subst (λ (k : ℕ). HaltsAny rest at (grammar at k)) (sym zero_op.0) (zero_there rest at (le-leb 9 (length rest) enough) none), left_is ∙ ap Some (sym (unread_zero rest none)))
+    let none : opcode rest ≡ 0 = sym first ∙ zero_op.1 in
+    (zero_there rest at (le-leb 9 (length rest) enough) none, left_is ∙ ap Some (sym (unread_zero rest none)))
 
 -- ---- a record that is due
 
@@ -184,15 +189,21 @@ due_there rest left at op len head within tops place = record {
 }
 
 -- why a content wasn't read
+-- a first part of the content was lost
+content_lost : (rest : List ℕ) (old new : Option (List ℕ)) (op len : ℕ) (got : List ℕ) (why : ReadRefused) → TakesHead rest old op len → StretchTaken old new len got (Err why) → (n : ℕ) × (n < len) × (new ≡ Some (drop (9 + n) rest))
+content_lost rest old new op len got why head taken =
+    let lost = taken head.after head.left_after in
+    (lost.0, lost.1, lost.2 ∙ ap (λ (l : List ℕ). Some (drop lost.0 l)) (sym (behind_head rest old op len head)) ∙ ap Some (drop-drop lost.0 9 rest))
+
 pub content_refused : (rest : List ℕ) (at : ℕ) (old new : Option (List ℕ)) (op len : ℕ) (got : List ℕ) (faults : ℕ) (why : ReadRefused) (end : ScanRefused) → TakesHead rest old op len → is_beyond reading_limits at len ≡ false → StretchTaken old new len got (Err why) → Failure faults why end → RecordRefused rest at new end
 content_refused rest at old new op len got faults reads.Failed end head within taken is =
-    let lost = taken head.after head.left_after in
-    let left_is : new ≡ Some (drop (9 + lost.0) rest) =
-    lost.2 ∙ ap (λ (l : List ℕ). Some (drop lost.0 l)) (sym (behind_head rest old op len head)) ∙ ap Some (drop-drop lost.0 9 rest) in
+    let lost = content_lost rest old new op len got reads.Failed head taken in
     subst (λ (e : ScanRefused). RecordRefused rest at new e) (sym is)
-    (9 + lost.0, left_is, cut_there (take (9 + lost.0) rest) at (front_opcode rest old op len lost.0 head) (ap (is_beyond reading_limits at) (declares_there rest lost.0 len head.len_is) ∙ within) (few_behind rest lost.0 len head.len_is lost.1))
+    (9 + lost.0, lost.2, cut_there (take (9 + lost.0) rest) at (front_opcode rest old op len lost.0 head) (ap (is_beyond reading_limits at) (declares_there rest lost.0 len head.len_is) ∙ within) (few_behind rest lost.0 len head.len_is lost.1))
 content_refused rest at old new op len got faults reads.Memory end head within taken is =
-    subst (λ (e : ScanRefused). RecordRefused rest at new e) (sym is) (inr (due_there rest old at op len head within, taken ∙ head_only rest old op len head))
+    let lost = content_lost rest old new op len got reads.Memory head taken in
+    let declared = head.len_is in
+    subst (λ (e : ScanRefused). RecordRefused rest at new e) (sym is) (inr (due_there rest old at op len head within, (lost.0, omega (arith, declared, lost.1), lost.2)))
 
 -- ---- a whole record
 
@@ -208,14 +219,14 @@ record_taken rest content left left_after op len head is left_is enough few =
 
 -- ---- the magic
 
-pub magic_refused : (bytes : List ℕ) (old new : Option (List ℕ)) (got : List ℕ) (faults : ℕ) (why : ReadRefused) (end : ScanRefused) → old ≡ Some bytes → StretchTaken old new 8 got (Err why) → Failure faults why end → MagicRefused bytes new end
-magic_refused bytes old new got faults reads.Failed end told taken is =
+pub magic_refused : (bytes : List ℕ) (old new : SourceState) (got : List ℕ) (faults : ℕ) (why : ReadRefused) (end : ScanRefused) → old.left ≡ Some bytes → StretchTaken old.left new.left 8 got (Err why) → (IsErrOf {T = Unit {0}} (Err why) reads.Memory → 8 ≤ 65536 → new ≡ old) → Failure faults why end → MagicRefused bytes new.left end
+magic_refused bytes old new got faults reads.Failed end told taken unread is =
     let lost = taken bytes told in
     let size = length-take lost.0 bytes in
     let few : length (take lost.0 bytes) < 8 = omega (arith, lost.1) in
-    subst (λ (e : ScanRefused). MagicRefused bytes new e) (sym is) (lost.0, lost.2, few)
-magic_refused bytes old new got faults reads.Memory end told taken is =
-    subst (λ (e : ScanRefused). MagicRefused bytes new e) (sym is) (taken ∙ told)
+    subst (λ (e : ScanRefused). MagicRefused bytes new.left e) (sym is) (lost.0, lost.2, few)
+magic_refused bytes old new got faults reads.Memory end told taken unread is =
+    subst (λ (e : ScanRefused). MagicRefused bytes new.left e) (sym is) (ap (λ (s : SourceState). s.left) (unread refl (omega arith)) ∙ told)
 
 pub magic_lacks : (bytes got : List ℕ) → got ≡ take 8 bytes → (got ≡ magic → ⊥) → V1 bytes → ⊥
 magic_lacks bytes got is other (rest, split) = other (is ∙ ap (take 8) split)
@@ -226,5 +237,5 @@ magic_there bytes got is same = sym (take-append-drop 8 bytes) ∙ ap (λ (l : L
 -- ---- counts of faults
 
 pub failure_cause : (before now : ℕ) (why : ReadRefused) (end : ScanRefused) → ReadCause {T = Unit} before now (Err why) → Failure now why end → RefusalCause before now end
-failure_cause before now reads.Failed end cause is = subst (RefusalCause before now) (sym is) (cause.0, cause.1, refl)
+failure_cause before now reads.Failed end cause is = subst (RefusalCause before now) (sym is) (cause, refl)
 failure_cause before now reads.Memory end cause is = subst (RefusalCause before now) (sym is) cause

@@ -9,7 +9,7 @@ use Rattle.mcap_scan.specs.declared.answers.Top.{Top as Taken}
 use Rattle.mcap_scan.specs.declared.answers.Top.TheVariants as tops_given
 use Rattle.mcap_scan.specs.declared.reader.Stage.TheVariants as stages
 use Rattle.mcap_scan.specs.declared.scanner.Scanner.{Scanner}
-use Rattle.mcap_scan.specs.Sources.{SourceState}
+use Rattle.mcap_io.specs.Outside.{SourceState}
 use Rattle.mcap_scan.specs.Scanning.{Stands, Advanced, IsOver, content_of, KeptBy, offset_of}
 use denote.Ref.{Bor}
 

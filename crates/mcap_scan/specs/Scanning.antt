@@ -1,6 +1,6 @@
 -- For which records a reader stands, and what its next step adds.
 use Rattle.std.specs.Prelude.{◌≡◌, ℕ, ◌+◌, ◌-◌, ◌^◌, ◌<◌, ◌≤◌, ◌==◌, min, if◌then◌else◌, List, [], ◌∷◌, ◌++◌, Option, Some, None}
-use Rattle.mcap_io.specs.Outside.{Rose}
+use Rattle.mcap_io.specs.Outside.{SourceState, RisesOnce}
 use Rattle.mcap_model.specs.Tops.{Top, offset_behind, flat}
 use Rattle.mcap_model.specs.Rules.{HasDataEnd}
 use Rattle.mcap_model.specs.Kept.{reading_limits, Good, Halt, at_end, grammar, compressed, beyond, Halts}
@@ -16,7 +16,7 @@ use Rattle.mcap_model.specs.declared.tops.Judged.{Judged}
 use Rattle.mcap_model.specs.declared.tops.Judged.TheVariants as judged
 use Rattle.mcap_model.specs.Declarations.{TablesOf}
 use Rattle.mcap_model.specs.Made.{top}
-use Rattle.mcap_scan.specs.Sources.{SourceState, ReadTo, HaltLeaves, FaultLeaves, MemoryLeaves}
+use Rattle.mcap_scan.specs.Sources.{ReadTo, HaltLeaves, FaultLeaves, MemoryLeaves}
 use denote.Ref.{Bor}
 
 -- ---- a reading that goes on, or came to its Data End
@@ -43,10 +43,11 @@ pub record IsInside (tables : Tables) (offset : ℕ) (before now : SourceState) 
   pub reading : IsReading tables offset before now tops
 
 -- the records were given, the last a Data End, and nothing behind it was read
-pub record IsEnded (offset : ℕ) (before now : SourceState) (tops : List Top) : Type 0 where
+pub record IsEnded (tables : Tables) (offset : ℕ) (before now : SourceState) (tops : List Top) : Type 0 where
   pub good : Good reading_limits tops
   pub ended : HasDataEnd tops
   pub place : offset ≡ offset_behind tops
+  pub tables_are : TablesOf (flat tops) tables
   pub still : now.faults ≡ before.faults
   pub read : ReadTo before now tops
 
@@ -59,10 +60,9 @@ pub record HaltsSo (before now : SourceState) (tops : List Top) (halt : Halt) : 
   pub halts : (bytes : List ℕ) → before.left ≡ Some bytes → Halts reading_limits bytes tops halt
   pub leaves : (bytes : List ℕ) → before.left ≡ Some bytes → HaltLeaves bytes tops halt now.left
 
--- the source failed, and the count that is told is the one which rose
+-- the source failed, and the count that is told is the one which rose by one
 pub record FaultStands (faults : ℕ) (before now : SourceState) (tops : List Top) : Type 0 where
-  pub later : before.faults ≤ now.faults
-  pub rose : Rose before.faults now.faults
+  pub rises : RisesOnce before.faults now.faults
   pub carried : faults ≡ now.faults
   pub leaves : (bytes : List ℕ) → before.left ≡ Some bytes → FaultLeaves bytes tops now.left
 
@@ -85,7 +85,7 @@ RefusalStands refusals.Memory before now tops = MemoryStands before now tops
 abbrev pub StageStands : Stage → Tables → ℕ → SourceState → SourceState → List Top → Type 0
 StageStands stages.Fresh tables offset before now tops = IsFresh tables offset before now tops
 StageStands stages.Inside tables offset before now tops = IsInside tables offset before now tops
-StageStands stages.Ended tables offset before now tops = IsEnded offset before now tops
+StageStands stages.Ended tables offset before now tops = IsEnded tables offset before now tops
 StageStands (stages.Stopped why) tables offset before now tops = RefusalStands why before now tops
 
 -- A reader stands for these records of a source, as this one was when the reader was new and as it is by now.
@@ -95,6 +95,10 @@ Stands reader before now tops = StageStands reader.stage reader.tables reader.of
 -- the content of the record that was given last
 abbrev pub content_of : Reader → List ℕ
 content_of reader = reader.room.items
+
+-- the declarations so far
+abbrev pub tables_of : Reader → Tables
+tables_of reader = reader.tables
 
 -- where the next record stands
 abbrev pub offset_of : Reader → ℕ
@@ -121,7 +125,7 @@ pub record Gives (reader : Reader) (before now : SourceState) (tops : List Top) 
 
 -- the Data End was given before
 pub record Finds (reader : Reader) (before now : SourceState) (tops : List Top) (offset : ℕ) : Type 0 where
-  pub is : IsEnded offset before now tops
+  pub is : IsEnded reader.tables offset before now tops
   pub stage : reader.stage ≡ stages.Ended
   pub stands : Stands reader before now tops
   pub halts : HaltsSo before now tops (at_end offset)
@@ -155,6 +159,11 @@ Given at len offset stage op judged.Memory step = (step ≡ steps.Refused) × (s
 abbrev pub KeptBy : Reader → Option (Bor ScanRefused) → Type 0
 KeptBy reader (Some why) = reader.stage ≡ stages.Stopped why.now
 KeptBy reader None = (why : ScanRefused) → reader.stage ≡ stages.Stopped why → ⊥
+
+-- that refusal, handed out
+abbrev pub HandsOut : Reader → Option ScanRefused → Type 0
+HandsOut reader (Some why) = reader.stage ≡ stages.Stopped why
+HandsOut reader None = (why : ScanRefused) → reader.stage ≡ stages.Stopped why → ⊥
 
 -- the Data End was given, or the reading was refused
 abbrev pub IsDone : Reader → Type 0

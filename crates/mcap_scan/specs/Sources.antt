@@ -1,16 +1,9 @@
--- What is seen of a source, and how much of it a reading left unread.
-use Rattle.std.specs.Prelude.{◌≡◌, ◌⊎◌, ℕ, ◌<◌, List, [], ◌++◌, length, drop, true, ◌==◌, if◌then◌else◌, Option, Some}
-use Rattle.mcap_model.specs.Tops.{Top, Tops, offset_behind, opcode, is_whole, behind_first}
+-- How much of a source a reading left unread.
+use Rattle.std.specs.Prelude.{◌≡◌, ◌⊎◌, ℕ, ◌+◌, ◌<◌, List, [], ◌++◌, length, drop, true, ◌==◌, if◌then◌else◌, Option, Some}
+use Rattle.mcap_io.specs.Outside.{SourceState}
+use Rattle.mcap_model.specs.Tops.{Top, Tops, offset_behind, opcode, declared_length, is_whole, behind_first}
 use Rattle.mcap_model.specs.Rules.{V1}
 use Rattle.mcap_model.specs.Kept.{reading_limits, Kept, Halt, at_end, grammar, compressed, beyond, IsDue, HaltsAt}
-
--- the bytes that a source has left, where it tells them, and its count of faults
-pub record SourceState : Type 0 where
-  pub left : Option (List ℕ)
-  pub faults : ℕ
-
-abbrev pub state : {S : Type 0} → (S → Option (List ℕ)) → (S → ℕ) → S → SourceState
-state left faults source = record { left = left source; faults = faults source }
 
 -- where the bytes before are told, these records were taken from their front, and the rest is left
 abbrev pub ReadTo : SourceState → SourceState → List Top → Type 0
@@ -49,10 +42,14 @@ pub record FaultLeaves (bytes : List ℕ) (tops : List Top) (left : Option (List
 
 -- ---- where memory lacks
 
--- Nothing of the rest was read; or the head alone of a record that is due, or all of it.
+-- a record was read up to within its content: its head, and fewer bytes than the head declares
+abbrev pub ReadWithin : List ℕ → Option (List ℕ) → Type 0
+ReadWithin rest left = (n : ℕ) × (n < declared_length rest) × (left ≡ Some (drop (9 + n) rest))
+
+-- Nothing of the rest was read; or of a record that is due the head and a first part of the content, or all of it.
 abbrev pub LacksAt : List Top → List ℕ → Option (List ℕ) → Type 0
 LacksAt tops rest left = (left ≡ Some rest)
-    ⊎ (IsDue reading_limits tops rest × ((left ≡ Some (drop 9 rest)) ⊎ ((is_whole rest ≡ true) × (left ≡ Some (behind_first rest)))))
+    ⊎ (IsDue reading_limits tops rest × (ReadWithin rest left ⊎ ((is_whole rest ≡ true) × (left ≡ Some (behind_first rest)))))
 
 -- what is left where memory lacked behind these records, or already for the magic
 abbrev pub MemoryLeaves : List ℕ → List Top → Option (List ℕ) → Type 0

@@ -1,17 +1,16 @@
 -- What taking the magic and a record from a source comes to.
-use Rattle.std.specs.Prelude.{◌≡◌, ◌⊎◌, ℕ, ◌<◌, ◌≤◌, slice_index, List, ◌∷◌, ◌++◌, length, take, drop, true, false, Option, Some, Result, Ok, Err}
+use Rattle.std.specs.Prelude.{◌≡◌, ◌⊎◌, ℕ, ◌<◌, List, ◌∷◌, ◌++◌, length, take, drop, true, false, Option, Some, Result, Ok, Err}
 use Rattle.mcap_wire.specs.Layout.{le, framed, magic}
-use Rattle.mcap_wire.specs.Reading.{NumberAt}
+use Rattle.mcap_wire.specs.declared.faults.Head.{Head}
 use Rattle.mcap_io.specs.declared.outside.ReadRefused.{ReadRefused}
 use Rattle.mcap_io.specs.declared.outside.ReadRefused.TheVariants as reads
-use Rattle.mcap_io.specs.Outside.{Rose}
+use Rattle.mcap_io.specs.Outside.{RisesOnce}
 use Rattle.mcap_model.specs.Tops.{Top, offset_behind, has_head, opcode, declared_length}
 use Rattle.mcap_model.specs.Rules.{V1}
 use Rattle.mcap_model.specs.Kept.{reading_limits, is_beyond, Halt, grammar, beyond, IsDue, HaltsThere}
-use Rattle.mcap_scan.specs.Sources.{unread_behind}
+use Rattle.mcap_scan.specs.Sources.{unread_behind, ReadWithin}
 use Rattle.mcap_scan.specs.declared.answers.ScanRefused.{ScanRefused}
 use Rattle.mcap_scan.specs.declared.answers.ScanRefused.TheVariants as refusals
-use Rattle.mcap_scan.specs.declared.heads.Head.{Head}
 
 -- ---- why a source couldn't be read
 
@@ -20,9 +19,9 @@ abbrev pub Failure : ℕ → ReadRefused → ScanRefused → Type 0
 Failure faults reads.Failed why = why ≡ refusals.Fault faults
 Failure faults reads.Memory why = why ≡ refusals.Memory
 
--- the count of faults stands still but at a fault, which carries it and comes only where it rose
+-- the count of faults stands still but at a fault, which carries it, and where it rose by one
 abbrev pub RefusalCause : ℕ → ℕ → ScanRefused → Type 0
-RefusalCause before now (refusals.Fault faults) = (before ≤ now) × Rose before now × (faults ≡ now)
+RefusalCause before now (refusals.Fault faults) = RisesOnce before now × (faults ≡ now)
 RefusalCause before now why = now ≡ before
 
 abbrev pub TakingCause : {T : Type 0} → ℕ → ℕ → Result T ScanRefused → Type 0
@@ -43,18 +42,6 @@ MagicTaken bytes left (Ok it) = (rest : List ℕ) × (left ≡ Some rest) × (by
 MagicTaken bytes left (Err why) = MagicRefused bytes left why
 
 -- ---- heads
-
--- nine bytes are the head of a record: its opcode, and the length of its content
-pub record IsHead (bytes : List ℕ) (op len : ℕ) : Type 0 where
-  pub size : length bytes ≡ 9
-  pub op_is : op ≡ slice_index bytes 0
-  pub no_zero : op ≡ 0 → ⊥
-  pub len_there : NumberAt 8 bytes 1 len 9
-
--- the bytes are a head, or too few, or of opcode 0
-abbrev pub HeadRead : List ℕ → Result Head ℕ → Type 0
-HeadRead bytes (Ok head) = IsHead bytes head.op head.len
-HeadRead bytes (Err rule) = ((rule ≡ 4) × (length bytes < 9)) ⊎ ((rule ≡ 5) × (length bytes ≡ 9) × (slice_index bytes 0 ≡ 0))
 
 -- a head stands at the front, and the bytes behind it are left
 pub record TakesHead (rest : List ℕ) (left : Option (List ℕ)) (op len : ℕ) : Type 0 where
@@ -82,7 +69,7 @@ RecordRefused rest at left (refusals.Fault faults) = (n : ℕ) × (left ≡ Some
 RecordRefused rest at left (refusals.Grammar offset rule) = HaltsAny rest at (grammar offset rule) × (left ≡ Some (unread_behind rest (grammar offset rule)))
 RecordRefused rest at left (refusals.Compressed offset name) = ⊥
 RecordRefused rest at left (refusals.Limit offset) = HaltsAny rest at (beyond offset) × (left ≡ Some (unread_behind rest (beyond offset)))
-RecordRefused rest at left refusals.Memory = (left ≡ Some rest) ⊎ (DueAny rest at × (left ≡ Some (drop 9 rest)))
+RecordRefused rest at left refusals.Memory = (left ≡ Some rest) ⊎ (DueAny rest at × ReadWithin rest left)
 
 abbrev pub HeadTaken : List ℕ → ℕ → Option (List ℕ) → Result Head ScanRefused → Type 0
 HeadTaken rest at left (Ok head) = TakesHead rest left head.op head.len

@@ -34,8 +34,8 @@ pub struct Reader {
 impl Reader {
     ghost use Rattle.std.specs.Prelude.{◌≡◌, ◌+◌, ◌==◌, if◌then◌else◌, min, ◌^◌, ◌-◌, ℕ, List, [], Option, Some, length, IfOk};
     ghost use Rattle.mcap_model.specs.Tops.{Top};
-    ghost use Rattle.mcap_scan.specs.Sources.{SourceState, state};
-    ghost use Rattle.mcap_scan.specs.Scanning.{content_of, offset_of, KeptBy, Moves, Stands, IsFresh, IsInside, Advanced, Given, IsDone, IsLast};
+    ghost use Rattle.mcap_io.specs.Outside.{SourceState};
+    ghost use Rattle.mcap_scan.specs.Scanning.{content_of, tables_of, offset_of, KeptBy, HandsOut, Moves, Stands, IsFresh, IsInside, Advanced, Given, IsDone, IsLast};
 
     /// A reader of which nothing was asked yet.
     pub fn new(alloc: Global) -> Result<Reader, Memory>
@@ -64,11 +64,36 @@ impl Reader {
         self.room.as_slice()
     }
 
+    /// The declarations of the records that were given, those in chunks too.
+    pub fn tables(&self) -> &Tables
+        ensures { result.now ≡ tables_of self.now }
+    {
+        &self.tables
+    }
+
     /// Why the reading was refused, where it was.
     pub fn refusal(&self) -> Option<&ScanRefused>
         ensures { KeptBy self.now result }
     {
         match &self.stage {
+            Stage::Stopped { why } => return Some(why),
+            _ => return None,
+        }
+    }
+
+    /// Why the reading was refused, where it was, handed out at its end.
+    pub fn into_refusal(self) -> Option<ScanRefused>
+        ensures { HandsOut self result }
+    {
+        let Reader {
+            alloc: _,
+            head: _,
+            room: _,
+            tables: _,
+            offset: _,
+            stage,
+        } = self;
+        match stage {
             Stage::Stopped { why } => return Some(why),
             _ => return None,
         }
@@ -115,8 +140,9 @@ impl Reader {
     // Reads the magic and the first record.
     fn begin<S: Source>(&mut self, source: &mut S) -> Step
         ensures moves { Moves self.old.offset self.new.offset result }
-        ensures steps { (before : SourceState) (tops : List Top) → IsFresh self.old.tables self.old.offset before (state S.left S.faults source.old) tops
-            → Advanced self.new before (state S.left S.faults source.new) tops result }
+        ensures steps { (before : SourceState) (tops : List Top) → IsFresh self.old.tables self.old.offset before (S.state source.old) tops
+            → Advanced self.new before (S.state source.new) tops result }
+        ensures stays { S.stays source.old source.new }
     {
         match take_magic(source, &mut self.head) {
             Ok(()) => {}
@@ -134,8 +160,9 @@ impl Reader {
     // Reads the next record behind the Header.
     fn go_on<S: Source>(&mut self, source: &mut S) -> Step
         ensures moves { Moves self.old.offset self.new.offset result }
-        ensures steps { (before : SourceState) (tops : List Top) → IsInside self.old.tables self.old.offset before (state S.left S.faults source.old) tops
-            → Advanced self.new before (state S.left S.faults source.new) tops result }
+        ensures steps { (before : SourceState) (tops : List Top) → IsInside self.old.tables self.old.offset before (S.state source.old) tops
+            → Advanced self.new before (S.state source.new) tops result }
+        ensures stays { S.stays source.old source.new }
     {
         match take_record(source, &mut self.head, &mut self.room, self.offset) {
             Ok(op) => {
@@ -149,10 +176,11 @@ impl Reader {
     /// Reads the next record of the source (MCAP specification: Records); the first call reads the magic too. Nothing
     /// behind the Data End is read, and nothing more after a refusal: each later call gives the same answer.
     pub fn advance<S: Source>(&mut self, source: &mut S) -> Step
-        ensures steps { (before : SourceState) (tops : List Top) → Stands self.old before (state S.left S.faults source.old) tops
-            → Advanced self.new before (state S.left S.faults source.new) tops result }
+        ensures steps { (before : SourceState) (tops : List Top) → Stands self.old before (S.state source.old) tops
+            → Advanced self.new before (S.state source.new) tops result }
         ensures moves { Moves (offset_of self.old) (offset_of self.new) result }
         ensures over { IsDone self.old → (self.new ≡ self.old) × (source.new ≡ source.old) × IsLast result }
+        ensures stays { S.stays source.old source.new }
     {
         match &self.stage {
             Stage::Fresh => return self.begin(source),

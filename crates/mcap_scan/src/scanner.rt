@@ -2,7 +2,7 @@
 ghost use Rattle.std.specs.Prelude.{◌≡◌, ◌⊎◌, ℕ, List, [], Option, IfOk, IfErr};
 ghost use Rattle.mcap_model.specs.Tops.{Top as Record};
 ghost use Rattle.mcap_scan.specs.Scanning.{IsLast, Moves};
-ghost use Rattle.mcap_scan.specs.Sources.{SourceState, state};
+ghost use Rattle.mcap_io.specs.Outside.{SourceState};
 ghost use Rattle.mcap_scan.specs.Scanners.{Scans, Steps, Copies, step_of, IsScanned, KeptIn, source_of, scanned_content, scanned_offset};
 
 use crate::answers::{ScanRefused, Step, Top};
@@ -48,7 +48,7 @@ fn again(alloc: Global, why: &ScanRefused) -> ScanRefused
 impl<S: Source> Scanner<S> {
     /// A scanner of that source, of which nothing is read yet. Where memory lacks, the source is given back.
     pub fn new(alloc: Global, source: S) -> Result<Scanner<S>, (S, Memory)>
-        ensures stands { IfOk result (λ scanner. Scans (state S.left S.faults) scanner (state S.left S.faults source) []) }
+        ensures stands { IfOk result (λ scanner. Scans S.state scanner (S.state source) []) }
         ensures begins { IfOk result (λ scanner. (source_of scanner ≡ source) × (scanned_offset scanner ≡ 8)) }
         ensures unread { IfErr result (λ back. back.0 ≡ source) }
     {
@@ -67,9 +67,10 @@ impl<S: Source> Scanner<S> {
     /// Reads the next record into the scanner's own room: `content` lends it, and no memory is taken for a copy. After the
     /// Data End or a refusal nothing more is read, and each later call gives the same answer.
     pub fn advance(&mut self) -> Step
-        ensures steps { (before : SourceState) (tops : List Record) → Scans (state S.left S.faults) self.old before tops → Steps (state S.left S.faults) self.new before tops result }
+        ensures steps { (before : SourceState) (tops : List Record) → Scans S.state self.old before tops → Steps S.state self.new before tops result }
         ensures moves { Moves (scanned_offset self.old) (scanned_offset self.new) result }
         ensures over { IsScanned self.old → (self.new ≡ self.old) × IsLast result }
+        ensures stays { S.stays (source_of self.old) (source_of self.new) }
     {
         self.reader.advance(&mut self.source)
     }
@@ -91,10 +92,11 @@ impl<S: Source> Scanner<S> {
     /// Reads the next record as `advance` does, and copies its content. Where memory lacks for the copy the reading is
     /// refused for good.
     pub fn next(&mut self) -> Result<Top, ScanRefused>
-        ensures steps { (before : SourceState) (tops : List Record) → Scans (state S.left S.faults) self.old before tops
-            → Steps (state S.left S.faults) self.new before tops (step_of result) × Copies self.new result }
+        ensures steps { (before : SourceState) (tops : List Record) → Scans S.state self.old before tops
+            → Steps S.state self.new before tops (step_of result) × Copies self.new result }
         ensures moves { Moves (scanned_offset self.old) (scanned_offset self.new) (step_of result) }
         ensures over { IsScanned self.old → (self.new ≡ self.old) × IsLast (step_of result) }
+        ensures stays { S.stays (source_of self.old) (source_of self.new) }
     {
         match self.advance() {
             Step::Record { op, offset } => match Bytes::copied(self.alloc, self.content()) {

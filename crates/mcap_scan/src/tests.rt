@@ -98,9 +98,13 @@ struct Slow {
 }
 
 impl Source for Slow {
-    ghost left = { λ slow. ⟦<QuietSource as Source>⟧.left slow.source };
+    ghost state = { λ slow. ⟦<QuietSource as Source>⟧.state slow.source };
 
-    ghost faults = { λ slow. ⟦<QuietSource as Source>⟧.faults slow.source };
+    ghost stays = { λ slow later. ⟦<QuietSource as Source>⟧.stays slow.source later.source };
+
+    ghost stays_so = { λ slow. ⟦<QuietSource as Source>⟧.stays_so slow.source };
+
+    ghost stays_on = { λ s t u first second. ⟦<QuietSource as Source>⟧.stays_on s.source t.source u.source first second };
 
     fn read(&mut self, out: &mut [u8]) -> Result<usize, Failed> {
         if out.len() < 2 {

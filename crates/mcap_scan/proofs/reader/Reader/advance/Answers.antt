@@ -2,20 +2,19 @@ use Rattle.std.proofs.Common.{subst}
 use Rattle.mcap_scan.specs.declared.reader.Stage.{Stage}
 use Rattle.mcap_scan.specs.Scanning.{StageStands}
 use Rattle.mcap_scan.proofs.Scanning.{ended_so}
-use Rattle.mcap_scan.specs.Sources.{state}
 use Rattle.mcap_scan.proofs.reader.Reader.advance.Goals as goal
 
 pub returns-in-Inside-clause-steps : goal.returns-in-Inside-clause-steps
 returns-in-Inside-clause-steps g c = λ before tops stands.
     c.go_on.ensures.steps before tops
-    (subst (λ (s : Stage). StageStands s c.args.self.now.tables c.args.self.now.offset before (state g.S.Source.left g.S.Source.faults c.args.source.now) tops) c.in-Inside.is stands)
+    (subst (λ (s : Stage). StageStands s c.args.self.now.tables c.args.self.now.offset before (g.S.Source.state c.args.source.now) tops) c.in-Inside.is stands)
 
 pub returns-in-Ended-clause-steps : goal.returns-in-Ended-clause-steps
 returns-in-Ended-clause-steps g c = λ before tops stands.
-    let is = subst (λ (s : Stage). StageStands s c.args.self.now.tables c.args.self.now.offset before (state g.S.Source.left g.S.Source.faults c.args.source.now) tops) c.in-Ended.is stands in
+    let is = subst (λ (s : Stage). StageStands s c.args.self.now.tables c.args.self.now.offset before (g.S.Source.state c.args.source.now) tops) c.in-Ended.is stands in
     record {
       is = is;
       stage = c.in-Ended.is;
       stands = stands;
-      halts = ended_so c.args.self.now.offset before (state g.S.Source.left g.S.Source.faults c.args.source.now) tops is;
+      halts = ended_so c.args.self.now.tables c.args.self.now.offset before (g.S.Source.state c.args.source.now) tops is;
     }

@@ -6,13 +6,12 @@ use Rattle.mcap_model.specs.Made.{top}
 use Rattle.mcap_model.specs.Declarations.{TablesOf}
 use Rattle.mcap_model.specs.Judging.{JudgedAs}
 use Rattle.mcap_scan.proofs.Scanning.{moved, record_refused, stepped, refused_step, some_tops}
-use Rattle.mcap_scan.specs.Sources.{state}
 use Rattle.mcap_scan.proofs.reader.Reader.go_on.Goals as goal
 
 pub returns-in-Err-clause-steps : goal.returns-in-Err-clause-steps
 returns-in-Err-clause-steps g c = λ before tops was.
-    refused_step c.stop.new.self before (state g.S.Source.left g.S.Source.faults c.take_record.new.source) tops c.in-Err.why c.stop.result c.stop.ensures.step c.stop.ensures.stage
-    (record_refused c.args.self.now.tables c.args.self.now.offset before (state g.S.Source.left g.S.Source.faults c.args.source.now) (state g.S.Source.left g.S.Source.faults c.take_record.new.source) tops c.in-Err.why was.reading c.in-Err.ensures.cause c.in-Err.ensures.taken)
+    refused_step c.stop.new.self before (g.S.Source.state c.take_record.new.source) tops c.in-Err.why c.stop.result c.stop.ensures.step c.stop.ensures.stage
+    (record_refused c.args.self.now.tables c.args.self.now.offset before (g.S.Source.state c.args.source.now) (g.S.Source.state c.take_record.new.source) tops c.in-Err.why was.reading c.in-Err.ensures.cause c.in-Err.ensures.taken)
 
 pub returns-in-Ok-clause-steps : goal.returns-in-Ok-clause-steps
 returns-in-Ok-clause-steps g c = λ before tops was.
@@ -23,7 +22,7 @@ returns-in-Ok-clause-steps g c = λ before tops was.
     let there : JudgedAs tops (top c.in-Ok.op content) c.give.new.self.tables c.judge-judged.result =
     subst (λ (l : List ℕ). JudgedAs tops (top c.in-Ok.op l) c.give.new.self.tables c.judge-judged.result) c.deref.ensures.value
     (subst (λ (t : Tables). JudgedAs tops (top c.in-Ok.op c.deref.result.now) t c.judge-judged.result) (sym c.give.ensures.tables) judge) in
-    stepped c.give.new.self c.args.self.now.tables c.args.self.now.offset before (state g.S.Source.left g.S.Source.faults c.args.source.now) (state g.S.Source.left g.S.Source.faults c.take_record.new.source) tops c.in-Ok.op content c.judge-judged.result c.give.result
+    stepped c.give.new.self c.args.self.now.tables c.args.self.now.offset before (g.S.Source.state c.args.source.now) (g.S.Source.state c.take_record.new.source) tops c.in-Ok.op content c.judge-judged.result c.give.result
     was.reading c.in-Ok.ensures.cause c.in-Ok.ensures.taken c.in-Ok.ensures.takable there c.give.ensures.given (ap (λ v. v.items) c.give.ensures.room)
 
 pub returns-in-Ok-clause-moves : goal.returns-in-Ok-clause-moves

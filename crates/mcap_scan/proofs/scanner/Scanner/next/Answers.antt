@@ -3,7 +3,6 @@ use Rattle.mcap_scan.specs.declared.answers.ScanRefused.TheVariants as refusals
 use Rattle.mcap_model.specs.Made.{top}
 use Rattle.mcap_scan.specs.Scanning.{content_of}
 use Rattle.mcap_scan.proofs.Scanning.{given_back}
-use Rattle.mcap_scan.specs.Sources.{state}
 use Rattle.mcap_scan.proofs.scanner.Scanner.next.Goals as goal
 
 pub returns-in-Err-clause-steps : goal.returns-in-Err-clause-steps
@@ -12,7 +11,7 @@ returns-in-Err-clause-steps g c = λ before tops was.
       record {
         why = refusals.Memory;
         stage = c.stop.ensures.stage;
-        stands = given_back c.advance.new.self.reader before (state g.S.Source.left g.S.Source.faults c.advance.new.self.source) tops (top c.in-Record.op (content_of c.advance.new.self.reader)) gives.going gives.stands;
+        stands = given_back c.advance.new.self.reader before (g.S.Source.state c.advance.new.self.source) tops (top c.in-Record.op (content_of c.advance.new.self.reader)) gives.going gives.stands;
       },
       (refusals.Memory, c.stop.ensures.stage, inr refl),
     )
