@@ -1,0 +1,4 @@
+mod Asked
+mod Chosen
+mod Played
+mod Quoted

@@ -1,0 +1,39 @@
+-- What a replay of a source comes to.
+use Rattle.std.specs.Prelude.{ℕ, List, Option, Result, Ok, Err}
+use Rattle.mcap_model.specs.declared.replay.Range.{Range}
+use Rattle.mcap_model.specs.declared.replay.Replayed.{Replayed}
+use Rattle.mcap_model.specs.declared.tables.Tables.{Tables}
+use Rattle.mcap_model.specs.Tops.{Top, flat}
+use Rattle.mcap_model.specs.Kept.{reading_limits, Good, at_end}
+use Rattle.mcap_model.specs.Scan.{Seen, Scan, Replay}
+use Rattle.mcap_model.specs.Declarations.{TablesOf}
+use Rattle.mcap_model.specs.Showing.{Shows}
+use Rattle.mcap_scan.specs.declared.answers.ScanRefused.{ScanRefused}
+use Rattle.mcap_io.specs.Outside.{SourceState}
+use Rattle.mcap_scan.specs.Scanning.{HaltsSo, RefusalStands}
+
+-- these are the messages of records that are good, and the tables of those records
+pub record IsTold (tops : List Top) (tables : Tables) (messages : List Seen) : Type 0 where
+  pub good : Good reading_limits tops
+  pub tables_are : TablesOf (flat tops) tables
+  pub scan : Scan tops messages
+
+-- of these messages those that are asked for are shown
+pub record IsPlayed (range : Range) (topic : Option (List ℕ)) (messages : List Seen) (played : Replayed) : Type 0 where
+  pub shown : List Seen
+  pub replay : Replay range topic messages shown
+  pub shows : Shows played shown
+
+-- The source was read to its Data End, and its messages are played. Where it told its bytes, this is their reading.
+pub record PlaysAll (range : Range) (topic : Option (List ℕ)) (before now : SourceState) (played : Replayed) : Type 0 where
+  pub tops : List Top
+  pub end : ℕ
+  pub messages : List Seen
+  pub halts : HaltsSo before now tops (at_end end)
+  pub scan : Scan tops messages
+  pub played_are : IsPlayed range topic messages played
+
+-- or the reading was refused behind some records, for that reason
+abbrev pub Plays : Range → Option (List ℕ) → SourceState → SourceState → Result Replayed ScanRefused → Type 0
+Plays range topic before now (Ok played) = PlaysAll range topic before now played
+Plays range topic before now (Err why) = (tops : List Top) × RefusalStands why before now tops
