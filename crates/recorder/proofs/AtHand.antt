@@ -1,14 +1,15 @@
 -- A message that is taken: it comes to hand, its channel is declared, and it is recorded or refused.
-use Rattle.std.proofs.Common.{◌≡◌, ℕ, ◌+◌, ◌*◌, ◌^◌, ◌≤◌, List, [], ◌∷◌, ◌++◌, length, Option, None, refl, sym, ap, subst, inl, ◌∙◌, append_assoc, arith}
+use Rattle.std.proofs.Common.{◌≡◌, ℕ, ◌≤◌, List, [], ◌∷◌, ◌++◌, length, None, refl, sym, ap, subst, inl, ◌∙◌, append_assoc, arith}
 use Rattle.std.proofs.lemmas.List.{append-nil, length-append}
 use Rattle.rec_data.specs.declared.owned.Rec.{Rec}
 use Rattle.recorder.specs.declared.report.FeedEnd.{FeedEnd}
 use Rattle.recorder.specs.declared.report.FeedEnd.TheVariants as feed_ends
 use Rattle.recorder.specs.declared.channels.SourceChannel.{SourceChannel}
 use Rattle.recorder.specs.declared.lane.Lane.{Lane}
-use Rattle.recorder.specs.declared.lane.Put.{Put}
-use Rattle.recorder.specs.declared.lane.Put.TheVariants as puts
+use Rattle.recorder.specs.declared.lane.Step.{Step}
+use Rattle.recorder.specs.declared.lane.Step.TheVariants as steps
 use Rattle.recorder.specs.declared.tape.Tape.{Tape}
+use Rattle.mcap_io.specs.Outside.{LiveState}
 use Rattle.mcap_model.specs.Places.{At}
 use Rattle.mcap_model.specs.Tops.{Top}
 use Rattle.mcap_model.specs.Fields.{MessageFields, IsMessage}
@@ -16,7 +17,7 @@ use Rattle.mcap_model.specs.Rules.{HasChannel}
 use Rattle.recorder.specs.Feed.{MessageFits}
 use Rattle.recorder.specs.Assembled.{messages, IsOn}
 use Rattle.recorder.specs.Channels.{ChannelsOf, FindsId}
-use Rattle.recorder.specs.Lane.{LaneStands, LaneOver, TapeStands, TapeFits, IsOver, top_of, MessageTaken}
+use Rattle.recorder.specs.Lane.{writing, record_limit, LaneStands, LaneOver, TapeStands, TapeFits, IsOver, top_of, MessageTaken}
 use Rattle.recorder.specs.Handling.{Handles, AtHand, RefusedFor, PublishedAs}
 use Rattle.mcap_model.proofs.Maps.{message_once}
 use Rattle.mcap_model.proofs.Places.{at_last}
@@ -76,55 +77,55 @@ may_not tops channels content channel m of is none may =
 with_more : (history more : List Rec) (P : List Rec → Type 0) (rest : List Rec) → P ((history ++ more) ++ rest) → P (history ++ (more ++ rest))
 with_more history more P rest p = subst P (append_assoc history more rest) p
 
-over_there : (lane : Lane) (tape : Tape) (tops : List Top) (history : List Rec) (held held_now : Option (List ℕ)) (before now : ℕ) (end : FeedEnd)
-    → LaneOver lane tops history tape.stop end → TapeStands tape held held_now before now history → TapeFits tape lane.records → lane.records ≤ 3 * 2 ^ 36 + 3 → IsOver lane tape tops held held_now before now end
-over_there lane tape tops history held held_now before now end over stands fits few =
+over_there : (lane : Lane) (tape : Tape) (tops : List Top) (history : List Rec) (before now : LiveState) (end : FeedEnd)
+    → LaneOver lane tops history tape.stop end → TapeStands (writing tape before now) history → TapeFits tape lane.records → lane.records ≤ record_limit → IsOver lane (writing tape before now) tops end
+over_there lane tape tops history before now end over stands fits few =
     record { history = history; over = over; tape_stands = stands; size = omega (arith, fits, few) }
 
 -- its channel had or was given an id
-pub published : (lane : Lane) (tape : Tape) (tops : List Top) (history more : List Rec) (content : List ℕ) (held held_now : Option (List ℕ)) (before now : ℕ) (put : Put)
-    → MessageFits tops (top_of 5 content) → PublishedAs lane tape (hand_of tops content) (history ++ more) held held_now before now put → lane.records ≤ 3 * 2 ^ 36 + 3
-    → MessageTaken lane tape tops content held held_now before now history put
-published lane tape tops history more content held held_now before now puts.Done may p few = (
+pub published : (lane : Lane) (tape : Tape) (tops : List Top) (history more : List Rec) (content : List ℕ) (before now : LiveState) (step : Step)
+    → MessageFits tops (top_of 5 content) → PublishedAs lane (writing tape before now) (hand_of tops content) (history ++ more) step → lane.records ≤ record_limit
+    → MessageTaken lane (writing tape before now) tops content history step
+published lane tape tops history more content before now steps.Done may p few = (
   may,
   (
     more ++ p.0,
     record {
       lane_stands = with_more history more (λ (l : List Rec). LaneStands lane (hand_of tops content) l) p.0 p.1;
-      tape_stands = with_more history more (λ (l : List Rec). TapeStands tape held held_now before now l) p.0 p.2;
+      tape_stands = with_more history more (λ (l : List Rec). TapeStands (writing tape before now) l) p.0 p.2;
       fits = p.3;
     },
   ),
 )
-published lane tape tops history more content held held_now before now puts.Bad may p few = absurd p
-published lane tape tops history more content held held_now before now (puts.End end) may p few =
-    (may, p.0, over_there lane tape (hand_of tops content) (history ++ more) held held_now before now end p.1 p.2 p.3 few)
+published lane tape tops history more content before now steps.Bad may p few = absurd p
+published lane tape tops history more content before now (steps.End end) may p few =
+    (may, p.0, over_there lane tape (hand_of tops content) (history ++ more) before now end p.1 p.2 p.3 few)
 
 -- it was refused at its declaration
-pub refused : (lane : Lane) (tape : Tape) (tops : List Top) (history : List Rec) (content : List ℕ) (held held_now : Option (List ℕ)) (before now : ℕ) (put : Put)
-    → MessageFits tops (top_of 5 content) → RefusedFor lane (hand_of tops content) history tape.stop put → TapeStands tape held held_now before now history → TapeFits tape lane.records → lane.records ≤ 3 * 2 ^ 36 + 3
-    → MessageTaken lane tape tops content held held_now before now history put
-refused lane tape tops history content held held_now before now puts.Done may r stands fits few =
+pub refused : (lane : Lane) (tape : Tape) (tops : List Top) (history : List Rec) (content : List ℕ) (before now : LiveState) (step : Step)
+    → MessageFits tops (top_of 5 content) → RefusedFor lane (hand_of tops content) history tape.stop step → TapeStands (writing tape before now) history → TapeFits tape lane.records → lane.records ≤ record_limit
+    → MessageTaken lane (writing tape before now) tops content history step
+refused lane tape tops history content before now steps.Done may r stands fits few =
     let same = sym (append-nil history) in (
       may,
       (
         [],
         record {
           lane_stands = subst (λ (l : List Rec). LaneStands lane (hand_of tops content) l) same r;
-          tape_stands = subst (λ (l : List Rec). TapeStands tape held held_now before now l) same stands;
+          tape_stands = subst (λ (l : List Rec). TapeStands (writing tape before now) l) same stands;
           fits = fits;
         },
       ),
     )
-refused lane tape tops history content held held_now before now puts.Bad may r stands fits few = absurd r
-refused lane tape tops history content held held_now before now (puts.End end) may r stands fits few =
-    (may, r.0, over_there lane tape (hand_of tops content) history held held_now before now end r.1 stands fits few)
+refused lane tape tops history content before now steps.Bad may r stands fits few = absurd r
+refused lane tape tops history content before now (steps.End end) may r stands fits few =
+    (may, r.0, over_there lane tape (hand_of tops content) history before now end r.1 stands fits few)
 
 -- there was no room in the report
-pub no_room : (lane : Lane) (tape : Tape) (tops : List Top) (history : List Rec) (held held_now : Option (List ℕ)) (before now : ℕ)
-    → AtHand lane tape tops history lane.handled held held_now before now → lane.records ≤ 3 * 2 ^ 36 + 3 → IsOver lane tape tops held held_now before now feed_ends.Memory
-no_room lane tape tops history held held_now before now h few =
-    over_there lane tape tops history held held_now before now feed_ends.Memory (record {
+pub no_room : (lane : Lane) (tape : Tape) (tops : List Top) (history : List Rec) (before now : LiveState)
+    → AtHand lane (writing tape before now) tops history lane.handled → lane.records ≤ record_limit → IsOver lane (writing tape before now) tops feed_ends.Memory
+no_room lane tape tops history before now h few =
+    over_there lane tape tops history before now feed_ends.Memory (record {
       lists = h.handles.stands.lists;
       records = h.handles.records;
       all = λ other. absurd (other refl);

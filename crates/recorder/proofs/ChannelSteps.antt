@@ -23,14 +23,15 @@ use Rattle.mcap_model.specs.Places.{At}
 use Rattle.mcap_model.specs.Tops.{Top}
 use Rattle.mcap_model.specs.Fields.{ChannelFields, SameChannel, IsChannel}
 use Rattle.mcap_model.specs.Rules.{HasSchema}
-use Rattle.recorder.specs.Feed.{ChannelFits}
+use Rattle.recorder.specs.Feed.{declaration_limit, other_content_limit, ChannelFits}
 use Rattle.mcap_model.specs.Written.{SourceShows}
 use Rattle.recorder.specs.Assembled.{IsOn, Declares}
 use Rattle.recorder.specs.Channels.{schema_fields, SchemasOf, FindsSchema, fields_of, FieldsFit, ChannelsOf, given_count, GivenBy}
-use Rattle.recorder.specs.Lane.{Stands, LaneStands}
-use Rattle.mcap_model.proofs.Maps.{same_is, same_sym, same_trans, shows_once}
+use Rattle.recorder.specs.Lane.{feed_lists, feed_tables, FitsFeed, LaneStands}
+use Rattle.mcap_model.proofs.Maps.{same_is, same_trans, shows_once}
 use Rattle.mcap_model.proofs.Places.{at_within, at_kept, at_last, at_more, pairs_more}
 use Rattle.recorder.proofs.Steps.{on_one, on_within, on_less, shows_more, messages_same, declarations_one, declarations_grow, more_tops, given_more, schemas_more, channel_schema_more}
+use Rattle.mcap_model.proofs.Copies.{channel_sym}
 
 -- ---- the table
 
@@ -170,7 +171,7 @@ given_new tops t schemas channels declared history e channels_of declares before
 no_schema : (t : Top) (e : SourceChannel) → ShowsEntry t e → t.op ≡ 3 → ⊥
 no_schema t e shows is = let kind : t.op ≡ 4 = shows.is.kind in omega arith
 
-pub stands_again : (tops : List Top) (t : Top) (schemas : List SourceSchema) (channels : List SourceChannel) (handled bound : ℕ) (accepted : List Accepted) (declared : List DeclaredAt) (refused : List Refused) (history : List Rec) (k : ℕ) (e : SourceChannel) → Stands tops schemas channels handled bound accepted declared refused history → At channels k e → ShowsEntry t e → Stands (tops ++ t ∷ []) schemas channels handled bound accepted declared refused history
+pub stands_again : (tops : List Top) (t : Top) (schemas : List SourceSchema) (channels : List SourceChannel) (handled bound : ℕ) (accepted : List Accepted) (declared : List DeclaredAt) (refused : List Refused) (history : List Rec) (k : ℕ) (e : SourceChannel) → FitsFeed tops (feed_tables schemas channels) handled bound (feed_lists accepted declared refused) history → At channels k e → ShowsEntry t e → FitsFeed (tops ++ t ∷ []) (feed_tables schemas channels) handled bound (feed_lists accepted declared refused) history
 stands_again tops t schemas channels handled bound accepted declared refused history k e was at shows = record {
   schemas_of = schemas_more tops t schemas was.schemas_of (no_schema t e shows);
   schemas_given = was.schemas_given;
@@ -180,7 +181,7 @@ stands_again tops t schemas channels handled bound accepted declared refused his
   declared_below = was.declared_below;
 }
 
-pub stands_new : (tops : List Top) (t : Top) (schemas : List SourceSchema) (channels : List SourceChannel) (handled bound : ℕ) (accepted : List Accepted) (declared : List DeclaredAt) (refused : List Refused) (history : List Rec) (e : SourceChannel) → Stands tops schemas channels handled bound accepted declared refused history → IsEntry t e → SchemaKnown tops e.schema_id → LacksId channels e.id → Stands (tops ++ t ∷ []) schemas (channels ++ e ∷ []) handled bound accepted declared refused history
+pub stands_new : (tops : List Top) (t : Top) (schemas : List SourceSchema) (channels : List SourceChannel) (handled bound : ℕ) (accepted : List Accepted) (declared : List DeclaredAt) (refused : List Refused) (history : List Rec) (e : SourceChannel) → FitsFeed tops (feed_tables schemas channels) handled bound (feed_lists accepted declared refused) history → IsEntry t e → SchemaKnown tops e.schema_id → LacksId channels e.id → FitsFeed (tops ++ t ∷ []) (feed_tables schemas (channels ++ e ∷ [])) handled bound (feed_lists accepted declared refused) history
 stands_new tops t schemas channels handled bound accepted declared refused history e was is known lacks = record {
   schemas_of = schemas_more tops t schemas was.schemas_of (no_schema t e is.shows);
   schemas_given = was.schemas_given;
@@ -208,7 +209,7 @@ fits_again tops t channels k e was at_k shows = record {
   same = λ n u other at is.
       let c = was.covers n u e.id other at is in
       let one : c.1 ≡ e = entry_one channels c.0 k c.1 e was.apart c.2 at_k c.3 in
-      same_trans other (fields_of e) shows.shown (subst (λ (x : SourceChannel). SameChannel other (fields_of x)) one c.4) (same_sym shows.shown (fields_of e) shows.same);
+      same_trans other (fields_of e) shows.shown (subst (λ (x : SourceChannel). SameChannel other (fields_of x)) one c.4) (channel_sym shows.shown (fields_of e) shows.same);
 }
 
 pub fits_new : (tops : List Top) (t : Top) (channels : List SourceChannel) (e : SourceChannel) → ChannelsOf tops channels → ShowsEntry t e → SchemaKnown tops e.schema_id → LacksId channels e.id → ChannelFits tops t
@@ -237,7 +238,7 @@ unfit_fields tops t channels k e shown sorted was at is same order other fits =
     let once = shows_once t e.id fits.id shown fits.shown is fits.is in
     let first : IsChannel h.1.top fits.id h.0 = subst (λ (id : ℕ). IsChannel h.1.top id h.0) once.0 h.1.is in
     let one : SameChannel h.0 shown = subst (λ (f : ChannelFields). SameChannel h.0 f) (sym once.1) (fits.same h.1.place h.1.top h.0 h.1.at first) in
-    let entry : SameChannel (fields_of e) shown = same_trans (fields_of e) h.0 shown (same_sym h.0 (fields_of e) h.2) one in
+    let entry : SameChannel (fields_of e) shown = same_trans (fields_of e) h.0 shown (channel_sym h.0 (fields_of e) h.2) one in
     other (same_is (fields_of e) sorted (was.order k e at) order (same_trans (fields_of e) shown sorted entry same))
 
 -- ---- sorted metadata
@@ -247,7 +248,7 @@ length-sorted pairs sorted moved =
     length-flat_map pair_text sorted ∙ sum_by-IsPermutation (λ p. length (pair_text p)) pairs sorted moved ∙ sym (length-flat_map pair_text pairs)
 
 -- a content that shows a Channel is as long as its fields at least
-shown_fits : (t : Top) (id : ℕ) (shown : ChannelFields) → IsChannel t id shown → length t.content ≤ 500000 → FieldsFit shown
+shown_fits : (t : Top) (id : ℕ) (shown : ChannelFields) → IsChannel t id shown → length t.content ≤ other_content_limit → FieldsFit shown
 shown_fits t id shown is small =
     let rest = is.layout.0 in
     let pairs = text_map shown.metadata in
@@ -270,7 +271,7 @@ sorted_fits shown sorted same fit =
     omega (arith, ap length same.topic, ap length same.encoding, length-sorted shown.metadata sorted.metadata same.metadata, fit)
 
 -- the entry for a record that was parsed: its fields, in order
-pub is_entry : (t : Top) (e : SourceChannel) → ShowsEntry t e → KeysAscend e.metadata → e.given ≡ 0 → length t.content ≤ 500000 → IsEntry t e
+pub is_entry : (t : Top) (e : SourceChannel) → ShowsEntry t e → KeysAscend e.metadata → e.given ≡ 0 → length t.content ≤ other_content_limit → IsEntry t e
 is_entry t e shows order fresh small = record {
   shows = shows;
   order = order;
@@ -283,7 +284,7 @@ is_entry t e shows order fresh small = record {
 no_message : (t : Top) (e : SourceChannel) → ShowsEntry t e → t.op ≡ 5 → ⊥
 no_message t e shows is = let kind : t.op ≡ 4 = shows.is.kind in omega arith
 
-pub lane_again : (lane : Lane) (tops : List Top) (t : Top) (history : List Rec) (k : ℕ) (e : SourceChannel) → LaneStands lane tops history → lane.declarations < 1000 → At lane.channels.items k e → ShowsEntry t e → LaneStands (record lane { declarations = lane.declarations + 1 }) (tops ++ t ∷ []) history
+pub lane_again : (lane : Lane) (tops : List Top) (t : Top) (history : List Rec) (k : ℕ) (e : SourceChannel) → LaneStands lane tops history → lane.declarations < declaration_limit → At lane.channels.items k e → ShowsEntry t e → LaneStands (record lane { declarations = lane.declarations + 1 }) (tops ++ t ∷ []) history
 lane_again lane tops t history k e was few at shows = record {
   stands = stands_again tops t lane.schemas.items lane.channels.items lane.handled lane.handled lane.accepted.items lane.declared.items lane.refused.items history k e was.stands at shows;
   causes = was.causes;
@@ -296,9 +297,9 @@ lane_again lane tops t history k e was few at shows = record {
   limit = omega arith;
 }
 
-pub lane_new : (lane : Lane) (channels : Vec SourceChannel Global) (tops : List Top) (t : Top) (history : List Rec) (e : SourceChannel) → LaneStands lane tops history → lane.declarations < 1000 → channels.items ≡ lane.channels.items ++ e ∷ [] → IsEntry t e → SchemaKnown tops e.schema_id → LacksId lane.channels.items e.id → LaneStands (record lane { channels = channels; declarations = lane.declarations + 1 }) (tops ++ t ∷ []) history
+pub lane_new : (lane : Lane) (channels : Vec SourceChannel Global) (tops : List Top) (t : Top) (history : List Rec) (e : SourceChannel) → LaneStands lane tops history → lane.declarations < declaration_limit → channels.items ≡ lane.channels.items ++ e ∷ [] → IsEntry t e → SchemaKnown tops e.schema_id → LacksId lane.channels.items e.id → LaneStands (record lane { channels = channels; declarations = lane.declarations + 1 }) (tops ++ t ∷ []) history
 lane_new lane channels tops t history e was few longer is known lacks = record {
-  stands = subst (λ (l : List SourceChannel). Stands (tops ++ t ∷ []) lane.schemas.items l lane.handled lane.handled lane.accepted.items lane.declared.items lane.refused.items history) (sym longer)
+  stands = subst (λ (l : List SourceChannel). FitsFeed (tops ++ t ∷ []) (feed_tables lane.schemas.items l) lane.handled lane.handled (feed_lists lane.accepted.items lane.declared.items lane.refused.items) history) (sym longer)
       (stands_new tops t lane.schemas.items lane.channels.items lane.handled lane.handled lane.accepted.items lane.declared.items lane.refused.items history e was.stands is known lacks);
   causes = was.causes;
   records = was.records;

@@ -1,5 +1,5 @@
 -- A channel is given an id for the message at hand, and its schema too where that has none.
-use Rattle.std.proofs.Common.{◌≡◌, ℕ, zero, suc, ◌+◌, ◌<◌, List, [], ◌∷◌, ◌++◌, length, filter, set, Option, Some, None, refl, sym, ap, subst, ◌∙◌, arith}
+use Rattle.std.proofs.Common.{◌≡◌, ℕ, zero, suc, ◌+◌, ◌<◌, List, [], ◌∷◌, ◌++◌, length, filter, set, Some, None, refl, sym, ap, subst, ◌∙◌, arith}
 use Rattle.std.proofs.lemmas.List.{append-nil, length-append}
 use Rattle.std.proofs.lemmas.List.Elements.{filter-append}
 use Rattle.rec_data.specs.declared.owned.Rec.{Rec}
@@ -9,12 +9,13 @@ use Rattle.recorder.specs.declared.lane.Lane.{Lane}
 use Rattle.recorder.specs.declared.lane.Declared.{Declared}
 use Rattle.recorder.specs.declared.lane.Declared.TheVariants as made
 use Rattle.recorder.specs.declared.tape.Tape.{Tape}
+use Rattle.mcap_io.specs.Outside.{LiveState}
 use Rattle.mcap_model.specs.Places.{At}
 use Rattle.mcap_model.specs.Tops.{Top}
 use Rattle.mcap_model.specs.History.{schema_of, is_schema, schema_count, channel_of, is_channel, channel_count}
 use Rattle.recorder.specs.Assembled.{IsOn}
 use Rattle.recorder.specs.Channels.{schema_fields, written_of, SchemaGiven, FindsSameSchema, FindsSame}
-use Rattle.recorder.specs.Lane.{TapeStands, TapeFits}
+use Rattle.recorder.specs.Lane.{writing, TapeStands, TapeFits}
 use Rattle.recorder.specs.Handling.{Handles, HasId, AtHand, KnownFor, DeclaredFor}
 use Rattle.mcap_model.proofs.Places.{at_within, at_set_same}
 use Rattle.recorder.proofs.StepsTable.{given_id}
@@ -178,45 +179,45 @@ handles_raised lane tops history h = record {
 }
 
 -- nothing was added to the history
-at_hand_same : (lane : Lane) (tape : Tape) (tops : List Top) (history : List Rec) (held held_now : Option (List ℕ)) (before now : ℕ) → Handles lane tops history (lane.handled + 1)
-    → TapeStands tape held held_now before now history → TapeFits tape lane.records → (more : List Rec) × AtHand lane tape tops (history ++ more) (lane.handled + 1) held held_now before now
-at_hand_same lane tape tops history held held_now before now h stands fits =
-    ([], subst (λ (l : List Rec). AtHand lane tape tops l (lane.handled + 1) held held_now before now) (sym (append-nil history)) (record { handles = h; tape_stands = stands; fits = fits }))
+at_hand_same : (lane : Lane) (tape : Tape) (tops : List Top) (history : List Rec) (before now : LiveState) → Handles lane tops history (lane.handled + 1)
+    → TapeStands (writing tape before now) history → TapeFits tape lane.records → (more : List Rec) × AtHand lane (writing tape before now) tops (history ++ more) (lane.handled + 1)
+at_hand_same lane tape tops history before now h stands fits =
+    ([], subst (λ (l : List Rec). AtHand lane (writing tape before now) tops l (lane.handled + 1)) (sym (append-nil history)) (record { handles = h; tape_stands = stands; fits = fits }))
 
-pub declared_before : (lane : Lane) (tape : Tape) (tops : List Top) (history : List Rec) (k : ℕ) (e : SourceChannel) (id : ℕ) (held held_now : Option (List ℕ)) (before now : ℕ)
-    → AtHand lane tape tops history lane.handled held held_now before now → At lane.channels.items k e → e.given ≡ id → (id ≡ 0 → ⊥)
-    → HasId lane.channels.items k e.id id × ((more : List Rec) × AtHand lane tape tops (history ++ more) (lane.handled + 1) held held_now before now)
-declared_before lane tape tops history k e id held held_now before now h at given some = (
+pub declared_before : (lane : Lane) (tape : Tape) (tops : List Top) (history : List Rec) (k : ℕ) (e : SourceChannel) (id : ℕ) (before now : LiveState)
+    → AtHand lane (writing tape before now) tops history lane.handled → At lane.channels.items k e → e.given ≡ id → (id ≡ 0 → ⊥)
+    → HasId lane.channels.items k e.id id × ((more : List Rec) × AtHand lane (writing tape before now) tops (history ++ more) (lane.handled + 1))
+declared_before lane tape tops history k e id before now h at given some = (
   record { channel = e; at = at; source_is = refl; given = given; some = some },
-  at_hand_same lane tape tops history held held_now before now (handles_raised lane tops history h.handles) h.tape_stands h.fits,
+  at_hand_same lane tape tops history before now (handles_raised lane tops history h.handles) h.tape_stands h.fits,
 )
 
-pub declared_same : (lane : Lane) (tape : Tape) (tops : List Top) (history : List Rec) (k source : ℕ) (held held_now : Option (List ℕ)) (before now : ℕ) (d : Declared)
-    → KnownFor lane tops history k source d → TapeStands tape held held_now before now history → TapeFits tape lane.records → DeclaredFor lane tape tops history k source held held_now before now d
-declared_same lane tape tops history k source held held_now before now (made.As id) known stands fits =
-    (known.0, at_hand_same lane tape tops history held held_now before now known.1 stands fits)
-declared_same lane tape tops history k source held held_now before now (made.Refused cause) known stands fits = absurd known
-declared_same lane tape tops history k source held held_now before now made.NoRoom known stands fits = record { handles = known; tape_stands = stands; fits = fits }
+pub declared_same : (lane : Lane) (tape : Tape) (tops : List Top) (history : List Rec) (k source : ℕ) (before now : LiveState) (d : Declared)
+    → KnownFor lane tops history k source d → TapeStands (writing tape before now) history → TapeFits tape lane.records → DeclaredFor lane (writing tape before now) tops history k source d
+declared_same lane tape tops history k source before now (made.As id) known stands fits =
+    (known.0, at_hand_same lane tape tops history before now known.1 stands fits)
+declared_same lane tape tops history k source before now (made.Refused cause) known stands fits = absurd known
+declared_same lane tape tops history k source before now made.NoRoom known stands fits = record { handles = known; tape_stands = stands; fits = fits }
 
 -- ---- and what was declared was put to the tape
 
-pub put_new : (old new : Lane) (tape : Tape) (tops : List Top) (history : List Rec) (k : ℕ) (e : SourceChannel) (id w : ℕ) (held held_now : Option (List ℕ)) (before now : ℕ) → Handles old tops history old.handled
+pub put_new : (old new : Lane) (tape : Tape) (tops : List Top) (history : List Rec) (k : ℕ) (e : SourceChannel) (id w : ℕ) (before now : LiveState) → Handles old tops history old.handled
     → At old.channels.items k e → e.given ≡ 0 → IsOn tops old.handled e.id → SchemaGiven old.schemas.items e w → FindsSame old.channels.items (written_of e w) None → id ≡ old.channel_ids + 1
-    → TapeStands tape held held_now before now (history ++ channel_of id (written_of e w) ∷ []) → TapeFits tape (old.records + 1) → Gives old new old.schemas.items k e id w 0 1
-    → HasId new.channels.items k e.id id × ((more : List Rec) × AtHand new tape tops (history ++ more) (new.handled + 1) held held_now before now)
-put_new old new tape tops history k e id w held held_now before now h at none on schema found next stands fits g =
+    → TapeStands (writing tape before now) (history ++ channel_of id (written_of e w) ∷ []) → TapeFits tape (old.records + 1) → Gives old new old.schemas.items k e id w 0 1
+    → HasId new.channels.items k e.id id × ((more : List Rec) × AtHand new (writing tape before now) tops (history ++ more) (new.handled + 1))
+put_new old new tape tops history k e id w before now h at none on schema found next stands fits g =
     let both = given_new old new tops history k e id w h at none on schema found next g in (
       both.0,
       (channel_of id (written_of e w) ∷ [], record { handles = both.1; tape_stands = stands; fits = omega (arith, g.records, fits) }),
     )
 
-pub put_both : (old new : Lane) (tape : Tape) (tops : List Top) (history : List Rec) (k : ℕ) (e : SourceChannel) (s : ℕ) (x : SourceSchema) (id w : ℕ) (held held_now : Option (List ℕ)) (before now : ℕ)
+pub put_both : (old new : Lane) (tape : Tape) (tops : List Top) (history : List Rec) (k : ℕ) (e : SourceChannel) (s : ℕ) (x : SourceSchema) (id w : ℕ) (before now : LiveState)
     → Handles old tops history old.handled → At old.channels.items k e → e.given ≡ 0 → IsOn tops old.handled e.id → At old.schemas.items s x → x.id ≡ e.schema_id → x.given ≡ 0
     → FindsSameSchema old.schemas.items (schema_fields x) None → w ≡ old.schema_ids + 1 → id ≡ old.channel_ids + 1
-    → TapeStands tape held held_now before now (history ++ schema_of w (schema_fields x) ∷ channel_of id (written_of e w) ∷ []) → TapeFits tape (old.records + 2)
+    → TapeStands (writing tape before now) (history ++ schema_of w (schema_fields x) ∷ channel_of id (written_of e w) ∷ []) → TapeFits tape (old.records + 2)
     → Gives old new (set old.schemas.items s (given_schema_id x w)) k e id w 1 1
-    → HasId new.channels.items k e.id id × ((more : List Rec) × AtHand new tape tops (history ++ more) (new.handled + 1) held held_now before now)
-put_both old new tape tops history k e s x id w held held_now before now h at none on at_s its none_s found next_schema next stands fits g =
+    → HasId new.channels.items k e.id id × ((more : List Rec) × AtHand new (writing tape before now) tops (history ++ more) (new.handled + 1))
+put_both old new tape tops history k e s x id w before now h at none on at_s its none_s found next_schema next stands fits g =
     let both = given_both old new tops history k e s x id w h at none on at_s its none_s found next_schema next g in (
       both.0,
       (schema_of w (schema_fields x) ∷ channel_of id (written_of e w) ∷ [], record { handles = both.1; tape_stands = stands; fits = omega (arith, g.records, fits) }),

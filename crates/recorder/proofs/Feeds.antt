@@ -8,7 +8,7 @@ use Rattle.recorder.specs.declared.report.FeedEnd.{FeedEnd}
 use Rattle.recorder.specs.declared.report.FeedEnd.TheVariants as feed_ends
 use Rattle.mcap_model.specs.Tops.{Top, top_bytes, spelled, opcode, declared_length, first_top}
 use Rattle.mcap_model.specs.Rules.{HasDataEnd}
-use Rattle.recorder.specs.Feed.{FitsBehind, IsBuilt, is_declaration, declarations, is_unbuilt, Reads, ReadsTo, IsBroken, AllGiven, MemoryLeaves, FeedRead, FeedCause}
+use Rattle.recorder.specs.Feed.{FitsBehind, IsBuilt, is_declaration, declarations, is_not_built, Reads, ReadsTo, IsBroken, AllGiven, MemoryLeaves, FeedRead, FeedCause}
 use Rattle.recorder.specs.Next.{TakesTop, GivesPart, NextEnds}
 use Rattle.recorder.specs.Lane.{top_of}
 use Rattle.mcap_model.proofs.Places.{at_none, each_more}
@@ -50,14 +50,14 @@ begun bytes rest split = record {
 }
 
 -- one record more was taken
-pub taken_more : (bytes : List ℕ) (tops : List Top) (rest : List ℕ) (at : ℕ) (left : Option (List ℕ)) (op : ℕ) (content : List ℕ) → ReadsTo bytes tops rest at → (t : TakesTop rest (declarations tops) at left op content) → is_unbuilt (declarations tops) at op (length content) ≡ false → FitsBehind tops (top_of op content) → Reads bytes (tops ++ top_of op content ∷ []) t.after
+pub taken_more : (bytes : List ℕ) (tops : List Top) (rest : List ℕ) (at : ℕ) (left : Option (List ℕ)) (op : ℕ) (content : List ℕ) → ReadsTo bytes tops rest at → (t : TakesTop rest (declarations tops) at left op content) → is_not_built (declarations tops) at op (length content) ≡ false → FitsBehind tops (top_of op content) → Reads bytes (tops ++ top_of op content ∷ []) t.after
 taken_more bytes tops rest at left op content so_far t recorded fits = record {
   split = so_far.reads.split ∙ ap (λ (l : List ℕ). magic ++ l) (
       ap (λ (l : List ℕ). spelled tops ++ l) t.split
       ∙ sym (append_assoc (spelled tops) (framed op content) t.after)
       ∙ ap (λ (l : List ℕ). l ++ t.after) (sym (spelled_more tops (top_of op content))));
   good = each_more FitsBehind tops (top_of op content) so_far.reads.good fits;
-  built = each_more IsBuilt tops (top_of op content) so_far.reads.built (subst (λ (n : ℕ). is_unbuilt (declarations tops) n op (length content) ≡ false) so_far.offset recorded);
+  built = each_more IsBuilt tops (top_of op content) so_far.reads.built (subst (λ (n : ℕ). is_not_built (declarations tops) n op (length content) ≡ false) so_far.offset recorded);
 }
 
 -- the place behind it
@@ -69,7 +69,7 @@ place_more tops at op content place =
     omega arith
 
 -- the reading goes on behind a record that is no Data End
-pub reads_on : (bytes : List ℕ) (tops : List Top) (rest : List ℕ) (at : ℕ) (left : Option (List ℕ)) (op : ℕ) (content : List ℕ) → ReadsTo bytes tops rest at → (t : TakesTop rest (declarations tops) at left op content) → is_unbuilt (declarations tops) at op (length content) ≡ false → FitsBehind tops (top_of op content) → (op ≡ 15 → ⊥) → ReadsTo bytes (tops ++ top_of op content ∷ []) t.after (at + 9 + length content)
+pub reads_on : (bytes : List ℕ) (tops : List Top) (rest : List ℕ) (at : ℕ) (left : Option (List ℕ)) (op : ℕ) (content : List ℕ) → ReadsTo bytes tops rest at → (t : TakesTop rest (declarations tops) at left op content) → is_not_built (declarations tops) at op (length content) ≡ false → FitsBehind tops (top_of op content) → (op ≡ 15 → ⊥) → ReadsTo bytes (tops ++ top_of op content ∷ []) t.after (at + 9 + length content)
 reads_on bytes tops rest at left op content so_far t recorded fits other = record {
   reads = taken_more bytes tops rest at left op content so_far t recorded fits;
   unended = λ ended. elim (ended_more tops (top_of op content) ended) [
@@ -118,8 +118,8 @@ ends_there bytes tops rest at left (feed_ends.Grammar n) so_far why =
     inr (rest, here, subst P (sym why.0) broken, why.1)
 ends_there bytes tops rest at left (feed_ends.NotBuilt n) so_far why =
     let here : ReadsTo bytes tops rest n = subst (λ (m : ℕ). ReadsTo bytes tops rest m) (sym why.0) so_far in
-    let later : is_unbuilt (declarations tops) n (opcode rest) (declared_length rest) ≡ true = subst (λ (m : ℕ). is_unbuilt (declarations tops) m (opcode rest) (declared_length rest) ≡ true) (sym why.0) why.2 in
-    (rest, here, record { head = why.1; unbuilt = later }, why.3)
+    let later : is_not_built (declarations tops) n (opcode rest) (declared_length rest) ≡ true = subst (λ (m : ℕ). is_not_built (declarations tops) m (opcode rest) (declared_length rest) ≡ true) (sym why.0) why.2 in
+    (rest, here, record { head = why.1; not_built = later }, why.3)
 ends_there bytes tops rest at left (feed_ends.Fault faults) so_far why = all_given bytes tops rest at left so_far why
 ends_there bytes tops rest at left feed_ends.Memory so_far why =
     let leaves : MemoryLeaves (declarations tops) rest at left = elim why [
@@ -130,7 +130,7 @@ ends_there bytes tops rest at left feed_ends.Memory so_far why =
 ends_there bytes tops rest at left feed_ends.Ended so_far why = absurd why
 
 -- the record that was taken is a Data End
-pub done_there : (bytes : List ℕ) (tops : List Top) (rest : List ℕ) (at : ℕ) (left : Option (List ℕ)) (content : List ℕ) → ReadsTo bytes tops rest at → (t : TakesTop rest (declarations tops) at left 15 content) → is_unbuilt (declarations tops) at 15 (length content) ≡ false → FitsBehind tops (top_of 15 content) → FeedRead bytes (tops ++ top_of 15 content ∷ []) left feed_ends.Done
+pub done_there : (bytes : List ℕ) (tops : List Top) (rest : List ℕ) (at : ℕ) (left : Option (List ℕ)) (content : List ℕ) → ReadsTo bytes tops rest at → (t : TakesTop rest (declarations tops) at left 15 content) → is_not_built (declarations tops) at 15 (length content) ≡ false → FitsBehind tops (top_of 15 content) → FeedRead bytes (tops ++ top_of 15 content ∷ []) left feed_ends.Done
 done_there bytes tops rest at left content so_far t recorded fits =
     (t.after, taken_more bytes tops rest at left 15 content so_far t recorded fits, ended_last tops (top_of 15 content) refl, t.left_after)
 
@@ -145,6 +145,6 @@ memory_at bytes tops rest at left op content so_far t is =
     inr (rest, at, so_far, inr (t.begins, t.built_there, inr (kind, t.whole, t.left_after ∙ ap Some t.behind)))
 
 -- and behind a Message that is
-pub memory_behind : (bytes : List ℕ) (tops : List Top) (rest : List ℕ) (at : ℕ) (left : Option (List ℕ)) (op : ℕ) (content : List ℕ) → ReadsTo bytes tops rest at → TakesTop rest (declarations tops) at left op content → is_unbuilt (declarations tops) at op (length content) ≡ false → FitsBehind tops (top_of op content) → op ≡ 5 → FeedRead bytes (tops ++ top_of op content ∷ []) left feed_ends.Memory
+pub memory_behind : (bytes : List ℕ) (tops : List Top) (rest : List ℕ) (at : ℕ) (left : Option (List ℕ)) (op : ℕ) (content : List ℕ) → ReadsTo bytes tops rest at → TakesTop rest (declarations tops) at left op content → is_not_built (declarations tops) at op (length content) ≡ false → FitsBehind tops (top_of op content) → op ≡ 5 → FeedRead bytes (tops ++ top_of op content ∷ []) left feed_ends.Memory
 memory_behind bytes tops rest at left op content so_far t recorded fits is =
     inr (t.after, at + 9 + length content, reads_on bytes tops rest at left op content so_far t recorded fits (λ fifteen. omega (arith, is, fifteen)), inl t.left_after)

@@ -8,15 +8,16 @@ use Rattle.recorder.specs.declared.report.Cause.TheVariants as causes
 use Rattle.mcap_model.specs.declared.ends.Stop.{Stop}
 use Rattle.recorder.specs.declared.report.FeedEnd.TheVariants as feed_ends
 use Rattle.recorder.specs.declared.lane.Lane.{Lane}
+use Rattle.mcap_io.specs.Outside.{LiveState}
 use Rattle.mcap_model.specs.Places.{At}
-use Rattle.recorder.specs.declared.lane.Put.{Put}
-use Rattle.recorder.specs.declared.lane.Put.TheVariants as puts
+use Rattle.recorder.specs.declared.lane.Step.{Step}
+use Rattle.recorder.specs.declared.lane.Step.TheVariants as steps
 use Rattle.recorder.specs.declared.tape.Tape.{Tape}
 use Rattle.mcap_model.specs.Tops.{Top}
 use Rattle.mcap_model.specs.Fields.{MessageFields, IsMessage}
 use Rattle.mcap_model.specs.History.{message_of, is_schema, schema_count, is_channel, channel_count}
 use Rattle.recorder.specs.Assembled.{messages}
-use Rattle.recorder.specs.Lane.{Stands, LaneStands, LaneOver, IsLast, TapeStands, TapeFits}
+use Rattle.recorder.specs.Lane.{writing, feed_tables, feed_lists, FitsFeed, LaneStands, LaneOver, IsLast, TapeStands, TapeFits}
 use Rattle.recorder.specs.Handling.{Handles, HasId, RefusedFor, PublishedAs}
 use Rattle.mcap_model.proofs.Places.{at_last, at_more}
 use Rattle.recorder.proofs.Steps.{filter_out}
@@ -36,7 +37,7 @@ pub record Lists (old new : Lane) (cause : Cause) : Type 0 where
   pub refused : new.refused.items ≡ old.refused.items ++ refused_at old.handled cause ∷ []
 
 refused_stands : (old new : Lane) (cause : Cause) (tops : List Top) (history : List Rec) → Handles old tops history (old.handled + 1) → Lists old new cause
-    → Stands tops new.schemas.items new.channels.items new.handled new.handled new.accepted.items new.declared.items new.refused.items history
+    → FitsFeed tops (feed_tables new.schemas.items new.channels.items) new.handled new.handled (feed_lists new.accepted.items new.declared.items new.refused.items) history
 refused_stands old new cause tops history h l =
     rw (l.schemas, l.channels, l.handled, l.accepted, l.declared, l.refused)
     (refused_one tops old.schemas.items old.channels.items old.handled old.accepted.items old.declared.items old.refused.items history cause h.stands (let hand = h.at_hand in omega arith))
@@ -118,10 +119,10 @@ accepted_on old new tops history k source id t m h has at is a =
     }
 
 -- what a refusal comes to is what recording comes to
-pub refused_published : (lane : Lane) (tape : Tape) (tops : List Top) (history : List Rec) (held held_now : Option (List ℕ)) (before now : ℕ) (put : Put)
-    → RefusedFor lane tops history tape.stop put → TapeStands tape held held_now before now history → TapeFits tape lane.records → PublishedAs lane tape tops history held held_now before now put
-refused_published lane tape tops history held held_now before now puts.Done stands tape_stands fits =
+pub refused_published : (lane : Lane) (tape : Tape) (tops : List Top) (history : List Rec) (before now : LiveState) (step : Step)
+    → RefusedFor lane tops history tape.stop step → TapeStands (writing tape before now) history → TapeFits tape lane.records → PublishedAs lane (writing tape before now) tops history step
+refused_published lane tape tops history before now steps.Done stands tape_stands fits =
     let same = sym (append-nil history) in
-    ([], subst (λ (l : List Rec). LaneStands lane tops l) same stands, subst (λ (l : List Rec). TapeStands tape held held_now before now l) same tape_stands, fits)
-refused_published lane tape tops history held held_now before now puts.Bad stands tape_stands fits = absurd stands
-refused_published lane tape tops history held held_now before now (puts.End end) stands tape_stands fits = (stands.0, stands.1, tape_stands, fits)
+    ([], subst (λ (l : List Rec). LaneStands lane tops l) same stands, subst (λ (l : List Rec). TapeStands (writing tape before now) l) same tape_stands, fits)
+refused_published lane tape tops history before now steps.Bad stands tape_stands fits = absurd stands
+refused_published lane tape tops history before now (steps.End end) stands tape_stands fits = (stands.0, stands.1, tape_stands, fits)

@@ -1,8 +1,8 @@
 -- The head and the content of the record at the front of what a feed has left.
-use Rattle.std.proofs.Common.{◌≡◌, ◌⊎◌, ℕ, suc, ◌+◌, ◌^◌, ◌<◌, ◌≤◌, min, Bool, true, false, not, eqb, leb, List, [], ◌∷◌, ◌++◌, length, get_or, take, drop, Option, Some, Err, refl, sym, ap, subst, inl, inr, ◌∙◌, ◌&&◌, ◌||◌, append_assoc, arith}
+use Rattle.std.proofs.Common.{◌≡◌, ◌⊎◌, ℕ, suc, ◌+◌, ◌<◌, ◌≤◌, min, Bool, true, false, not, eqb, leb, List, [], ◌∷◌, ◌++◌, length, get_or, take, drop, Option, Some, Err, refl, sym, ap, subst, inl, inr, ◌∙◌, ◌&&◌, ◌||◌, append_assoc, arith}
 use Rattle.std.specs.Prelude.{nat_le, nat_lt, if◌then◌else◌}
 use Rattle.std.proofs.lemmas.List.{take-append-drop, drop_at, drop-drop, drop-take, take-take, length-take, length-append, get_or-take}
-use Rattle.std.proofs.lemmas.Bool.{le-leb, lt-leb, ltb-false, or_parts}
+use Rattle.std.proofs.lemmas.Bool.{cases_lt, le-leb, lt-leb, ltb-false, or_parts}
 use Rattle.std.proofs.lemmas.Grind.{common_steps}
 use Rattle.mcap_wire.specs.Layout.{le, number}
 use Rattle.mcap_wire.proofs.Fields.{number_bytes, number_there}
@@ -13,8 +13,8 @@ use Rattle.mcap_io.specs.Outside.{StretchTaken}
 use Rattle.recorder.specs.declared.report.FeedEnd.{FeedEnd}
 use Rattle.recorder.specs.declared.report.FeedEnd.TheVariants as feed_ends
 use Rattle.mcap_model.specs.Tops.{opcode, declared_length, is_whole}
-use Rattle.recorder.specs.Feed.{has_opcode, is_later_kind, is_declaration, length_limit, is_unbuilt, behind_taken, IsCutOff, FeedRead}
-use Rattle.recorder.specs.Next.{IsHead, TakesHead, TakesTop, HeadEnds, NextEnds, Failure}
+use Rattle.recorder.specs.Feed.{offset_limit, declaration_limit, has_opcode, is_not_built_kind, is_declaration, length_limit, is_not_built, behind_taken, IsCutOff, LosesContent, short_content, FeedRead}
+use Rattle.recorder.specs.Next.{IsHead, TakesHead, TakesTop, GivesPart, HeadEnds, NextEnds, Failure}
 use Rattle.recorder.specs.Lane.{top_of}
 
 nonzero_head : (op n : ℕ) → (op ≡ 0 → ⊥) → 9 ≤ n → (leb 9 n && not (eqb op 0)) ≡ true
@@ -95,24 +95,24 @@ front_begins rest left op len n head =
     nonzero_head (get_or part 0 0) (length part) nonzero enough
 
 -- and is recorded where the whole is
-front_built : (rest : List ℕ) (left : Option (List ℕ)) (count at op len n : ℕ) (head : TakesHead rest left op len) → is_unbuilt count at op len ≡ false → is_unbuilt count at (opcode (take (9 + n) rest)) (declared_length (take (9 + n) rest)) ≡ false
+front_built : (rest : List ℕ) (left : Option (List ℕ)) (count at op len n : ℕ) (head : TakesHead rest left op len) → is_not_built count at op len ≡ false → is_not_built count at (opcode (take (9 + n) rest)) (declared_length (take (9 + n) rest)) ≡ false
 front_built rest left count at op len n head built =
     let part = take (9 + n) rest in
     let first : opcode part ≡ op = get_or-take (9 + n) rest 0 0 (omega arith) ∙ head.op_is in
     let more : 9 + n ≡ 1 + (8 + n) = omega arith in
     let declares : declared_length part ≡ len = ap (λ (k : ℕ). declared_length (take k rest)) more ∙ declared_front (8 + n) rest (omega arith) ∙ head.len_is in
-    ap (λ (o : ℕ). is_unbuilt count at o (declared_length part)) first ∙ ap (λ (m : ℕ). is_unbuilt count at op m) declares ∙ built
+    ap (λ (o : ℕ). is_not_built count at o (declared_length part)) first ∙ ap (λ (m : ℕ). is_not_built count at op m) declares ∙ built
 
 -- why the magic wasn't read
-pub magic_refused : (bytes : List ℕ) (old new : Option (List ℕ)) (got : List ℕ) (faults : ℕ) (why : ReadRefused) (end : FeedEnd) → old ≡ Some bytes → StretchTaken old new 8 got (Err why) → Failure faults why end → FeedRead bytes [] new end
-magic_refused bytes old new got faults reads.Failed end told taken is =
+pub magic_refused : (bytes : List ℕ) (old new : Option (List ℕ)) (got : List ℕ) (faults : ℕ) (why : ReadRefused) (end : FeedEnd) → old ≡ Some bytes → StretchTaken old new 8 got (Err why) → (why ≡ reads.Memory → new ≡ old) → Failure faults why end → FeedRead bytes [] new end
+magic_refused bytes old new got faults reads.Failed end told taken unread is =
     let lost = taken bytes told in
     let size = length-take lost.0 bytes in
     let few : length (take lost.0 bytes) < 8 = omega (arith, lost.1) in
     subst (λ (e : FeedEnd). FeedRead bytes [] new e) (sym is)
     (take lost.0 bytes, drop lost.0 bytes, sym (take-append-drop lost.0 bytes), lost.2, inl (refl, few))
-magic_refused bytes old new got faults reads.Memory end told taken is =
-    subst (λ (e : FeedEnd). FeedRead bytes [] new e) (sym is) (inl (refl, taken ∙ told))
+magic_refused bytes old new got faults reads.Memory end told taken unread is =
+    subst (λ (e : FeedEnd). FeedRead bytes [] new e) (sym is) (inl (refl, unread refl ∙ told))
 
 -- what is behind the head
 behind_head : (rest : List ℕ) (left : Option (List ℕ)) (op len : ℕ) (head : TakesHead rest left op len) → drop 9 rest ≡ head.after
@@ -123,30 +123,54 @@ pub left_behind : (rest : List ℕ) (left : Option (List ℕ)) (op len : ℕ) (h
 left_behind rest left op len head = head.left_after ∙ ap Some (sym (behind_head rest left op len head))
 
 -- what is recorded is decided by the head at the front
-pub built_there : (rest : List ℕ) (left : Option (List ℕ)) (count at op len : ℕ) (b : Bool) → TakesHead rest left op len → is_unbuilt count at op len ≡ b → is_unbuilt count at (opcode rest) (declared_length rest) ≡ b
+pub built_there : (rest : List ℕ) (left : Option (List ℕ)) (count at op len : ℕ) (b : Bool) → TakesHead rest left op len → is_not_built count at op len ≡ b → is_not_built count at (opcode rest) (declared_length rest) ≡ b
 built_there rest left count at op len b head is =
-    ap (λ (o : ℕ). is_unbuilt count at o (declared_length rest)) head.op_is ∙ ap (λ (n : ℕ). is_unbuilt count at op n) head.len_is ∙ is
+    ap (λ (o : ℕ). is_not_built count at o (declared_length rest)) head.op_is ∙ ap (λ (n : ℕ). is_not_built count at op n) head.len_is ∙ is
+
+-- a content of which less than all was taken
+content_lost : (rest : List ℕ) (count at : ℕ) (old new : Option (List ℕ)) (op len n : ℕ) (head : TakesHead rest old op len) → is_not_built count at op len ≡ false → n < len → new ≡ Some (drop n head.after) → GivesPart rest count at new
+content_lost rest count at old new op len n head built less left =
+    let left_is : new ≡ Some (drop (9 + n) rest) =
+    left ∙ ap (λ (l : List ℕ). Some (drop n l)) (sym (behind_head rest old op len head)) ∙ ap Some (drop-drop n 9 rest) in
+    let cut : IsCutOff count (take (9 + n) rest) at = inr (front_begins rest old op len n head, front_built rest old count at op len n head built, few_behind rest n len head.len_is less) in
+    (9 + n, left_is, cut)
+
+-- where memory lacked for it
+content_unread : (rest : List ℕ) (old new : Option (List ℕ)) (op len n : ℕ) (head : TakesHead rest old op len) → n < len → new ≡ Some (drop n head.after) → (len ≤ short_content → new ≡ old) → LosesContent rest new
+content_unread rest old new op len n head less left unread = elim (cases_lt short_content len) [
+  | inl long ↦ (
+    n,
+    omega (arith, less, head.len_is),
+    λ short. absurd (omega (arith, short, long, head.len_is)),
+    left ∙ ap (λ (l : List ℕ). Some (drop n l)) (sym (behind_head rest old op len head)) ∙ ap Some (drop-drop n 9 rest),
+  )
+  | inr short ↦ (
+    0,
+    omega (arith, less, head.len_is),
+    λ _. refl,
+    unread short ∙ left_behind rest old op len head,
+  )
+]
 
 -- why a content wasn't read
-pub content_refused : (rest : List ℕ) (count at : ℕ) (old new : Option (List ℕ)) (op len : ℕ) (got : List ℕ) (faults : ℕ) (why : ReadRefused) (end : FeedEnd) → TakesHead rest old op len → is_unbuilt count at op len ≡ false → StretchTaken old new len got (Err why) → Failure faults why end → NextEnds rest count at new end
-content_refused rest count at old new op len got faults reads.Failed end head built taken is =
+pub content_refused : (rest : List ℕ) (count at : ℕ) (old new : Option (List ℕ)) (op len : ℕ) (got : List ℕ) (faults : ℕ) (why : ReadRefused) (end : FeedEnd) → TakesHead rest old op len → is_not_built count at op len ≡ false → StretchTaken old new len got (Err why) → (why ≡ reads.Memory → len ≤ short_content → new ≡ old) → Failure faults why end → NextEnds rest count at new end
+content_refused rest count at old new op len got faults reads.Failed end head built taken unread is =
     let lost = taken head.after head.left_after in
-    let left_is : new ≡ Some (drop (9 + lost.0) rest) =
-    lost.2 ∙ ap (λ (l : List ℕ). Some (drop lost.0 l)) (sym (behind_head rest old op len head)) ∙ ap Some (drop-drop lost.0 9 rest) in
-    let cut : IsCutOff count (take (9 + lost.0) rest) at = inr (front_begins rest old op len lost.0 head, front_built rest old count at op len lost.0 head built, few_behind rest lost.0 len head.len_is lost.1) in
-    subst (λ (e : FeedEnd). NextEnds rest count at new e) (sym is) (9 + lost.0, left_is, cut)
-content_refused rest count at old new op len got faults reads.Memory end head built taken is =
-    subst (λ (e : FeedEnd). NextEnds rest count at new e) (sym is) (inr (head.begins, built_there rest old count at op len false head built, taken ∙ left_behind rest old op len head))
+    subst (λ (e : FeedEnd). NextEnds rest count at new e) (sym is) (content_lost rest count at old new op len lost.0 head built lost.1 lost.2)
+content_refused rest count at old new op len got faults reads.Memory end head built taken unread is =
+    let lost = taken head.after head.left_after in
+    subst (λ (e : FeedEnd). NextEnds rest count at new e) (sym is)
+    (inr (head.begins, built_there rest old count at op len false head built, content_unread rest old new op len lost.0 head lost.1 lost.2 (unread refl)))
 
 -- why a head wasn't read
-pub head_refused : (rest : List ℕ) (at : ℕ) (old new : Option (List ℕ)) (got : List ℕ) (faults : ℕ) (why : ReadRefused) (end : FeedEnd) → old ≡ Some rest → StretchTaken old new 9 got (Err why) → Failure faults why end → HeadEnds rest at new end
-head_refused rest at old new got faults reads.Failed end told taken is =
+pub head_refused : (rest : List ℕ) (at : ℕ) (old new : Option (List ℕ)) (got : List ℕ) (faults : ℕ) (why : ReadRefused) (end : FeedEnd) → old ≡ Some rest → StretchTaken old new 9 got (Err why) → (why ≡ reads.Memory → new ≡ old) → Failure faults why end → HeadEnds rest at new end
+head_refused rest at old new got faults reads.Failed end told taken unread is =
     let lost = taken rest told in
     let size = length-take lost.0 rest in
     let few : length (take lost.0 rest) < 9 = omega (arith, lost.1) in
     subst (λ (e : FeedEnd). HeadEnds rest at new e) (sym is) (lost.0, lost.2, few)
-head_refused rest at old new got faults reads.Memory end told taken is =
-    subst (λ (e : FeedEnd). HeadEnds rest at new e) (sym is) (taken ∙ told)
+head_refused rest at old new got faults reads.Memory end told taken unread is =
+    subst (λ (e : FeedEnd). HeadEnds rest at new e) (sym is) (unread refl ∙ told)
 
 -- and so no record could be taken
 pub headless : (rest : List ℕ) (count at : ℕ) (left : Option (List ℕ)) (end : FeedEnd) → HeadEnds rest at left end → NextEnds rest count at left end
@@ -168,15 +192,15 @@ behind_content rest left op len head =
     ∙ ap (λ (b : Bool). drop (if b then 9 + declared_length rest else 9) rest) (sym head.begins)
 
 -- a record that is recorded ends near enough to the front
-pub near_front : (count at op len : ℕ) → is_unbuilt count at op len ≡ false → at + 9 + len ≤ 2 ^ 39
+pub near_front : (count at op len : ℕ) → is_not_built count at op len ≡ false → at + 9 + len ≤ offset_limit
 near_front count at op len built =
-    let early = is_declaration op && nat_le 1000 count in
+    let early = is_declaration op && nat_le declaration_limit count in
     let long = nat_lt (length_limit op) len in
-    let far = nat_lt 549755813888 (at + 9 + len) in
-    let known = or_parts (is_later_kind op) (early || (long || far)) built in
+    let far = nat_lt offset_limit (at + 9 + len) in
+    let known = or_parts (is_not_built_kind op) (early || (long || far)) built in
     let first = or_parts early (long || far) known.1 in
     let near = or_parts long far first.1 in
-    omega (arith, ltb-false 549755813888 (at + 9 + len) near.1)
+    omega (arith, ltb-false offset_limit (at + 9 + len) near.1)
 
 -- all of the content is there
 whole_there : (rest after content : List ℕ) (op len declares : ℕ) → rest ≡ op ∷ (le 8 len ++ after) → declares ≡ len → content ≡ take len after → length content ≡ len → leb (9 + declares) (length rest) ≡ true
@@ -188,7 +212,7 @@ whole_there rest after content op len declares split len_is is size =
     le-leb (9 + declares) (length rest) (omega arith)
 
 -- the whole content was read
-pub top_taken : (rest content : List ℕ) (left left_after : Option (List ℕ)) (count at op len : ℕ) (head : TakesHead rest left op len) → content ≡ take len head.after → left_after ≡ Some (drop len head.after) → len ≤ length content → length content ≤ len → is_unbuilt count at op len ≡ false → TakesTop rest count at left_after op content
+pub top_taken : (rest content : List ℕ) (left left_after : Option (List ℕ)) (count at op len : ℕ) (head : TakesHead rest left op len) → content ≡ take len head.after → left_after ≡ Some (drop len head.after) → len ≤ length content → length content ≤ len → is_not_built count at op len ≡ false → TakesTop rest count at left_after op content
 top_taken rest content left left_after count at op len head is left_is long bound built =
     let size : length content ≡ len = omega arith in
     let parts : head.after ≡ content ++ drop len head.after = sym (take-append-drop len head.after) ∙ ap (λ (l : List ℕ). l ++ drop len head.after) (sym is) in

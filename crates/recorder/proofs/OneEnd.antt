@@ -11,7 +11,7 @@ use Rattle.recorder.specs.declared.report.FeedEnd.TheVariants as feed_ends
 use Rattle.mcap_model.specs.Places.{At, EachBehind}
 use Rattle.mcap_model.specs.Tops.{Top, top_bytes, spelled, opcode, declared_length, is_whole, first_top}
 use Rattle.mcap_model.specs.Rules.{HasDataEnd}
-use Rattle.recorder.specs.Feed.{FitsBehind, AreGood, IsBuilt, declarations, is_unbuilt, has_opcode, Reads, ReadsTo, IsLater, IsBroken, Stops, FeedRead}
+use Rattle.recorder.specs.Feed.{FitsBehind, AreGood, IsBuilt, declarations, is_not_built, has_opcode, Reads, ReadsTo, IsNotBuilt, IsBroken, ComesTo, FeedRead}
 use Rattle.recorder.specs.Laws.{FeedsHaveOneEnd}
 use Rattle.recorder.specs.Lane.{top_of}
 use Rattle.mcap_model.proofs.Places.{each_at}
@@ -25,7 +25,7 @@ abbrev pub IsShort : Top → Type 0
 IsShort t = length t.content < 2 ^ 64
 
 -- a record that is recorded ends near enough to the front
-short_there : (count at op len : ℕ) → is_unbuilt count at op len ≡ false → len < 2 ^ 64
+short_there : (count at op len : ℕ) → is_not_built count at op len ≡ false → len < 2 ^ 64
 short_there count at op len built = let near = near_front count at op len built in omega arith
 
 all_short : (tops : List Top) → ((n : ℕ) (t : Top) → At tops n t → IsShort t) → AllByRecursion IsShort tops
@@ -127,20 +127,20 @@ begins rest t behind is short nonzero =
 
 -- what the reading comes to at its rest breaks a rule or isn't recorded yet
 abbrev pub Halts : List Top → List ℕ → ℕ → Type 0
-Halts tops rest at = IsBroken tops rest at ⊎ IsLater tops rest at
+Halts tops rest at = IsBroken tops rest at ⊎ IsNotBuilt tops rest at
 
 -- it doesn't do so at a record that fits behind the others and is recorded
-goes_on : (tops : List Top) (rest : List ℕ) (at : ℕ) (t : Top) → Begins rest t → is_unbuilt (declarations tops) at t.op (length t.content) ≡ false → FitsBehind tops t → Halts tops rest at → ⊥
+goes_on : (tops : List Top) (rest : List ℕ) (at : ℕ) (t : Top) → Begins rest t → is_not_built (declarations tops) at t.op (length t.content) ≡ false → FitsBehind tops t → Halts tops rest at → ⊥
 goes_on tops rest at t front built fits halts =
     let count = declarations tops in
-    let built_there : is_unbuilt count at (opcode rest) (declared_length rest) ≡ false =
-    ap (λ (o : ℕ). is_unbuilt count at o (declared_length rest)) front.op_is ∙ ap (λ (n : ℕ). is_unbuilt count at t.op n) front.len_is ∙ built in
+    let built_there : is_not_built count at (opcode rest) (declared_length rest) ≡ false =
+    ap (λ (o : ℕ). is_not_built count at o (declared_length rest)) front.op_is ∙ ap (λ (n : ℕ). is_not_built count at t.op n) front.len_is ∙ built in
     let fits_there : FitsBehind tops (first_top rest) = subst (λ (x : Top). FitsBehind tops x) (sym front.first) fits in
     elim halts [
       | inl (inl headless) ↦ both_ways (has_opcode rest) headless front.head
       | inl (inr (there, recorded, inl cut)) ↦ both_ways (is_whole rest) cut front.whole
       | inl (inr (there, recorded, inr (whole, bad))) ↦ bad fits_there
-      | inr later ↦ both_ways (is_unbuilt count at (opcode rest) (declared_length rest)) built_there later.unbuilt
+      | inr later ↦ both_ways (is_not_built count at (opcode rest) (declared_length rest)) built_there later.not_built
     ]
 
 -- so a reading that halts isn't followed by one with more records
@@ -194,30 +194,30 @@ ended_same bytes xs ys r s one one_ended other other_ended =
 -- ---- ends
 
 -- of Done, Grammar and NotBuilt no two stand together
-grammar_not_done : (bytes : List ℕ) (tops others : List Top) (n : ℕ) → Stops bytes tops feed_ends.Done → Stops bytes others (feed_ends.Grammar n) → ⊥
+grammar_not_done : (bytes : List ℕ) (tops others : List Top) (n : ℕ) → ComesTo bytes tops feed_ends.Done → ComesTo bytes others (feed_ends.Grammar n) → ⊥
 grammar_not_done bytes tops others n done (inl (front, none, no_magic)) = no_magic (spelled tops ++ done.0) done.1.split
 grammar_not_done bytes tops others n done (inr (rest, so_far, broken)) =
     ended_not_halted bytes tops others done.0 rest n done.1 done.2 so_far (inl broken)
 
-not_built_not_done : (bytes : List ℕ) (tops others : List Top) (n : ℕ) → Stops bytes tops feed_ends.Done → Stops bytes others (feed_ends.NotBuilt n) → ⊥
+not_built_not_done : (bytes : List ℕ) (tops others : List Top) (n : ℕ) → ComesTo bytes tops feed_ends.Done → ComesTo bytes others (feed_ends.NotBuilt n) → ⊥
 not_built_not_done bytes tops others n done later =
     ended_not_halted bytes tops others done.0 later.0 n done.1 done.2 later.1 (inr later.2)
 
 -- a rest at which a rule is broken doesn't begin with a record that isn't recorded yet
-broken_not_later : (tops : List Top) (rest : List ℕ) (at : ℕ) → IsBroken tops rest at → IsLater tops rest at → ⊥
+broken_not_later : (tops : List Top) (rest : List ℕ) (at : ℕ) → IsBroken tops rest at → IsNotBuilt tops rest at → ⊥
 broken_not_later tops rest at (inl headless) later = both_ways (has_opcode rest) headless later.head
-broken_not_later tops rest at (inr broken) later = both_ways (is_unbuilt (declarations tops) at (opcode rest) (declared_length rest)) broken.1 later.unbuilt
+broken_not_later tops rest at (inr broken) later = both_ways (is_not_built (declarations tops) at (opcode rest) (declared_length rest)) broken.1 later.not_built
 
-later_at : (tops others : List Top) (rest other : List ℕ) (at place : ℕ) → tops ≡ others → rest ≡ other → at ≡ place → IsLater others other place → IsLater tops rest at
+later_at : (tops others : List Top) (rest other : List ℕ) (at place : ℕ) → tops ≡ others → rest ≡ other → at ≡ place → IsNotBuilt others other place → IsNotBuilt tops rest at
 later_at tops others rest other at place same_tops same_rest same_place later = record {
   head = ap has_opcode same_rest ∙ later.head;
-  unbuilt = ap (λ (l : List Top). is_unbuilt (declarations l) at (opcode rest) (declared_length rest)) same_tops
-      ∙ ap (λ (n : ℕ). is_unbuilt (declarations others) n (opcode rest) (declared_length rest)) same_place
-      ∙ ap (λ (l : List ℕ). is_unbuilt (declarations others) place (opcode l) (declared_length l)) same_rest
-      ∙ later.unbuilt;
+  not_built = ap (λ (l : List Top). is_not_built (declarations l) at (opcode rest) (declared_length rest)) same_tops
+      ∙ ap (λ (n : ℕ). is_not_built (declarations others) n (opcode rest) (declared_length rest)) same_place
+      ∙ ap (λ (l : List ℕ). is_not_built (declarations others) place (opcode l) (declared_length l)) same_rest
+      ∙ later.not_built;
 }
 
-grammar_not_built : (bytes : List ℕ) (tops others : List Top) (n m : ℕ) → Stops bytes tops (feed_ends.Grammar n) → Stops bytes others (feed_ends.NotBuilt m) → ⊥
+grammar_not_built : (bytes : List ℕ) (tops others : List Top) (n m : ℕ) → ComesTo bytes tops (feed_ends.Grammar n) → ComesTo bytes others (feed_ends.NotBuilt m) → ⊥
 grammar_not_built bytes tops others n m (inl (front, none, no_magic)) later = no_magic (spelled others ++ later.0) later.1.reads.split
 grammar_not_built bytes tops others n m (inr (rest, so_far, broken)) later =
     let same = one_halt bytes tops others rest later.0 n m so_far (inl broken) later.1 (inr later.2) in
@@ -227,7 +227,7 @@ grammar_not_built bytes tops others n m (inr (rest, so_far, broken)) later =
 abbrev Same : List Top → List Top → ℕ → ℕ → Type 0
 Same tops others n m = (tops ≡ others) × (n ≡ m)
 
-grammar_once : (bytes : List ℕ) (tops others : List Top) (n m : ℕ) → Stops bytes tops (feed_ends.Grammar n) → Stops bytes others (feed_ends.Grammar m) → Same tops others n m
+grammar_once : (bytes : List ℕ) (tops others : List Top) (n m : ℕ) → ComesTo bytes tops (feed_ends.Grammar n) → ComesTo bytes others (feed_ends.Grammar m) → Same tops others n m
 grammar_once bytes tops others n m (inl (front, none, no_magic)) (inl (other_front, other_none, other_no_magic)) = (none ∙ sym other_none, front ∙ sym other_front)
 grammar_once bytes tops others n m (inl (front, none, no_magic)) (inr (rest, so_far, broken)) = absurd (no_magic (spelled others ++ rest) so_far.reads.split)
 grammar_once bytes tops others n m (inr (rest, so_far, broken)) (inl (front, none, no_magic)) = absurd (no_magic (spelled tops ++ rest) so_far.reads.split)
@@ -235,7 +235,7 @@ grammar_once bytes tops others n m (inr (rest, so_far, broken)) (inr (other_rest
     let same = one_halt bytes tops others rest other_rest n m so_far (inl broken) other_so_far (inl other_broken) in
     (same.0, same.2)
 
-not_built_once : (bytes : List ℕ) (tops others : List Top) (n m : ℕ) → Stops bytes tops (feed_ends.NotBuilt n) → Stops bytes others (feed_ends.NotBuilt m) → Same tops others n m
+not_built_once : (bytes : List ℕ) (tops others : List Top) (n m : ℕ) → ComesTo bytes tops (feed_ends.NotBuilt n) → ComesTo bytes others (feed_ends.NotBuilt m) → Same tops others n m
 not_built_once bytes tops others n m one other =
     let same = one_halt bytes tops others one.0 other.0 n m one.1 (inr one.2) other.1 (inr other.2) in
     (same.0, same.2)
@@ -267,7 +267,7 @@ IsDecided (feed_ends.NotBuilt n) = Unit {0}
 IsDecided end = ⊥
 
 -- such an end of a reading is that of the feed
-pub stops_of : (bytes : List ℕ) (tops : List Top) (left : Option (List ℕ)) (end : FeedEnd) → FeedRead bytes tops left end → IsDecided end → Stops bytes tops end
+pub stops_of : (bytes : List ℕ) (tops : List Top) (left : Option (List ℕ)) (end : FeedEnd) → FeedRead bytes tops left end → IsDecided end → ComesTo bytes tops end
 stops_of bytes tops left feed_ends.Done read decided = (read.0, read.1, read.2)
 stops_of bytes tops left (feed_ends.Grammar n) (inl read) decided = inl (read.0, read.1, read.2)
 stops_of bytes tops left (feed_ends.Grammar n) (inr read) decided = inr (read.0, read.1, read.2)
@@ -277,7 +277,7 @@ stops_of bytes tops left feed_ends.Memory read decided = absurd decided
 stops_of bytes tops left feed_ends.Ended read decided = absurd decided
 
 -- a good feed ends well, or by a fault, for want of memory, or since its writer stopped
-pub good_read : (bytes : List ℕ) (tops others : List Top) (left : Option (List ℕ)) (end : FeedEnd) → Stops bytes tops feed_ends.Done → FeedRead bytes others left end → (end ≡ feed_ends.Done) ⊎ ((end ≡ feed_ends.Memory) ⊎ ((end ≡ feed_ends.Ended) ⊎ ((faults : ℕ) × (end ≡ feed_ends.Fault faults))))
+pub good_read : (bytes : List ℕ) (tops others : List Top) (left : Option (List ℕ)) (end : FeedEnd) → ComesTo bytes tops feed_ends.Done → FeedRead bytes others left end → (end ≡ feed_ends.Done) ⊎ ((end ≡ feed_ends.Memory) ⊎ ((end ≡ feed_ends.Ended) ⊎ ((faults : ℕ) × (end ≡ feed_ends.Fault faults))))
 good_read bytes tops others left feed_ends.Done good read = inl refl
 good_read bytes tops others left (feed_ends.Grammar n) good read = absurd (grammar_not_done bytes tops others n good (stops_of bytes others left (feed_ends.Grammar n) read tt))
 good_read bytes tops others left (feed_ends.NotBuilt n) good read = absurd (not_built_not_done bytes tops others n good (stops_of bytes others left (feed_ends.NotBuilt n) read tt))

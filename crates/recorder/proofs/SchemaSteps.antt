@@ -21,9 +21,9 @@ use Rattle.recorder.specs.declared.lane.Lane.{Lane}
 use Rattle.mcap_model.specs.Places.{At}
 use Rattle.mcap_model.specs.Tops.{Top}
 use Rattle.mcap_model.specs.Fields.{SchemaFields, IsSchema}
-use Rattle.recorder.specs.Feed.{SchemaFits}
+use Rattle.recorder.specs.Feed.{declaration_limit, other_content_limit, SchemaFits}
 use Rattle.recorder.specs.Channels.{schema_fields, SchemaFieldsFit, SourceSchemaShows, SchemasOf, given_schemas, SchemasGiven, SchemaGiven, IsGivenId, GivenBy}
-use Rattle.recorder.specs.Lane.{Stands, LaneStands}
+use Rattle.recorder.specs.Lane.{feed_lists, feed_tables, FitsFeed, LaneStands}
 use Rattle.mcap_model.proofs.Maps.{schema_once}
 use Rattle.mcap_model.proofs.Places.{at_within, at_kept, at_last, at_more, pairs_more}
 use Rattle.recorder.proofs.Steps.{schema_shows_more, messages_same, declarations_schema, declarations_grow, more_tops, given_more, channels_more}
@@ -152,7 +152,7 @@ no_channel t s shows is = let kind : t.op ≡ 3 = shows.kind in omega arith
 no_message : (t : Top) (s : SourceSchema) → ShowsSchemaEntry t s → t.op ≡ 5 → ⊥
 no_message t s shows is = let kind : t.op ≡ 3 = shows.kind in omega arith
 
-schema_stands_again : (tops : List Top) (t : Top) (schemas : List SourceSchema) (channels : List SourceChannel) (handled bound : ℕ) (accepted : List Accepted) (declared : List DeclaredAt) (refused : List Refused) (history : List Rec) (k : ℕ) (s : SourceSchema) → Stands tops schemas channels handled bound accepted declared refused history → At schemas k s → ShowsSchemaEntry t s → Stands (tops ++ t ∷ []) schemas channels handled bound accepted declared refused history
+schema_stands_again : (tops : List Top) (t : Top) (schemas : List SourceSchema) (channels : List SourceChannel) (handled bound : ℕ) (accepted : List Accepted) (declared : List DeclaredAt) (refused : List Refused) (history : List Rec) (k : ℕ) (s : SourceSchema) → FitsFeed tops (feed_tables schemas channels) handled bound (feed_lists accepted declared refused) history → At schemas k s → ShowsSchemaEntry t s → FitsFeed (tops ++ t ∷ []) (feed_tables schemas channels) handled bound (feed_lists accepted declared refused) history
 schema_stands_again tops t schemas channels handled bound accepted declared refused history k s was at shows = record {
   schemas_of = schema_again tops t schemas k s was.schemas_of at shows;
   schemas_given = was.schemas_given;
@@ -162,7 +162,7 @@ schema_stands_again tops t schemas channels handled bound accepted declared refu
   declared_below = was.declared_below;
 }
 
-schema_stands_new : (tops : List Top) (t : Top) (schemas : List SourceSchema) (channels : List SourceChannel) (handled bound : ℕ) (accepted : List Accepted) (declared : List DeclaredAt) (refused : List Refused) (history : List Rec) (s : SourceSchema) → Stands tops schemas channels handled bound accepted declared refused history → IsSchemaEntry t s → LacksSchema schemas s.id → Stands (tops ++ t ∷ []) (schemas ++ s ∷ []) channels handled bound accepted declared refused history
+schema_stands_new : (tops : List Top) (t : Top) (schemas : List SourceSchema) (channels : List SourceChannel) (handled bound : ℕ) (accepted : List Accepted) (declared : List DeclaredAt) (refused : List Refused) (history : List Rec) (s : SourceSchema) → FitsFeed tops (feed_tables schemas channels) handled bound (feed_lists accepted declared refused) history → IsSchemaEntry t s → LacksSchema schemas s.id → FitsFeed (tops ++ t ∷ []) (feed_tables (schemas ++ s ∷ []) channels) handled bound (feed_lists accepted declared refused) history
 schema_stands_new tops t schemas channels handled bound accepted declared refused history s was entry lacks = record {
   schemas_of = schema_new tops t schemas s was.schemas_of entry lacks;
   schemas_given = schemas_given_new history schemas s was.schemas_given entry.fresh;
@@ -194,9 +194,9 @@ schema_fits_new tops t schemas s was shows lacks = record {
 }
 
 -- a Schema of the id 0 may not
-pub unfit_zero : (tops : List Top) (t : Top) (id : ℕ) (name encoding payload : List ℕ) → ShowsSchema t.content id name encoding payload → id ≡ 0 → SchemaFits tops t → ⊥
-unfit_zero tops t id name encoding payload shows none fits =
-    let same = shows_decided schema_kinds t.content (schema_values id name encoding payload) (schema_values fits.id fits.shown.name fits.shown.encoding fits.shown.payload) shows fits.is.layout in
+pub unfit_zero : (tops : List Top) (t : Top) (id : ℕ) (f : SchemaFields) → ShowsSchema t.content id f → id ≡ 0 → SchemaFits tops t → ⊥
+unfit_zero tops t id f shows none fits =
+    let same = shows_decided schema_kinds t.content (schema_values id f) (schema_values fits.id fits.shown) shows fits.is.layout in
     fits.is.some (cc (same, none))
 
 -- nor one with other fields than an earlier one of its id
@@ -208,7 +208,7 @@ unfit_schema_fields tops t schemas k s shown was at is other fits =
     other (fits.same h.place h.top (schema_fields s) h.at first ∙ sym once.1)
 
 -- a content that shows a Schema is as long as its fields at least
-schema_shown_fits : (t : Top) (id : ℕ) (shown : SchemaFields) → IsSchema t id shown → length t.content ≤ 500000 → SchemaFieldsFit shown
+schema_shown_fits : (t : Top) (id : ℕ) (shown : SchemaFields) → IsSchema t id shown → length t.content ≤ other_content_limit → SchemaFieldsFit shown
 schema_shown_fits t id shown is small =
     let rest = is.layout.0 in
     let a = length-append (le 2 id) (string shown.name ++ (string shown.encoding ++ (prefixed 4 shown.payload ++ rest))) in
@@ -223,7 +223,7 @@ schema_shown_fits t id shown is small =
     omega arith
 
 -- the entry for a record that was parsed
-pub schema_entry : (t : Top) (s : SourceSchema) → ShowsSchemaEntry t s → s.given ≡ 0 → length t.content ≤ 500000 → IsSchemaEntry t s
+pub schema_entry : (t : Top) (s : SourceSchema) → ShowsSchemaEntry t s → s.given ≡ 0 → length t.content ≤ other_content_limit → IsSchemaEntry t s
 schema_entry t s shows fresh small = record {
   shows = shows;
   fit = schema_shown_fits t s.id (schema_fields s) shows small;
@@ -232,7 +232,7 @@ schema_entry t s shows fresh small = record {
 
 -- ---- the lane
 
-pub lane_schema_again : (lane : Lane) (tops : List Top) (t : Top) (history : List Rec) (k : ℕ) (s : SourceSchema) → LaneStands lane tops history → lane.declarations < 1000 → At lane.schemas.items k s → ShowsSchemaEntry t s → LaneStands (record lane { declarations = lane.declarations + 1 }) (tops ++ t ∷ []) history
+pub lane_schema_again : (lane : Lane) (tops : List Top) (t : Top) (history : List Rec) (k : ℕ) (s : SourceSchema) → LaneStands lane tops history → lane.declarations < declaration_limit → At lane.schemas.items k s → ShowsSchemaEntry t s → LaneStands (record lane { declarations = lane.declarations + 1 }) (tops ++ t ∷ []) history
 lane_schema_again lane tops t history k s was few at shows = record {
   stands = schema_stands_again tops t lane.schemas.items lane.channels.items lane.handled lane.handled lane.accepted.items lane.declared.items lane.refused.items history k s was.stands at shows;
   causes = was.causes;
@@ -245,9 +245,9 @@ lane_schema_again lane tops t history k s was few at shows = record {
   limit = omega arith;
 }
 
-pub lane_schema_new : (lane : Lane) (schemas : Vec SourceSchema Global) (tops : List Top) (t : Top) (history : List Rec) (s : SourceSchema) → LaneStands lane tops history → lane.declarations < 1000 → schemas.items ≡ lane.schemas.items ++ s ∷ [] → IsSchemaEntry t s → LacksSchema lane.schemas.items s.id → LaneStands (record lane { schemas = schemas; declarations = lane.declarations + 1 }) (tops ++ t ∷ []) history
+pub lane_schema_new : (lane : Lane) (schemas : Vec SourceSchema Global) (tops : List Top) (t : Top) (history : List Rec) (s : SourceSchema) → LaneStands lane tops history → lane.declarations < declaration_limit → schemas.items ≡ lane.schemas.items ++ s ∷ [] → IsSchemaEntry t s → LacksSchema lane.schemas.items s.id → LaneStands (record lane { schemas = schemas; declarations = lane.declarations + 1 }) (tops ++ t ∷ []) history
 lane_schema_new lane schemas tops t history s was few longer entry lacks = record {
-  stands = subst (λ (l : List SourceSchema). Stands (tops ++ t ∷ []) l lane.channels.items lane.handled lane.handled lane.accepted.items lane.declared.items lane.refused.items history) (sym longer)
+  stands = subst (λ (l : List SourceSchema). FitsFeed (tops ++ t ∷ []) (feed_tables l lane.channels.items) lane.handled lane.handled (feed_lists lane.accepted.items lane.declared.items lane.refused.items) history) (sym longer)
       (schema_stands_new tops t lane.schemas.items lane.channels.items lane.handled lane.handled lane.accepted.items lane.declared.items lane.refused.items history s was.stands entry lacks);
   causes = was.causes;
   records = was.records;

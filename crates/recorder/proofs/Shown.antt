@@ -10,9 +10,10 @@ use Rattle.recorder.specs.Feed.{FitsBehind, AreGood}
 use Rattle.mcap_model.specs.History.{schema_of, is_schema, schema_count, Follows, Numbered}
 use Rattle.mcap_model.specs.Written.{SourceShows}
 use Rattle.recorder.specs.Channels.{SourceSchemaShows}
-use Rattle.mcap_model.proofs.Maps.{schema_once, shows_once, same_refl, same_sym}
+use Rattle.mcap_model.proofs.Maps.{schema_once, shows_once}
 use Rattle.mcap_model.proofs.Places.{at_none, at_one}
 use Rattle.recorder.proofs.StepsTable.{filter_before}
+use Rattle.mcap_model.proofs.Copies.{channel_refl, channel_sym}
 
 pub at_take : {X : Type 0} (xs : List X) (n m : ℕ) (x : X) → At xs n x → n < m → At (take m xs) n x
 at_take [] n m x at lt = absurd (at_none n x at)
@@ -45,14 +46,14 @@ shows_same_here : (tops : List Top) (channel : ℕ) (f g : ChannelFields) → (o
 shows_same_here tops channel f g one other here =
     let top : one.top ≡ other.top = at_one tops other.place one.top other.top (subst (λ (n : ℕ). At tops n one.top) here one.at) other.at in
     let same = shows_once other.top channel channel f g (subst (λ (t : Top). IsChannel t channel f) top one.is) other.is in
-    subst (λ (h : ChannelFields). SameChannel f h) same.1 (same_refl f)
+    subst (λ (h : ChannelFields). SameChannel f h) same.1 (channel_refl f)
 
 pub shows_same : (tops : List Top) (channel : ℕ) (f g : ChannelFields) → AreGood tops → SourceShows tops channel f → SourceShows tops channel g → SameChannel f g
 shows_same tops channel f g good one other = elim (cases_lt one.place other.place) [
   | inl below ↦ shows_same_below tops channel f g good one other below
   | inr not_below ↦ elim (cases_eq one.place other.place) [
     | inl here ↦ shows_same_here tops channel f g one other here
-    | inr apart ↦ same_sym g f (shows_same_below tops channel g f good other one (omega (arith, not_below, apart)))
+    | inr apart ↦ channel_sym g f (shows_same_below tops channel g f good other one (omega (arith, not_below, apart)))
   ]
 ]
 

@@ -18,7 +18,7 @@ use Rattle.mcap_model.specs.History.{message_of}
 use Rattle.mcap_model.specs.Written.{SourceShows, SameSchema, SchemaIs, IsWrittenAs}
 use Rattle.recorder.specs.Assembled.{messages, IsOn, Added, Declares, Accepts, Assembled}
 use Rattle.recorder.specs.Channels.{schema_fields, SourceSchemaShows, SchemasOf, ChannelsOf, IsGivenId, GivenBy}
-use Rattle.recorder.specs.Lane.{Stands}
+use Rattle.recorder.specs.Lane.{feed_tables, feed_lists, FitsFeed}
 use Rattle.mcap_model.proofs.Maps.{message_once}
 use Rattle.mcap_model.proofs.Places.{at_within, at_one, at_kept, at_more}
 
@@ -273,7 +273,7 @@ channels_more tops t channels was other = record {
   few = omega (arith, was.few, declarations_grow tops t);
 }
 
-pub stands_more : (tops : List Top) (t : Top) (schemas : List SourceSchema) (channels : List SourceChannel) (handled bound : ℕ) (accepted : List Accepted) (declared : List DeclaredAt) (refused : List Refused) (history : List Rec) → Stands tops schemas channels handled bound accepted declared refused history → (t.op ≡ 3 → ⊥) → (t.op ≡ 4 → ⊥) → Stands (tops ++ t ∷ []) schemas channels handled bound accepted declared refused history
+pub stands_more : (tops : List Top) (t : Top) (schemas : List SourceSchema) (channels : List SourceChannel) (handled bound : ℕ) (accepted : List Accepted) (declared : List DeclaredAt) (refused : List Refused) (history : List Rec) → FitsFeed tops (feed_tables schemas channels) handled bound (feed_lists accepted declared refused) history → (t.op ≡ 3 → ⊥) → (t.op ≡ 4 → ⊥) → FitsFeed (tops ++ t ∷ []) (feed_tables schemas channels) handled bound (feed_lists accepted declared refused) history
 stands_more tops t schemas channels handled bound accepted declared refused history was no_schema no_channel = record {
   schemas_of = schemas_more tops t schemas was.schemas_of no_schema;
   schemas_given = was.schemas_given;

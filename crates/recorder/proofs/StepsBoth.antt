@@ -16,7 +16,7 @@ use Rattle.mcap_model.specs.History.{schema_of, channel_of, is_schema, schema_co
 use Rattle.mcap_model.specs.Written.{SameSchema}
 use Rattle.recorder.specs.Assembled.{IsOn}
 use Rattle.recorder.specs.Channels.{schema_fields, written_of, SchemasGiven, FindsSameSchema}
-use Rattle.recorder.specs.Lane.{Stands}
+use Rattle.recorder.specs.Lane.{feed_tables, feed_lists, FitsFeed}
 use Rattle.mcap_model.proofs.Maps.{schema_one}
 use Rattle.mcap_model.proofs.Places.{at_within, at_kept, at_last, at_more, each_more, at_set_same}
 use Rattle.recorder.proofs.Steps.{filter_out}
@@ -45,7 +45,7 @@ schema_is_new schemas history f given numbered lacks n other at =
     let by = given.written n other f at in
     lacks by.0 by.1 by.2 (λ none. schema_id_some history n other f numbered at (sym by.3 ∙ none)) by.4
 
-module _ (tops : List Top) (schemas : List SourceSchema) (channels : List SourceChannel) (handled : ℕ) (accepted : List Accepted) (declared : List DeclaredAt) (refused : List Refused) (history : List Rec) (k : ℕ) (e : SourceChannel) (s : ℕ) (x : SourceSchema) (id w : ℕ) (was : Stands tops schemas channels handled handled accepted declared refused history) (at : At channels k e) (none : e.given ≡ 0) (on : IsOn tops handled e.id) (at_schema : At schemas s x) (source : x.id ≡ e.schema_id) (no_id : x.given ≡ 0) (lacks : FindsSameSchema schemas (schema_fields x) None) (next_schema : w ≡ schema_count history + 1) (next : id ≡ channel_count history + 1) where
+module _ (tops : List Top) (schemas : List SourceSchema) (channels : List SourceChannel) (handled : ℕ) (accepted : List Accepted) (declared : List DeclaredAt) (refused : List Refused) (history : List Rec) (k : ℕ) (e : SourceChannel) (s : ℕ) (x : SourceSchema) (id w : ℕ) (was : FitsFeed tops (feed_tables schemas channels) handled handled (feed_lists accepted declared refused) history) (at : At channels k e) (none : e.given ≡ 0) (on : IsOn tops handled e.id) (at_schema : At schemas s x) (source : x.id ≡ e.schema_id) (no_id : x.given ≡ 0) (lacks : FindsSameSchema schemas (schema_fields x) None) (next_schema : w ≡ schema_count history + 1) (next : id ≡ channel_count history + 1) where
   abbrev schema : Rec
   schema = schema_of w (schema_fields x)
 
@@ -165,5 +165,5 @@ module _ (tops : List Top) (schemas : List SourceSchema) (channels : List Source
   }
 
   -- its schema has no id, and its fields are new to the history, which gets a Schema and a Channel of new ids
-  pub declared_both : Stands tops later (set channels k (given_id e id w)) handled (handled + 1) accepted (declared ++ declared_at handled id (length history) 2 ∷ []) refused grown
+  pub declared_both : FitsFeed tops (feed_tables later (set channels k (given_id e id w))) handled (handled + 1) (feed_lists accepted (declared ++ declared_at handled id (length history) 2 ∷ []) refused) grown
   declared_both = declared_then tops schemas later channels handled accepted declared refused history (schema ∷ channel ∷ []) k e id w 2 was newly

@@ -15,7 +15,7 @@ use Rattle.mcap_model.specs.History.{schema_of, channel_of, is_channel, channel_
 use Rattle.mcap_model.specs.Written.{SchemaIs}
 use Rattle.recorder.specs.Assembled.{IsOn, Added, Declares, IsGiven, Assembled}
 use Rattle.recorder.specs.Channels.{written_of, SchemasOf, SchemasGiven, ChannelsOf, SchemaGiven, IsGivenId, given_count, GivenBy, FindsSame}
-use Rattle.recorder.specs.Lane.{Stands}
+use Rattle.recorder.specs.Lane.{feed_tables, feed_lists, FitsFeed}
 use Rattle.mcap_model.proofs.Maps.{fields_one, same_is}
 use Rattle.mcap_model.proofs.Places.{at_within, at_one, at_kept, at_last, at_more, has_last, each_more, pairs_more, at_set_same, at_set_other, at_set}
 use Rattle.recorder.proofs.Steps.{filter_in, on_one, accepted_within}
@@ -47,7 +47,7 @@ pub record NewlyDeclared (tops : List Top) (schemas later : List SourceSchema) (
   pub only : (n other : ℕ) (f : ChannelFields) → At (history ++ more) n (channel_of other f) → At history n (channel_of other f) ⊎ ((other ≡ id) × (f ≡ written_of e w))
   pub counted : channel_count (history ++ more) ≤ channel_count history + 1
 
-module _ (tops : List Top) (schemas later : List SourceSchema) (channels : List SourceChannel) (handled : ℕ) (accepted : List Accepted) (declared : List DeclaredAt) (refused : List Refused) (history more : List Rec) (k : ℕ) (e : SourceChannel) (id w count : ℕ) (was : Stands tops schemas channels handled handled accepted declared refused history) (new : NewlyDeclared tops schemas later channels handled declared history more k e id w count) where
+module _ (tops : List Top) (schemas later : List SourceSchema) (channels : List SourceChannel) (handled : ℕ) (accepted : List Accepted) (declared : List DeclaredAt) (refused : List Refused) (history more : List Rec) (k : ℕ) (e : SourceChannel) (id w count : ℕ) (was : FitsFeed tops (feed_tables schemas channels) handled handled (feed_lists accepted declared refused) history) (new : NewlyDeclared tops schemas later channels handled declared history more k e id w count) where
   abbrev d : DeclaredAt
   d = declared_at handled id (length history) count
 
@@ -198,7 +198,7 @@ module _ (tops : List Top) (schemas later : List SourceSchema) (channels : List 
     apart = was.lists.apart;
   }
 
-  pub declared_then : Stands tops later table handled (handled + 1) accepted (declared ++ d ∷ []) refused (history ++ more)
+  pub declared_then : FitsFeed tops (feed_tables later table) handled (handled + 1) (feed_lists accepted (declared ++ d ∷ []) refused) (history ++ more)
   declared_then = record {
     schemas_of = new.schemas_of;
     schemas_given = new.schemas_given;
@@ -212,7 +212,7 @@ module _ (tops : List Top) (schemas later : List SourceSchema) (channels : List 
   }
 
 -- a channel with the same fields was given this id
-pub declared_known : (tops : List Top) (schemas : List SourceSchema) (channels : List SourceChannel) (handled : ℕ) (accepted : List Accepted) (declared : List DeclaredAt) (refused : List Refused) (history : List Rec) (k : ℕ) (e : SourceChannel) (id w : ℕ) → Stands tops schemas channels handled handled accepted declared refused history → At channels k e → e.given ≡ 0 → IsOn tops handled e.id → SchemaGiven schemas e w → FindsSame channels (written_of e w) (Some id) → Stands tops schemas (set channels k (given_id e id w)) handled (handled + 1) accepted (declared ++ declared_at handled id (length history) 0 ∷ []) refused history
+pub declared_known : (tops : List Top) (schemas : List SourceSchema) (channels : List SourceChannel) (handled : ℕ) (accepted : List Accepted) (declared : List DeclaredAt) (refused : List Refused) (history : List Rec) (k : ℕ) (e : SourceChannel) (id w : ℕ) → FitsFeed tops (feed_tables schemas channels) handled handled (feed_lists accepted declared refused) history → At channels k e → e.given ≡ 0 → IsOn tops handled e.id → SchemaGiven schemas e w → FindsSame channels (written_of e w) (Some id) → FitsFeed tops (feed_tables schemas (set channels k (given_id e id w))) handled (handled + 1) (feed_lists accepted (declared ++ declared_at handled id (length history) 0 ∷ []) refused) history
 declared_known tops schemas channels handled accepted declared refused history k e id w was at none on schema (j, g, at_g, given, some, same) =
     let known : IsGivenId tops schemas declared history g = was.given_by.known j g at_g (λ no_id. some (sym given ∙ no_id)) in
     let of_id : At history known.place (channel_of id (written_of g g.given_schema)) = subst (λ (i : ℕ). At history known.place (channel_of i (written_of g g.given_schema))) given known.stands in
@@ -237,7 +237,7 @@ declared_known tops schemas channels handled accepted declared refused history k
       only = λ n other f here. inl (subst (λ (l : List Rec). At l n (channel_of other f)) as_it_is here);
       counted = omega arith;
     } in
-    subst (λ (l : List Rec). Stands tops schemas (set channels k (given_id e id w)) handled (handled + 1) accepted (declared ++ declared_at handled id (length history) 0 ∷ []) refused l) as_it_is
+    subst (λ (l : List Rec). FitsFeed tops (feed_tables schemas (set channels k (given_id e id w))) handled (handled + 1) (feed_lists accepted (declared ++ declared_at handled id (length history) 0 ∷ []) refused) l) as_it_is
     (declared_then tops schemas schemas channels handled accepted declared refused history [] k e id w 0 was new)
 
 -- two Channels are one only with one id and the same fields
@@ -258,7 +258,7 @@ has_schema tops history source w (inl none) = inl none.1
 has_schema tops history source w (inr same) = inr (same.there, same.shown, same.stands)
 
 -- its fields are new to the history, which gets a Channel of a new id
-pub declared_new : (tops : List Top) (schemas : List SourceSchema) (channels : List SourceChannel) (handled : ℕ) (accepted : List Accepted) (declared : List DeclaredAt) (refused : List Refused) (history : List Rec) (k : ℕ) (e : SourceChannel) (id w : ℕ) → Stands tops schemas channels handled handled accepted declared refused history → At channels k e → e.given ≡ 0 → IsOn tops handled e.id → SchemaGiven schemas e w → FindsSame channels (written_of e w) None → id ≡ channel_count history + 1 → Stands tops schemas (set channels k (given_id e id w)) handled (handled + 1) accepted (declared ++ declared_at handled id (length history) 1 ∷ []) refused (history ++ channel_of id (written_of e w) ∷ [])
+pub declared_new : (tops : List Top) (schemas : List SourceSchema) (channels : List SourceChannel) (handled : ℕ) (accepted : List Accepted) (declared : List DeclaredAt) (refused : List Refused) (history : List Rec) (k : ℕ) (e : SourceChannel) (id w : ℕ) → FitsFeed tops (feed_tables schemas channels) handled handled (feed_lists accepted declared refused) history → At channels k e → e.given ≡ 0 → IsOn tops handled e.id → SchemaGiven schemas e w → FindsSame channels (written_of e w) None → id ≡ channel_count history + 1 → FitsFeed tops (feed_tables schemas (set channels k (given_id e id w))) handled (handled + 1) (feed_lists accepted (declared ++ declared_at handled id (length history) 1 ∷ []) refused) (history ++ channel_of id (written_of e w) ∷ [])
 declared_new tops schemas channels handled accepted declared refused history k e id w was at none on schema lacks next =
     let channel = channel_of id (written_of e w) in
     let schema_is = schema_is_given tops history schemas e w was.schemas_of was.schemas_given schema in

@@ -12,11 +12,11 @@ use Rattle.recorder.specs.declared.channels.SourceChannel.{SourceChannel}
 use Rattle.mcap_model.specs.Places.{At}
 use Rattle.mcap_model.specs.Tops.{Top}
 use Rattle.mcap_model.specs.Fields.{MessageFields, IsMessage}
-use Rattle.recorder.specs.Feed.{declarations}
+use Rattle.recorder.specs.Feed.{declaration_limit, declarations}
 use Rattle.mcap_model.specs.History.{channel_of, message_of, is_channel, schema_count, channel_count, Follows}
 use Rattle.recorder.specs.Assembled.{messages, Accepts, Assembled}
 use Rattle.recorder.specs.Channels.{written_of, IsGivenId, given_schemas, given_count, GivenBy}
-use Rattle.recorder.specs.Lane.{Stands}
+use Rattle.recorder.specs.Lane.{feed_tables, feed_lists, FitsFeed}
 use Rattle.mcap_model.proofs.Places.{at_within, at_kept, at_last, at_more, each_more, pairs_more}
 use Rattle.recorder.proofs.Steps.{filter_out, accepted_within}
 use Rattle.recorder.proofs.StepsSchemas.{has_schema_given, schemas_given_grown}
@@ -62,7 +62,7 @@ refused_lists tops handled accepted declared refused history r here was some = r
 -- ---- between the steps
 
 -- a later bound does, too
-pub bound_more : (tops : List Top) (schemas : List SourceSchema) (channels : List SourceChannel) (handled bound later : ℕ) (accepted : List Accepted) (declared : List DeclaredAt) (refused : List Refused) (history : List Rec) → Stands tops schemas channels handled bound accepted declared refused history → bound ≤ later → Stands tops schemas channels handled later accepted declared refused history
+pub bound_more : (tops : List Top) (schemas : List SourceSchema) (channels : List SourceChannel) (handled bound later : ℕ) (accepted : List Accepted) (declared : List DeclaredAt) (refused : List Refused) (history : List Rec) → FitsFeed tops (feed_tables schemas channels) handled bound (feed_lists accepted declared refused) history → bound ≤ later → FitsFeed tops (feed_tables schemas channels) handled later (feed_lists accepted declared refused) history
 bound_more tops schemas channels handled bound later accepted declared refused history was le = record {
   schemas_of = was.schemas_of;
   schemas_given = was.schemas_given;
@@ -73,7 +73,7 @@ bound_more tops schemas channels handled bound later accepted declared refused h
 }
 
 -- there is an id left where a channel has none
-pub room_for_id : (tops : List Top) (schemas : List SourceSchema) (channels : List SourceChannel) (handled bound : ℕ) (accepted : List Accepted) (declared : List DeclaredAt) (refused : List Refused) (history : List Rec) (k : ℕ) (e : SourceChannel) → Stands tops schemas channels handled bound accepted declared refused history → At channels k e → e.given ≡ 0 → declarations tops ≤ 1000 → channel_count history < 1000
+pub room_for_id : (tops : List Top) (schemas : List SourceSchema) (channels : List SourceChannel) (handled bound : ℕ) (accepted : List Accepted) (declared : List DeclaredAt) (refused : List Refused) (history : List Rec) (k : ℕ) (e : SourceChannel) → FitsFeed tops (feed_tables schemas channels) handled bound (feed_lists accepted declared refused) history → At channels k e → e.given ≡ 0 → declarations tops ≤ declaration_limit → channel_count history < declaration_limit
 room_for_id tops schemas channels handled bound accepted declared refused history k e was at none few =
     let lacks : given_count channels < length channels = filter_lacks has_given channels k e at (lt-leb 1 e.given (omega arith)) in
     let count = was.given_by.count in
@@ -81,7 +81,7 @@ room_for_id tops schemas channels handled bound accepted declared refused histor
     omega arith
 
 -- the same of a schema
-pub room_for_schema : (tops : List Top) (schemas : List SourceSchema) (channels : List SourceChannel) (handled bound : ℕ) (accepted : List Accepted) (declared : List DeclaredAt) (refused : List Refused) (history : List Rec) (s : ℕ) (x : SourceSchema) → Stands tops schemas channels handled bound accepted declared refused history → At schemas s x → x.given ≡ 0 → declarations tops ≤ 1000 → schema_count history < 1000
+pub room_for_schema : (tops : List Top) (schemas : List SourceSchema) (channels : List SourceChannel) (handled bound : ℕ) (accepted : List Accepted) (declared : List DeclaredAt) (refused : List Refused) (history : List Rec) (s : ℕ) (x : SourceSchema) → FitsFeed tops (feed_tables schemas channels) handled bound (feed_lists accepted declared refused) history → At schemas s x → x.given ≡ 0 → declarations tops ≤ declaration_limit → schema_count history < declaration_limit
 room_for_schema tops schemas channels handled bound accepted declared refused history s x was at none few =
     let lacks : given_schemas schemas < length schemas = filter_lacks has_schema_given schemas s x at (lt-leb 1 x.given (omega arith)) in
     let count = was.schemas_given.count in
@@ -89,7 +89,7 @@ room_for_schema tops schemas channels handled bound accepted declared refused hi
     omega arith
 
 -- the message at hand is refused
-pub refused_one : (tops : List Top) (schemas : List SourceSchema) (channels : List SourceChannel) (handled : ℕ) (accepted : List Accepted) (declared : List DeclaredAt) (refused : List Refused) (history : List Rec) (cause : Cause) → Stands tops schemas channels handled (handled + 1) accepted declared refused history → handled < length (messages tops) → Stands tops schemas channels (handled + 1) (handled + 1) accepted declared (refused ++ refused_at handled cause ∷ []) history
+pub refused_one : (tops : List Top) (schemas : List SourceSchema) (channels : List SourceChannel) (handled : ℕ) (accepted : List Accepted) (declared : List DeclaredAt) (refused : List Refused) (history : List Rec) (cause : Cause) → FitsFeed tops (feed_tables schemas channels) handled (handled + 1) (feed_lists accepted declared refused) history → handled < length (messages tops) → FitsFeed tops (feed_tables schemas channels) (handled + 1) (handled + 1) (feed_lists accepted declared (refused ++ refused_at handled cause ∷ [])) history
 refused_one tops schemas channels handled accepted declared refused history cause was some = record {
   schemas_of = was.schemas_of;
   schemas_given = was.schemas_given;
@@ -177,12 +177,12 @@ message_given tops schemas declared history channels id m was = record {
 }
 
 -- the message at hand is recorded on the id of its channel
-pub accepted_one : (tops : List Top) (schemas : List SourceSchema) (channels : List SourceChannel) (handled : ℕ) (accepted : List Accepted) (declared : List DeclaredAt) (refused : List Refused) (history : List Rec) (k : ℕ) (e : SourceChannel) (id : ℕ) (t : Top) (m : MessageFields) → Stands tops schemas channels handled (handled + 1) accepted declared refused history → At channels k e → e.given ≡ id → (id ≡ 0 → ⊥) → At (messages tops) handled t → IsMessage t e.id m → Stands tops schemas channels (handled + 1) (handled + 1) (accepted ++ accepted_at handled (length history) ∷ []) declared refused (history ++ message_of id m ∷ [])
+pub accepted_one : (tops : List Top) (schemas : List SourceSchema) (channels : List SourceChannel) (handled : ℕ) (accepted : List Accepted) (declared : List DeclaredAt) (refused : List Refused) (history : List Rec) (k : ℕ) (e : SourceChannel) (id : ℕ) (t : Top) (m : MessageFields) → FitsFeed tops (feed_tables schemas channels) handled (handled + 1) (feed_lists accepted declared refused) history → At channels k e → e.given ≡ id → (id ≡ 0 → ⊥) → At (messages tops) handled t → IsMessage t e.id m → FitsFeed tops (feed_tables schemas channels) (handled + 1) (handled + 1) (feed_lists (accepted ++ accepted_at handled (length history) ∷ []) declared refused) (history ++ message_of id m ∷ [])
 accepted_one tops schemas channels handled accepted declared refused history k e id t m was at given some at_hand is =
     let known : IsGivenId tops schemas declared history e = was.given_by.known k e at (λ none. some (sym given ∙ none)) in
     let follows : Follows history (message_of e.given m) = (known.place, written_of e e.given_schema, known.stands) in
     let accepts = message_accepts tops schemas handled declared history e t m at_hand is was.lists.declared_by_now known in
-    subst (λ (i : ℕ). Stands tops schemas channels (handled + 1) (handled + 1) (accepted ++ accepted_at handled (length history) ∷ []) declared refused (history ++ message_of i m ∷ [])) given (record {
+    subst (λ (i : ℕ). FitsFeed tops (feed_tables schemas channels) (handled + 1) (handled + 1) (feed_lists (accepted ++ accepted_at handled (length history) ∷ []) declared refused) (history ++ message_of i m ∷ [])) given (record {
       schemas_of = was.schemas_of;
       schemas_given = schemas_given_grown history (message_of e.given m) schemas refl was.schemas_given;
       channels_of = was.channels_of;

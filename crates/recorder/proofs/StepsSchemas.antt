@@ -14,7 +14,7 @@ use Rattle.mcap_model.specs.Fields.{SchemaFields, IsSchema, ChannelFields}
 use Rattle.mcap_model.specs.History.{schema_of, channel_of, is_schema, schema_count, Follows, Numbered}
 use Rattle.mcap_model.specs.Written.{SchemaIs}
 use Rattle.recorder.specs.Channels.{schema_fields, SchemaFieldsFit, SourceSchemaShows, SchemasOf, given_schemas, SchemasGiven, SchemaGiven, IsGivenId, GivenBy, FindsSameSchema}
-use Rattle.recorder.specs.Lane.{Stands}
+use Rattle.recorder.specs.Lane.{feed_tables, feed_lists, FitsFeed}
 use Rattle.mcap_model.proofs.Places.{at_within, at_one, at_kept, at_more, at_set_same, at_set_other, at_set}
 use Rattle.recorder.proofs.Steps.{filter_out}
 use Rattle.recorder.proofs.StepsTable.{pairs_at, pairs_from, each_set, filter_set, filter_before, at_taken}
@@ -195,7 +195,7 @@ known_given tops schemas channels declared history k s id at_k none was = record
 }
 
 -- a schema with the same fields was given this id
-pub schema_known : (tops : List Top) (schemas : List SourceSchema) (channels : List SourceChannel) (handled bound : ℕ) (accepted : List Accepted) (declared : List DeclaredAt) (refused : List Refused) (history : List Rec) (s : ℕ) (x : SourceSchema) (id : ℕ) → Stands tops schemas channels handled bound accepted declared refused history → At schemas s x → x.given ≡ 0 → FindsSameSchema schemas (schema_fields x) (Some id) → Stands tops (set schemas s (given_schema_id x id)) channels handled bound accepted declared refused history
+pub schema_known : (tops : List Top) (schemas : List SourceSchema) (channels : List SourceChannel) (handled bound : ℕ) (accepted : List Accepted) (declared : List DeclaredAt) (refused : List Refused) (history : List Rec) (s : ℕ) (x : SourceSchema) (id : ℕ) → FitsFeed tops (feed_tables schemas channels) handled bound (feed_lists accepted declared refused) history → At schemas s x → x.given ≡ 0 → FindsSameSchema schemas (schema_fields x) (Some id) → FitsFeed tops (feed_tables (set schemas s (given_schema_id x id)) channels) handled bound (feed_lists accepted declared refused) history
 schema_known tops schemas channels handled bound accepted declared refused history s x id was at none (j, r, at_r, given, some, same) =
     let old = was.schemas_given.known j r at_r (λ no_id. some (sym given ∙ no_id)) in
     let of_id : At history old.0 (schema_of id (schema_fields r)) = subst (λ (i : ℕ). At history old.0 (schema_of i (schema_fields r))) given old.1 in

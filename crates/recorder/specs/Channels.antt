@@ -9,7 +9,7 @@ use Rattle.mcap_model.specs.Places.{At, Has}
 use Rattle.mcap_model.specs.Tops.{Top}
 use Rattle.mcap_model.specs.Fields.{SchemaFields, IsSchema, ChannelFields, SameChannel, IsChannel}
 use Rattle.mcap_model.specs.Rules.{HasSchema}
-use Rattle.recorder.specs.Feed.{declarations}
+use Rattle.recorder.specs.Feed.{declarations, other_content_limit}
 use Rattle.mcap_model.specs.History.{schema_of, schema_count, channel_of, channel_count}
 use Rattle.mcap_model.specs.Written.{SourceShows}
 use Rattle.recorder.specs.Assembled.{IsOn}
@@ -21,7 +21,7 @@ schema_fields s = record { name = s.name; encoding = s.encoding; payload = s.pay
 
 -- the content of a Schema of these fields is no longer than one that is read
 abbrev pub SchemaFieldsFit : SchemaFields → Type 0
-SchemaFieldsFit f = 14 + length f.name + length f.encoding + length f.payload ≤ 500000
+SchemaFieldsFit f = 14 + length f.name + length f.encoding + length f.payload ≤ other_content_limit
 
 -- the feed has a Schema of that id with these fields
 pub record SourceSchemaShows (tops : List Top) (id : ℕ) (shown : SchemaFields) : Type 0 where
@@ -60,7 +60,7 @@ written_of e schema = record { schema = schema; topic = e.topic; encoding = e.me
 
 -- the content of a Channel of these fields is no longer than one that is read
 abbrev pub FieldsFit : ChannelFields → Type 0
-FieldsFit f = 16 + length f.topic + length f.encoding + length (pair_texts f.metadata) ≤ 500000
+FieldsFit f = 16 + length f.topic + length f.encoding + length (pair_texts f.metadata) ≤ other_content_limit
 
 -- these are the channels of the feed so far: each once, its metadata in order
 pub record ChannelsOf (tops : List Top) (channels : List SourceChannel) : Type 0 where

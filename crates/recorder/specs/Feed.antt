@@ -2,7 +2,7 @@
 use Rattle.std.specs.Prelude.{◌≡◌, ◌⊎◌, ℕ, ◌+◌, ◌<◌, ◌≤◌, List, [], ◌∷◌, ◌++◌, length, drop, filter, Bool, true, false, not, ◌&&◌, ◌||◌, ◌==◌, nat_lt, nat_le, if◌then◌else◌, Option, Some}
 use Rattle.std.specs.List.{list_any}
 use Rattle.mcap_wire.specs.Layout.{magic}
-use Rattle.mcap_io.specs.Outside.{Rose}
+use Rattle.mcap_io.specs.Outside.{RisesOnce}
 use Rattle.mcap_model.specs.Places.{At, EachBehind}
 use Rattle.mcap_model.specs.Tops.{Top, spelled, opcode, declared_length, has_head, is_whole, first_top}
 use Rattle.mcap_model.specs.Fields.{IsHeader, IsDataEnd, SchemaFields, IsSchema, ChannelFields, SameChannel, IsChannel, MessageFields, IsMessage}
@@ -47,8 +47,8 @@ AreGood tops = EachBehind FitsBehind tops
 -- ---- what isn't recorded yet
 
 -- chunks, message indexes, attachments, metadata and unknown records
-abbrev pub is_later_kind : ℕ → Bool
-is_later_kind op = list_any (λ kind. kind == op) (6 ∷ 7 ∷ 9 ∷ 12 ∷ []) || nat_le 16 op
+abbrev pub is_not_built_kind : ℕ → Bool
+is_not_built_kind op = list_any (λ kind. kind == op) (6 ∷ 7 ∷ 9 ∷ 12 ∷ []) || nat_le 16 op
 
 -- schemas and channels
 abbrev pub is_declaration : ℕ → Bool
@@ -58,19 +58,35 @@ is_declaration op = (op == 3) || (op == 4)
 abbrev pub declarations : List Top → ℕ
 declarations tops = length (filter (λ t. is_declaration t.op) tops)
 
--- the longest content that is recorded, of a Message and of another record
+-- the longest content of a Message that is recorded
+abbrev pub message_content_limit : ℕ
+message_content_limit = 33554454
+
+-- the longest content of another record that is recorded
+abbrev pub other_content_limit : ℕ
+other_content_limit = 500000
+
+-- the last offset at which a record may end
+abbrev pub offset_limit : ℕ
+offset_limit = 549755813888
+
+-- how many schemas and channels of a feed are read
+abbrev pub declaration_limit : ℕ
+declaration_limit = 1000
+
+-- the longest content of a record of that opcode
 abbrev pub length_limit : ℕ → ℕ
-length_limit op = if op == 5 then 33554454 else 500000
+length_limit op = if op == 5 then message_content_limit else other_content_limit
 
 -- a record of that kind and length, at that offset and behind so many schemas and channels, isn't recorded yet: by its
 -- kind, by its length, behind a thousand others, or since it would end too far from the feed's front
-abbrev pub is_unbuilt : ℕ → ℕ → ℕ → ℕ → Bool
-is_unbuilt declared_before at op len = is_later_kind op || ((is_declaration op && nat_le 1000 declared_before)
-    || (nat_lt (length_limit op) len || nat_lt 549755813888 (at + 9 + len)))
+abbrev pub is_not_built : ℕ → ℕ → ℕ → ℕ → Bool
+is_not_built declared_before at op len = is_not_built_kind op || ((is_declaration op && nat_le declaration_limit declared_before)
+    || (nat_lt (length_limit op) len || nat_lt offset_limit (at + 9 + len)))
 
 -- behind those before it, the first of which stands behind the magic, the record is recorded
 abbrev pub IsBuilt : List Top → Top → Type 0
-IsBuilt before t = is_unbuilt (declarations before) (8 + length (spelled before)) t.op (length t.content) ≡ false
+IsBuilt before t = is_not_built (declarations before) (8 + length (spelled before)) t.op (length t.content) ≡ false
 
 -- ---- what stands at the front of some bytes
 
@@ -97,32 +113,40 @@ pub record ReadsTo (bytes : List ℕ) (tops : List Top) (rest : List ℕ) (at : 
   pub offset : at ≡ 8 + length (spelled tops)
 
 -- a record that isn't recorded yet begins at the rest
-pub record IsLater (tops : List Top) (rest : List ℕ) (at : ℕ) : Type 0 where
+pub record IsNotBuilt (tops : List Top) (rest : List ℕ) (at : ℕ) : Type 0 where
   pub head : has_opcode rest ≡ true
-  pub unbuilt : is_unbuilt (declarations tops) at (opcode rest) (declared_length rest) ≡ true
+  pub not_built : is_not_built (declarations tops) at (opcode rest) (declared_length rest) ≡ true
 
 -- no record begins at the rest; or one begins that is recorded, but is cut off or may not stand behind the others
 abbrev pub IsBroken : List Top → List ℕ → ℕ → Type 0
 IsBroken tops rest at = (has_opcode rest ≡ false)
-    ⊎ ((has_opcode rest ≡ true) × (is_unbuilt (declarations tops) at (opcode rest) (declared_length rest) ≡ false)
+    ⊎ ((has_opcode rest ≡ true) × (is_not_built (declarations tops) at (opcode rest) (declared_length rest) ≡ false)
     × ((is_whole rest ≡ false) ⊎ ((is_whole rest ≡ true) × (FitsBehind tops (first_top rest) → ⊥))))
 
 -- the feed doesn't begin with the magic
 abbrev pub LacksMagic : List ℕ → Type 0
 LacksMagic bytes = (rest : List ℕ) → bytes ≡ magic ++ rest → ⊥
 
--- What a want of memory leaves, behind so many schemas and channels, at that offset: the rest; or what stands behind
--- the head of a record that is recorded, or behind the whole of a schema or a channel.
-abbrev pub MemoryLeaves : ℕ → List ℕ → ℕ → Option (List ℕ) → Type 0
-MemoryLeaves count rest at left = (left ≡ Some rest)
-    ⊎ ((has_opcode rest ≡ true) × (is_unbuilt count at (opcode rest) (declared_length rest) ≡ false)
-    × ((left ≡ Some (drop 9 rest)) ⊎ ((is_declaration (opcode rest) ≡ true) × (is_whole rest ≡ true) × (left ≡ Some (behind_taken rest)))))
-
 -- Behind so many schemas and channels, at that offset: fewer bytes than a head, or a record begins there that is
 -- recorded, but isn't all there.
 abbrev pub IsCutOff : ℕ → List ℕ → ℕ → Type 0
 IsCutOff count part at = (length part < 9)
-    ⊎ ((has_opcode part ≡ true) × (is_unbuilt count at (opcode part) (declared_length part) ≡ false) × (is_whole part ≡ false))
+    ⊎ ((has_opcode part ≡ true) × (is_not_built count at (opcode part) (declared_length part) ≡ false) × (is_whole part ≡ false))
+
+-- no part of a content that is this long or shorter is read where memory lacks for it
+abbrev pub short_content : ℕ
+short_content = 65536
+
+-- a first part of a record's content was lost, and nothing of a short one
+abbrev pub LosesContent : List ℕ → Option (List ℕ) → Type 0
+LosesContent rest left = (n : ℕ) × (n < declared_length rest) × (declared_length rest ≤ short_content → n ≡ 0) × (left ≡ Some (drop (9 + n) rest))
+
+-- What a want of memory leaves, behind so many schemas and channels, at that offset: the rest; or what stands behind
+-- the head of a record that is recorded and a first part of its content, or behind the whole of a schema or a channel.
+abbrev pub MemoryLeaves : ℕ → List ℕ → ℕ → Option (List ℕ) → Type 0
+MemoryLeaves count rest at left = (left ≡ Some rest)
+    ⊎ ((has_opcode rest ≡ true) × (is_not_built count at (opcode rest) (declared_length rest) ≡ false)
+    × (LosesContent rest left ⊎ ((is_declaration (opcode rest) ≡ true) × (is_whole rest ≡ true) × (left ≡ Some (behind_taken rest)))))
 
 -- These are all records that are whole in the bytes which a source gave. Behind them more bytes are awaited: no Data
 -- End is among them, and what stands there is cut off, or the magic itself is.
@@ -141,25 +165,25 @@ abbrev pub FeedRead : List ℕ → List Top → Option (List ℕ) → FeedEnd �
 FeedRead bytes tops left feed_ends.Done = (rest : List ℕ) × Reads bytes tops rest × HasDataEnd tops × (left ≡ Some rest)
 FeedRead bytes tops left (feed_ends.Grammar n) = ((n ≡ 0) × (tops ≡ []) × LacksMagic bytes × (left ≡ Some (drop 8 bytes)))
     ⊎ ((rest : List ℕ) × ReadsTo bytes tops rest n × IsBroken tops rest n × (left ≡ Some (behind_taken rest)))
-FeedRead bytes tops left (feed_ends.NotBuilt n) = (rest : List ℕ) × ReadsTo bytes tops rest n × IsLater tops rest n × (left ≡ Some (drop 9 rest))
+FeedRead bytes tops left (feed_ends.NotBuilt n) = (rest : List ℕ) × ReadsTo bytes tops rest n × IsNotBuilt tops rest n × (left ≡ Some (drop 9 rest))
 FeedRead bytes tops left (feed_ends.Fault faults) = (given rest : List ℕ) × (bytes ≡ given ++ rest) × (left ≡ Some rest) × AllGiven given tops
 FeedRead bytes tops left feed_ends.Memory = ((tops ≡ []) × (left ≡ Some bytes))
     ⊎ ((rest : List ℕ) × (at : ℕ) × ReadsTo bytes tops rest at × MemoryLeaves (declarations tops) rest at left)
 FeedRead bytes tops left feed_ends.Ended = (rest : List ℕ) × Reads bytes tops rest × LastIsMessage tops × (left ≡ Some rest)
 
--- The count of the source's faults stands still but at the end by a fault, which carries it and comes only where it rose.
+-- The count of the source's faults stands still but at the end by a fault, which carries it: there it rose by one.
 abbrev pub FeedCause : ℕ → ℕ → FeedEnd → Type 0
-FeedCause before now (feed_ends.Fault faults) = (before ≤ now) × Rose before now × (faults ≡ now)
+FeedCause before now (feed_ends.Fault faults) = RisesOnce before now × (faults ≡ now)
 FeedCause before now end = now ≡ before
 
 -- ---- the end of a feed
 
 -- these are the records of a feed of these bytes, and its reading comes to this end
-abbrev pub Stops : List ℕ → List Top → FeedEnd → Type 0
-Stops bytes tops feed_ends.Done = (rest : List ℕ) × Reads bytes tops rest × HasDataEnd tops
-Stops bytes tops (feed_ends.Grammar n) = ((n ≡ 0) × (tops ≡ []) × LacksMagic bytes)
+abbrev pub ComesTo : List ℕ → List Top → FeedEnd → Type 0
+ComesTo bytes tops feed_ends.Done = (rest : List ℕ) × Reads bytes tops rest × HasDataEnd tops
+ComesTo bytes tops (feed_ends.Grammar n) = ((n ≡ 0) × (tops ≡ []) × LacksMagic bytes)
     ⊎ ((rest : List ℕ) × ReadsTo bytes tops rest n × IsBroken tops rest n)
-Stops bytes tops (feed_ends.NotBuilt n) = (rest : List ℕ) × ReadsTo bytes tops rest n × IsLater tops rest n
-Stops bytes tops (feed_ends.Fault faults) = ⊥
-Stops bytes tops feed_ends.Memory = ⊥
-Stops bytes tops feed_ends.Ended = ⊥
+ComesTo bytes tops (feed_ends.NotBuilt n) = (rest : List ℕ) × ReadsTo bytes tops rest n × IsNotBuilt tops rest n
+ComesTo bytes tops (feed_ends.Fault faults) = ⊥
+ComesTo bytes tops feed_ends.Memory = ⊥
+ComesTo bytes tops feed_ends.Ended = ⊥

@@ -1,6 +1,6 @@
 -- The file of a plain recording, and what of it was written.
-use Rattle.std.specs.Prelude.{◌≡◌, ◌⊎◌, ℕ, suc, ◌+◌, ◌≤◌, List, [], length, None, Option, Result, Ok, Err}
-use Rattle.mcap_io.specs.Outside.{Rose, Adds, AddsPart}
+use Rattle.std.specs.Prelude.{◌≡◌, ◌⊎◌, ℕ, suc, ◌+◌, ◌≤◌, List, [], length, None, Result, Ok, Err}
+use Rattle.mcap_io.specs.Outside.{LiveState, RisesOnce, Adds, AddsPart}
 use Rattle.rec_data.specs.declared.owned.Rec.{Rec}
 use Rattle.rec_data.specs.declared.owned.Rec.TheVariants.{Schema, Channel, Message}
 use Rattle.mcap_model.specs.declared.options.FileOptions.{FileOptions}
@@ -20,17 +20,21 @@ plain = record { profile = []; chunk = None }
 abbrev pub plain_pieces : List Rec → List (List ℕ)
 plain_pieces history = file_pieces plain [] history
 
+-- how long the front is
+abbrev pub front_length : ℕ
+front_length = 34
+
 -- the back, which is the same for all records
 abbrev pub plain_back : List ℕ
 plain_back = back_of plain [] []
 
 -- What one piece did to a store: all of it stands there, or the store failed and a first part of it does, or memory
--- lacked and nothing changed. The count of faults stands still but where the store failed, by which it rose.
-abbrev pub PieceAdded : Option (List ℕ) → Option (List ℕ) → ℕ → ℕ → List ℕ → Result ℕ Stop → Type 0
-PieceAdded old new before now piece (Ok bytes) = (now ≡ before) × Adds old new piece × (bytes ≡ length piece)
-PieceAdded old new before now piece (Err (stops.Fault faults)) = (before ≤ now) × Rose before now × (faults ≡ now) × AddsPart old new 0 piece
-PieceAdded old new before now piece (Err (stops.Limit blocks bytes)) = ⊥
-PieceAdded old new before now piece (Err stops.Memory) = (now ≡ before) × (new ≡ old)
+-- lacked and nothing changed. The count of faults stands still but where the store failed: there it rose by one.
+abbrev pub PieceAdded : LiveState → LiveState → List ℕ → Result ℕ Stop → Type 0
+PieceAdded before now piece (Ok bytes) = (now.faults ≡ before.faults) × Adds before.held now.held piece × (bytes ≡ length piece)
+PieceAdded before now piece (Err (stops.Fault faults)) = RisesOnce before.faults now.faults × (faults ≡ now.faults) × AddsPart before.held now.held 0 piece
+PieceAdded before now piece (Err (stops.Limit blocks bytes)) = ⊥
+PieceAdded before now piece (Err stops.Memory) = (now.faults ≡ before.faults) × (now.held ≡ before.held)
 
 -- how many records are accepted at once, the first of which is this one: a Schema comes with its Channel
 abbrev pub accepted_with : Rec → ℕ
@@ -64,10 +68,10 @@ abbrev pub WrittenSoFar : List ℕ → List Rec → End → ℕ → Type 0
 WrittenSoFar text history ends.Closed bytes = (text ≡ file_of plain [] history) × (bytes ≡ length text)
 WrittenSoFar text history (ends.Stopped stop) bytes = IsPartOf text history stop bytes
 
--- The count of the store stands still but where the writer stopped by a fault: there it rose, and the end carries it. No
--- limit stops it.
+-- The count of the store stands still but where the writer stopped by a fault: there it rose by one, and the end carries
+-- it. No limit stops it.
 abbrev pub WriterCause : ℕ → ℕ → End → Type 0
 WriterCause before now ends.Closed = now ≡ before
-WriterCause before now (ends.Stopped (stops.Fault faults)) = (before ≤ now) × Rose before now × (faults ≡ now)
+WriterCause before now (ends.Stopped (stops.Fault faults)) = RisesOnce before now × (faults ≡ now)
 WriterCause before now (ends.Stopped (stops.Limit blocks bytes)) = ⊥
 WriterCause before now (ends.Stopped stops.Memory) = now ≡ before

@@ -1,7 +1,8 @@
 -- What reading the next record of a feed comes to.
-use Rattle.std.specs.Prelude.{◌≡◌, ◌⊎◌, ℕ, ◌+◌, ◌^◌, ◌<◌, ◌≤◌, slice_index, List, [], ◌∷◌, ◌++◌, length, take, drop, true, false, Option, Some, None, Result, Ok, Err}
+use Rattle.std.specs.Prelude.{◌≡◌, ◌⊎◌, ℕ, ◌+◌, ◌<◌, ◌≤◌, slice_index, List, [], ◌∷◌, ◌++◌, length, take, drop, true, false, Option, Some, None, Result, Ok, Err}
 use Rattle.mcap_wire.specs.Layout.{le, framed, magic}
 use Rattle.mcap_wire.specs.Reading.{NumberAt}
+use Rattle.mcap_io.specs.Outside.{SourceState}
 use Rattle.mcap_io.specs.declared.outside.ReadRefused.{ReadRefused}
 use Rattle.mcap_io.specs.declared.outside.ReadRefused.TheVariants as reads
 use Rattle.recorder.specs.declared.report.FeedEnd.{FeedEnd}
@@ -10,7 +11,7 @@ use Rattle.recorder.specs.declared.feed.Next.{Next}
 use Rattle.recorder.specs.declared.feed.Next.TheVariants as next
 use Rattle.recorder.specs.declared.feed.Head.{Head}
 use Rattle.mcap_model.specs.Tops.{Top, opcode, declared_length, is_whole, first_top, spelled}
-use Rattle.recorder.specs.Feed.{ReadsTo, FeedRead, FeedCause, has_opcode, is_unbuilt, behind_taken, IsCutOff}
+use Rattle.recorder.specs.Feed.{ReadsTo, FeedRead, FeedCause, offset_limit, has_opcode, is_not_built, behind_taken, IsCutOff, LosesContent}
 
 -- nine bytes are the head of a record: its opcode, and the length of its content
 pub record IsHead (bytes : List ℕ) (op len : ℕ) : Type 0 where
@@ -46,11 +47,11 @@ GivesPart rest count at left = (n : ℕ) × (left ≡ Some (drop n rest)) × IsC
 abbrev pub NextEnds : List ℕ → ℕ → ℕ → Option (List ℕ) → FeedEnd → Type 0
 NextEnds rest count at left feed_ends.Done = ⊥
 NextEnds rest count at left (feed_ends.Grammar n) = (n ≡ at) × (left ≡ Some (behind_taken rest)) × ((has_opcode rest ≡ false)
-    ⊎ ((has_opcode rest ≡ true) × (is_unbuilt count at (opcode rest) (declared_length rest) ≡ false) × (is_whole rest ≡ false)))
-NextEnds rest count at left (feed_ends.NotBuilt n) = (n ≡ at) × (has_opcode rest ≡ true) × (is_unbuilt count at (opcode rest) (declared_length rest) ≡ true) × (left ≡ Some (drop 9 rest))
+    ⊎ ((has_opcode rest ≡ true) × (is_not_built count at (opcode rest) (declared_length rest) ≡ false) × (is_whole rest ≡ false)))
+NextEnds rest count at left (feed_ends.NotBuilt n) = (n ≡ at) × (has_opcode rest ≡ true) × (is_not_built count at (opcode rest) (declared_length rest) ≡ true) × (left ≡ Some (drop 9 rest))
 NextEnds rest count at left (feed_ends.Fault faults) = GivesPart rest count at left
 NextEnds rest count at left feed_ends.Memory = (left ≡ Some rest)
-    ⊎ ((has_opcode rest ≡ true) × (is_unbuilt count at (opcode rest) (declared_length rest) ≡ false) × (left ≡ Some (drop 9 rest)))
+    ⊎ ((has_opcode rest ≡ true) × (is_not_built count at (opcode rest) (declared_length rest) ≡ false) × LosesContent rest left)
 NextEnds rest count at left feed_ends.Ended = ⊥
 
 -- why no head could be taken
@@ -64,7 +65,7 @@ abbrev pub HeadTaken : List ℕ → ℕ → Option (List ℕ) → Result Head Fe
 HeadTaken rest at left (Ok head) = TakesHead rest left head.op head.len
 HeadTaken rest at left (Err end) = HeadEnds rest at left end
 
--- the count stands still but at a fault, by which it rose
+-- the count stands still but at a fault, where it rose by one
 abbrev pub HeadCause : {T : Type 0} → ℕ → ℕ → Result T FeedEnd → Type 0
 HeadCause before now (Ok it) = now ≡ before
 HeadCause before now (Err end) = FeedCause before now end
@@ -77,21 +78,21 @@ pub record TakesTop (rest : List ℕ) (count at : ℕ) (left : Option (List ℕ)
   pub behind : after ≡ behind_taken rest
   pub begins : has_opcode rest ≡ true
   pub whole : is_whole rest ≡ true
-  pub built_there : is_unbuilt count at (opcode rest) (declared_length rest) ≡ false
+  pub built_there : is_not_built count at (opcode rest) (declared_length rest) ≡ false
   pub first : first_top rest ≡ record { op = op; content = content }
 
 abbrev pub NextTaken : List ℕ → ℕ → ℕ → Option (List ℕ) → List ℕ → Next → Type 0
 NextTaken rest count at left content (next.Taken op) = TakesTop rest count at left op content
 NextTaken rest count at left content (next.End end) = NextEnds rest count at left end
 
--- the count stands still but at a fault, by which it rose
+-- the count stands still but at a fault, where it rose by one
 abbrev pub NextCause : ℕ → ℕ → Next → Type 0
 NextCause before now (next.Taken op) = now ≡ before
 NextCause before now (next.End end) = FeedCause before now end
 
 -- a record that was taken is recorded, and so ends near enough to the feed's front
 abbrev pub NextFits : ℕ → ℕ → List ℕ → Next → Type 0
-NextFits count offset content (next.Taken op) = (is_unbuilt count offset op (length content) ≡ false) × (offset + 9 + length content ≤ 2 ^ 39)
+NextFits count offset content (next.Taken op) = (is_not_built count offset op (length content) ≡ false) × (offset + 9 + length content ≤ offset_limit)
 NextFits count offset content (next.End end) = Unit {0}
 
 -- no writer ends a reading
@@ -120,14 +121,14 @@ pub record TakesHeader (bytes : List ℕ) (header : Top) (left : Option (List �
   pub reads : ReadsTo bytes (header ∷ []) rest offset
 
 -- a Header of any source, whose count stands still; of one that tells, it is the first record
-pub record HeaderStands (before now : ℕ) (left after : Option (List ℕ)) (offset : ℕ) : Type 0 where
-  pub still : now ≡ before
+pub record HeaderStands (before now : SourceState) (offset : ℕ) : Type 0 where
+  pub still : now.faults ≡ before.faults
   pub header : Top
   pub kind : header.op ≡ 1
   pub place : offset ≡ 8 + length (spelled (header ∷ []))
-  pub taken : (bytes : List ℕ) → left ≡ Some bytes → TakesHeader bytes header after offset
+  pub taken : (bytes : List ℕ) → before.left ≡ Some bytes → TakesHeader bytes header now.left offset
 
 -- the Header was taken, or this is why not
-abbrev pub HeaderTaken : ℕ → ℕ → Option (List ℕ) → Option (List ℕ) → Result ℕ FeedEnd → Type 0
-HeaderTaken before now left after (Ok offset) = HeaderStands before now left after offset
-HeaderTaken before now left after (Err end) = FeedCause before now end × ((bytes : List ℕ) → left ≡ Some bytes → FeedRead bytes [] after end)
+abbrev pub HeaderTaken : SourceState → SourceState → Result ℕ FeedEnd → Type 0
+HeaderTaken before now (Ok offset) = HeaderStands before now offset
+HeaderTaken before now (Err end) = FeedCause before.faults now.faults end × ((bytes : List ℕ) → before.left ≡ Some bytes → FeedRead bytes [] now.left end)

@@ -1,5 +1,5 @@
 -- What a recording of one feed did to its source and to its store.
-use Rattle.std.specs.Prelude.{◌≡◌, ◌⊎◌, ℕ, ◌+◌, ◌≤◌, List, [], ◌∷◌, ◌++◌, length, Option, Some}
+use Rattle.std.specs.Prelude.{◌≡◌, ◌⊎◌, ℕ, ◌+◌, ◌≤◌, List, [], ◌∷◌, ◌++◌, length, Some}
 use Rattle.rec_data.specs.declared.owned.Rec.{Rec}
 use Rattle.recorder.specs.declared.report.Report.{Report}
 use Rattle.recorder.specs.declared.report.FeedReport.{FeedReport}
@@ -9,6 +9,7 @@ use Rattle.mcap_model.specs.declared.ends.End.TheVariants as ends
 use Rattle.recorder.specs.declared.report.Refused.{Refused}
 use Rattle.recorder.specs.declared.report.Cause.TheVariants as causes
 use Rattle.mcap_model.specs.declared.ends.Stop.{Stop}
+use Rattle.mcap_io.specs.Outside.{SourceState, LiveState}
 use Rattle.mcap_model.specs.Places.{At}
 use Rattle.mcap_model.specs.Tops.{Top}
 use Rattle.recorder.specs.Feed.{FeedRead, FeedCause}
@@ -41,25 +42,25 @@ pub record FeedReported (tops : List Top) (history : List Rec) (f : FeedReport) 
   pub passed : f.passed ≡ 0
 
 -- what the end of a feed says of its source
-pub record FeedEnded (left after : Option (List ℕ)) (before now : ℕ) (tops : List Top) (f : FeedReport) : Type 0 where
-  pub read : (bytes : List ℕ) → left ≡ Some bytes → FeedRead bytes tops after f.end
-  pub cause : FeedCause before now f.end
+pub record FeedEnded (before now : SourceState) (tops : List Top) (f : FeedReport) : Type 0 where
+  pub read : (bytes : List ℕ) → before.left ≡ Some bytes → FeedRead bytes tops now.left f.end
+  pub cause : FeedCause before.faults now.faults f.end
 
 -- what the writer's report says of its store
-pub record WriterRecorded (held after : Option (List ℕ)) (before now : ℕ) (history : List Rec) (w : WriterReport) : Type 0 where
+pub record WriterRecorded (before now : LiveState) (history : List Rec) (w : WriterReport) : Type 0 where
   pub records : w.records ≡ length history
   pub blocks : w.blocks ≡ 0
   pub bytes : TookBytes history w.end w.bytes
   -- where the store tells, this stands behind what it held
-  pub written : (start : List ℕ) → held ≡ Some start → (text : List ℕ) × (after ≡ Some (start ++ text)) × WrittenSoFar text history w.end w.bytes
-  pub cause : WriterCause before now w.end
+  pub written : (start : List ℕ) → before.held ≡ Some start → (text : List ℕ) × (now.held ≡ Some (start ++ text)) × WrittenSoFar text history w.end w.bytes
+  pub cause : WriterCause before.faults now.faults w.end
 
 -- what a recording of one feed came to: the feed's records and the history, which its report describes
-pub record Recorded (left after : Option (List ℕ)) (before now : ℕ) (held held_after : Option (List ℕ)) (live_before live_now : ℕ) (r : Report) : Type 0 where
+pub record Recorded (source source_now : SourceState) (live live_now : LiveState) (r : Report) : Type 0 where
   pub tops : List Top
   pub history : List Rec
   pub feed : FeedReport
   pub only : IsOnlyFeed r feed
   pub reported : FeedReported tops history feed r.writer
-  pub ended : FeedEnded left after before now tops feed
-  pub writer : WriterRecorded held held_after live_before live_now history r.writer
+  pub ended : FeedEnded source source_now tops feed
+  pub writer : WriterRecorded live live_now history r.writer

@@ -1,7 +1,7 @@
 -- What a tape has written of a history.
 use Rattle.std.specs.Prelude.{◌≡◌, ℕ, List, [], ◌++◌, length, Option, Some, None}
 use Rattle.rec_data.specs.declared.owned.Rec.{Rec}
-use Rattle.mcap_io.specs.Outside.{Adds}
+use Rattle.mcap_io.specs.Outside.{LiveState, Adds}
 use Rattle.mcap_model.specs.declared.ends.Stop.{Stop}
 use Rattle.mcap_model.specs.declared.ends.End.TheVariants.{Stopped}
 use Rattle.mcap_model.specs.History.{history_bytes}
@@ -19,6 +19,6 @@ pub record StopsAt (old new : Option (List ℕ)) (history : List Rec) (stop : St
 
 -- all but the back of the file stands behind what the store held, and its count of faults stands still; or the tape
 -- stopped
-abbrev pub Wrote : Option (List ℕ) → Option (List ℕ) → ℕ → ℕ → List Rec → Option Stop → ℕ → Type 0
-Wrote old new before now history None bytes = (now ≡ before) × Adds old new (front [] ++ history_bytes history) × (bytes ≡ length (front [] ++ history_bytes history))
-Wrote old new before now history (Some stop) bytes = WriterCause before now (Stopped stop) × StopsAt old new history stop bytes
+abbrev pub Wrote : LiveState → LiveState → List Rec → Option Stop → ℕ → Type 0
+Wrote before now history None bytes = (now.faults ≡ before.faults) × Adds before.held now.held (front [] ++ history_bytes history) × (bytes ≡ length (front [] ++ history_bytes history))
+Wrote before now history (Some stop) bytes = WriterCause before.faults now.faults (Stopped stop) × StopsAt before.held now.held history stop bytes

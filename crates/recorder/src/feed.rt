@@ -1,8 +1,8 @@
 //! Reading a feed: an MCAP stream of which a recording takes the records up to and with its Data End.
-ghost use Rattle.std.specs.Prelude.{◌≡◌, ◌≤◌, ◌+◌, ◌^◌, ℕ, List, Some, true, false, length, vec_len, IfOk};
+ghost use Rattle.std.specs.Prelude.{◌≡◌, ◌≤◌, ◌+◌, ℕ, List, Some, true, false, length, vec_len, IfOk};
 ghost use Rattle.mcap_wire.specs.Layout.{magic};
 ghost use Rattle.mcap_model.specs.Fields.{IsHeader, IsDataEnd};
-ghost use Rattle.recorder.specs.Feed.{FeedCause, is_unbuilt};
+ghost use Rattle.recorder.specs.Feed.{FeedCause, is_not_built, offset_limit};
 ghost use Rattle.recorder.specs.Next.{HeadRead, HeadTaken, HeadCause, NextTaken, NextCause, NextFits, MagicTaken, HeaderTaken, Failure, NextUnstopped, Unstopped};
 
 use crate::report::FeedEnd;
@@ -60,9 +60,9 @@ fn head_of(bytes: &[u8]) -> Option<Head>
 }
 
 // Whether a record of that kind and length, at that offset and behind so many declarations, isn't recorded yet.
-fn is_later(declared: u64, offset: u64, op: u8, len: u64) -> bool
-    requires { offset ≤ 2 ^ 39 }
-    ensures { result ≡ is_unbuilt declared offset op len }
+fn is_not_built(declarations: u64, offset: u64, op: u8, len: u64) -> bool
+    requires { offset ≤ offset_limit }
+    ensures { result ≡ is_not_built declarations offset op len }
 {
     let limit = if op == 5 {
         MESSAGE_LIMIT
@@ -70,14 +70,14 @@ fn is_later(declared: u64, offset: u64, op: u8, len: u64) -> bool
         CONTENT_LIMIT
     };
     matches!(op, 6 | 7 | 9 | 12 | 16..=255)
-        || (matches!(op, 3 | 4) && declared >= DECLARATION_LIMIT)
+        || (matches!(op, 3 | 4) && declarations >= DECLARATION_LIMIT)
         || len > limit
         || offset + HEAD_LENGTH + len > OFFSET_LIMIT
 }
 
 // The end of a feed that couldn't be read on.
 fn refused<S: Source>(source: &S, why: ReadRefused) -> FeedEnd
-    ensures { Failure (S.faults source.now) why result }
+    ensures { Failure (S.state source.now).faults why result }
 {
     match why {
         ReadRefused::Failed => FeedEnd::Fault {
@@ -89,8 +89,8 @@ fn refused<S: Source>(source: &S, why: ReadRefused) -> FeedEnd
 
 // Takes the head of the record at the offset.
 fn read_head<S: Source>(source: &mut S, buffer: &mut Vec<u8>, offset: u64) -> Result<Head, FeedEnd>
-    ensures taken { (rest : List ℕ) → S.left source.old ≡ Some rest → HeadTaken rest offset (S.left source.new) result }
-    ensures cause { HeadCause (S.faults source.old) (S.faults source.new) result }
+    ensures taken { (rest : List ℕ) → (S.state source.old).left ≡ Some rest → HeadTaken rest offset (S.state source.new).left result }
+    ensures cause { HeadCause (S.state source.old).faults (S.state source.new).faults result }
     ensures unstopped { Unstopped result }
 {
     match read_up_to(source, buffer, HEAD_LENGTH) {
@@ -107,20 +107,20 @@ fn read_head<S: Source>(source: &mut S, buffer: &mut Vec<u8>, offset: u64) -> Re
 pub(crate) fn next_record<S: Source>(
     source: &mut S,
     buffer: &mut Vec<u8>,
-    declared: u64,
+    declarations: u64,
     offset: u64,
 ) -> Next
-    requires { offset ≤ 2 ^ 39 }
-    ensures taken { (rest : List ℕ) → S.left source.old ≡ Some rest → NextTaken rest declared offset (S.left source.new) buffer.new.items result }
-    ensures cause { NextCause (S.faults source.old) (S.faults source.new) result }
-    ensures fits { NextFits declared offset buffer.new.items result }
+    requires { offset ≤ offset_limit }
+    ensures taken { (rest : List ℕ) → (S.state source.old).left ≡ Some rest → NextTaken rest declarations offset (S.state source.new).left buffer.new.items result }
+    ensures cause { NextCause (S.state source.old).faults (S.state source.new).faults result }
+    ensures fits { NextFits declarations offset buffer.new.items result }
     ensures unstopped { NextUnstopped result }
 {
     let head = match read_head(source, buffer, offset) {
         Ok(head) => head,
         Err(end) => return Next::End { end },
     };
-    if is_later(declared, offset, head.op, head.len) {
+    if is_not_built(declarations, offset, head.op, head.len) {
         return Next::End {
             end: FeedEnd::NotBuilt { offset },
         };
@@ -168,8 +168,8 @@ pub(crate) fn is_data_end(content: &[u8]) -> bool
 
 // Takes the magic.
 fn read_magic<S: Source>(source: &mut S, buffer: &mut Vec<u8>) -> Result<(), FeedEnd>
-    ensures taken { (bytes : List ℕ) → S.left source.old ≡ Some bytes → MagicTaken bytes (S.left source.new) result }
-    ensures cause { HeadCause (S.faults source.old) (S.faults source.new) result }
+    ensures taken { (bytes : List ℕ) → (S.state source.old).left ≡ Some bytes → MagicTaken bytes (S.state source.new).left result }
+    ensures cause { HeadCause (S.state source.old).faults (S.state source.new).faults result }
     ensures unstopped { Unstopped result }
 {
     match read_up_to(source, buffer, 8) {
@@ -184,8 +184,8 @@ fn read_magic<S: Source>(source: &mut S, buffer: &mut Vec<u8>) -> Result<(), Fee
 
 /// Takes the magic and the Header, and says where this ends.
 pub(crate) fn read_header<S: Source>(source: &mut S, buffer: &mut Vec<u8>) -> Result<u64, FeedEnd>
-    ensures taken { HeaderTaken (S.faults source.old) (S.faults source.new) (S.left source.old) (S.left source.new) result }
-    ensures fits { IfOk result (λ offset. offset ≤ 2 ^ 39) }
+    ensures taken { HeaderTaken (S.state source.old) (S.state source.new) result }
+    ensures fits { IfOk result (λ offset. offset ≤ offset_limit) }
     ensures unstopped { Unstopped result }
 {
     match read_magic(source, buffer) {

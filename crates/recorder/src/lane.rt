@@ -1,17 +1,19 @@
 //! The lane of a feed: it declares the feed's channels and publishes its messages, and keeps lists of what became of
 //! them.
-ghost use Rattle.std.specs.Prelude.{◌≡◌, ◌⊎◌, true, false, ◌+◌, ◌*◌, ◌<◌, ◌≤◌, ◌^◌, ◌++◌, ◌∷◌, ℕ, List, Option, [], Some, None, length, IfOk, OnOk};
+ghost use Rattle.std.specs.Prelude.{◌≡◌, ◌⊎◌, true, false, ◌+◌, ◌<◌, ◌≤◌, ◌++◌, ◌∷◌, ℕ, List, Option, [], Some, None, length, IfOk, OnOk};
 ghost use Rattle.rec_data.specs.declared.owned.Rec.{Rec};
 ghost use Rattle.rec_data.specs.Owned.{rec_bytes};
 ghost use Rattle.mcap_model.specs.declared.ends.Stop.{Stop};
+ghost use Rattle.mcap_io.specs.Outside.{LiveState};
 ghost use Rattle.mcap_model.specs.Places.{At};
+ghost use Rattle.recorder.specs.Feed.{message_content_limit, other_content_limit, declaration_limit};
 ghost use Rattle.mcap_model.specs.Tops.{Top};
 ghost use Rattle.mcap_model.specs.Fields.{MessageFields, IsMessage};
 ghost use Rattle.mcap_model.specs.History.{schema_of, channel_of, message_of};
 ghost use Rattle.recorder.specs.Channels.{schema_fields, SchemaFieldsFit, FindsSchema, FindsSameSchema, SchemaGiven, fields_of, written_of, FieldsFit, FindsSame};
 ghost use Rattle.recorder.specs.Assembled.{messages, IsOn};
 ghost use Rattle.recorder.specs.Handling.{Handles, AtHand, HasId, CauseFits, RefusedFor, DeclaredFor, KnownFor, PublishedAs};
-ghost use Rattle.recorder.specs.Lane.{top_of, LaneStands, TapeFits, GoesOn, SchemaTaken, ChannelTaken, MessageTaken};
+ghost use Rattle.recorder.specs.Lane.{writing, handled_limit, record_limit, top_of, LaneStands, TapeFits, GoesOn, SchemaTaken, ChannelTaken, MessageTaken};
 
 use crate::channels::{SourceChannel, add_channel, id_of_same, place_of};
 use crate::report::{Accepted, Cause, DeclaredAt, FeedEnd, Refused};
@@ -50,7 +52,7 @@ enum Declared {
 }
 
 /// What a record that was put behind others came to.
-pub(crate) enum Put {
+pub(crate) enum Step {
     /// The lane goes on.
     Done,
     /// The record may not stand there.
@@ -62,7 +64,7 @@ pub(crate) enum Put {
 // The Schema that is written, framed.
 fn schema_piece(alloc: Global, id: u16, schema: &SourceSchema) -> Result<Vec<u8>, Memory>
     requires { SchemaFieldsFit (schema_fields schema.now) }
-    ensures { IfOk result (λ piece. (piece.items ≡ rec_bytes (schema_of id (schema_fields schema.now))) × (length piece.items ≤ 500009)) }
+    ensures { IfOk result (λ piece. (piece.items ≡ rec_bytes (schema_of id (schema_fields schema.now))) × (length piece.items ≤ other_content_limit + 9)) }
 {
     let mut piece = Vec::new(alloc);
     let record = Schema {
@@ -83,7 +85,7 @@ fn channel_piece(
     channel: &SourceChannel,
 ) -> Result<Vec<u8>, Memory>
     requires { FieldsFit (fields_of channel.now) }
-    ensures { IfOk result (λ piece. (piece.items ≡ rec_bytes (channel_of id (written_of channel.now schema_id))) × (length piece.items ≤ 500009)) }
+    ensures { IfOk result (λ piece. (piece.items ≡ rec_bytes (channel_of id (written_of channel.now schema_id))) × (length piece.items ≤ other_content_limit + 9)) }
 {
     let mut piece = Vec::new(alloc);
     let record = Channel {
@@ -121,8 +123,8 @@ fn both_pieces(
 ) -> Result<(Vec<u8>, Vec<u8>), Memory>
     requires schema_fit { SchemaFieldsFit (schema_fields schema.now) }
     requires fit { FieldsFit (fields_of channel.now) }
-    ensures schema { IfOk result (λ pieces. (pieces.0.items ≡ rec_bytes (schema_of schema_id (schema_fields schema.now))) × (length pieces.0.items ≤ 500009)) }
-    ensures channel { IfOk result (λ pieces. (pieces.1.items ≡ rec_bytes (channel_of id (written_of channel.now schema_id))) × (length pieces.1.items ≤ 500009)) }
+    ensures schema { IfOk result (λ pieces. (pieces.0.items ≡ rec_bytes (schema_of schema_id (schema_fields schema.now))) × (length pieces.0.items ≤ other_content_limit + 9)) }
+    ensures channel { IfOk result (λ pieces. (pieces.1.items ≡ rec_bytes (channel_of id (written_of channel.now schema_id))) × (length pieces.1.items ≤ other_content_limit + 9)) }
 {
     let first = schema_piece(alloc, schema_id, schema)?;
     let second = channel_piece(alloc, id, schema_id, channel)?;
@@ -153,8 +155,8 @@ impl Lane {
     }
 
     // Lists the message at hand as refused. That the writer had stopped ends the lane.
-    fn refuse(&mut self, cause: Cause) -> Put
-        requires few { self.old.handled ≤ 2 ^ 36 }
+    fn refuse(&mut self, cause: Cause) -> Step
+        requires few { self.old.handled ≤ handled_limit }
         ensures refused { (tops : List Top) (history : List Rec) (stop : Option Stop) → Handles self.old tops history (self.old.handled + 1)
             → CauseFits history stop cause → RefusedFor self.new tops history stop result }
         ensures records { self.new.records ≡ self.old.records }
@@ -168,16 +170,16 @@ impl Lane {
         match self.refused.push(refused) {
             Ok(()) => {}
             Err(_) => {
-                return Put::End {
+                return Step::End {
                     end: FeedEnd::Memory,
                 };
             }
         }
         self.handled += 1;
         match cause {
-            Cause::Memory => return Put::Done,
+            Cause::Memory => return Step::Done,
             Cause::Stopped { .. } => {
-                return Put::End {
+                return Step::End {
                     end: FeedEnd::Ended,
                 };
             }
@@ -221,16 +223,16 @@ impl Lane {
         schema: u16,
     ) -> Declared
         requires index { k < length self.old.channels.items }
-        requires ids { self.old.channel_ids < 1000 }
+        requires ids { self.old.channel_ids < declaration_limit }
         requires fit { (e : SourceChannel) → At self.old.channels.items k e → FieldsFit (fields_of e) }
         requires goes_on { tape.old.stop ≡ None }
         requires fits { TapeFits tape.old self.old.records }
-        requires few { self.old.records ≤ 2 ^ 38 }
-        ensures declared { (tops : List Top) (history : List Rec) (held : Option (List ℕ)) (before : ℕ) (e : SourceChannel)
-            → AtHand self.old tape.old tops history self.old.handled held (L.held live.old) before (L.faults live.old)
+        requires few { self.old.records ≤ record_limit }
+        ensures declared { (tops : List Top) (history : List Rec) (before : LiveState) (e : SourceChannel)
+            → AtHand self.old (writing tape.old before (L.state live.old)) tops history self.old.handled
             → At self.old.channels.items k e → e.given ≡ 0 → IsOn tops self.old.handled e.id → SchemaGiven self.old.schemas.items e schema
             → FindsSame self.old.channels.items (written_of e schema) None
-            → DeclaredFor self.new tape.new tops history k e.id held (L.held live.new) before (L.faults live.new) result }
+            → DeclaredFor self.new (writing tape.new before (L.state live.new)) tops history k e.id result }
         ensures records { self.new.records ≤ self.old.records + 1 }
         ensures handled { self.new.handled ≡ self.old.handled }
         ensures declarations { self.new.declarations ≡ self.old.declarations }
@@ -275,18 +277,18 @@ impl Lane {
     ) -> Declared
         requires index { k < length self.old.channels.items }
         requires schema_index { s < length self.old.schemas.items }
-        requires schema_ids { self.old.schema_ids < 1000 }
-        requires channel_ids { self.old.channel_ids < 1000 }
+        requires schema_ids { self.old.schema_ids < declaration_limit }
+        requires channel_ids { self.old.channel_ids < declaration_limit }
         requires fit { (e : SourceChannel) → At self.old.channels.items k e → FieldsFit (fields_of e) }
         requires schema_fit { (x : SourceSchema) → At self.old.schemas.items s x → SchemaFieldsFit (schema_fields x) }
         requires goes_on { tape.old.stop ≡ None }
         requires fits { TapeFits tape.old self.old.records }
-        requires few { self.old.records ≤ 2 ^ 38 }
-        ensures declared { (tops : List Top) (history : List Rec) (held : Option (List ℕ)) (before : ℕ) (e : SourceChannel) (x : SourceSchema)
-            → AtHand self.old tape.old tops history self.old.handled held (L.held live.old) before (L.faults live.old)
+        requires few { self.old.records ≤ record_limit }
+        ensures declared { (tops : List Top) (history : List Rec) (before : LiveState) (e : SourceChannel) (x : SourceSchema)
+            → AtHand self.old (writing tape.old before (L.state live.old)) tops history self.old.handled
             → At self.old.channels.items k e → e.given ≡ 0 → IsOn tops self.old.handled e.id
             → At self.old.schemas.items s x → x.id ≡ e.schema_id → x.given ≡ 0 → FindsSameSchema self.old.schemas.items (schema_fields x) None
-            → DeclaredFor self.new tape.new tops history k e.id held (L.held live.new) before (L.faults live.new) result }
+            → DeclaredFor self.new (writing tape.new before (L.state live.new)) tops history k e.id result }
         ensures records { self.new.records ≤ self.old.records + 2 }
         ensures handled { self.new.handled ≡ self.old.handled }
         ensures declarations { self.new.declarations ≡ self.old.declarations }
@@ -343,11 +345,11 @@ impl Lane {
         requires none { (e : SourceChannel) → At self.old.channels.items k e → e.given ≡ 0 }
         requires goes_on { tape.old.stop ≡ None }
         requires fits { TapeFits tape.old self.old.records }
-        requires few { self.old.handled ≤ 2 ^ 36 }
-        ensures declared { (tops : List Top) (history : List Rec) (held : Option (List ℕ)) (before : ℕ) (e : SourceChannel)
-            → AtHand self.old tape.old tops history self.old.handled held (L.held live.old) before (L.faults live.old)
+        requires few { self.old.handled ≤ handled_limit }
+        ensures declared { (tops : List Top) (history : List Rec) (before : LiveState) (e : SourceChannel)
+            → AtHand self.old (writing tape.old before (L.state live.old)) tops history self.old.handled
             → At self.old.channels.items k e → IsOn tops self.old.handled e.id → SchemaGiven self.old.schemas.items e schema
-            → DeclaredFor self.new tape.new tops history k e.id held (L.held live.new) before (L.faults live.new) result }
+            → DeclaredFor self.new (writing tape.new before (L.state live.new)) tops history k e.id result }
         ensures records { self.new.records ≤ self.old.records + 1 }
         ensures handled { self.new.handled ≡ self.old.handled }
         ensures declarations { self.new.declarations ≡ self.old.declarations }
@@ -374,11 +376,11 @@ impl Lane {
         requires none { (e : SourceChannel) → At self.old.channels.items k e → e.given ≡ 0 }
         requires goes_on { tape.old.stop ≡ None }
         requires fits { TapeFits tape.old self.old.records }
-        requires few { self.old.handled ≤ 2 ^ 36 }
-        ensures declared { (tops : List Top) (history : List Rec) (held : Option (List ℕ)) (before : ℕ) (e : SourceChannel) (x : SourceSchema)
-            → AtHand self.old tape.old tops history self.old.handled held (L.held live.old) before (L.faults live.old)
+        requires few { self.old.handled ≤ handled_limit }
+        ensures declared { (tops : List Top) (history : List Rec) (before : LiveState) (e : SourceChannel) (x : SourceSchema)
+            → AtHand self.old (writing tape.old before (L.state live.old)) tops history self.old.handled
             → At self.old.channels.items k e → IsOn tops self.old.handled e.id → At self.old.schemas.items s x → x.id ≡ e.schema_id → (e.schema_id ≡ 0 → ⊥)
-            → DeclaredFor self.new tape.new tops history k e.id held (L.held live.new) before (L.faults live.new) result }
+            → DeclaredFor self.new (writing tape.new before (L.state live.new)) tops history k e.id result }
         ensures records { self.new.records ≤ self.old.records + 2 }
         ensures handled { self.new.handled ≡ self.old.handled }
         ensures declarations { self.new.declarations ≡ self.old.declarations }
@@ -419,11 +421,11 @@ impl Lane {
         requires index { k < length self.old.channels.items }
         requires stands { (tops : List Top) × (history : List Rec) × Handles self.old tops history self.old.handled }
         requires fits { TapeFits tape.old self.old.records }
-        requires few { self.old.handled ≤ 2 ^ 36 }
-        ensures declared { (tops : List Top) (history : List Rec) (held : Option (List ℕ)) (before : ℕ) (e : SourceChannel)
-            → AtHand self.old tape.old tops history self.old.handled held (L.held live.old) before (L.faults live.old)
+        requires few { self.old.handled ≤ handled_limit }
+        ensures declared { (tops : List Top) (history : List Rec) (before : LiveState) (e : SourceChannel)
+            → AtHand self.old (writing tape.old before (L.state live.old)) tops history self.old.handled
             → At self.old.channels.items k e → IsOn tops self.old.handled e.id
-            → DeclaredFor self.new tape.new tops history k e.id held (L.held live.new) before (L.faults live.new) result }
+            → DeclaredFor self.new (writing tape.new before (L.state live.new)) tops history k e.id result }
         ensures records { self.new.records ≤ self.old.records + 2 }
         ensures handled { self.new.handled ≡ self.old.handled }
         ensures declarations { self.new.declarations ≡ self.old.declarations }
@@ -460,17 +462,17 @@ impl Lane {
         piece: &mut Vec<u8>,
         id: u16,
         content: &[u8],
-    ) -> Put
+    ) -> Step
         requires size { 22 ≤ length content.now }
-        requires limit { length content.now ≤ 33554454 }
+        requires limit { length content.now ≤ message_content_limit }
         requires fits { TapeFits tape.old self.old.records }
-        requires few { self.old.records ≤ 2 ^ 38 }
-        requires few_messages { self.old.handled ≤ 2 ^ 36 }
-        ensures published { (tops : List Top) (history : List Rec) (held : Option (List ℕ)) (before k source : ℕ) (m : MessageFields)
-            → AtHand self.old tape.old tops history (self.old.handled + 1) held (L.held live.old) before (L.faults live.old)
+        requires few { self.old.records ≤ record_limit }
+        requires few_messages { self.old.handled ≤ handled_limit }
+        ensures published { (tops : List Top) (history : List Rec) (before : LiveState) (k source : ℕ) (m : MessageFields)
+            → AtHand self.old (writing tape.old before (L.state live.old)) tops history (self.old.handled + 1)
             → HasId self.old.channels.items k source id
             → At (messages tops) self.old.handled (top_of 5 content.now) → IsMessage (top_of 5 content.now) source m
-            → PublishedAs self.new tape.new tops history held (L.held live.new) before (L.faults live.new) result }
+            → PublishedAs self.new (writing tape.new before (L.state live.new)) tops history result }
         ensures records { self.new.records ≤ self.old.records + 1 }
         ensures handled { self.new.handled ≤ self.old.handled + 1 }
         ensures declarations { self.new.declarations ≡ self.old.declarations }
@@ -495,7 +497,7 @@ impl Lane {
         match self.accepted.push(accepted) {
             Ok(()) => {}
             Err(_) => {
-                return Put::End {
+                return Step::End {
                     end: FeedEnd::Memory,
                 };
             }
@@ -503,7 +505,7 @@ impl Lane {
         self.handled += 1;
         self.records += 1;
         tape.put(live, piece);
-        return Put::Done;
+        return Step::Done;
     }
 
     /// Takes a Message of the feed: declares its channel where it has no id yet, and records it.
@@ -514,30 +516,30 @@ impl Lane {
         tape: &mut Tape,
         piece: &mut Vec<u8>,
         content: &[u8],
-    ) -> Put
+    ) -> Step
         requires stands { (tops : List Top) × (history : List Rec) × LaneStands self.old tops history }
         requires fits { TapeFits tape.old self.old.records }
-        requires few { self.old.handled ≤ 2 ^ 36 }
-        requires size { length content.now ≤ 33554454 }
-        ensures taken { (tops : List Top) (history : List Rec) (held : Option (List ℕ)) (before : ℕ)
-            → GoesOn self.old tape.old tops history held (L.held live.old) before (L.faults live.old)
-            → MessageTaken self.new tape.new tops content.now held (L.held live.new) before (L.faults live.new) history result }
+        requires few { self.old.handled ≤ handled_limit }
+        requires size { length content.now ≤ message_content_limit }
+        ensures taken { (tops : List Top) (history : List Rec) (before : LiveState)
+            → GoesOn self.old (writing tape.old before (L.state live.old)) tops history
+            → MessageTaken self.new (writing tape.new before (L.state live.new)) tops content.now history result }
         ensures handled { self.new.handled ≤ self.old.handled + 1 }
         ensures declarations { self.new.declarations ≡ self.old.declarations }
     {
         let message = match Message::parse(content) {
             Ok(message) => message,
-            Err(_) => return Put::Bad,
+            Err(_) => return Step::Bad,
         };
         let k = match place_of(&self.channels, message.channel_id) {
             Some(k) => k,
-            None => return Put::Bad,
+            None => return Step::Bad,
         };
         match self.declare(alloc, live, tape, k) {
             Declared::As { id } => return self.publish(live, tape, piece, id, content),
             Declared::Refused { cause } => return self.refuse(cause),
             Declared::NoRoom => {
-                return Put::End {
+                return Step::End {
                     end: FeedEnd::Memory,
                 };
             }
@@ -545,35 +547,35 @@ impl Lane {
     }
 
     /// Takes a Schema of the feed. One whose id is known has the fields that it had.
-    pub(crate) fn take_schema(&mut self, alloc: Global, content: &[u8]) -> Put
-        requires few { self.old.declarations < 1000 }
-        requires size { length content.now ≤ 500000 }
+    pub(crate) fn take_schema(&mut self, alloc: Global, content: &[u8]) -> Step
+        requires few { self.old.declarations < declaration_limit }
+        requires size { length content.now ≤ other_content_limit }
         ensures taken { (tops : List Top) (history : List Rec) → LaneStands self.old tops history → SchemaTaken self.new tops history content.now result }
         ensures handled { self.new.handled ≡ self.old.handled }
         ensures records { self.new.records ≡ self.old.records }
     {
         let schema = match Schema::parse(content) {
             Ok(schema) => schema,
-            Err(_) => return Put::Bad,
+            Err(_) => return Step::Bad,
         };
         if schema.id == 0 {
-            return Put::Bad;
+            return Step::Bad;
         }
         match place_of_schema(&self.schemas, schema.id) {
             Some(k) => {
                 if !self.schemas[k].shows(schema.name, schema.encoding, schema.payload) {
-                    return Put::Bad;
+                    return Step::Bad;
                 }
                 self.declarations += 1;
-                return Put::Done;
+                return Step::Done;
             }
             None => match add_schema(alloc, &mut self.schemas, &schema) {
                 Ok(()) => {
                     self.declarations += 1;
-                    return Put::Done;
+                    return Step::Done;
                 }
                 Err(_) => {
-                    return Put::End {
+                    return Step::End {
                         end: FeedEnd::Memory,
                     };
                 }
@@ -596,24 +598,24 @@ impl Lane {
     }
 
     /// Takes a Channel of the feed, whose schema is known. One whose id is known has the fields that it had.
-    pub(crate) fn take_channel(&mut self, alloc: Global, content: &[u8]) -> Put
-        requires few { self.old.declarations < 1000 }
-        requires size { length content.now ≤ 500000 }
+    pub(crate) fn take_channel(&mut self, alloc: Global, content: &[u8]) -> Step
+        requires few { self.old.declarations < declaration_limit }
+        requires size { length content.now ≤ other_content_limit }
         ensures taken { (tops : List Top) (history : List Rec) → LaneStands self.old tops history → ChannelTaken self.new tops history content.now result }
         ensures handled { self.new.handled ≡ self.old.handled }
         ensures records { self.new.records ≡ self.old.records }
     {
         let channel = match Channel::parse(content) {
             Ok(channel) => channel,
-            Err(_) => return Put::Bad,
+            Err(_) => return Step::Bad,
         };
         if !self.has_schema(channel.schema_id) {
-            return Put::Bad;
+            return Step::Bad;
         }
         let metadata = match Pairs::sorted(alloc, &channel.metadata) {
             Ok(metadata) => metadata,
             Err(_) => {
-                return Put::End {
+                return Step::End {
                     end: FeedEnd::Memory,
                 };
             }
@@ -625,18 +627,18 @@ impl Lane {
                 if known.schema_id != channel.schema_id
                     || !known.shows(channel.topic, channel.message_encoding, &metadata)
                 {
-                    return Put::Bad;
+                    return Step::Bad;
                 }
                 self.declarations += 1;
-                return Put::Done;
+                return Step::Done;
             }
             None => match add_channel(alloc, &mut self.channels, &channel, metadata) {
                 Ok(()) => {
                     self.declarations += 1;
-                    return Put::Done;
+                    return Step::Done;
                 }
                 Err(_) => {
-                    return Put::End {
+                    return Step::End {
                         end: FeedEnd::Memory,
                     };
                 }

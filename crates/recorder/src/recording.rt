@@ -26,7 +26,7 @@ fn record_feed<S: Source, L: LiveStore>(
 ) -> Report
     requires empty { feeds.items ≡ [] }
     requires room { 1 ≤ vec_capacity feeds }
-    ensures { Recorded (S.left feed.old) (S.left feed.new) (S.faults feed.old) (S.faults feed.new) (L.held live.old) (L.held live.new) (L.faults live.old) (L.faults live.new) result }
+    ensures { Recorded (S.state feed.old) (S.state feed.new) (L.state live.old) (L.state live.new) result }
 {
     let mut lane = Lane::new(alloc);
     let mut tape = Tape::open(alloc, live);
@@ -46,7 +46,7 @@ fn record_feed<S: Source, L: LiveStore>(
 /// Records the feed into the store, which is to be empty.
 pub fn record<S: Source, L: LiveStore>(alloc: Global, feed: S, live: L) -> Recording<S, L>
     ensures refused { result.report ≡ None → (result.feed ≡ feed) × (result.live ≡ live) }
-    ensures recorded { (r : _) → result.report ≡ Some r → Recorded (S.left feed) (S.left result.feed) (S.faults feed) (S.faults result.feed) (L.held live) (L.held result.live) (L.faults live) (L.faults result.live) r }
+    ensures recorded { (r : _) → result.report ≡ Some r → Recorded (S.state feed) (S.state result.feed) (L.state live) (L.state result.live) r }
 {
     let mut feed = feed;
     let mut live = live;

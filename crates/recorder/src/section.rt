@@ -1,14 +1,16 @@
 //! Reading a feed's data section through its lane.
-ghost use Rattle.std.specs.Prelude.{◌≡◌, ◌≤◌, ◌+◌, ◌^◌, ◌∷◌, [], ℕ, List, Option, Some, length, false};
+ghost use Rattle.std.specs.Prelude.{◌≡◌, ◌≤◌, ◌+◌, ◌∷◌, [], ℕ, List, Some, length, false};
 ghost use Rattle.rec_data.specs.declared.owned.Rec.{Rec};
+ghost use Rattle.mcap_io.specs.Outside.{SourceState, LiveState};
+ghost use Rattle.recorder.specs.File.{front_length};
 ghost use Rattle.mcap_model.specs.Tops.{Top};
 ghost use Rattle.mcap_model.specs.Rules.{HasDataEnd};
-ghost use Rattle.recorder.specs.Feed.{is_unbuilt};
+ghost use Rattle.recorder.specs.Feed.{is_not_built, offset_limit};
 ghost use Rattle.recorder.specs.Next.{TakesHeader};
-ghost use Rattle.recorder.specs.Lane.{top_of, LaneStands, TapeFits, TapeStands, GoesOn, RecordTaken, LaneRead};
+ghost use Rattle.recorder.specs.Lane.{writing, handled_limit, top_of, LaneStands, TapeFits, TapeStands, GoesOn, RecordTaken, LaneRead};
 
 use crate::feed::{Next, is_data_end, next_record, read_header};
-use crate::lane::{Lane, Put};
+use crate::lane::{Lane, Step};
 use crate::report::FeedEnd;
 use crate::tape::Tape;
 use mcap_io::{LiveStore, Source};
@@ -34,29 +36,29 @@ fn take_record<L: LiveStore>(
 ) -> Result<(), FeedEnd>
     requires stands { (tops : List Top) × (history : List Rec) × LaneStands lane.old tops history }
     requires fits { TapeFits tape.old lane.old.records }
-    requires few { lane.old.handled ≤ 2 ^ 36 }
-    requires built { is_unbuilt lane.old.declarations offset op (length rooms.old.content.items) ≡ false }
-    ensures taken { (first : Top) (more : List Top) (history : List Rec) (held : Option (List ℕ)) (before : ℕ) → (HasDataEnd (first ∷ more) → ⊥)
-        → GoesOn lane.old tape.old (first ∷ more) history held (L.held live.old) before (L.faults live.old)
-        → RecordTaken lane.new tape.new (first ∷ more) (top_of op rooms.old.content.items) held (L.held live.new) before (L.faults live.new) offset result }
+    requires few { lane.old.handled ≤ handled_limit }
+    requires built { is_not_built lane.old.declarations offset op (length rooms.old.content.items) ≡ false }
+    ensures taken { (first : Top) (more : List Top) (history : List Rec) (before : LiveState) → (HasDataEnd (first ∷ more) → ⊥)
+        → GoesOn lane.old (writing tape.old before (L.state live.old)) (first ∷ more) history
+        → RecordTaken lane.new (writing tape.new before (L.state live.new)) (first ∷ more) (top_of op rooms.old.content.items) offset result }
     ensures content { rooms.new.content ≡ rooms.old.content }
     ensures handled { lane.new.handled ≤ lane.old.handled + 1 }
 {
     match op {
         SCHEMA => match lane.take_schema(alloc, &rooms.content) {
-            Put::Done => return Ok(()),
-            Put::Bad => return Err(FeedEnd::Grammar { offset }),
-            Put::End { end } => return Err(end),
+            Step::Done => return Ok(()),
+            Step::Bad => return Err(FeedEnd::Grammar { offset }),
+            Step::End { end } => return Err(end),
         },
         CHANNEL => match lane.take_channel(alloc, &rooms.content) {
-            Put::Done => return Ok(()),
-            Put::Bad => return Err(FeedEnd::Grammar { offset }),
-            Put::End { end } => return Err(end),
+            Step::Done => return Ok(()),
+            Step::Bad => return Err(FeedEnd::Grammar { offset }),
+            Step::End { end } => return Err(end),
         },
         MESSAGE => match lane.take_message(alloc, live, tape, &mut rooms.piece, &rooms.content) {
-            Put::Done => return Ok(()),
-            Put::Bad => return Err(FeedEnd::Grammar { offset }),
-            Put::End { end } => return Err(end),
+            Step::Done => return Ok(()),
+            Step::Bad => return Err(FeedEnd::Grammar { offset }),
+            Step::End { end } => return Err(end),
         },
         DATA_END => {
             if is_data_end(&rooms.content) {
@@ -78,15 +80,15 @@ fn read_section<S: Source, L: LiveStore>(
     rooms: &mut Rooms,
     start: u64,
 ) -> FeedEnd
-    requires start { start ≤ 2 ^ 39 }
+    requires start { start ≤ offset_limit }
     requires unread { lane.old.handled ≡ 0 }
-    requires begins { (header : Top) × (held : Option (List ℕ)) × (before : ℕ) × (header.op ≡ 1)
-        × GoesOn lane.old tape.old (header ∷ []) [] held (L.held live.old) before (L.faults live.old) }
-    ensures { (header : Top) (held : Option (List ℕ)) (before faults : ℕ) (left : Option (List ℕ)) → header.op ≡ 1
-        → ((bytes : List ℕ) → left ≡ Some bytes → TakesHeader bytes header (S.left source.old) start)
-        → S.faults source.old ≡ faults
-        → GoesOn lane.old tape.old (header ∷ []) [] held (L.held live.old) before (L.faults live.old)
-        → LaneRead lane.new tape.new left (S.left source.new) faults (S.faults source.new) held (L.held live.new) before (L.faults live.new) result }
+    requires begins { (header : Top) × (before : LiveState) × (header.op ≡ 1)
+        × GoesOn lane.old (writing tape.old before (L.state live.old)) (header ∷ []) [] }
+    ensures { (header : Top) (before : LiveState) (feed : SourceState) → header.op ≡ 1
+        → ((bytes : List ℕ) → feed.left ≡ Some bytes → TakesHeader bytes header (S.state source.old).left start)
+        → (S.state source.old).faults ≡ feed.faults
+        → GoesOn lane.old (writing tape.old before (L.state live.old)) (header ∷ []) []
+        → LaneRead lane.new (writing tape.new before (L.state live.new)) feed (S.state source.new) result }
 {
     let mut offset = start;
     'records: loop {
@@ -113,10 +115,10 @@ pub(crate) fn publish_feed<S: Source, L: LiveStore>(
 ) -> FeedEnd
     requires unread { LaneStands lane.old [] [] }
     requires stands { (header : Top) → header.op ≡ 1 → LaneStands lane.old (header ∷ []) [] }
-    requires size { tape.old.bytes ≤ 34 }
-    requires wrote { (held : Option (List ℕ)) × (before : ℕ) × TapeStands tape.old held (L.held live.old) before (L.faults live.old) [] }
-    ensures { (held : Option (List ℕ)) (before : ℕ) → TapeStands tape.old held (L.held live.old) before (L.faults live.old) []
-        → LaneRead lane.new tape.new (S.left source.old) (S.left source.new) (S.faults source.old) (S.faults source.new) held (L.held live.new) before (L.faults live.new) result }
+    requires size { tape.old.bytes ≤ front_length }
+    requires wrote { (before : LiveState) × TapeStands (writing tape.old before (L.state live.old)) [] }
+    ensures { (before : LiveState) → TapeStands (writing tape.old before (L.state live.old)) []
+        → LaneRead lane.new (writing tape.new before (L.state live.new)) (S.state source.old) (S.state source.new) result }
 {
     let mut rooms = Rooms {
         content: Vec::new(alloc),

@@ -1,9 +1,11 @@
-//! Writing a plain file: the magic and a Header, then its records, then what closes it. Each piece is one append.
-ghost use Rattle.std.specs.Prelude.{◌≡◌, ◌+◌, ◌<◌, ◌≤◌, ◌^◌, ◌++◌, ◌∷◌, ℕ, List, Option, [], None, Some, length, IfOk};
+//! Writing a plain file: the magic and a Header, then its records, then what closes it. Each piece is one append. The
+//! front and the back go through to the system, so that a full disk stops the writer at the latest there.
+ghost use Rattle.std.specs.Prelude.{◌≡◌, ◌+◌, ◌<◌, ◌≤◌, ◌^◌, ◌++◌, ◌∷◌, ℕ, List, Option, [], None, Some, length, IfOk, IfErr};
 ghost use Rattle.rec_data.specs.declared.owned.Rec.{Rec};
 ghost use Rattle.rec_data.specs.Owned.{rec_bytes};
+ghost use Rattle.mcap_io.specs.Outside.{LiveState, Adds, AppendCause, AppendLeaves};
 ghost use Rattle.mcap_model.specs.File.{front};
-ghost use Rattle.recorder.specs.File.{plain_back, PieceAdded, accepted_with};
+ghost use Rattle.recorder.specs.File.{front_length, plain_back, PieceAdded, accepted_with};
 ghost use Rattle.recorder.specs.Tape.{Wrote};
 ghost use Rattle.recorder.specs.Recorded.{WriterRecorded};
 ghost use Rattle.mcap_model.specs.Fields.{SchemaFields};
@@ -63,11 +65,36 @@ fn back_piece(alloc: Global) -> Result<Vec<u8>, Memory>
     Ok(piece)
 }
 
-// Appends a piece, and says how long it is.
-fn append_piece<L: LiveStore>(live: &mut L, piece: &[u8]) -> Result<u64, Stop>
-    ensures { PieceAdded (L.held live.old) (L.held live.new) (L.faults live.old) (L.faults live.new) piece.now result }
+// How far an append is to go.
+#[derive(Clone, Copy)]
+enum Reach {
+    /// The store may keep the piece back for a while.
+    Store,
+    /// After it all that was appended is with the system.
+    System,
+}
+
+// Appends a piece as far as that.
+fn append_to<L: LiveStore>(
+    live: &mut L,
+    piece: &[u8],
+    reach: Reach,
+) -> Result<L::Extent, AppendRefused>
+    ensures adds { IfOk result (λ e. Adds (L.state live.old).held (L.state live.new).held piece.now) }
+    ensures leaves { IfErr result (AppendLeaves (L.state live.old).held (L.state live.new).held piece.now) }
+    ensures cause { AppendCause (L.state live.old).faults (L.state live.new).faults result }
 {
-    match live.append(piece) {
+    match reach {
+        Reach::Store => return live.append(piece),
+        Reach::System => return live.append_through(piece),
+    }
+}
+
+// Appends a piece, and says how long it is.
+fn append_piece<L: LiveStore>(live: &mut L, piece: &[u8], reach: Reach) -> Result<u64, Stop>
+    ensures { PieceAdded (L.state live.old) (L.state live.new) piece.now result }
+{
+    match append_to(live, piece, reach) {
         Ok(_) => return Ok(piece.len() as u64),
         Err(AppendRefused::Failed { .. }) => {
             return Err(Stop::Fault {
@@ -80,20 +107,20 @@ fn append_piece<L: LiveStore>(live: &mut L, piece: &[u8]) -> Result<u64, Stop>
 
 // Appends what the file begins with, and says how long that is.
 fn write_front<L: LiveStore>(alloc: Global, live: &mut L) -> Result<u64, Stop>
-    ensures { PieceAdded (L.held live.old) (L.held live.new) (L.faults live.old) (L.faults live.new) (front []) result }
+    ensures { PieceAdded (L.state live.old) (L.state live.new) (front []) result }
 {
     match front_piece(alloc) {
-        Ok(piece) => return append_piece(live, &piece),
+        Ok(piece) => return append_piece(live, &piece, Reach::System),
         Err(_) => return Err(Stop::Memory),
     }
 }
 
 // Appends what closes the file, and says how long that is.
 fn write_back<L: LiveStore>(alloc: Global, live: &mut L) -> Result<u64, Stop>
-    ensures { PieceAdded (L.held live.old) (L.held live.new) (L.faults live.old) (L.faults live.new) plain_back result }
+    ensures { PieceAdded (L.state live.old) (L.state live.new) plain_back result }
 {
     match back_piece(alloc) {
-        Ok(piece) => return append_piece(live, &piece),
+        Ok(piece) => return append_piece(live, &piece, Reach::System),
         Err(_) => return Err(Stop::Memory),
     }
 }
@@ -101,8 +128,8 @@ fn write_back<L: LiveStore>(alloc: Global, live: &mut L) -> Result<u64, Stop>
 impl Tape {
     /// A tape whose front was appended to the store, or refused.
     pub(crate) fn open<L: LiveStore>(alloc: Global, live: &mut L) -> Tape
-        ensures wrote { Wrote (L.held live.old) (L.held live.new) (L.faults live.old) (L.faults live.new) [] result.stop result.bytes }
-        ensures size { result.bytes ≤ 34 }
+        ensures wrote { Wrote (L.state live.old) (L.state live.new) [] result.stop result.bytes }
+        ensures size { result.bytes ≤ front_length }
     {
         match write_front(alloc, live) {
             Ok(bytes) => return Tape { bytes, stop: None },
@@ -119,16 +146,16 @@ impl Tape {
     pub(crate) fn put<L: LiveStore>(&mut self, live: &mut L, piece: &[u8])
         requires goes_on { self.old.stop ≡ None }
         requires fits { self.old.bytes + length piece.now < 2 ^ 64 }
-        ensures wrote { (held : Option (List ℕ)) (before : ℕ) (history : List Rec) (r : Rec) → piece.now ≡ rec_bytes r
-            → Wrote held (L.held live.old) before (L.faults live.old) history self.old.stop self.old.bytes
-            → Wrote held (L.held live.new) before (L.faults live.new) (history ++ r ∷ []) self.new.stop self.new.bytes }
+        ensures wrote { (before : LiveState) (history : List Rec) (r : Rec) → piece.now ≡ rec_bytes r
+            → Wrote before (L.state live.old) history self.old.stop self.old.bytes
+            → Wrote before (L.state live.new) (history ++ r ∷ []) self.new.stop self.new.bytes }
         // Where the tape stops at it, those that come with the record are accepted too.
-        ensures stopped { (held : Option (List ℕ)) (before : ℕ) (history behind : List Rec) (r : Rec) (stop : Stop) → piece.now ≡ rec_bytes r → length behind < accepted_with r
-            → self.new.stop ≡ Some stop → Wrote held (L.held live.old) before (L.faults live.old) history self.old.stop self.old.bytes
-            → Wrote held (L.held live.new) before (L.faults live.new) (history ++ r ∷ behind) self.new.stop self.new.bytes }
+        ensures stopped { (before : LiveState) (history behind : List Rec) (r : Rec) (stop : Stop) → piece.now ≡ rec_bytes r → length behind < accepted_with r
+            → self.new.stop ≡ Some stop → Wrote before (L.state live.old) history self.old.stop self.old.bytes
+            → Wrote before (L.state live.new) (history ++ r ∷ behind) self.new.stop self.new.bytes }
         ensures size { self.new.bytes ≤ self.old.bytes + length piece.now }
     {
-        match append_piece(live, piece) {
+        match append_piece(live, piece, Reach::Store) {
             Ok(more) => self.bytes += more,
             Err(stop) => self.stop = Some(stop),
         }
@@ -139,9 +166,9 @@ impl Tape {
     pub(crate) fn put_both<L: LiveStore>(&mut self, live: &mut L, first: &[u8], second: &[u8])
         requires goes_on { self.old.stop ≡ None }
         requires fits { self.old.bytes + length first.now + length second.now < 2 ^ 64 }
-        ensures wrote { (held : Option (List ℕ)) (before : ℕ) (history : List Rec) (id : ℕ) (f : SchemaFields) (q : Rec) → first.now ≡ rec_bytes (schema_of id f) → second.now ≡ rec_bytes q
-            → Wrote held (L.held live.old) before (L.faults live.old) history self.old.stop self.old.bytes
-            → Wrote held (L.held live.new) before (L.faults live.new) (history ++ schema_of id f ∷ q ∷ []) self.new.stop self.new.bytes }
+        ensures wrote { (before : LiveState) (history : List Rec) (id : ℕ) (f : SchemaFields) (q : Rec) → first.now ≡ rec_bytes (schema_of id f) → second.now ≡ rec_bytes q
+            → Wrote before (L.state live.old) history self.old.stop self.old.bytes
+            → Wrote before (L.state live.new) (history ++ schema_of id f ∷ q ∷ []) self.new.stop self.new.bytes }
         ensures size { self.new.bytes ≤ self.old.bytes + length first.now + length second.now }
     {
         self.put(live, first);
@@ -163,9 +190,9 @@ impl Tape {
     ) -> WriterReport
         requires { self.bytes < 2 ^ 63 }
         ensures stopped { (stop : Stop) → self.stop ≡ Some stop → result.end ≡ Stopped stop }
-        ensures recorded { (held : Option (List ℕ)) (before : ℕ) (history : List Rec) → records ≡ length history
-            → Wrote held (L.held live.old) before (L.faults live.old) history self.stop self.bytes
-            → WriterRecorded held (L.held live.new) before (L.faults live.new) history result }
+        ensures recorded { (before : LiveState) (history : List Rec) → records ≡ length history
+            → Wrote before (L.state live.old) history self.stop self.bytes
+            → WriterRecorded before (L.state live.new) history result }
     {
         let mut writer = WriterReport {
             records,

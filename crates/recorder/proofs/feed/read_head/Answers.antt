@@ -1,10 +1,11 @@
-use Rattle.std.proofs.Common.{◌∙◌}
+use Rattle.mcap_io.specs.Outside.{SourceState}
+use Rattle.std.proofs.Common.{Err, ◌∙◌, ap, arith}
 use Rattle.recorder.proofs.Heads.{head_taken, head_refused}
 use Rattle.recorder.proofs.feed.read_head.Goals as goal
 
 pub returns-in-Err-clause-taken : goal.returns-in-Err-clause-taken
 returns-in-Err-clause-taken g c = λ rest told.
-    head_refused rest c.args.offset _ _ c.read_up_to.new.buffer.items _ _ _ told c.in-Err.ensures.taken c.refused.ensures
+    head_refused rest c.args.offset _ _ c.read_up_to.new.buffer.items _ _ _ told c.in-Err.ensures.taken (λ memory. ap (λ (s : SourceState). s.left) (c.in-Err.ensures.unread (ap (λ w. Err w) memory) (omega arith))) c.refused.ensures
 
 pub returns-in-Some-clause-taken : goal.returns-in-Some-clause-taken
 returns-in-Some-clause-taken g c = λ rest told.

@@ -31,8 +31,8 @@ written id n content none empty head numbered piece long n_is empty_is none_is h
 is_message : (id channel : ℕ) (content piece : List ℕ) (m : MessageFields) → id < 2 ^ 16 → 22 ≤ length content → IsMessage (top_of 5 content) channel m → piece ≡ 5 ∷ (le 8 (length content) ++ moved id content) → piece ≡ rec_bytes (message_of id m)
 unfolding moved
 is_message id channel content piece m fits long is piece_is =
-    let text : List ℕ = message_text id m.sequence m.log_time m.publish_time m.payload in
-    let same : moved id content ≡ text = (message_on content channel m.sequence m.log_time m.publish_time m.payload id fits is.layout).spelled_there in
+    let text : List ℕ = message_text id m in
+    let same : moved id content ≡ text = (message_on content channel m id fits is.layout).spelled_there in
     let size : length content ≡ length text = sym (length-moved id content long) ∙ ap length same in
     piece_is ∙ ap (λ (n : ℕ). 5 ∷ (le 8 n ++ moved id content)) size ∙ ap (λ (l : List ℕ). 5 ∷ (le 8 (length text) ++ l)) same
 

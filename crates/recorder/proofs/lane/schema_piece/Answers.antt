@@ -1,4 +1,4 @@
-use Rattle.std.proofs.Common.{◌≡◌, ◌≤◌, ◌++◌, ℕ, List, [], length, ap, arith}
+use Rattle.std.proofs.Common.{◌≡◌, ◌+◌, ◌≤◌, ◌++◌, ℕ, List, [], length, ap, arith}
 use Rattle.mcap_wire.specs.Layout.{framed}
 use Rattle.mcap_wire.proofs.Framing.{length-framed}
 use Rattle.rec_data.specs.Owned.{rec_bytes}
@@ -7,14 +7,15 @@ use Rattle.rec_data.proofs.OwnedLengths.{length-schema_text}
 use Rattle.mcap_model.specs.Fields.{SchemaFields}
 use Rattle.mcap_model.specs.History.{schema_of}
 use Rattle.recorder.specs.Channels.{schema_fields, SchemaFieldsFit}
+use Rattle.recorder.specs.Feed.{other_content_limit}
 use Rattle.recorder.proofs.lane.schema_piece.Goals as goal
 
-short_enough : (id : ℕ) (f : SchemaFields) (piece : List ℕ) → SchemaFieldsFit f → piece ≡ rec_bytes (schema_of id f) → length piece ≤ 500009
+short_enough : (id : ℕ) (f : SchemaFields) (piece : List ℕ) → SchemaFieldsFit f → piece ≡ rec_bytes (schema_of id f) → length piece ≤ other_content_limit + 9
 short_enough id f piece fit is =
-    let text = schema_text id f.name f.encoding f.payload in
-    omega (arith, ap length is, length-framed 3 text, length-schema_text id f.name f.encoding f.payload)
+    let text = schema_text id f in
+    omega (arith, ap length is, length-framed 3 text, length-schema_text id f)
 
-is_framed : (id : ℕ) (f : SchemaFields) (piece front name encoding payload : List ℕ) → piece ≡ front ++ framed 3 (schema_text id name encoding payload) → front ≡ [] → name ≡ f.name → encoding ≡ f.encoding → payload ≡ f.payload → piece ≡ rec_bytes (schema_of id f)
+is_framed : (id : ℕ) (f : SchemaFields) (piece front name encoding payload : List ℕ) → piece ≡ front ++ framed 3 (schema_text id (record { name = name; encoding = encoding; payload = payload })) → front ≡ [] → name ≡ f.name → encoding ≡ f.encoding → payload ≡ f.payload → piece ≡ rec_bytes (schema_of id f)
 is_framed id f piece front name encoding payload is none name_is encoding_is payload_is = cc
 
 pub returns : goal.returns

@@ -46,9 +46,9 @@ pub returns : goal.returns
 returns g c =
     let lane = c.publish_feed-end.new.lane in
     let end = c.publish_feed-end.result in
-    let read = c.publish_feed-end.ensures (g.L.LiveStore.held c.args.live.now) (g.L.LiveStore.faults c.args.live.now) c.open-tape.ensures.wrote in
+    let read = c.publish_feed-end.ensures (g.L.LiveStore.state c.args.live.now) c.open-tape.ensures.wrote in
     let over = read.over in
-    let writer = c.close-writer.ensures.recorded (g.L.LiveStore.held c.args.live.now) (g.L.LiveStore.faults c.args.live.now) over.history over.over.records over.tape_stands in
+    let writer = c.close-writer.ensures.recorded (g.L.LiveStore.state c.args.live.now) over.history over.over.records over.tape_stands in
     let pushed = rw c.unwrap.ensures at c.push.ensures.items in
     record {
       tops = read.tops;

@@ -6,14 +6,14 @@ pub read_section-requires-clause-begins : goal.read_section-requires-clause-begi
 read_section-requires-clause-begins g c =
     let h = c.in-Ok.ensures.taken in
     let w = c.requires.wrote in
-    (h.header, w.0, w.1, h.kind, goes_first _ _ _ _ _ _ _ (c.requires.stands h.header h.kind) w.2 c.requires.size)
+    (h.header, w.0, h.kind, goes_first _ _ _ _ _ (c.requires.stands h.header h.kind) w.1 c.requires.size)
 
 pub returns-in-Ok : goal.returns-in-Ok
-returns-in-Ok g c = λ held before wrote.
+returns-in-Ok g c = λ before wrote.
     let h = c.in-Ok.ensures.taken in
-    c.read_section.ensures h.header held before (g.S.Source.faults c.args.source.now) (g.S.Source.left c.args.source.now) h.kind h.taken h.still
-    (goes_first _ _ _ held _ before _ (c.requires.stands h.header h.kind) wrote c.requires.size)
+    c.read_section.ensures h.header before (g.S.Source.state c.args.source.now) h.kind h.taken h.still
+    (goes_first _ _ _ before _ (c.requires.stands h.header h.kind) wrote c.requires.size)
 
 pub returns-in-Err : goal.returns-in-Err
-returns-in-Err g c = λ held before wrote.
-    header_refused _ _ _ _ held _ _ _ before _ c.in-Err.end (goes_first _ _ _ held _ before _ c.requires.unread wrote c.requires.size) c.in-Err.ensures.taken c.in-Err.ensures.unstopped
+returns-in-Err g c = λ before wrote.
+    header_refused _ _ _ _ before _ c.in-Err.end (goes_first _ _ _ before _ c.requires.unread wrote c.requires.size) c.in-Err.ensures.taken c.in-Err.ensures.unstopped

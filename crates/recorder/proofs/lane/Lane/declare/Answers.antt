@@ -6,9 +6,9 @@ use Rattle.recorder.proofs.Declared.{some_at, declared_before}
 use Rattle.recorder.proofs.lane.Lane.declare.Goals as goal
 
 pub returns-then-given-ne0-clause-declared : goal.returns-then-given-ne0-clause-declared
-returns-then-given-ne0-clause-declared g c = λ tops history held before e h at on.
+returns-then-given-ne0-clause-declared g c = λ tops history before e h at on.
     let channel : c.index.result.now ≡ e = c.index.ensures ∙ get_or_from_slice_get c.args.self.now.channels.items c.args.k e c.index.result.now at in
-    declared_before c.args.self.now _ tops history c.args.k e c.index.result.now.given held _ before _ h at
+    declared_before c.args.self.now _ tops history c.args.k e c.index.result.now.given before _ h at
     (ap (λ (x : SourceChannel). x.given) (sym channel)) c.if-given-ne0.true
 
 pub declare_channel-requires-clause-none : goal.declare_channel-requires-clause-none
@@ -17,9 +17,9 @@ declare_channel-requires-clause-none g c = λ e at.
     ap (λ (x : SourceChannel). x.given) (sym channel) ∙ c.if-given-ne0.false
 
 pub returns-then-schema_id-eq0-clause-declared : goal.returns-then-schema_id-eq0-clause-declared
-returns-then-schema_id-eq0-clause-declared g c = λ tops history held before e h at on.
+returns-then-schema_id-eq0-clause-declared g c = λ tops history before e h at on.
     let channel : c.index-2.result.now ≡ e = c.index-2.ensures ∙ get_or_from_slice_get c.args.self.now.channels.items c.args.k e c.index-2.result.now at in
-    c.declare_channel.ensures.declared tops history held before e h at on (inl (ap (λ (x : SourceChannel). x.schema_id) (sym channel) ∙ c.if-schema_id-eq0.true, refl))
+    c.declare_channel.ensures.declared tops history before e h at on (inl (ap (λ (x : SourceChannel). x.schema_id) (sym channel) ∙ c.if-schema_id-eq0.true, refl))
 
 pub schema_place-s-requires : goal.schema_place-s-requires
 schema_place-s-requires g c =
@@ -44,8 +44,8 @@ declare_with_schema-requires-clause-none g c = λ e at.
     ap (λ (x : SourceChannel). x.given) (sym channel) ∙ c.if-given-ne0.false
 
 pub returns-clause-declared : goal.returns-clause-declared
-returns-clause-declared g c = λ tops history held before e h at on.
+returns-clause-declared g c = λ tops history before e h at on.
     let channel : c.index-2.result.now ≡ e = c.index-2.ensures ∙ get_or_from_slice_get c.args.self.now.channels.items c.args.k e c.index-2.result.now at in
     let same = ap (λ (x : SourceChannel). x.schema_id) channel in
-    c.declare_with_schema.ensures.declared tops history held before e c.schema_place-s.ensures.0 h at on c.schema_place-s.ensures.1 (c.schema_place-s.ensures.2 ∙ same)
+    c.declare_with_schema.ensures.declared tops history before e c.schema_place-s.ensures.0 h at on c.schema_place-s.ensures.1 (c.schema_place-s.ensures.2 ∙ same)
     (λ no_schema. c.if-schema_id-eq0.false (same ∙ no_schema))

@@ -11,7 +11,7 @@ use Rattle.recorder.proofs.Declared.{put_both}
 use Rattle.recorder.proofs.lane.Lane.declare_both.Goals as goal
 
 pub returns-clause-declared : goal.returns-clause-declared
-returns-clause-declared g c = λ tops history held before e x h at none on at_schema its none_schema found.
+returns-clause-declared g c = λ tops history before e x h at none on at_schema its none_schema found.
     let schemas = c.args.self.now.schemas.items in
     let channels = c.args.self.now.channels.items in
     let w = c.args.self.now.schema_ids + 1 in
@@ -26,8 +26,8 @@ returns-clause-declared g c = λ tops history held before e x h at none on at_sc
     c.deref-2.ensures.value ∙ c.in-Ok.ensures.channel.0 ∙ ap (λ (y : SourceChannel). rec_bytes (channel_of id (written_of y w))) channel in
     let first_size : length c.deref.result.now ≡ length c.in-Ok.pieces.0.items = ap length c.deref.ensures.value in
     let second_size : length c.deref-2.result.now ≡ length c.in-Ok.pieces.1.items = ap length c.deref-2.ensures.value in
-    put_both c.args.self.now _ c.put_both.new.self tops history c.args.k e c.args.s x id w held _ before _ h.handles at none on at_schema its none_schema found refl refl
-    (c.put_both.ensures.wrote held before history w (schema_fields x) (channel_of id (written_of e w)) first second h.tape_stands)
+    put_both c.args.self.now _ c.put_both.new.self tops history c.args.k e c.args.s x id w before _ h.handles at none on at_schema its none_schema found refl refl
+    (c.put_both.ensures.wrote before history w (schema_fields x) (channel_of id (written_of e w)) first second h.tape_stands)
     (omega (arith, c.put_both.ensures.size, h.fits, c.in-Ok.ensures.schema.1, c.in-Ok.ensures.channel.1, first_size, second_size))
     (record {
       schemas_are = ap (λ (y : SourceSchema). set schemas c.args.s (given_schema_id y w)) same_schema;

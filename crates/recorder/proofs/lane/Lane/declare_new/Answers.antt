@@ -9,7 +9,7 @@ use Rattle.recorder.proofs.Declared.{put_new}
 use Rattle.recorder.proofs.lane.Lane.declare_new.Goals as goal
 
 pub returns-clause-declared : goal.returns-clause-declared
-returns-clause-declared g c = λ tops history held before e h at none on schema found.
+returns-clause-declared g c = λ tops history before e h at none on schema found.
     let id = c.args.self.now.channel_ids + 1 in
     let w = c.args.schema in
     let same : c.index_mut-channel.result.now ≡ e =
@@ -18,8 +18,8 @@ returns-clause-declared g c = λ tops history held before e h at none on schema 
     let piece : c.deref.result.now ≡ rec_bytes (channel_of id (written_of e w)) =
     c.deref.ensures.value ∙ c.in-Ok.ensures.0 ∙ ap (λ (x : SourceChannel). rec_bytes (channel_of id (written_of x w))) channel in
     let size : length c.deref.result.now ≡ length c.in-Ok.piece.items = ap length c.deref.ensures.value in
-    put_new c.args.self.now _ c.put.new.self tops history c.args.k e id w held _ before _ h.handles at none on schema found refl
-    (c.put.ensures.wrote held before history (channel_of id (written_of e w)) piece h.tape_stands)
+    put_new c.args.self.now _ c.put.new.self tops history c.args.k e id w before _ h.handles at none on schema found refl
+    (c.put.ensures.wrote before history (channel_of id (written_of e w)) piece h.tape_stands)
     (omega (arith, c.put.ensures.size, h.fits, c.in-Ok.ensures.1, size))
     (record {
       schemas_are = refl;

@@ -39,7 +39,7 @@ declare_channel-requires-in-Some-clause-stands g c =
     )
 
 pub returns-in-Some-clause-declared : goal.returns-in-Some-clause-declared
-returns-in-Some-clause-declared g c = λ tops history held before e x h at on at_schema its some.
+returns-in-Some-clause-declared g c = λ tops history before e x h at on at_schema its some.
     let schemas = c.args.self.now.schemas.items in
     let schema : c.index.result.now ≡ x = c.index.ensures ∙ get_or_from_slice_get schemas c.args.s x c.index.result.now at_schema in
     let none : x.given ≡ 0 = ap (λ (y : SourceSchema). y.given) (sym schema) ∙ c.if-given-ne0.false in
@@ -50,7 +50,7 @@ returns-in-Some-clause-declared g c = λ tops history held before e x h at on at
     let y = c.index_mut.result.now in
     let same : y ≡ x = c.index_mut.ensures.value ∙ get_or_from_slice_get schemas c.args.s x y at_schema in
     let its_id : y.id ≡ e.schema_id = ap (λ (z : SourceSchema). z.id) same ∙ its in
-    c.declare_channel-in-Some.ensures.declared tops history held before e (record {
+    c.declare_channel-in-Some.ensures.declared tops history before e (record {
       handles = schema_given c.args.self.now _ tops history c.args.s x c.in-Some.id h.handles at_schema none found (record {
         schemas = ap (λ (z : SourceSchema). set schemas c.args.s (given_schema_id z c.in-Some.id)) same;
         channels = refl;
@@ -87,7 +87,7 @@ declare_both-requires-clause-channel_ids g c =
     omega (arith, h.channel_ids, few)
 
 pub returns-in-None-clause-declared : goal.returns-in-None-clause-declared
-returns-in-None-clause-declared g c = λ tops history held before e x h at on at_schema its some.
+returns-in-None-clause-declared g c = λ tops history before e x h at on at_schema its some.
     let schemas = c.args.self.now.schemas.items in
     let schema : c.index.result.now ≡ x = c.index.ensures ∙ get_or_from_slice_get schemas c.args.s x c.index.result.now at_schema in
     let none : x.given ≡ 0 = ap (λ (y : SourceSchema). y.given) (sym schema) ∙ c.if-given-ne0.false in
@@ -95,4 +95,4 @@ returns-in-None-clause-declared g c = λ tops history held before e x h at on at
     let found : FindsSameSchema schemas (schema_fields x) None =
     subst (λ (xs : List SourceSchema). FindsSameSchema xs (schema_fields x) None) c.deref.ensures.value
     (subst (λ (y : SourceSchema). FindsSameSchema c.deref.result.now (schema_fields y) None) other c.in-None.ensures) in
-    c.declare_both.ensures.declared tops history held before e x h at (c.requires.none e at) on at_schema its none found
+    c.declare_both.ensures.declared tops history before e x h at (c.requires.none e at) on at_schema its none found

@@ -18,7 +18,7 @@ abbrev made : ℕ → List ℕ → List ℕ → List (List ℕ × List ℕ) → 
 made schema topic encoding metadata = record { schema = schema; topic = topic; encoding = encoding; metadata = metadata }
 
 -- what was parsed, under an entry's id
-of_entry : (content topic encoding : List ℕ) (metadata : List (List ℕ × List ℕ)) (id schema own : ℕ) → ShowsChannel content id schema topic encoding metadata → own ≡ id → IsChannel (top_of 4 content) own (made schema topic encoding metadata)
+of_entry : (content topic encoding : List ℕ) (metadata : List (List ℕ × List ℕ)) (id schema own : ℕ) → ShowsChannel content id (made schema topic encoding metadata) → own ≡ id → IsChannel (top_of 4 content) own (made schema topic encoding metadata)
 of_entry content topic encoding metadata id schema own shows same =
     let f = made schema topic encoding metadata in
     let one : IsChannel (top_of 4 content) id f = record { kind = refl; layout = shows } in
@@ -37,7 +37,7 @@ read_there items k e read at is = is ∙ get_or_from_slice_get items k e read at
 -- the content shows no Channel
 pub returns-in-Err-clause-taken : goal.returns-in-Err-clause-taken
 returns-in-Err-clause-taken c = λ tops history was. (
-  λ fits. c.in-Err.ensures.none fits.id fits.shown.schema fits.shown.topic fits.shown.encoding fits.shown.metadata fits.is.layout,
+  λ fits. c.in-Err.ensures.none fits.id fits.shown fits.is.layout,
   was,
 )
 

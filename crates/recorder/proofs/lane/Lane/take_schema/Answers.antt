@@ -15,7 +15,7 @@ abbrev made : List ℕ → List ℕ → List ℕ → SchemaFields
 made name encoding payload = record { name = name; encoding = encoding; payload = payload }
 
 -- what was parsed, under an entry's id
-of_entry : (content name encoding payload : List ℕ) (id own : ℕ) → ShowsSchema content id name encoding payload → (id ≡ 0 → ⊥) → own ≡ id → IsSchema (top_of 3 content) own (made name encoding payload)
+of_entry : (content name encoding payload : List ℕ) (id own : ℕ) → ShowsSchema content id (made name encoding payload) → (id ≡ 0 → ⊥) → own ≡ id → IsSchema (top_of 3 content) own (made name encoding payload)
 of_entry content name encoding payload id own shows some same =
     let one : IsSchema (top_of 3 content) id (made name encoding payload) = record { kind = refl; layout = shows; some = some } in
     subst (λ (i : ℕ). IsSchema (top_of 3 content) i (made name encoding payload)) (sym same) one
@@ -30,7 +30,7 @@ read_there items k s read at is = is ∙ get_or_from_slice_get items k s read at
 -- the content shows no Schema
 pub returns-in-Err-clause-taken : goal.returns-in-Err-clause-taken
 returns-in-Err-clause-taken c = λ tops history was. (
-  λ fits. c.in-Err.ensures.none fits.id fits.shown.name fits.shown.encoding fits.shown.payload fits.is.layout,
+  λ fits. c.in-Err.ensures.none fits.id fits.shown fits.is.layout,
   was,
 )
 
@@ -38,7 +38,7 @@ returns-in-Err-clause-taken c = λ tops history was. (
 pub returns-then-schema-eq0-clause-taken : goal.returns-then-schema-eq0-clause-taken
 returns-then-schema-eq0-clause-taken c = λ tops history was.
     let schema = c.in-Ok.schema in (
-      unfit_zero tops (top_of 3 c.args.content.now) schema.id schema.name.now schema.encoding.now schema.payload.now c.in-Ok.ensures.shown c.if-schema-eq0.true,
+      unfit_zero tops (top_of 3 c.args.content.now) schema.id (made schema.name.now schema.encoding.now schema.payload.now) c.in-Ok.ensures.shown c.if-schema-eq0.true,
       was,
     )
 

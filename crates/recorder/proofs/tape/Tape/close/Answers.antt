@@ -7,9 +7,9 @@ pub overflow_add-writer : goal.overflow_add-writer
 overflow_add-writer g c = omega (arith, c.in-Ok.ensures.2, length-back)
 
 pub returns-in-Err-clause-recorded : goal.returns-in-Err-clause-recorded
-returns-in-Err-clause-recorded g c = λ held before history count wrote.
-    not_closed held _ _ before _ _ history _ _ _ _ c.in_default.is count wrote c.in-Err.ensures
+returns-in-Err-clause-recorded g c = λ before history count wrote.
+    not_closed before _ _ history _ _ _ _ c.in_default.is count wrote c.in-Err.ensures
 
 pub returns-in-Ok-clause-recorded : goal.returns-in-Ok-clause-recorded
-returns-in-Ok-clause-recorded g c = λ held before history count wrote.
-    closed held _ _ before _ _ history _ _ _ _ c.in_default.is count wrote c.in-Ok.ensures
+returns-in-Ok-clause-recorded g c = λ before history count wrote.
+    closed before _ _ history _ _ _ _ c.in_default.is count wrote c.in-Ok.ensures

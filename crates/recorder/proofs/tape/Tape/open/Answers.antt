@@ -7,4 +7,4 @@ pub returns-in-Ok-clause-size : goal.returns-in-Ok-clause-size
 returns-in-Ok-clause-size g c = omega (arith, c.in-Ok.ensures.2, length-front)
 
 pub returns-in-Err-clause-wrote : goal.returns-in-Err-clause-wrote
-returns-in-Err-clause-wrote g c = not_opened _ _ _ _ _ c.in-Err.ensures
+returns-in-Err-clause-wrote g c = not_opened _ _ _ c.in-Err.ensures
