@@ -1,30 +1,27 @@
 -- From the parts of a recording to what the program promises of it.
-use Rattle.std.proofs.Common.{◌≡◌, ◌⊎◌, ℕ, Bool, true, false, cond, ◌||◌, List, [], ◌∷◌, Option, Some, None, refl, sym, ap, subst, inl, inr, ◌∙◌, arith}
-use Rattle.std.proofs.lemmas.Bool.{both_ways}
-use Rattle.mcap_io.specs.Outside.{Opening, Names}
+use Rattle.std.proofs.Common.{◌≡◌, ◌⊎◌, ℕ, ◌-◌, ◌^◌, ◌<◌, not, Bool, true, false, cond, ◌||◌, List, [], ◌∷◌, Option, Some, None, refl, sym, ap, subst, inl, inr, ◌∙◌, arith}
+use Rattle.std.proofs.lemmas.Bool.{both_ways, ne_eqb}
+use Rattle.mcap_io.specs.Outside.{Rose, added, Told, Opening, Keeping, SinkState, WorldState}
 use Rattle.recorder.specs.declared.report.Report.{Report}
 use Rattle.recorder.specs.declared.report.FeedReport.{FeedReport}
 use Rattle.recorder.specs.declared.report.FeedEnd.{FeedEnd}
 use Rattle.recorder.specs.declared.report.FeedEnd.TheVariants as feed_ends
 use Rattle.mcap_app.specs.declared.faults.Counts.{Counts}
+use Rattle.mcap_app.specs.declared.words.Command.{Command}
+use Rattle.mcap_app.specs.declared.words.Command.TheVariants.{Record, Cat}
+use Rattle.mcap_app.specs.Words.{AreBad, Derives}
 use Rattle.mcap_app.specs.declared.answering.Failures.{Failures}
+use Rattle.mcap_app.specs.declared.answering.Outcome.{Outcome}
 use Rattle.rec_data.specs.declared.owned.Rec.{Rec}
 use Rattle.mcap_model.specs.Tops.{Top}
-use Rattle.recorder.specs.Feed.{FeedRead, Stops}
+use Rattle.recorder.specs.Feed.{FeedRead, ComesTo}
 use Rattle.recorder.specs.Recorded.{IsOnlyFeed}
 use Rattle.mcap_app.specs.Texts.{Trouble, no_memory, status_of}
-use Rattle.mcap_app.specs.Answer.{Failed, Answers}
+use Rattle.mcap_app.specs.Answer.{Failed, FaultsShow, Answers}
 use Rattle.recorder.proofs.OneEnd.{good_read}
 use Rattle.mcap_app.proofs.Lacks.{lacks_with, lacks_without}
 use Rattle.mcap_app.proofs.Whole.{whole}
-use Rattle.mcap_app.specs.Run.{counts, AnyRose, Causes, EndOf, EndsWith, Says, Scene, scene, Records, Reported, NamesRecorded, PrintsReport, troubles_of, end_status}
-
-pub same_counts : (c : Counts) (world inputs outputs printing : ℕ) → c.world ≡ world → c.inputs ≡ inputs → c.outputs ≡ outputs → c.printing ≡ printing → c ≡ counts world inputs outputs printing
-same_counts c world inputs outputs printing a b d e =
-    ap (λ (n : ℕ). counts n c.inputs c.outputs c.printing) a
-    ∙ ap (λ (n : ℕ). counts world n c.outputs c.printing) b
-    ∙ ap (λ (n : ℕ). counts world inputs n c.printing) d
-    ∙ ap (λ (n : ℕ). counts world inputs outputs n) e
+use Rattle.mcap_app.specs.Run.{Scene, counts_in, AnyRose, Causes, EndOf, EndsWith, Entries, CountsOn, Blames, kept_faults, faults_of, failed_so, kept_failed, has_failed, Says, Records, Reported, NamesRecorded, PrintsReport, troubles_of, end_status}
 
 abbrev parts : Bool → Bool → Bool → Failures
 parts feed out printing = record { feed = feed; out = out; printing = printing }
@@ -59,9 +56,9 @@ grammar_status out feed n true = every (status_is out feed (Some (feed_ends.Gram
 grammar_status out feed n false = every (status_is out feed (Some (feed_ends.Grammar n)) 1 false) refl refl refl refl refl refl refl refl
 
 -- where it holds what isn't recorded yet
-later_status : (out feed : List ℕ) (n : ℕ) (lacked f o p : Bool) → status_is out feed (Some (feed_ends.NotBuilt n)) 1 lacked f o p
-later_status out feed n true = every (status_is out feed (Some (feed_ends.NotBuilt n)) 1 true) refl refl refl refl refl refl refl refl
-later_status out feed n false = every (status_is out feed (Some (feed_ends.NotBuilt n)) 1 false) refl refl refl refl refl refl refl refl
+not_built_status : (out feed : List ℕ) (n : ℕ) (lacked f o p : Bool) → status_is out feed (Some (feed_ends.NotBuilt n)) 1 lacked f o p
+not_built_status out feed n true = every (status_is out feed (Some (feed_ends.NotBuilt n)) 1 true) refl refl refl refl refl refl refl refl
+not_built_status out feed n false = every (status_is out feed (Some (feed_ends.NotBuilt n)) 1 false) refl refl refl refl refl refl refl refl
 
 abbrev number_of : Option FeedEnd → ℕ
 number_of None = 0
@@ -71,7 +68,7 @@ status_of_parts : (out feed : List ℕ) (end : Option FeedEnd) (lacked f o p : B
 status_of_parts out feed None lacked f o p = silent_status out feed lacked f o p
 status_of_parts out feed (Some feed_ends.Done) lacked f o p = silent_status out feed lacked f o p
 status_of_parts out feed (Some (feed_ends.Grammar n)) lacked f o p = grammar_status out feed n lacked f o p
-status_of_parts out feed (Some (feed_ends.NotBuilt n)) lacked f o p = later_status out feed n lacked f o p
+status_of_parts out feed (Some (feed_ends.NotBuilt n)) lacked f o p = not_built_status out feed n lacked f o p
 status_of_parts out feed (Some (feed_ends.Fault faults)) lacked f o p = silent_status out feed lacked f o p
 status_of_parts out feed (Some feed_ends.Memory) lacked f o p = silent_status out feed lacked f o p
 status_of_parts out feed (Some feed_ends.Ended) lacked f o p = silent_status out feed lacked f o p
@@ -126,21 +123,21 @@ only_end report end r f is here one =
     let P : Option Report → Type 0 = λ x. EndOf x end in
     subst P here is f one
 
-answered : (out feed : List ℕ) (report : Option Report) (failed : Failures) (took after : Option (List ℕ)) (errors errors_now answer : ℕ)
-    → (a : Answers out feed report failed took after errors errors_now answer)
+answered : (out feed : List ℕ) (report : Option Report) (failed : Failures) (err err_now : SinkState) (answer : ℕ)
+    → (a : Answers out feed report failed err err_now answer)
     → (answer ≡ 5) ⊎ ((a.lacked ≡ false) × (answer ≡ cond (any failed.feed failed.out failed.printing) 3 (number_of a.end)))
-answered out feed report failed took after errors errors_now answer a = five_or out feed a.end failed a.lacked a.troubles answer a.are a.answer_is
+answered out feed report failed err err_now answer a = five_or out feed a.end failed a.lacked a.told.troubles answer a.told.are a.told.answer_is
 
 -- a want of memory is answered by 5
 five_where_lacked : (answer other : ℕ) (lacked : Bool) → (answer ≡ 5) ⊎ ((lacked ≡ false) × (answer ≡ other)) → lacked ≡ true → answer ≡ 5
 five_where_lacked answer other lacked (inl five) is = five
 five_where_lacked answer other lacked (inr calm) is = absurd (both_ways lacked calm.0 is)
 
-pub ended : (out feed : List ℕ) (before now : Counts) (report : Option Report) (failed : Failures) (took after : Option (List ℕ)) (errors errors_now answer : ℕ)
-    → Answers out feed report failed took after errors errors_now answer → Causes before now failed → (AnyRose before now → Failed failed) → EndsWith before now report answer
-ended out feed before now report failed took after errors errors_now answer a causes any_failed =
+pub ended : (out feed : List ℕ) (before now : Counts) (report : Option Report) (failed : Failures) (err err_now : SinkState) (answer : ℕ)
+    → Answers out feed report failed err err_now answer → Causes before now failed → (AnyRose before now → Failed failed) → EndsWith before now report answer
+ended out feed before now report failed err err_now answer a causes any_failed =
     let number = number_of a.end in
-    let status = answered out feed report failed took after errors errors_now answer a in
+    let status = answered out feed report failed err err_now answer a in
     record {
       rose = λ risen. elim status [
         | inl five ↦ inr five
@@ -156,27 +153,71 @@ ended out feed before now report failed took after errors errors_now answer a ca
       memory = λ r f here one names. five_where_lacked answer _ a.lacked status ((lacks_with report failed a.lacked a.lacks r f here one).0 names);
     }
 
-pub told : (out feed : List ℕ) (before now : Counts) (report : Option Report) (failed : Failures) (took after : Option (List ℕ)) (errors errors_now answer : ℕ)
-    → Answers out feed report failed took after errors errors_now answer → Causes before now failed → (AnyRose before now → Failed failed) → Says out feed report before now took after errors errors_now answer
-told out feed before now report failed took after errors errors_now answer a causes any_failed = record {
+pub told : (out feed : List ℕ) (old new : Scene) (report : Option Report) (failed : Failures) (made : Entries) (answer : ℕ)
+    → Answers out feed report failed old.err new.err answer → Causes (counts_in old) (counts_in new) failed → (AnyRose (counts_in old) (counts_in new) → Failed failed) → (CountsOn old.world → Blames failed made)
+    → Says out feed old new report made answer
+told out feed old new report failed made answer a causes any_failed blames = record {
   end = a.end;
   end_is = a.end_is;
   failed = failed;
   causes = causes;
+  blames = blames;
   lacked = a.lacked;
   named = lacks_with report failed a.lacked a.lacks;
   no_report = λ none. let lacks = lacks_without report failed a.lacked a.lacks none in (
-    λ quiet. lacks.0 (nothing_failed before now failed causes quiet),
+    λ quiet. lacks.0 (nothing_failed (counts_in old) (counts_in new) failed causes quiet),
     λ is risen. lacks.1 is (any_failed risen),
   );
-  troubles = a.troubles;
-  are = a.are;
-  answer_is = a.answer_is;
-  text = a.text;
+  troubles = a.told.troubles;
+  are = a.told.are;
+  answer_is = a.told.answer_is;
+  text = a.told.text;
 }
 
+-- ---- which names are blamed
+
+-- a count that goes on and rose had something added
+added_more : (before now faults : ℕ) → before < 2 ^ 64 - 1 → now ≡ added before faults → Rose before now → faults ≡ 0 → ⊥
+added_more before now faults on is rose none = omega arith
+
+failed_often : (well : Bool) (faults : ℕ) → (faults ≡ 0 → ⊥) → failed_so well faults ≡ true
+failed_often false faults some = refl
+failed_often true faults some = ap not (ne_eqb faults 0 some)
+
+-- an object that failed is one of an entry that has failed
+object_failed : (given : Bool) (kept : Option Keeping) → (kept_faults kept ≡ 0 → ⊥) → not given || kept_failed kept ≡ true
+object_failed false kept some = refl
+object_failed true None some = absurd (some refl)
+object_failed true (Some keeping) some = failed_often keeping.well keeping.faults some
+
+pub entry_failed : (entry : Option Opening) → (faults_of entry ≡ 0 → ⊥) → has_failed entry ≡ true
+entry_failed None some = absurd (some refl)
+entry_failed (Some entry) some = object_failed entry.given entry.kept some
+
+-- where the world failed, one of the entries has
+one_failed : (a b : Bool) (before now : ℕ) → (a ≡ false → b ≡ false → now ≡ before) → before < 2 ^ 64 - 1 → Rose before now → (a ≡ true) ⊎ (b ≡ true)
+one_failed true b before now calm on rose = inl refl
+one_failed false true before now calm on rose = inr refl
+one_failed false false before now calm on rose = absurd (omega (arith, calm refl refl, on, rose))
+
+blamed : (out feed : List ℕ) (old new : Scene) (outcome : Outcome) (failed : Failures) → (made : NamesRecorded out feed old.world new.world outcome) → FaultsShow (counts_in old) (counts_in new) outcome failed → CountsOn old.world → Blames failed made.made
+blamed out feed old new outcome failed made shows on =
+    let source : Rose old.world.input_faults new.world.input_faults → outcome.feed_failed ≡ true = λ rose.
+    made.feed_failed ∙ entry_failed made.made.source (added_more old.world.input_faults new.world.input_faults (faults_of made.made.source) on.inputs made.counts.inputs rose) in
+    let live : Rose old.world.output_faults new.world.output_faults → outcome.out_failed ≡ true = λ rose.
+    made.out_failed ∙ entry_failed made.made.live (added_more old.world.output_faults new.world.output_faults (faults_of made.made.live) on.outputs made.counts.outputs rose) in
+    let either : Rose old.world.faults new.world.faults → (outcome.feed_failed ≡ true) ⊎ (outcome.out_failed ≡ true) = λ rose.
+    elim (one_failed (has_failed made.made.source) (has_failed made.made.live) old.world.faults new.world.faults made.calm on.world rose) [
+      | inl is ↦ inl (made.feed_failed ∙ is)
+      | inr is ↦ inr (made.out_failed ∙ is)
+    ] in
+    record {
+      feed = shows.feed source ∙ made.feed_failed;
+      out = shows.out live either ∙ made.out_failed;
+    }
+
 -- the end of a good feed's reading gives no status of its own
-good_status : (bytes : List ℕ) (tops others : List Top) (left : Option (List ℕ)) (end : FeedEnd) → Stops bytes tops feed_ends.Done → FeedRead bytes others left end → end_status end ≡ 0
+good_status : (bytes : List ℕ) (tops others : List Top) (left : Option (List ℕ)) (end : FeedEnd) → ComesTo bytes tops feed_ends.Done → FeedRead bytes others left end → end_status end ≡ 0
 good_status bytes tops others left end good read = elim (good_read bytes tops others left end good read) [
   | inl done ↦ ap end_status done
   | inr (inl memory) ↦ ap end_status memory
@@ -185,39 +226,40 @@ good_status bytes tops others left end good read = elim (good_read bytes tops ot
 ]
 
 -- a good feed is recorded
-complete : (feed : List ℕ) (before now : Counts) (names : Option Names) (left : Option (List ℕ)) (report : Option Report) (history : List Rec) (answer : ℕ)
-    → ((r : Report) → report ≡ Some r → Reported feed names left before.inputs now.inputs before.outputs now.outputs history r) → EndsWith before now report answer
-    → (all : Names) (bytes : List ℕ) (tops : List Top) → names ≡ Some all → all feed ≡ Some bytes → Stops bytes tops feed_ends.Done → (AnyRose before now → ⊥) → (answer ≡ 0) ⊎ (answer ≡ 5)
-complete feed before now names left None history answer reported ends all bytes tops told there good quiet = inr (ends.no_report quiet refl)
-complete feed before now names left (Some r) history answer reported ends all bytes tops told there good quiet =
-    let here = reported r refl in
-    let read = here.read all bytes told there in
-    elim (ends.calm quiet r here.only refl here.one_feed) [
-      | inl status ↦ inl (status ∙ good_status bytes tops here.tops left here.only.end good read)
+complete : (feed : List ℕ) (world : WorldState) (before now : Counts) (report : Option Report) (made : Entries) (history : List Rec) (answer : ℕ)
+    → ((r : Report) → report ≡ Some r → Reported feed world made history r) → EndsWith before now report answer
+    → (told : Told) (bytes : List ℕ) (tops : List Top) → world.told ≡ Some told → told.names feed ≡ Some bytes → ComesTo bytes tops feed_ends.Done → (AnyRose before now → ⊥) → (answer ≡ 0) ⊎ (answer ≡ 5)
+complete feed world before now None made history answer reported ends told bytes tops here there good quiet = inr (ends.no_report quiet refl)
+complete feed world before now (Some r) made history answer reported ends told bytes tops here there good quiet =
+    let is = reported r refl in
+    let read = is.read told bytes here there in
+    elim (ends.calm quiet r is.only refl is.one_feed) [
+      | inl status ↦ inl (status ∙ good_status bytes tops is.tops is.keeping.left is.only.end good read)
       | inr five ↦ inr five
     ]
 
 -- all that the program promises of a recording
-pub recorded : (out feed : List ℕ) (names names_now : Option Names) (opened opened_now : Option (List Opening)) (left left_now : Option (List ℕ)) (before now : Counts) (took took_now told_before told_now : Option (List ℕ)) (errors errors_now : ℕ) (report : Option Report) (failed : Failures) (answer : ℕ)
-    → NamesRecorded out feed before.world now.world before.inputs now.inputs before.outputs now.outputs names names_now opened opened_now left left_now report
-    → PrintsReport took took_now before.printing now.printing report
-    → Answers out feed report failed told_before told_now errors errors_now answer → Causes before now failed → (AnyRose before now → Failed failed)
-    → Records out feed (scene names opened left before took told_before errors) (scene names_now opened_now left_now now took_now told_now errors_now) report answer
-recorded out feed names names_now opened opened_now left left_now before now took took_now told_before told_now errors errors_now report failed answer made prints a causes any_failed =
-    let ends = ended out feed before now report failed told_before told_now errors errors_now answer a causes any_failed in
+pub recorded : (out feed : List ℕ) (old new : Scene) (outcome : Outcome) (failed : Failures) (answer : ℕ)
+    → old.world.input_faults < 2 ^ 64 → old.world.output_faults < 2 ^ 64 → NamesRecorded out feed old.world new.world outcome → PrintsReport old.out new.out outcome.report
+    → Answers out feed outcome.report failed old.err new.err answer → FaultsShow (counts_in old) (counts_in new) outcome failed → Records out feed old new outcome.report answer
+recorded out feed old new outcome failed answer inputs_fit outputs_fit made prints a shows =
+    let before = counts_in old in
+    let now = counts_in new in
+    let ends = ended out feed before now outcome.report failed old.err new.err answer a shows.causes shows.any in
     record {
       history = made.history;
-      openings = made.openings;
+      made = made.made;
+      are = made.are;
       names = made.names;
       reported = made.reported;
       untouched = made.untouched;
-      unfailed = made.unfailed;
-      unread = made.unread;
+      spares = made.spares;
+      counts = made.counts;
       printed = prints;
-      said = told out feed before now report failed told_before told_now errors errors_now answer a causes any_failed;
+      said = told out feed old new outcome.report failed made.made answer a shows.causes shows.any (blamed out feed old new outcome failed made shows);
       ended = ends;
-      complete = complete feed before now names left_now report made.history answer made.reported ends;
-      whole = whole feed names left_now before now made.history report answer made.reported ends;
+      complete = complete feed old.world before now outcome.report made.made made.history answer made.reported ends;
+      whole = whole feed old.world new.world old.out new.out outcome.report made.made made.history answer inputs_fit outputs_fit made.counts made.reported ends;
     }
 
 -- the status of a recording is not that of bad words
@@ -230,10 +272,11 @@ not_two out feed old new report answer all two =
     ]
 
 -- what holds of counts holds of equal ones
-pub causes_of : (b before n now : Counts) (failed : Failures) → b ≡ before → n ≡ now → Causes b n failed → Causes before now failed
-causes_of b before n now failed same same_now causes =
-    subst (λ (x : Counts). Causes before x failed) same_now (subst (λ (x : Counts). Causes x n failed) same causes)
+pub shows_in : (b before n now : Counts) (outcome : Outcome) (failed : Failures) → b ≡ before → n ≡ now → FaultsShow b n outcome failed → FaultsShow before now outcome failed
+shows_in b before n now outcome failed same same_now shows =
+    subst (λ (x : Counts). FaultsShow before x outcome failed) same_now (subst (λ (x : Counts). FaultsShow x n outcome failed) same shows)
 
-pub any_of : (b before n now : Counts) (failed : Failures) → b ≡ before → n ≡ now → (AnyRose b n → Failed failed) → AnyRose before now → Failed failed
-any_of b before n now failed same same_now any_failed =
-    subst (λ (x : Counts). AnyRose before x → Failed failed) same_now (subst (λ (x : Counts). AnyRose x n → Failed failed) same any_failed)
+-- the words of a command aren't bad
+pub derived : (words : List (List ℕ)) (c : Command) → Derives words c → AreBad words → ⊥
+derived words (Record out feed) is bad = bad.no_record out.now feed.now is
+derived words (Cat file) is bad = bad.no_cat file.now is

@@ -1,4 +1,5 @@
 mod Answered
+mod Cats
 mod Lacks
 pub mod Lines
 pub mod Mapped

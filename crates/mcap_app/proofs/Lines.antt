@@ -1,12 +1,16 @@
 -- Lines one after another, and what printing them in turn leaves.
-use Rattle.std.proofs.Common.{◌≡◌, ℕ, ◌+◌, ◌≤◌, ◌<◌, List, [], ◌∷◌, ◌++◌, length, take, drop, get_or, Option, Some, Result, Ok, Err, append_assoc, add-zero, subst, ap, sym, ◌∙◌, arith, length-append, take-append-drop}
+use Rattle.std.proofs.Common.{◌≡◌, ℕ, ◌+◌, ◌<◌, List, [], ◌∷◌, ◌++◌, length, take, drop, get_or, Option, Some, Result, Ok, Err, append_assoc, add-zero, subst, ap, sym, ◌∙◌, arith, length-append, take-append-drop}
 use Rattle.std.proofs.lemmas.List.{append-nil, take-append-le, take_more, length-take-le}
-use Rattle.mcap_io.specs.Outside.{Adds, AddsPart}
-use Rattle.mcap_io.proofs.Calls.{adds-adds, adds-part, rose-second}
+use Rattle.mcap_io.specs.Outside.{SinkState, RisesOnce, Adds, AddsPart}
+use Rattle.mcap_io.proofs.Calls.{adds-adds, adds-part}
 use Rattle.mcap_io.specs.declared.outside.Failed.{Failed}
-use Rattle.mcap_app.specs.Printing.{Prints, Tells}
+use Rattle.mcap_app.specs.Printing.{TellsAll, Prints, Tells}
 use Rattle.recorder.specs.declared.report.FeedReport.{FeedReport}
 use Rattle.mcap_app.specs.Texts.{feed_line, feed_lines}
+
+-- a count that stood still and then rose by one rose by one
+pub rises_on : (before middle now : ℕ) → middle ≡ before → RisesOnce middle now → RisesOnce before now
+rises_on before middle now still rises = subst (λ (n : ℕ). RisesOnce n now) still rises
 
 -- the lines of more feeds stand behind the lines of the first
 pub feed_lines-append : (j : ℕ) (xs ys : List FeedReport) → feed_lines j (xs ++ ys) ≡ feed_lines j xs ++ feed_lines (j + length xs) ys
@@ -56,16 +60,15 @@ feed_lines-part old mid new fs i f line within at is so_far part =
     subst P whole (part-longer old new _ shown rest (adds-part old mid new _ line 0 so_far part))
 
 -- a text that was printed behind one that was
-pub prints-behind : (old mid new : Option (List ℕ)) (a b c : ℕ) (xs ys : List ℕ) (r : Result Unit Failed) → a ≤ b → Adds old mid xs → Prints mid new b c ys r → Prints old new a c (xs ++ ys) r
-prints-behind old mid new a b c xs ys (Ok it) later adds prints = (omega (arith, prints.0), adds-adds old mid new xs ys adds prints.1)
-prints-behind old mid new a b c xs ys (Err why) later adds prints = (
-  omega (arith, prints.0),
-  rose-second a b c later prints.1,
-  let whole = adds-part old mid new xs ys 0 adds prints.2 in λ before told. let p = whole before told in (p.0, omega arith, p.2, p.3),
-)
+pub prints-behind : (old mid new : SinkState) (xs ys : List ℕ) (r : Result Unit Failed) → TellsAll old mid xs → Prints mid new ys r → Prints old new (xs ++ ys) r
+prints-behind old mid new xs ys (Ok it) first prints = record { still = prints.still ∙ first.still; adds = adds-adds old.took mid.took new.took xs ys first.adds prints.adds }
+prints-behind old mid new xs ys (Err why) first prints = record {
+  rises = rises_on old.faults mid.faults new.faults first.still prints.rises;
+  adds = let whole = adds-part old.took mid.took new.took xs ys 0 first.adds prints.adds in λ before told. let p = whole before told in (p.0, omega arith, p.2, p.3);
+}
 
 -- what tells of a text tells of an equal one
-pub tells_same : (old new : Option (List ℕ)) (before now : ℕ) (xs ys : List ℕ) → xs ≡ ys → Tells old new before now xs → Tells old new before now ys
-tells_same old new before now xs ys same tells =
-    let P : List ℕ → Type 0 = λ l. Tells old new before now l in
+pub tells_same : (old new : SinkState) (xs ys : List ℕ) → xs ≡ ys → Tells old new xs → Tells old new ys
+tells_same old new xs ys same tells =
+    let P : List ℕ → Type 0 = λ l. Tells old new l in
     subst P same tells

@@ -1,30 +1,47 @@
 -- The parts of an answer.
 use Rattle.std.specs.Prelude.{◌≡◌, ◌⊎◌, ◌↔◌, ℕ, List, [], ◌∷◌, Bool, true, Option, Some, None}
 use Rattle.mcap_app.specs.declared.answering.Failures.{Failures}
+use Rattle.mcap_app.specs.declared.answering.Outcome.{Outcome}
+use Rattle.mcap_app.specs.declared.faults.Counts.{Counts}
 use Rattle.recorder.specs.declared.report.Report.{Report}
 use Rattle.recorder.specs.declared.report.FeedReport.{FeedReport}
 use Rattle.recorder.specs.declared.report.FeedEnd.{FeedEnd}
 use Rattle.recorder.specs.Recorded.{IsOnlyFeed}
+use Rattle.mcap_io.specs.Outside.{Rose, SinkState}
 use Rattle.mcap_app.specs.Printing.{Tells}
 use Rattle.mcap_app.specs.Texts.{Trouble, no_memory, said, status_of}
-use Rattle.mcap_app.specs.Run.{EndOf, NamesMemory, troubles_of}
+use Rattle.mcap_app.specs.Run.{AnyRose, Causes, EndOf, NamesMemory, troubles_of}
 
 -- some part failed
 abbrev pub Failed : Failures → Type 0
 Failed failed = (failed.feed ≡ true) ⊎ ((failed.out ≡ true) ⊎ (failed.printing ≡ true))
+
+-- what a recording told of failures and what the counts tell: which parts failed
+pub record FaultsShow (before now : Counts) (outcome : Outcome) (failed : Failures) : Type 0 where
+  pub causes : Causes before now failed
+  pub any : AnyRose before now → Failed failed
+  -- nothing else is blamed where each count that rose shows in what the recording told
+  pub feed : (Rose before.inputs now.inputs → outcome.feed_failed ≡ true) → failed.feed ≡ outcome.feed_failed
+  pub out : (Rose before.outputs now.outputs → outcome.out_failed ≡ true) → (Rose before.world now.world → (outcome.feed_failed ≡ true) ⊎ (outcome.out_failed ≡ true))
+      → failed.out ≡ outcome.out_failed
 
 -- memory lacked exactly where the report names that, or where there is no report though no part failed
 abbrev pub LacksMemory : Option Report → Failures → Bool → Type 0
 LacksMemory None failed lacked = (Failed failed → ⊥) ↔ (lacked ≡ true)
 LacksMemory (Some r) failed lacked = (f : FeedReport) → IsOnlyFeed r f → NamesMemory f r.writer.end ↔ (lacked ≡ true)
 
--- what standard error is told, and the status
-pub record Answers (out feed : List ℕ) (report : Option Report) (failed : Failures) (took after : Option (List ℕ)) (before now : ℕ) (answer : ℕ) : Type 0 where
+-- What standard error is told of these troubles: their lines, or that memory lacked alone, where it lacked for saying
+-- more; all of them were taken, or a first part where this output failed. They give the status.
+pub record Complains (due : List Trouble) (before now : SinkState) (answer : ℕ) : Type 0 where
+  pub troubles : List Trouble
+  pub are : (troubles ≡ due) ⊎ (troubles ≡ no_memory ∷ [])
+  pub answer_is : status_of troubles ≡ answer
+  pub text : Tells before now (said troubles)
+
+-- what standard error is told of a recording, and the status
+pub record Answers (out feed : List ℕ) (report : Option Report) (failed : Failures) (before now : SinkState) (answer : ℕ) : Type 0 where
   pub end : Option FeedEnd
   pub end_is : EndOf report end
   pub lacked : Bool
   pub lacks : LacksMemory report failed lacked
-  pub troubles : List Trouble
-  pub are : (troubles ≡ troubles_of out feed end failed lacked) ⊎ (troubles ≡ no_memory ∷ [])
-  pub answer_is : status_of troubles ≡ answer
-  pub text : Tells took after before now (said troubles)
+  pub told : Complains (troubles_of out feed end failed lacked) before now answer

@@ -1,4 +1,5 @@
 pub mod Answer
+pub mod Cat
 pub mod Printing
 pub mod Run
 pub mod Texts

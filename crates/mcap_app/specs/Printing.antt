@@ -1,13 +1,22 @@
 -- What printing a text leaves of it in a sink.
-use Rattle.std.specs.Prelude.{◌⊎◌, ◌≤◌, ℕ, List, Option, Result, Ok, Err}
-use Rattle.mcap_io.specs.Outside.{Rose, Adds, AddsPart}
+use Rattle.std.specs.Prelude.{◌≡◌, ◌⊎◌, ℕ, List, Result, Ok, Err}
+use Rattle.mcap_io.specs.Outside.{SinkState, RisesOnce, Adds, AddsPart}
 use Rattle.mcap_io.specs.declared.outside.Failed.{Failed}
 
--- all of the text was taken; or the count of faults rose, and a first part of the text was taken
-abbrev pub Tells : Option (List ℕ) → Option (List ℕ) → ℕ → ℕ → List ℕ → Type 0
-Tells old new before now text = (before ≤ now) × (Adds old new text ⊎ (Rose before now × AddsPart old new 0 text))
+-- all of the text was taken, and no write failed
+pub record TellsAll (before now : SinkState) (text : List ℕ) : Type 0 where
+  pub still : now.faults ≡ before.faults
+  pub adds : Adds before.took now.took text
+
+-- a write failed, the last one: a first part of the text was taken
+pub record TellsPart (before now : SinkState) (text : List ℕ) : Type 0 where
+  pub rises : RisesOnce before.faults now.faults
+  pub adds : AddsPart before.took now.took 0 text
+
+abbrev pub Tells : SinkState → SinkState → List ℕ → Type 0
+Tells before now text = TellsAll before now text ⊎ TellsPart before now text
 
 -- the same of a printing that says which of the two it was
-abbrev pub Prints : Option (List ℕ) → Option (List ℕ) → ℕ → ℕ → List ℕ → Result Unit Failed → Type 0
-Prints old new before now text (Ok it) = (before ≤ now) × Adds old new text
-Prints old new before now text (Err why) = (before ≤ now) × Rose before now × AddsPart old new 0 text
+abbrev pub Prints : SinkState → SinkState → List ℕ → Result Unit Failed → Type 0
+Prints before now text (Ok it) = TellsAll before now text
+Prints before now text (Err why) = TellsPart before now text

@@ -1,6 +1,6 @@
 -- What the program prints: on standard output the lines of a report, on standard error a line for each complaint;
 -- and the status that it ends with.
-use Rattle.std.specs.Prelude.{ℕ, ◌+◌, List, [], ◌∷◌, ◌++◌, length, codes, decimal, Bool, ◌==◌, find, unwrap_or}
+use Rattle.std.specs.Prelude.{ℕ, ◌+◌, List, [], ◌∷◌, ◌++◌, length, codes, decimal, Bool, ◌==◌, find, unwrap_or, Option, Some, None}
 use Rattle.std.specs.List.{flat_map, list_any}
 use Rattle.json.specs.Print.{quoted}
 use Rattle.mcap_app.specs.declared.complaint.Complaint.{Complaint}
@@ -58,6 +58,8 @@ pub data Trouble : Type 0 where
   output_fault : Trouble
   grammar : List ℕ → ℕ → Trouble
   not_built : List ℕ → ℕ → Trouble
+  compressed : List ℕ → List ℕ → ℕ → Trouble
+  limit : List ℕ → ℕ → Trouble
   no_memory : Trouble
 
 -- the trouble of a complaint
@@ -67,10 +69,17 @@ trouble_of (complaints.Fault name) = fault name.now
 trouble_of complaints.OutputFault = output_fault
 trouble_of (complaints.Grammar name n) = grammar name.now n
 trouble_of (complaints.NotBuilt name n) = not_built name.now n
+trouble_of (complaints.Compressed name compression n) = compressed name.now compression.now n
+trouble_of (complaints.Limit name n) = limit name.now n
 trouble_of complaints.NoMemory = no_memory
 
+-- that of a complaint that there may be
+abbrev pub complained : Option Complaint → List Trouble
+complained None = []
+complained (Some complaint) = trouble_of complaint ∷ []
+
 abbrev pub usage : List ℕ
-usage = codes "usage: mcaprec\n  record --plain OUT FEED\n"
+usage = codes "usage: mcaprec\n  record --plain OUT FEED\n  cat FILE\n"
 
 unfoldable pub line_of : Trouble → List ℕ
 line_of bad_words = codes "mcaprec: bad words\n" ++ usage
@@ -78,6 +87,9 @@ line_of (fault name) = codes "mcaprec: " ++ (quoted name ++ codes ": fault\n")
 line_of output_fault = codes "mcaprec: output: fault\n"
 line_of (grammar name n) = codes "mcaprec: " ++ (quoted name ++ (codes ": grammar at " ++ (decimal n ++ codes "\n")))
 line_of (not_built name n) = codes "mcaprec: " ++ (quoted name ++ (codes ": not built at " ++ (decimal n ++ codes "\n")))
+line_of (compressed name compression n) = codes "mcaprec: " ++ (quoted name ++ (codes ": compressed " ++ (quoted compression
+    ++ (codes " at " ++ (decimal n ++ codes "\n")))))
+line_of (limit name n) = codes "mcaprec: " ++ (quoted name ++ (codes ": limit at " ++ (decimal n ++ codes "\n")))
 line_of no_memory = codes "mcaprec: no memory\n"
 
 abbrev pub said : List Trouble → List ℕ
@@ -92,12 +104,14 @@ asked_status (fault name) = 3
 asked_status output_fault = 3
 asked_status (grammar name n) = 1
 asked_status (not_built name n) = 1
+asked_status (compressed name compression n) = 1
+asked_status (limit name n) = 4
 asked_status no_memory = 5
 
 -- one of the troubles asks for the status
 abbrev pub is_asked : List Trouble → ℕ → Bool
 is_asked troubles status = list_any (λ t. asked_status t == status) troubles
 
--- the first of 2, 5, 3 and 1 that is asked for, or 0
+-- the first of 2, 5, 3, 4 and 1 that is asked for, or 0
 abbrev pub status_of : List Trouble → ℕ
-status_of troubles = unwrap_or (find (is_asked troubles) (2 ∷ 5 ∷ 3 ∷ 1 ∷ [])) 0
+status_of troubles = unwrap_or (find (is_asked troubles) (2 ∷ 5 ∷ 3 ∷ 4 ∷ 1 ∷ [])) 0

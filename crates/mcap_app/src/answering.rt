@@ -1,11 +1,11 @@
 //! The answer to a recording: what standard error is told, and the status.
 ghost use Rattle.std.specs.List.{list_any};
-ghost use Rattle.std.specs.Prelude.{◌≡◌, ◌↔◌, ◌++◌, true, map, IfOk, OnOk};
+ghost use Rattle.std.specs.Prelude.{◌≡◌, ◌⊎◌, ◌↔◌, ◌++◌, List, true, map, IfOk, OnOk};
 ghost use Rattle.mcap_io.specs.Outside.{Rose};
-ghost use Rattle.mcap_app.specs.Texts.{trouble_of, said, status_of};
+ghost use Rattle.mcap_app.specs.Texts.{Trouble, trouble_of};
 ghost use Rattle.mcap_app.specs.Printing.{Tells};
-ghost use Rattle.mcap_app.specs.Answer.{Answers, LacksMemory, Failed};
-ghost use Rattle.mcap_app.specs.Run.{AnyRose, Causes, EndOf, NamesMemory, Refuses, is_memory, when, troubles_of};
+ghost use Rattle.mcap_app.specs.Answer.{Answers, Complains, LacksMemory, FaultsShow};
+ghost use Rattle.mcap_app.specs.Run.{EndOf, NamesMemory, Refuses, is_memory, when, troubles_of};
 
 use crate::complaint::{BAD_WORDS, Complaint, NO_MEMORY, say, status};
 use crate::faults::{Counts, rose};
@@ -33,10 +33,9 @@ pub struct Failures {
 
 /// Which parts failed between the two counts. A fault of the world that no answer told of is the file's.
 pub fn failed_parts(before: &Counts, now: &Counts, outcome: &Outcome) -> Failures
-    requires feed_cause { outcome.now.feed_failed ≡ true → Rose before.now.world now.now.world }
-    requires out_cause { outcome.now.out_failed ≡ true → Rose before.now.world now.now.world }
-    ensures causes { Causes before.now now.now result }
-    ensures any { AnyRose before.now now.now → Failed result }
+    requires feed_cause { outcome.now.feed_failed ≡ true → Rose before.now.world now.now.world ⊎ Rose before.now.inputs now.now.inputs }
+    requires out_cause { outcome.now.out_failed ≡ true → Rose before.now.world now.now.world ⊎ Rose before.now.outputs now.now.outputs }
+    ensures { FaultsShow before.now now.now outcome.now result }
 {
     let world = rose(before.world, now.world);
     Failures {
@@ -61,8 +60,8 @@ fn end_of(report: &Option<Report>) -> Option<FeedEnd>
     }
 }
 
-// Adds a complaint where it is due.
-fn push_when<'a>(
+/// Adds a complaint where it is due.
+pub(crate) fn push_when<'a>(
     all: &mut Vec<Complaint<'a>>,
     due: bool,
     complaint: Complaint<'a>,
@@ -150,7 +149,7 @@ fn lacks_memory(report: &Option<Report>, failed: Failures) -> bool
 
 // Writes the text to standard error. That it fails changes nothing.
 fn tell<E: Sink>(err: &mut E, text: &[u8])
-    ensures { Tells (E.took err.old) (E.took err.new) (E.faults err.old) (E.faults err.new) text.now }
+    ensures { Tells (E.state err.old) (E.state err.new) text.now }
 {
     match write_all_of(err, text) {
         Ok(()) => {}
@@ -158,40 +157,50 @@ fn tell<E: Sink>(err: &mut E, text: &[u8])
     }
 }
 
-// What standard error is to be told, and the status that goes with it.
-#[derive(Drop)]
-struct Told {
-    text: Vec<u8>,
-    status: u8,
+// Tells standard error that memory lacked, and answers the status.
+fn lack_memory<E: Sink>(err: &mut E) -> u8
+    ensures { (due : List Trouble) → Complains due (E.state err.old) (E.state err.new) result }
+{
+    tell(err, NO_MEMORY.as_bytes());
+    5
 }
 
-// Makes the text of the complaints of a recording.
-fn compose(
-    alloc: Global,
-    out: &str,
-    feed: &str,
-    end: Option<FeedEnd>,
-    failed: Failures,
-    lacked: bool,
-) -> Result<Told, Memory>
-    ensures text { IfOk result (λ told. told.text.items ≡ said (troubles_of out.now feed.now end failed lacked)) }
-    ensures status { IfOk result (λ told. told.status ≡ status_of (troubles_of out.now feed.now end failed lacked)) }
+// Tells standard error of the complaints in one write, and answers the status.
+fn complain<E: Sink>(alloc: Global, err: &mut E, complaints: &[Complaint<'_>]) -> u8
+    ensures { Complains (map trouble_of complaints.now) (E.state err.old) (E.state err.new) result }
 {
-    let complaints = complaints_of(alloc, out, feed, end, failed, lacked)?;
-    let text = say(alloc, &complaints)?;
-    let status = status(&complaints);
-    Ok(Told { text, status })
+    match say(alloc, complaints) {
+        Ok(text) => {
+            tell(err, &text);
+            return status(complaints);
+        }
+        Err(_) => return lack_memory(err),
+    }
+}
+
+/// Tells standard error of the complaints that were made, and answers the status. Where memory lacked for them or for
+/// their text, that memory lacked is all that is told.
+pub(crate) fn complain_of<E: Sink>(
+    alloc: Global,
+    err: &mut E,
+    made: Result<Vec<Complaint<'_>>, Memory>,
+) -> u8
+    ensures { (due : List Trouble) → IfOk made.entry (λ all. map trouble_of all.items ≡ due) → Complains due (E.state err.old) (E.state err.new) result }
+{
+    match made {
+        Ok(complaints) => return complain(alloc, err, &complaints),
+        Err(_) => return lack_memory(err),
+    }
 }
 
 /// Complains of words that are no command. It takes no memory.
 pub fn refuse_words<E: Sink>(err: &mut E)
-    ensures { Refuses (E.took err.old) (E.took err.new) (E.faults err.old) (E.faults err.new) }
+    ensures { Refuses (E.state err.old) (E.state err.new) }
 {
     tell(err, BAD_WORDS.as_bytes());
 }
 
-/// Complains of what went wrong in a recording, and answers the status. The text is made first and written in one
-/// call; where memory lacks for making it, that memory lacked is all that is told.
+/// Complains of what went wrong in a recording, and answers the status.
 pub fn answer<E: Sink>(
     alloc: Global,
     err: &mut E,
@@ -200,20 +209,15 @@ pub fn answer<E: Sink>(
     report: &Option<Report>,
     failed: Failures,
 ) -> u8
-    ensures { Answers out.now feed.now report.now failed (E.took err.old) (E.took err.new) (E.faults err.old) (E.faults err.new) result }
+    ensures { Answers out.now feed.now report.now failed (E.state err.old) (E.state err.new) result }
 {
     let end = end_of(report);
     let lacked = lacks_memory(report, failed);
-    match compose(alloc, out, feed, end, failed, lacked) {
-        Ok(told) => {
-            tell(err, &told.text);
-            return told.status;
-        }
-        Err(_) => {
-            tell(err, NO_MEMORY.as_bytes());
-            return 5;
-        }
-    }
+    complain_of(
+        alloc,
+        err,
+        complaints_of(alloc, out, feed, end, failed, lacked),
+    )
 }
 
 #[cfg(test)]

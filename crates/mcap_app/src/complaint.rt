@@ -10,7 +10,7 @@ use std::alloc::{AllocError, Global};
 
 /// What standard error is told of words that are no command, with the usage.
 pub(crate) const BAD_WORDS: &str =
-    "mcaprec: bad words\nusage: mcaprec\n  record --plain OUT FEED\n";
+    "mcaprec: bad words\nusage: mcaprec\n  record --plain OUT FEED\n  cat FILE\n";
 
 /// What standard error is told of a want of memory.
 pub(crate) const NO_MEMORY: &str = "mcaprec: no memory\n";
@@ -21,13 +21,32 @@ pub enum Complaint<'a> {
     /// The words are no command.
     BadWords,
     /// The file could not be read or kept.
-    Fault { name: &'a str },
+    Fault {
+        name: &'a str,
+    },
     /// Standard output failed.
     OutputFault,
     /// The record at the offset breaks a rule of the format.
-    Grammar { name: &'a str, offset: u64 },
+    Grammar {
+        name: &'a str,
+        offset: u64,
+    },
     /// The record at the offset isn't recorded yet.
-    NotBuilt { name: &'a str, offset: u64 },
+    NotBuilt {
+        name: &'a str,
+        offset: u64,
+    },
+    /// The Chunk at the offset names that compression, and is not read.
+    Compressed {
+        name: &'a str,
+        compression: &'a str,
+        offset: u64,
+    },
+    /// The record at the offset passes a limit on reading.
+    Limit {
+        name: &'a str,
+        offset: u64,
+    },
     /// Memory lacked.
     NoMemory,
 }
@@ -60,6 +79,19 @@ fn complaint_line(alloc: Global, complaint: &Complaint<'_>) -> Result<String, Al
             let name = quoted_name(alloc, name)?;
             format!(in alloc; "mcaprec: {name}: not built at {offset}\n")
         }
+        Complaint::Compressed {
+            name,
+            compression,
+            offset,
+        } => {
+            let name = quoted_name(alloc, name)?;
+            let compression = quoted_name(alloc, compression)?;
+            format!(in alloc; "mcaprec: {name}: compressed {compression} at {offset}\n")
+        }
+        Complaint::Limit { name, offset } => {
+            let name = quoted_name(alloc, name)?;
+            format!(in alloc; "mcaprec: {name}: limit at {offset}\n")
+        }
         Complaint::NoMemory => String::from_str(alloc, NO_MEMORY),
     }
 }
@@ -89,7 +121,8 @@ fn own_status(complaint: &Complaint<'_>) -> u8
         Complaint::BadWords => 2,
         Complaint::NoMemory => 5,
         Complaint::Fault { .. } | Complaint::OutputFault => 3,
-        Complaint::Grammar { .. } | Complaint::NotBuilt { .. } => 1,
+        Complaint::Limit { .. } => 4,
+        Complaint::Grammar { .. } | Complaint::NotBuilt { .. } | Complaint::Compressed { .. } => 1,
     }
 }
 
@@ -101,7 +134,8 @@ fn asks_for(complaints: &[Complaint<'_>], status: u8) -> bool
 }
 
 /// The status that the program ends with: 2 where the words are bad, or else 5 where memory lacked, or else 3 where
-/// the outside failed, or else 1 where a feed was refused, and 0 where there is no complaint.
+/// the outside failed, or else 4 where a limit was passed, or else 1 where a feed or a file was refused, and 0 where
+/// there is no complaint.
 #[tactic(auto, using(crate::proofs::Mapped::list_any_of_map))]
 pub fn status(complaints: &[Complaint<'_>]) -> u8
     ensures { result ≡ status_of (map trouble_of complaints.now) }
@@ -112,6 +146,8 @@ pub fn status(complaints: &[Complaint<'_>]) -> u8
         5
     } else if asks_for(complaints, 3) {
         3
+    } else if asks_for(complaints, 4) {
+        4
     } else if asks_for(complaints, 1) {
         1
     } else {
@@ -138,14 +174,30 @@ mod tests {
         offset: 34,
     };
 
+    const COMPRESSED: Complaint<'static> = Complaint::Compressed {
+        name: "F",
+        compression: "z\"td",
+        offset: 34,
+    };
+
+    const LIMIT: Complaint<'static> = Complaint::Limit {
+        name: "F",
+        offset: 34,
+    };
+
     #[test]
     fn complaints_are_said_in_their_order(rt: HostRuntime) -> Result<(), Fail> {
-        let table: [(&[Complaint<'static>], &str); 8] = [
+        let table: [(&[Complaint<'static>], &str); 10] = [
             (&[], ""),
             (
                 &[Complaint::BadWords],
-                "mcaprec: bad words\nusage: mcaprec\n  record --plain OUT FEED\n",
+                "mcaprec: bad words\nusage: mcaprec\n  record --plain OUT FEED\n  cat FILE\n",
             ),
+            (
+                &[COMPRESSED],
+                "mcaprec: \"F\": compressed \"z\\\"td\" at 34\n",
+            ),
+            (&[LIMIT], "mcaprec: \"F\": limit at 34\n"),
             (&[FAULT], "mcaprec: \"missing\": fault\n"),
             (&[ESCAPED], "mcaprec: \"a\\\"b\\\\c\\nd\": fault\n"),
             (&[GRAMMAR], "mcaprec: \"F\": grammar at 34\n"),
@@ -164,8 +216,12 @@ mod tests {
     }
 
     #[test]
-    fn statuses_come_in_the_order_2_5_3_1(rt: HostRuntime) {
-        let table: [(&[Complaint<'static>], u8); 9] = [
+    fn statuses_come_in_the_order_2_5_3_4_1(rt: HostRuntime) {
+        let table: [(&[Complaint<'static>], u8); 13] = [
+            (&[COMPRESSED], 1),
+            (&[LIMIT], 4),
+            (&[GRAMMAR, LIMIT], 4),
+            (&[LIMIT, FAULT], 3),
             (&[], 0),
             (&[GRAMMAR], 1),
             (&[NOT_BUILT], 1),

@@ -1,8 +1,9 @@
 //! The counts of faults that decide whether the outside failed.
-ghost use Rattle.std.specs.Prelude.{◌≡◌, ◌↔◌, IsTrue};
-ghost use Rattle.mcap_io.specs.Outside.{Rose};
+ghost use Rattle.std.specs.Prelude.{◌≡◌, ◌<◌, ◌^◌, ◌↔◌, IsTrue};
+ghost use Rattle.mcap_io.specs.Outside.{Rose, went_well};
+ghost use Rattle.mcap_app.specs.Run.{counts, failed_so};
 
-use mcap_io::{Sink, World};
+use mcap_io::{Failed, Sink, World};
 
 /// How often the world, its kept inputs and outputs, and standard output have failed.
 #[derive(Clone, Copy, Debug, PartialEq, Eq)]
@@ -16,10 +17,9 @@ pub struct Counts {
 impl Counts {
     /// The counts as they stand.
     pub fn of<W: World, O: Sink>(world: &W, out: &O) -> Counts
-        ensures world { result.world ≡ W.faults world.now }
-        ensures inputs { result.inputs ≡ W.input_faults world.now }
-        ensures outputs { result.outputs ≡ W.output_faults world.now }
-        ensures printing { result.printing ≡ O.faults out.now }
+        ensures are { result ≡ counts (W.state world.now) (O.state out.now) }
+        ensures inputs_fit { (W.state world.now).input_faults < 2 ^ 64 }
+        ensures outputs_fit { (W.state world.now).output_faults < 2 ^ 64 }
     {
         Counts {
             world: world.faults(),
@@ -35,4 +35,14 @@ pub fn rose(before: u64, now: u64) -> bool
     ensures { IsTrue result ↔ Rose before now }
 {
     now >= before.saturating_add(1)
+}
+
+/// Whether an object failed so often, or its keeping did.
+pub(crate) fn has_failed(faults: u64, kept: Result<(), Failed>) -> bool
+    ensures { result ≡ failed_so (went_well kept) faults }
+{
+    match kept {
+        Ok(()) => return faults != 0,
+        Err(Failed) => return true,
+    }
 }

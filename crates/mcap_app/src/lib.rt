@@ -2,6 +2,7 @@
 #![tactic(auto)]
 
 mod answering;
+mod cat;
 mod complaint;
 mod faults;
 mod line;

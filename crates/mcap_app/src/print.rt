@@ -80,7 +80,7 @@ fn line_of_file(writer: &WriterReport) -> Line
 
 // Prints a line.
 fn print_line<K: Sink>(out: &mut K, line: &Line) -> Result<(), Failed>
-    ensures { Prints (K.took out.old) (K.took out.new) (K.faults out.old) (K.faults out.new) line.now result }
+    ensures { Prints (K.state out.old) (K.state out.new) line.now result }
 {
     match write_all_of(out, line.as_bytes()) {
         Ok(()) => Ok(()),
@@ -90,7 +90,7 @@ fn print_line<K: Sink>(out: &mut K, line: &Line) -> Result<(), Failed>
 
 // Prints the lines of the feeds, numbered from 1.
 fn print_feeds<K: Sink>(out: &mut K, feeds: &[FeedReport]) -> Result<(), Failed>
-    ensures { Prints (K.took out.old) (K.took out.new) (K.faults out.old) (K.faults out.new) (feed_lines 1 feeds.now) result }
+    ensures { Prints (K.state out.old) (K.state out.new) (feed_lines 1 feeds.now) result }
 {
     'feeds: for (i, feed) in feeds.iter().enumerate() {
         match print_line(out, &line_of_feed(i as u64 + 1, feed)) {
@@ -104,7 +104,7 @@ fn print_feeds<K: Sink>(out: &mut K, feeds: &[FeedReport]) -> Result<(), Failed>
 /// Prints a line for each feed, numbered from 1 in their order, and then the line of the file. It takes no memory.
 /// After a line that failed nothing more is written.
 pub fn print_report<K: Sink>(out: &mut K, report: &Report) -> Result<(), Failed>
-    ensures { Prints (K.took out.old) (K.took out.new) (K.faults out.old) (K.faults out.new) (printed report.now) result }
+    ensures { Prints (K.state out.old) (K.state out.new) (printed report.now) result }
 {
     match print_feeds(out, &report.feeds) {
         Ok(()) => print_line(out, &line_of_file(&report.writer)),

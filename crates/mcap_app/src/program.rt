@@ -1,21 +1,22 @@
 //! The program: what each command does to the world and to both outputs.
-ghost use Rattle.std.specs.Prelude.{◌≡◌, ◌≤◌, ◌<◌, ◌^◌, ◌↔◌, ℕ, List, None, true};
-ghost use Rattle.mcap_io.specs.Outside.{Rose};
-ghost use Rattle.mcap_app.specs.Words.{AreBad, IsRecord};
-ghost use Rattle.mcap_app.specs.Run.{counts, scene, NamesRecorded, PrintsReport, Records, Refuses};
+ghost use Rattle.std.specs.Prelude.{◌≡◌, ◌<◌, ◌^◌, ◌↔◌, ℕ, List, None, true, false};
+ghost use Rattle.mcap_app.specs.Words.{AreBad, IsRecord, IsCat};
+ghost use Rattle.mcap_app.specs.Run.{scene, NamesRecorded, PrintsReport, Records, Refuses};
+ghost use Rattle.mcap_app.specs.Cat.{Cats};
 
 use crate::answering::{Outcome, answer, failed_parts, refuse_words};
-use crate::faults::Counts;
+use crate::cat::cat_command;
+use crate::faults::{Counts, has_failed};
 use crate::print::print_report;
 use crate::words::{Command, parse_words};
-use mcap_io::{OpenRefused, Sink, World};
+use mcap_io::{LiveStore, OpenRefused, Sink, Source, World};
 use mcap_wire::Text;
 use recorder::{Recording, Report, record};
 use std::alloc::Global;
 
 /// How the program ended: its status, and the report of a recording. The status is 0 where all was done, 1 where
-/// the feed breaks a rule or holds what isn't recorded yet, 2 for bad words, 3 where the outside failed and 5 where
-/// memory lacked.
+/// the feed or the file breaks a rule or holds what isn't recorded or read yet, 2 for bad words, 3 where the outside
+/// failed, 4 where a limit was passed and 5 where memory lacked.
 pub struct Ended {
     pub status: u8,
     pub report: Option<Report>,
@@ -33,7 +34,8 @@ fn unrecorded(feed_failed: bool, out_failed: bool) -> Outcome
 
 // Whether an opening was refused since the outside failed.
 fn is_failed(why: OpenRefused) -> bool
-    ensures { result ≡ true → why ≡ OpenRefused.Failed }
+    ensures failed { result ≡ true → why ≡ OpenRefused.Failed }
+    ensures memory { result ≡ false → why ≡ OpenRefused.Memory }
 {
     match why {
         OpenRefused::Failed => true,
@@ -43,14 +45,9 @@ fn is_failed(why: OpenRefused) -> bool
 
 // Opens both names, records the one into the other, and keeps both.
 fn record_names<W: World>(alloc: Global, out: &str, feed: &str, world: &mut W) -> Outcome
-    requires inputs_fit { W.input_faults world.old < 2 ^ 64 }
-    requires outputs_fit { W.output_faults world.old < 2 ^ 64 }
-    ensures recorded { NamesRecorded out.now feed.now (W.faults world.old) (W.faults world.new) (W.input_faults world.old) (W.input_faults world.new) (W.output_faults world.old) (W.output_faults world.new) (W.names world.old) (W.names world.new) (W.opened world.old) (W.opened world.new) (W.unread world.old) (W.unread world.new) result.report }
-    ensures later { W.faults world.old ≤ W.faults world.new }
-    ensures later_inputs { W.input_faults world.old ≤ W.input_faults world.new }
-    ensures later_outputs { W.output_faults world.old ≤ W.output_faults world.new }
-    ensures feed_failed { result.feed_failed ≡ true → Rose (W.faults world.old) (W.faults world.new) }
-    ensures out_failed { result.out_failed ≡ true → Rose (W.faults world.old) (W.faults world.new) }
+    requires inputs_fit { (W.state world.old).input_faults < 2 ^ 64 }
+    requires outputs_fit { (W.state world.old).output_faults < 2 ^ 64 }
+    ensures { NamesRecorded out.now feed.now (W.state world.old) (W.state world.new) result }
 {
     let source = match world.source(feed) {
         Ok(source) => source,
@@ -59,8 +56,9 @@ fn record_names<W: World>(alloc: Global, out: &str, feed: &str, world: &mut W) -
     let live = match world.live(out) {
         Ok(live) => live,
         Err(why) => {
+            let faults = source.faults();
             let kept = world.keep_source(feed, source);
-            return unrecorded(kept.is_err(), is_failed(why));
+            return unrecorded(has_failed(faults, kept), is_failed(why));
         }
     };
     let Recording {
@@ -68,18 +66,19 @@ fn record_names<W: World>(alloc: Global, out: &str, feed: &str, world: &mut W) -
         feed: source,
         live,
     } = record(alloc, source, live);
-    let feed_kept = world.keep_source(feed, source);
-    let out_kept = world.keep_live(out, live);
+    let (source_faults, live_faults) = (source.faults(), live.faults());
+    let source_kept = world.keep_source(feed, source);
+    let live_kept = world.keep_live(out, live);
     Outcome {
         report,
-        feed_failed: feed_kept.is_err(),
-        out_failed: out_kept.is_err(),
+        feed_failed: has_failed(source_faults, source_kept),
+        out_failed: has_failed(live_faults, live_kept),
     }
 }
 
 // Prints the report, if there is one.
 fn print_outcome<O: Sink>(out: &mut O, report: &Option<Report>)
-    ensures { PrintsReport (O.took out.old) (O.took out.new) (O.faults out.old) (O.faults out.new) report.now }
+    ensures { PrintsReport (O.state out.old) (O.state out.new) report.now }
 {
     match report {
         Some(report) => match print_report(out, report) {
@@ -100,8 +99,8 @@ fn record_command<W: World, O: Sink, E: Sink>(
     err: &mut E,
 ) -> Ended
     ensures { Records out_name.now feed_name.now
-        (scene (W.names world.old) (W.opened world.old) (W.unread world.old) (counts (W.faults world.old) (W.input_faults world.old) (W.output_faults world.old) (O.faults out.old)) (O.took out.old) (E.took err.old) (E.faults err.old))
-        (scene (W.names world.new) (W.opened world.new) (W.unread world.new) (counts (W.faults world.new) (W.input_faults world.new) (W.output_faults world.new) (O.faults out.new)) (O.took out.new) (E.took err.new) (E.faults err.new))
+        (scene (W.state world.old) (O.state out.old) (E.state err.old))
+        (scene (W.state world.new) (O.state out.new) (E.state err.new))
         result.report result.status }
 {
     let before = Counts::of(world, out);
@@ -132,17 +131,30 @@ pub fn run<R: AllocGlobal, W: World, O: Sink, E: Sink>(
     ensures world { AreBad words.now → world.new ≡ world.old }
     ensures out { AreBad words.now → out.new ≡ out.old }
     ensures report { AreBad words.now → result.report ≡ None }
-    ensures err { AreBad words.now → Refuses (E.took err.old) (E.took err.new) (E.faults err.old) (E.faults err.new) }
+    ensures err { AreBad words.now → Refuses (E.state err.old) (E.state err.new) }
 
     // The words of a recording record.
     ensures records { (out_name feed_name : List ℕ) → IsRecord words.now out_name feed_name → Records out_name feed_name
-        (scene (W.names world.old) (W.opened world.old) (W.unread world.old) (counts (W.faults world.old) (W.input_faults world.old) (W.output_faults world.old) (O.faults out.old)) (O.took out.old) (E.took err.old) (E.faults err.old))
-        (scene (W.names world.new) (W.opened world.new) (W.unread world.new) (counts (W.faults world.new) (W.input_faults world.new) (W.output_faults world.new) (O.faults out.new)) (O.took out.new) (E.took err.new) (E.faults err.new))
+        (scene (W.state world.old) (O.state out.old) (E.state err.old))
+        (scene (W.state world.new) (O.state out.new) (E.state err.new))
         result.report result.status }
+
+    // The words of a printing print, and there is no report.
+    ensures cats { (file : List ℕ) → IsCat words.now file → Cats file
+        (scene (W.state world.old) (O.state out.old) (E.state err.old))
+        (scene (W.state world.new) (O.state out.new) (E.state err.new))
+        result.status × (result.report ≡ None) }
 {
     match parse_words(words) {
         Ok(Command::Record { out: name, feed }) => {
             return record_command(rt.alloc(), name.as_str(), feed.as_str(), world, out, err);
+        }
+        Ok(Command::Cat { file }) => {
+            let status = cat_command(rt.alloc(), file.as_str(), world, out, err);
+            return Ended {
+                status,
+                report: None,
+            };
         }
         Err(_) => {
             refuse_words(err);

@@ -1,11 +1,12 @@
 //! Whole runs over a world in memory. What is wanted is counted by hand from the MCAP specification.
 use super::*;
-use mcap_io::{FailingWrite, MemorySink, MemoryWorld, ObjectKind, Plan};
+use mcap_io::{FailingWrite, Kept, MemorySink, MemoryWorld, ObjectKind, Plan};
 use mcap_wire::Text;
 use std::alloc::{AllocError, Global};
 use std::process::Abort;
 use std::test::Fail;
 
+mod cat;
 mod channels;
 mod ends;
 mod faults;
@@ -89,7 +90,7 @@ const TWO_MESSAGES_FILE: &[u8] = b"\x89MCAP0\r\n\
 
 const WORDS: &[&str] = &["record", "--plain", "OUT", "F"];
 
-const USAGE: &str = "mcaprec: bad words\nusage: mcaprec\n  record --plain OUT FEED\n";
+const USAGE: &str = "mcaprec: bad words\nusage: mcaprec\n  record --plain OUT FEED\n  cat FILE\n";
 
 const BOTH_LINES: &str = "feed 1 accepted=0 refused=0 passed=0 end\n\
     file records=0 blocks=0 bytes=84 closed\n";

@@ -1,6 +1,6 @@
 //! The words of the command line.
-ghost use Rattle.std.specs.Prelude.{◌≡◌, ◌↔◌, IfOk, OnErr, IsTrue};
-ghost use Rattle.mcap_app.specs.Words.{IsName, AreBad, Derives};
+ghost use Rattle.std.specs.Prelude.{◌≡◌, ◌↔◌, ℕ, List, IfOk, OnErr, IsTrue};
+ghost use Rattle.mcap_app.specs.Words.{IsName, IsRecord, IsCat, AreBad, Derives};
 
 use mcap_wire::Text;
 
@@ -9,6 +9,8 @@ use mcap_wire::Text;
 pub enum Command<'a> {
     /// Record the feed under the name `feed` to the file `out`.
     Record { out: &'a Text, feed: &'a Text },
+    /// Print the messages of what stands under the name `file`.
+    Cat { file: &'a Text },
 }
 
 /// No command has these words.
@@ -22,11 +24,10 @@ fn is_name(word: &str) -> bool
     !word.is_empty() && word.as_bytes()[0] != b'-'
 }
 
-/// Reads the words behind the program's own name. The one command is `record --plain OUT FEED`, where OUT and FEED
-/// differ, neither is empty and neither begins with `-`. The command borrows the words, and no memory is taken.
-pub fn parse_words(words: &[Text]) -> Result<Command<'_>, BadWords>
+// The words of a recording: OUT and FEED differ.
+fn parse_record(words: &[Text]) -> Result<Command<'_>, BadWords>
     ensures command { IfOk result (λ c. Derives words.now c) }
-    ensures bad { OnErr result (AreBad words.now) }
+    ensures bad { OnErr result ((out feed : List ℕ) → IsRecord words.now out feed → ⊥) }
 {
     let [command, option, out, feed] = words else {
         return Err(BadWords);
@@ -37,6 +38,37 @@ pub fn parse_words(words: &[Text]) -> Result<Command<'_>, BadWords>
         Ok(Command::Record { out, feed })
     } else {
         Err(BadWords)
+    }
+}
+
+// The words of a printing.
+fn parse_cat(words: &[Text]) -> Result<Command<'_>, BadWords>
+    ensures command { IfOk result (λ c. Derives words.now c) }
+    ensures bad { OnErr result ((file : List ℕ) → IsCat words.now file → ⊥) }
+{
+    let [command, file] = words else {
+        return Err(BadWords);
+    };
+    if command.is("cat") && is_name(file.as_str()) {
+        Ok(Command::Cat { file })
+    } else {
+        Err(BadWords)
+    }
+}
+
+/// Reads the words behind the program's own name. The commands are `record --plain OUT FEED`, where OUT and FEED
+/// differ, and `cat FILE`; no name is empty or begins with `-`. The command borrows the words, and no memory is taken.
+pub fn parse_words(words: &[Text]) -> Result<Command<'_>, BadWords>
+    ensures command { IfOk result (λ c. Derives words.now c) }
+    ensures bad { OnErr result (AreBad words.now) }
+{
+    match parse_record(words) {
+        Ok(command) => return Ok(command),
+        Err(BadWords) => {}
+    }
+    match parse_cat(words) {
+        Ok(command) => return Ok(command),
+        Err(BadWords) => return Err(BadWords),
     }
 }
 
@@ -63,6 +95,10 @@ mod tests {
                 let from = Text::copied(alloc, from.as_str())?;
                 Ok(Some((to, from)))
             }
+            Ok(Command::Cat { file }) => {
+                let file = Text::copied(alloc, file.as_str())?;
+                Ok(Some((Text::copied(alloc, "cat")?, file)))
+            }
             Err(BadWords) => Ok(None),
         }
     }
@@ -78,8 +114,22 @@ mod tests {
     }
 
     #[test]
+    fn two_words_are_a_command(rt: HostRuntime) -> Result<(), Fail> {
+        let names = names_of(rt.alloc(), &["cat", "file.mcap"])?;
+        let (command, file) = names.ok_or("bad words")?;
+        assert_eq!(rt; (command.as_str(), file.as_str()), ("cat", "file.mcap"));
+        Ok(())
+    }
+
+    #[test]
     fn all_other_words_are_bad(rt: HostRuntime) -> Result<(), Fail> {
-        let table: [&[&str]; 14] = [
+        let table: [&[&str]; 20] = [
+            &["cat"],
+            &["cat", "a", "b"],
+            &["cat", "-x"],
+            &["cat", ""],
+            &["Cat", "a"],
+            &["a", "cat"],
             &[],
             &["record"],
             &["record", "--plain"],

@@ -400,17 +400,30 @@ fn an_append_that_fails_stops_a_file_with_a_schema(rt: HostRuntime) -> Result<()
     Ok(())
 }
 
+// How an object was taken back, in words.
+fn kept_text(alloc: Global, kept: &Option<Kept>) -> Result<String, AllocError> {
+    match kept {
+        Some(kept) => {
+            let faults = kept.faults;
+            let well = if kept.well { "kept" } else { "lost" };
+            format!(in alloc; "{well} with {faults} faults")
+        }
+        None => String::from_str(alloc, "not taken back"),
+    }
+}
+
 // A line for each opening of the run's world.
 fn openings_of(alloc: Global, ran: &Ran) -> Result<String, AllocError> {
     let mut text = String::new(alloc);
-    for opened in ran.world.opened() {
+    for opened in ran.world.log() {
         let kind = match opened.kind {
             ObjectKind::Source => "source",
             ObjectKind::Live => "live",
         };
         let given = if opened.given { "given" } else { "refused" };
         let name = opened.name.as_str();
-        let line = format!(in alloc; "{kind} {name} {given}\n")?;
+        let kept = kept_text(alloc, &opened.kept)?;
+        let line = format!(in alloc; "{kind} {name} {given}, {kept}\n")?;
         text.push_str(line.as_str())?;
     }
     Ok(text)
@@ -424,17 +437,17 @@ fn a_recording_opens_its_two_names(rt: HostRuntime) -> Result<(), Fail> {
     let given = run_in_memory(&rt, WORDS, &feed, NOTHING)?;
     assert_eq!(rt;
         openings_of(alloc, &given)?.as_str(),
-        "source F given\nlive OUT given\n"
+        "source F given, kept with 0 faults\nlive OUT given, kept with 0 faults\n"
     );
     let refused = run_in_memory(&rt, WORDS, &feed, failing_openings(&[0]))?;
     assert_eq!(rt;
         openings_of(alloc, &refused)?.as_str(),
-        "source F refused\n"
+        "source F refused, not taken back\n"
     );
     let second = run_in_memory(&rt, WORDS, &feed, failing_openings(&[1]))?;
     assert_eq!(rt;
         openings_of(alloc, &second)?.as_str(),
-        "source F given\nlive OUT refused\n"
+        "source F given, kept with 0 faults\nlive OUT refused, not taken back\n"
     );
     Ok(())
 }

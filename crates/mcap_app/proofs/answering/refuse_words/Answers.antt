@@ -4,4 +4,4 @@ use Rattle.mcap_app.proofs.answering.refuse_words.Goals as goal
 
 pub returns : goal.returns
 unfolding line_of
-returns g c = tells_same _ _ _ _ _ _ c.as_bytes.ensures.value c.tell.ensures
+returns g c = tells_same _ _ _ _ c.as_bytes.ensures.value c.tell.ensures

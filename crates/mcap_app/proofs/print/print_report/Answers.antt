@@ -5,4 +5,4 @@ use Rattle.mcap_app.proofs.print.print_report.Goals as goal
 pub returns-in-Ok : goal.returns-in-Ok
 returns-in-Ok g c =
     rw (← c.deref.ensures.value, ← c.line_of_file.ensures)
-    (prints-behind _ _ _ _ _ _ _ _ _ c.in-Ok.ensures.0 c.in-Ok.ensures.1 c.print_line.ensures)
+    (prints-behind _ _ _ _ _ _ c.in-Ok.ensures c.print_line.ensures)

@@ -1,36 +1,74 @@
-use Rattle.std.proofs.Common.{◌∙◌, ℕ, inl, inr, sym, ap, arith}
-use Rattle.mcap_io.specs.Outside.{added}
-use Rattle.mcap_app.proofs.Runs.{added_nothing, failed_since, no_feed, no_output, both_opened, was_made, named, unnamed}
+-- The openings and the keepings come to what a recording does to the world.
+use Rattle.std.proofs.Common.{◌≡◌, sym, ap, subst, ◌∙◌}
+use Rattle.mcap_io.specs.Outside.{went_well}
 use Rattle.mcap_app.specs.declared.answering.Outcome.{Outcome}
+use Rattle.mcap_app.specs.Run.{failed_so, NamesRecorded}
+use Rattle.mcap_app.proofs.Runs.{unmade, no_feed, alone, both}
 use Rattle.mcap_app.proofs.program.record_names.Goals as goal
 
-pub returns-in-Err-clause-recorded : goal.returns-in-Err-clause-recorded
-returns-in-Err-clause-recorded g c =
-    unnamed _ _ _ _ _ _ _ _ _ _ _ _ _ _ _ (ap (λ (o : Outcome). o.report) c.unrecorded.ensures) (no_feed _ _ _ _ _ c.in-Err.ensures.opened) c.source.ensures.names c.source.ensures.input_faults c.source.ensures.output_faults (λ all told. inl c.source.ensures.unread)
+pub returns-in-Err : goal.returns-in-Err
+returns-in-Err g c =
+    subst (λ (o : Outcome). NamesRecorded c.args.out.now c.args.feed.now (g.W.World.state c.args.world.now) (g.W.World.state c.source.new.self) o) (sym c.unrecorded.ensures)
+    (no_feed _ _ _ _ c.in-Err.why c.is_failed.result c.in-Err.ensures.opens c.in-Err.ensures.counts c.in-Err.ensures.cause c.is_failed.ensures.failed c.is_failed.ensures.memory c.requires.inputs_fit c.requires.outputs_fit)
 
-pub returns-in-Err-live-clause-recorded : goal.returns-in-Err-live-clause-recorded
-returns-in-Err-live-clause-recorded g c =
-    unnamed _ _ _ _ _ _ _ _ _ _ _ _ _ _ _ (ap (λ (o : Outcome). o.report) c.unrecorded-in-Err-live.ensures)
-    (no_output c.args.out.now c.args.feed.now (g.W.World.opened c.args.world.now) _ _ _ _ c.in-Ok.ensures.opened c.in-Err-live.ensures.opened c.keep_source-kept.ensures.opened)
-    (c.keep_source-kept.ensures.names ∙ c.live.ensures.names ∙ c.source.ensures.names)
-    (added_nothing (g.W.World.input_faults c.args.world.now) _ (g.W.Source.Source.faults c.in-Ok.source) c.in-Ok.ensures.unused c.requires.inputs_fit
-    (c.keep_source-kept.ensures.input_faults ∙ ap (λ (n : ℕ). added n (g.W.Source.Source.faults c.in-Ok.source)) (c.live.ensures.input_faults ∙ c.source.ensures.input_faults)))
-    (c.keep_source-kept.ensures.output_faults ∙ c.live.ensures.output_faults ∙ c.source.ensures.output_faults)
-    (λ all told. inr (c.keep_source-kept.ensures.unread ∙ (c.in-Ok.ensures.tells all told).0))
+pub returns-in-Err-live : goal.returns-in-Err-live
+returns-in-Err-live g c =
+    let source = g.W.Source.Source.state c.in-Ok.source in
+    let out = c.args.out.now in
+    let feed = c.args.feed.now in
+    let failed : c.has_failed.result ≡ failed_so (went_well c.keep_source-kept.result) source.faults = c.has_failed.ensures ∙ ap (failed_so (went_well c.keep_source-kept.result)) c.faults-faults.ensures in
+    let is : unmade (failed_so (went_well c.keep_source-kept.result) source.faults) c.is_failed-in-Err-live.result ≡ c.unrecorded-in-Err-live.result =
+    sym (c.unrecorded-in-Err-live.ensures ∙ ap (λ f. unmade f c.is_failed-in-Err-live.result) failed) in
+    subst (λ (o : Outcome). NamesRecorded out feed (g.W.World.state c.args.world.now) (g.W.World.state c.keep_source-kept.new.self) o) is
+    (alone out feed _ _ _ _ source c.in-Err-live.why c.keep_source-kept.result c.is_failed-in-Err-live.result (record {
+      opens = c.in-Ok.ensures.opens;
+      stands = c.in-Ok.ensures.counts;
+      still = c.in-Ok.ensures.cause;
+      tells = c.in-Ok.ensures.tells;
+      unused = c.in-Ok.ensures.unused;
+      refuses = c.in-Err-live.ensures.opens;
+      refused_stands = c.in-Err-live.ensures.counts;
+      refused_cause = c.in-Err-live.ensures.cause;
+      keeps = c.keep_source-kept.ensures.keeps;
+      inputs = c.keep_source-kept.ensures.input_faults;
+      outputs = c.keep_source-kept.ensures.output_faults;
+      cause = c.keep_source-kept.ensures.cause;
+      inputs_fit = c.requires.inputs_fit;
+      outputs_fit = c.requires.outputs_fit;
+    }) c.is_failed-in-Err-live.ensures.failed c.is_failed-in-Err-live.ensures.memory)
 
-pub returns-clause-recorded : goal.returns-clause-recorded
-returns-clause-recorded g c =
-    named c.args.out.now c.args.feed.now (g.W.World.names c.args.world.now) _ _ _ _ _ _ _ _ _ _ _ _ _ _ _ _ _ _ _ c.record-report.result.report c.keep_live-out_kept.result
-    (λ none. let same = c.record-report.ensures.refused none in (ap (g.W.Live.LiveStore.held) same.1, ap (g.W.Source.Source.faults) same.0, ap (g.W.Live.LiveStore.faults) same.1, ap (g.W.Source.Source.left) same.0))
-    c.record-report.ensures.recorded
-    c.in-Ok.ensures.tells c.in-Ok.ensures.unused c.requires.inputs_fit
-    (c.keep_live-out_kept.ensures.input_faults ∙ c.keep_source-feed_kept.ensures.input_faults
-    ∙ ap (λ (n : ℕ). added n (g.W.Source.Source.faults c.record-report.result.feed)) (c.in-Ok-live.ensures.input_faults ∙ c.in-Ok.ensures.input_faults))
-    (λ all told. c.in-Ok-live.ensures.tells all (c.in-Ok.ensures.names ∙ told))
-    c.in-Ok-live.ensures.unused c.requires.outputs_fit
-    (c.keep_live-out_kept.ensures.output_faults
-    ∙ ap (λ (n : ℕ). added n (g.W.Live.LiveStore.faults c.record-report.result.live)) (c.keep_source-feed_kept.ensures.output_faults ∙ c.in-Ok-live.ensures.output_faults ∙ c.in-Ok.ensures.output_faults))
-    (λ all told. c.keep_live-out_kept.ensures.keeps (λ openings listed. was_made _ _ _ c.in-Ok-live.ensures.opened openings (sym c.keep_source-feed_kept.ensures.opened ∙ listed)) all (c.keep_source-feed_kept.ensures.names ∙ c.in-Ok-live.ensures.names ∙ c.in-Ok.ensures.names ∙ told))
-    (failed_since (g.W.World.faults c.args.world.now) _ _ c.keep_live-out_kept.result (omega (arith, c.in-Ok.ensures.cause, c.in-Ok-live.ensures.cause, c.keep_source-feed_kept.ensures.cause.later)) c.keep_live-out_kept.ensures.cause.failed)
-    (c.keep_live-out_kept.ensures.unread ∙ c.keep_source-feed_kept.ensures.unread)
-    (c.keep_live-out_kept.ensures.opened ∙ c.keep_source-feed_kept.ensures.opened ∙ both_opened _ _ _ _ _ c.in-Ok.ensures.opened c.in-Ok-live.ensures.opened)
+pub returns : goal.returns
+returns g c =
+    let source_now = g.W.Source.Source.state c.record-report.result.feed in
+    let live_now = g.W.Live.LiveStore.state c.record-report.result.live in
+    let out = c.args.out.now in
+    let feed = c.args.feed.now in
+    let report = c.record-report.result.report in
+    let feed_failed : failed_so (went_well c.keep_source-source_kept.result) source_now.faults ≡ c.has_failed-2.result =
+    sym (c.has_failed-2.ensures ∙ ap (failed_so (went_well c.keep_source-source_kept.result)) c.faults-source_faults.ensures) in
+    let out_failed : failed_so (went_well c.keep_live-live_kept.result) live_now.faults ≡ c.has_failed-3.result =
+    sym (c.has_failed-3.ensures ∙ ap (failed_so (went_well c.keep_live-live_kept.result)) c.faults-live_faults.ensures) in
+    subst (λ f. NamesRecorded out feed (g.W.World.state c.args.world.now) (g.W.World.state c.keep_live-live_kept.new.self) (record { report = report; feed_failed = c.has_failed-2.result; out_failed = f })) out_failed
+    (subst (λ f. NamesRecorded out feed (g.W.World.state c.args.world.now) (g.W.World.state c.keep_live-live_kept.new.self) (record { report = report; feed_failed = f; out_failed = failed_so (went_well c.keep_live-live_kept.result) live_now.faults })) feed_failed
+    (both out feed _ _ _ _ _ (g.W.Source.Source.state c.in-Ok.source) source_now (g.W.Live.LiveStore.state c.in-Ok-live.live) live_now c.keep_source-source_kept.result c.keep_live-live_kept.result (record {
+      opens = c.in-Ok.ensures.opens;
+      stands = c.in-Ok.ensures.counts;
+      still = c.in-Ok.ensures.cause;
+      tells = c.in-Ok.ensures.tells;
+      unused = c.in-Ok.ensures.unused;
+      opens_out = c.in-Ok-live.ensures.opens;
+      stands_out = c.in-Ok-live.ensures.counts;
+      still_out = c.in-Ok-live.ensures.cause;
+      nothing = c.in-Ok-live.ensures.tells;
+      new = c.in-Ok-live.ensures.unused;
+      keeps = c.keep_source-source_kept.ensures.keeps;
+      inputs = c.keep_source-source_kept.ensures.input_faults;
+      outputs = c.keep_source-source_kept.ensures.output_faults;
+      cause = c.keep_source-source_kept.ensures.cause;
+      keeps_out = c.keep_live-live_kept.ensures.keeps;
+      inputs_now = c.keep_live-live_kept.ensures.input_faults;
+      outputs_now = c.keep_live-live_kept.ensures.output_faults;
+      cause_out = c.keep_live-live_kept.ensures.cause;
+      inputs_fit = c.requires.inputs_fit;
+      outputs_fit = c.requires.outputs_fit;
+    }) report (λ none. let same = c.record-report.ensures.refused none in (ap (g.W.Source.Source.state) same.0, ap (g.W.Live.LiveStore.state) same.1)) c.record-report.ensures.recorded))

@@ -1,0 +1,302 @@
+-- What the calls of a printing come to, and what its troubles say of it.
+use Rattle.std.proofs.Common.{◌≡◌, ◌⊎◌, ℕ, ◌^◌, ◌<◌, Bool, true, false, cond, ◌||◌, List, [], Option, Some, None, Result, Err, refl, sym, ap, subst, inl, inr, ◌∙◌, arith}
+use Rattle.std.specs.Option.{option_map}
+use Rattle.std.proofs.lemmas.Bool.{both_ways}
+use Rattle.mcap_io.specs.Outside.{Rose, RisesOnce, HasCause, Opens, OpenCause, CountsStand, added, Opening, Keeping, Told, with_opening, went_well, SourceState, SinkState, WorldState, TellsName, KeepsSource}
+use Rattle.mcap_io.specs.declared.outside.Failed.{Failed}
+use Rattle.mcap_io.specs.declared.outside.ObjectKind.TheVariants as kinds
+use Rattle.mcap_io.specs.declared.outside.OpenRefused.{OpenRefused}
+use Rattle.mcap_io.specs.declared.outside.OpenRefused.TheVariants as open_refusals
+use Rattle.mcap_model.specs.Tops.{Top}
+use Rattle.mcap_model.specs.Kept.{Halt, reading_limits, at_end, grammar as breaks, compressed as names, beyond, Halts, SameHalt}
+use Rattle.mcap_model.proofs.Halting.{readings_halt_once}
+use Rattle.mcap_scan.specs.declared.answers.ScanRefused.{ScanRefused}
+use Rattle.mcap_scan.specs.declared.answers.ScanRefused.TheVariants as refusals
+use Rattle.mcap_app.specs.declared.cat.Reading.{Reading}
+use Rattle.mcap_app.specs.declared.cat.Reading.TheVariants as readings
+use Rattle.mcap_app.specs.declared.cat.Played.{Played}
+use Rattle.mcap_app.specs.Printing.{TellsAll}
+use Rattle.mcap_app.specs.Texts.{status_of}
+use Rattle.mcap_app.specs.Answer.{Complains}
+use Rattle.mcap_app.specs.Run.{Scene, counts_in, AnyRose, failed_so, has_failed, kept_source}
+use Rattle.mcap_app.specs.Cat.{ComesTo, IsReading, ReadUnder, NamePlayed, PrintsLines, lacks_memory, cat_troubles, halt_status, Cats}
+use Rattle.mcap_app.proofs.Runs.{added_none, kept_well, still_where, blamed, tells_more, source_keeping, feed_noted, none_last, given_feed, refused_feed}
+use Rattle.mcap_app.proofs.Answered.{entry_failed}
+
+-- ---- the name
+
+-- the opening failed
+opening_failed : (file : List ℕ) (old new : WorldState) → new.told ≡ option_map (λ (t : Told). with_opening t (refused_feed file)) old.told → CountsStand old new → RisesOnce old.faults new.faults
+    → old.input_faults < 2 ^ 64 → NamePlayed file old new (record { reading = readings.Unopened; failed = true })
+opening_failed file old new opens stand rises fits = record {
+  source = Some (refused_feed file);
+  reading = inl (refl, refl);
+  names = λ told here. (with_opening told (refused_feed file), tells_more old.told new.told (refused_feed file) told opens here, refl, refl);
+  inputs = added_none old.input_faults new.input_faults fits stand.inputs;
+  outputs = stand.outputs;
+  failed = refl;
+  cause = λ is. inl (omega (arith, rises.once));
+  calm = λ is. absurd cc;
+}
+
+pub unopened : (file : List ℕ) (old new : WorldState) (why : OpenRefused) → why ≡ open_refusals.Failed → Opens {T = Unit} old new kinds.Source file (Err why) → CountsStand old new → OpenCause {T = Unit} old.faults new.faults (Err why)
+    → old.input_faults < 2 ^ 64 → NamePlayed file old new (record { reading = readings.Unopened; failed = true })
+unopened file old new open_refusals.Failed is opens stand cause fits = opening_failed file old new opens stand cause fits
+unopened file old new open_refusals.Memory is opens stand cause fits = absurd cc
+
+-- what was seen of the world at each of the calls: the source was opened, read, and taken back
+pub record IsGiven (file : List ℕ) (w0 w1 w2 : WorldState) (source source_now : SourceState) (reading : Reading) (result : Result Unit Failed) : Type 0 where
+  pub opens : w1.told ≡ option_map (λ (t : Told). with_opening t (given_feed file)) w0.told
+  pub stands : CountsStand w0 w1
+  pub still : w1.faults ≡ w0.faults
+  pub tells : TellsName w0 file source
+  pub unused : source.faults ≡ 0
+  pub comes : ComesTo source source_now reading
+  pub keeps : KeepsSource w1 w2 file source_now result
+  pub inputs : w2.input_faults ≡ added w1.input_faults source_now.faults
+  pub outputs : w2.output_faults ≡ w1.output_faults
+  pub cause : HasCause w1.faults w2.faults result
+  pub fits : w0.input_faults < 2 ^ 64
+
+pub given : (file : List ℕ) (w0 w1 w2 : WorldState) (source source_now : SourceState) (reading : Reading) (result : Result Unit Failed) → IsGiven file w0 w1 w2 source source_now reading result
+    → NamePlayed file w0 w2 (record { reading = reading; failed = failed_so (went_well result) source_now.faults })
+given file w0 w1 w2 source source_now reading result a =
+    let keeping : Keeping = source_keeping source_now result in
+    let inputs_are : w2.input_faults ≡ added w0.input_faults source_now.faults = a.inputs ∙ ap (λ (n : ℕ). added n source_now.faults) a.stands.inputs in
+    record {
+      source = Some (kept_source file keeping);
+      reading = inr (keeping, refl, record { source = source; tells = a.tells; unused = a.unused; comes = a.comes });
+      names = λ told here.
+          let first = with_opening told (given_feed file) in
+          let kept = a.keeps first (tells_more w0.told w1.told (given_feed file) told a.opens here) in
+          (kept.0, kept.1, kept.2, feed_noted file told.log kept.0.log [] keeping (none_last file) kept.3);
+      inputs = inputs_are;
+      outputs = a.outputs ∙ a.stands.outputs;
+      failed = refl;
+      cause = blamed w0.faults w1.faults w2.faults w2.faults w0.input_faults w2.input_faults source_now.faults result (omega (arith, a.still)) a.cause (omega arith) a.fits inputs_are;
+      calm = λ is. still_where w1.faults w2.faults result a.cause (kept_well (went_well result) source_now.faults is) ∙ a.still;
+    }
+
+-- ---- the status
+
+-- the status of why a reading halted
+abbrev refusal_status : ScanRefused → ℕ
+refusal_status (refusals.Fault faults) = 0
+refusal_status (refusals.Grammar n rule) = 1
+refusal_status (refusals.Compressed n name) = 1
+refusal_status (refusals.Limit n) = 4
+refusal_status refusals.Memory = 0
+
+abbrev own_status : Reading → ℕ
+own_status readings.Unopened = 0
+own_status (readings.Lines text) = 0
+own_status (readings.Refused why) = refusal_status why
+
+abbrev number_of : Reading → Bool → Bool → ℕ
+number_of reading failed printing = cond (lacks_memory reading) 5 (cond (failed || printing) 3 (own_status reading))
+
+abbrev IsStatus : List ℕ → Reading → Bool → Bool → Type 0
+IsStatus file reading failed printing = status_of (cat_troubles file reading failed printing) ≡ number_of reading failed printing
+
+-- what holds of each two answers
+each_two : (P : Bool → Bool → Type 0) → P true true → P true false → P false true → P false false → (a b : Bool) → P a b
+each_two P tt_is tf_is ft_is ff_is true true = tt_is
+each_two P tt_is tf_is ft_is ff_is true false = tf_is
+each_two P tt_is tf_is ft_is ff_is false true = ft_is
+each_two P tt_is tf_is ft_is ff_is false false = ff_is
+
+status_is : (file : List ℕ) (reading : Reading) (failed printing : Bool) → IsStatus file reading failed printing
+status_is file readings.Unopened = each_two (IsStatus file readings.Unopened) refl refl refl refl
+status_is file (readings.Lines text) = each_two (IsStatus file (readings.Lines text)) refl refl refl refl
+status_is file (readings.Refused (refusals.Fault faults)) = each_two (IsStatus file (readings.Refused (refusals.Fault faults))) refl refl refl refl
+status_is file (readings.Refused (refusals.Grammar n rule)) = each_two (IsStatus file (readings.Refused (refusals.Grammar n rule))) refl refl refl refl
+status_is file (readings.Refused (refusals.Compressed n name)) = each_two (IsStatus file (readings.Refused (refusals.Compressed n name))) refl refl refl refl
+status_is file (readings.Refused (refusals.Limit n)) = each_two (IsStatus file (readings.Refused (refusals.Limit n))) refl refl refl refl
+status_is file (readings.Refused refusals.Memory) = each_two (IsStatus file (readings.Refused refusals.Memory)) refl refl refl refl
+
+-- the status is 5, or that of what failed and of the reading
+answered : (file : List ℕ) (reading : Reading) (failed printing : Bool) (before now : SinkState) (answer : ℕ) → Complains (cat_troubles file reading failed printing) before now answer
+    → (answer ≡ 5) ⊎ (answer ≡ number_of reading failed printing)
+answered file reading failed printing before now answer a = elim a.are [
+  | inl due ↦ inr (sym a.answer_is ∙ ap status_of due ∙ status_is file reading failed printing)
+  | inr alone ↦ inl (sym a.answer_is ∙ ap status_of alone)
+]
+
+own_not_two : (reading : Reading) → own_status reading ≡ 2 → ⊥
+own_not_two readings.Unopened e = omega (arith, e)
+own_not_two (readings.Lines text) e = omega (arith, e)
+own_not_two (readings.Refused (refusals.Fault faults)) e = omega (arith, e)
+own_not_two (readings.Refused (refusals.Grammar n rule)) e = omega (arith, e)
+own_not_two (readings.Refused (refusals.Compressed n name)) e = omega (arith, e)
+own_not_two (readings.Refused (refusals.Limit n)) e = omega (arith, e)
+own_not_two (readings.Refused refusals.Memory) e = omega (arith, e)
+
+number_not_two : (lacked some : Bool) (n : ℕ) → (n ≡ 2 → ⊥) → cond lacked 5 (cond some 3 n) ≡ 2 → ⊥
+number_not_two true some n other e = omega (arith, e)
+number_not_two false true n other e = omega (arith, e)
+number_not_two false false n other e = other e
+
+-- the status of a printing is not that of bad words
+pub not_two : (file : List ℕ) (old new : Scene) (answer : ℕ) → Cats file old new answer → answer ≡ 2 → ⊥
+not_two file old new answer all two = elim (answered file all.reading all.failed all.printing old.err new.err answer all.said) [
+  | inl five ↦ omega (arith, five, two)
+  | inr is ↦ number_not_two (lacks_memory all.reading) (all.failed || all.printing) (own_status all.reading) (own_not_two all.reading) (sym is ∙ two)
+]
+
+-- ---- the status 0
+
+-- no reading that a failure cut off
+abbrev IsWhole : Reading → Type 0
+IsWhole readings.Unopened = ⊥
+IsWhole (readings.Lines text) = Unit {0}
+IsWhole (readings.Refused (refusals.Fault faults)) = ⊥
+IsWhole (readings.Refused (refusals.Grammar n rule)) = Unit {0}
+IsWhole (readings.Refused (refusals.Compressed n name)) = Unit {0}
+IsWhole (readings.Refused (refusals.Limit n)) = Unit {0}
+IsWhole (readings.Refused refusals.Memory) = Unit {0}
+
+under_whole : (file : List ℕ) (world : WorldState) (keeping : Keeping) (reading : Reading) → ReadUnder file world keeping reading → has_failed (Some (kept_source file keeping)) ≡ false → IsWhole reading
+under_whole file world keeping readings.Unopened under calm = under.comes
+under_whole file world keeping (readings.Lines text) under calm = tt
+under_whole file world keeping (readings.Refused (refusals.Fault faults)) under calm =
+    let rises = under.comes.1.rises in
+    let some : keeping.faults ≡ 0 → ⊥ = λ none. omega (arith, rises.once, none, under.unused) in
+    both_ways (has_failed (Some (kept_source file keeping))) calm (entry_failed (Some (kept_source file keeping)) some)
+under_whole file world keeping (readings.Refused (refusals.Grammar n rule)) under calm = tt
+under_whole file world keeping (readings.Refused (refusals.Compressed n name)) under calm = tt
+under_whole file world keeping (readings.Refused (refusals.Limit n)) under calm = tt
+under_whole file world keeping (readings.Refused refusals.Memory) under calm = tt
+
+reads_whole : (file : List ℕ) (world : WorldState) (source : Option Opening) (reading : Reading) → IsReading file world source reading → has_failed source ≡ false → IsWhole reading
+reads_whole file world None reading is calm = subst IsWhole (sym is) tt
+reads_whole file world (Some entry) reading (inl refused) calm = absurd (both_ways (has_failed (Some entry)) calm (ap (λ (e : Opening). has_failed (Some e)) refused.0))
+reads_whole file world (Some entry) reading (inr (keeping, is, under)) calm =
+    under_whole file world keeping reading under (sym (ap (λ (e : Opening). has_failed (Some e)) is) ∙ calm)
+
+some_number : (lacked : Bool) (n : ℕ) → cond lacked 5 (cond true 3 n) ≡ 0 → ⊥
+some_number true n e = omega (arith, e)
+some_number false n e = omega (arith, e)
+
+-- with the status 0 all was read, and the output didn't fail
+all_read : (reading : Reading) (failed printing : Bool) → number_of reading failed printing ≡ 0 → (failed ≡ false → IsWhole reading) → (text : List ℕ) × (reading ≡ readings.Lines text) × (printing ≡ false)
+all_read reading true printing e calm = absurd (some_number (lacks_memory reading) (own_status reading) e)
+all_read reading false true e calm = absurd (some_number (lacks_memory reading) (own_status reading) e)
+all_read readings.Unopened false false e calm = absurd (calm refl)
+all_read (readings.Lines text) false false e calm = (text, refl, refl)
+all_read (readings.Refused (refusals.Fault faults)) false false e calm = absurd (calm refl)
+all_read (readings.Refused (refusals.Grammar n rule)) false false e calm = absurd (omega (arith, e))
+all_read (readings.Refused (refusals.Compressed n name)) false false e calm = absurd (omega (arith, e))
+all_read (readings.Refused (refusals.Limit n)) false false e calm = absurd (omega (arith, e))
+all_read (readings.Refused refusals.Memory) false false e calm = absurd (omega (arith, e))
+
+all_taken : (before now : SinkState) (reading : Reading) (printing : Bool) (text : List ℕ) → PrintsLines before now reading printing → reading ≡ readings.Lines text → printing ≡ false → TellsAll before now text
+all_taken before now reading printing text prints is well =
+    let P : Reading → Type 0 = λ r. PrintsLines before now r printing in
+    elim (subst P is prints) [ inl all ↦ all.1 | inr part ↦ absurd (both_ways printing well part.0) ]
+
+whole : (file : List ℕ) (old new : WorldState) (out out_now err err_now : SinkState) (played : Played) (printing : Bool) (answer : ℕ) → NamePlayed file old new played → PrintsLines out out_now played.reading printing
+    → Complains (cat_troubles file played.reading played.failed printing) err err_now answer → answer ≡ 0 → (text : List ℕ) × (played.reading ≡ readings.Lines text) × TellsAll out out_now text
+whole file old new out out_now err err_now played printing answer name prints a zero_is =
+    let number : number_of played.reading played.failed printing ≡ 0 = elim (answered file played.reading played.failed printing err err_now answer a) [
+      | inl five ↦ absurd (omega (arith, five, zero_is))
+      | inr is ↦ sym is ∙ zero_is
+    ] in
+    let all = all_read played.reading played.failed printing number (λ calm. reads_whole file old name.source played.reading name.reading (sym name.failed ∙ calm)) in
+    (all.0, all.1, all_taken out out_now played.reading printing all.0 prints all.1 all.2)
+
+-- ---- the bytes decide
+
+same_status : (a b : Halt) → SameHalt a b → halt_status a ≡ halt_status b
+same_status (breaks n rule) (breaks m other) is = refl
+same_status (breaks n rule) (at_end m) is = absurd is
+same_status (breaks n rule) (names m name) is = absurd is
+same_status (breaks n rule) (beyond m) is = absurd is
+same_status (at_end n) (breaks m other) is = absurd is
+same_status (at_end n) (at_end m) is = ap halt_status is
+same_status (at_end n) (names m name) is = ap halt_status is
+same_status (at_end n) (beyond m) is = ap halt_status is
+same_status (names n name) (breaks m other) is = absurd is
+same_status (names n name) (at_end m) is = ap halt_status is
+same_status (names n name) (names m other) is = ap halt_status is
+same_status (names n name) (beyond m) is = ap halt_status is
+same_status (beyond n) (breaks m other) is = absurd is
+same_status (beyond n) (at_end m) is = ap halt_status is
+same_status (beyond n) (names m name) is = ap halt_status is
+same_status (beyond n) (beyond m) is = ap halt_status is
+
+module _ (bytes : List ℕ) (tops : List Top) (halt : Halt) (halts : Halts reading_limits bytes tops halt) where
+  one_status : (others : List Top) (other : Halt) → Halts reading_limits bytes others other → halt_status other ≡ halt_status halt
+  one_status others other found = same_status other halt (readings_halt_once bytes others tops other halt found halts).1
+
+  -- a reading that nothing cut off halts where the bytes say
+  halted_so : (source now : SourceState) (reading : Reading) → source.left ≡ Some bytes → ComesTo source now reading → IsWhole reading → (own_status reading ≡ halt_status halt) ⊎ (lacks_memory reading ≡ true)
+  halted_so source now readings.Unopened here comes whole = absurd comes
+  halted_so source now (readings.Lines text) here comes whole = inl (one_status comes.tops (at_end comes.end) (comes.halts.halts bytes here))
+  halted_so source now (readings.Refused (refusals.Fault faults)) here comes whole = absurd whole
+  halted_so source now (readings.Refused (refusals.Grammar n rule)) here comes whole = inl (one_status comes.0 (breaks n rule) (comes.1.halts bytes here))
+  halted_so source now (readings.Refused (refusals.Compressed n name)) here comes whole = inl (one_status comes.0 (names n name) (comes.1.halts bytes here))
+  halted_so source now (readings.Refused (refusals.Limit n)) here comes whole = inl (one_status comes.0 (beyond n) (comes.1.halts bytes here))
+  halted_so source now (readings.Refused refusals.Memory) here comes whole = inr refl
+
+  name_halted : (file : List ℕ) (world : WorldState) (told : Told) (source : Option Opening) (reading : Reading) → IsReading file world source reading → world.told ≡ Some told → told.names file ≡ Some bytes
+      → has_failed source ≡ false → (own_status reading ≡ halt_status halt) ⊎ (lacks_memory reading ≡ true)
+  name_halted file world told None reading is here there calm = inr (ap lacks_memory is)
+  name_halted file world told (Some entry) reading (inl refused) here there calm = absurd (both_ways (has_failed (Some entry)) calm (ap (λ (e : Opening). has_failed (Some e)) refused.0))
+  name_halted file world told (Some entry) reading (inr (keeping, is, under)) here there calm =
+      halted_so under.source (record { left = keeping.left; faults = keeping.faults }) reading ((under.tells told here).0 ∙ there) under.comes
+      (under_whole file world keeping reading under (sym (ap (λ (e : Opening). has_failed (Some e)) is) ∙ calm))
+
+is_false : (b : Bool) → (b ≡ true → ⊥) → b ≡ false
+is_false true none = absurd (none refl)
+is_false false none = refl
+
+neither : (a b : Bool) → a ≡ false → b ≡ false → (a || b) ≡ false
+neither true b first second = absurd cc
+neither false b first second = second
+
+-- an output whose count stood still didn't fail
+printing_calm : (before now : SinkState) (reading : Reading) (printing : Bool) → PrintsLines before now reading printing → (Rose before.faults now.faults → ⊥) → printing ≡ false
+printing_calm before now readings.Unopened printing prints quiet = prints.0
+printing_calm before now (readings.Lines text) printing (inl all) quiet = all.0
+printing_calm before now (readings.Lines text) printing (inr part) quiet = absurd (quiet (omega (arith, part.1.rises.once)))
+printing_calm before now (readings.Refused why) printing prints quiet = prints.0
+
+settled : (lacked some : Bool) (own want answer : ℕ) → answer ≡ cond lacked 5 (cond some 3 own) → some ≡ false → (own ≡ want) ⊎ (lacked ≡ true) → (answer ≡ want) ⊎ (answer ≡ 5)
+settled true some own want answer is none why = inr is
+settled false true own want answer is none why = absurd cc
+settled false false own want answer is none (inl same) = inl (is ∙ same)
+settled false false own want answer is none (inr lacks) = absurd cc
+
+decided : (file : List ℕ) (old new : Scene) (played : Played) (printing : Bool) (answer : ℕ) → NamePlayed file old.world new.world played → PrintsLines old.out new.out played.reading printing
+    → Complains (cat_troubles file played.reading played.failed printing) old.err new.err answer
+    → (told : Told) (bytes : List ℕ) (tops : List Top) (halt : Halt) → old.world.told ≡ Some told → told.names file ≡ Some bytes → Halts reading_limits bytes tops halt
+    → (AnyRose (counts_in old) (counts_in new) → ⊥) → (answer ≡ halt_status halt) ⊎ (answer ≡ 5)
+decided file old new played printing answer name prints a told bytes tops halt here there halts quiet =
+    let calm : played.failed ≡ false = is_false played.failed (λ failed. elim (name.cause failed) [ inl world ↦ quiet (inl world) | inr inputs ↦ quiet (inr (inl inputs)) ]) in
+    let still : printing ≡ false = printing_calm old.out new.out played.reading printing prints (λ rose. quiet (inr (inr (inr rose)))) in
+    elim (answered file played.reading played.failed printing old.err new.err answer a) [
+      | inl five ↦ inr five
+      | inr is ↦ settled (lacks_memory played.reading) (played.failed || printing) (own_status played.reading) (halt_status halt) answer is (neither played.failed printing calm still)
+          (name_halted bytes tops halt halts file old.world told name.source played.reading name.reading here there (sym name.failed ∙ calm))
+    ]
+
+-- all that the program promises of a printing
+pub printed : (file : List ℕ) (old new : Scene) (played : Played) (printing : Bool) (answer : ℕ) → NamePlayed file old.world new.world played → PrintsLines old.out new.out played.reading printing
+    → Complains (cat_troubles file played.reading played.failed printing) old.err new.err answer → Cats file old new answer
+printed file old new played printing answer name prints a = record {
+  source = name.source;
+  reading = played.reading;
+  read = name.reading;
+  names = name.names;
+  inputs = name.inputs;
+  outputs = name.outputs;
+  failed = played.failed;
+  blame = name.failed;
+  cause = name.cause;
+  calm = name.calm;
+  printing = printing;
+  printed = prints;
+  said = a;
+  decided = decided file old new played printing answer name prints a;
+  whole = whole file old.world new.world old.out new.out old.err new.err played printing answer name prints a;
+}

@@ -1,0 +1,33 @@
+-- The opening, the reading and the keeping come to what a printing does to the world.
+use Rattle.std.proofs.Common.{◌≡◌, Bool, sym, ap, subst, ◌∙◌}
+use Rattle.mcap_io.specs.Outside.{went_well}
+use Rattle.mcap_app.specs.Run.{failed_so}
+use Rattle.mcap_app.specs.Cat.{NamePlayed}
+use Rattle.mcap_app.proofs.Cats.{unopened, given}
+use Rattle.mcap_app.proofs.cat.play_name.Goals as goal
+
+pub returns-in-Err-Failed : goal.returns-in-Err-Failed
+returns-in-Err-Failed g c =
+    unopened c.args.file.now (g.W.World.state c.args.world.now) (g.W.World.state c.source.new.self) c.in-Err-Failed.field-0 c.in-Err-Failed.field-0-is c.in-Err-Failed.ensures.opens c.in-Err-Failed.ensures.counts c.in-Err-Failed.ensures.cause c.requires.inputs_fit
+
+pub returns : goal.returns
+returns g c =
+    let source = g.W.Source.Source.state c.in-Ok.source in
+    let source_now = g.W.Source.Source.state c.read_lines-reading.new.source in
+    let kept = c.keep_source-kept.result in
+    let reading = c.read_lines-reading.result in
+    let failed : failed_so (went_well kept) source_now.faults ≡ c.has_failed.result = sym (c.has_failed.ensures ∙ ap (failed_so (went_well kept)) c.faults-faults.ensures) in
+    subst (λ (f : Bool). NamePlayed c.args.file.now (g.W.World.state c.args.world.now) (g.W.World.state c.keep_source-kept.new.self) (record { reading = reading; failed = f })) failed
+    (given c.args.file.now (g.W.World.state c.args.world.now) (g.W.World.state c.source.new.self) (g.W.World.state c.keep_source-kept.new.self) source source_now reading kept (record {
+      opens = c.in-Ok.ensures.opens;
+      stands = c.in-Ok.ensures.counts;
+      still = c.in-Ok.ensures.cause;
+      tells = c.in-Ok.ensures.tells;
+      unused = c.in-Ok.ensures.unused;
+      comes = c.read_lines-reading.ensures;
+      keeps = c.keep_source-kept.ensures.keeps;
+      inputs = c.keep_source-kept.ensures.input_faults;
+      outputs = c.keep_source-kept.ensures.output_faults;
+      cause = c.keep_source-kept.ensures.cause;
+      fits = c.requires.inputs_fit;
+    }))

@@ -1,0 +1,155 @@
+-- What the printing of a file did: to the names of the world, to both outputs, and how it ended.
+use Rattle.std.specs.Prelude.{◌≡◌, ◌⊎◌, ℕ, List, [], ◌∷◌, ◌++◌, Bool, true, false, Option, Some, None}
+use Rattle.mcap_io.specs.Outside.{Rose, added, SourceState, SinkState, WorldState, Told, Keeping, Opening, opened, TellsName}
+use Rattle.mcap_io.specs.declared.outside.ObjectKind.TheVariants as kinds
+use Rattle.mcap_model.specs.declared.replay.Range.{Range}
+use Rattle.mcap_model.specs.Tops.{Top}
+use Rattle.mcap_model.specs.Kept.{Halt, reading_limits, at_end, grammar as breaks, compressed as names, beyond, Halts}
+use Rattle.mcap_model.specs.Scan.{Seen, Scan, Replay}
+use Rattle.mcap_model.specs.Text.{cat_text}
+use Rattle.mcap_scan.specs.declared.answers.ScanRefused.{ScanRefused}
+use Rattle.mcap_scan.specs.declared.answers.ScanRefused.TheVariants as refusals
+use Rattle.mcap_scan.specs.Scanning.{HaltsSo, FaultStands}
+use Rattle.mcap_app.specs.declared.cat.Reading.{Reading}
+use Rattle.mcap_app.specs.declared.cat.Reading.TheVariants as readings
+use Rattle.mcap_app.specs.declared.cat.Played.{Played}
+use Rattle.mcap_app.specs.Printing.{TellsAll, TellsPart}
+use Rattle.mcap_app.specs.Answer.{Complains}
+use Rattle.mcap_app.specs.Texts.{Trouble, fault, output_fault, grammar, compressed, limit, no_memory}
+use Rattle.mcap_app.specs.Run.{Scene, counts_in, AnyRose, when, kept_source, listed, faults_of, has_failed}
+
+-- ---- the file
+
+abbrev pub all_times : Range
+all_times = record { start = 0; end = None }
+
+-- The source was read to its Data End, and these are the lines of all its messages, in the order of log time and place.
+-- Where it told its bytes, this is their reading.
+pub record IsPrinted (before now : SourceState) (text : List ℕ) : Type 0 where
+  pub tops : List Top
+  pub end : ℕ
+  pub messages : List Seen
+  pub shown : List Seen
+  pub halts : HaltsSo before now tops (at_end end)
+  pub scan : Scan tops messages
+  pub replay : Replay all_times None messages shown
+  pub text_is : text ≡ cat_text shown
+
+-- the reading halted so, behind some records; or the source failed; or memory lacked, in the reading or behind it
+abbrev pub IsRefused : SourceState → SourceState → ScanRefused → Type 0
+IsRefused before now (refusals.Fault faults) = (tops : List Top) × FaultStands faults before now tops
+IsRefused before now (refusals.Grammar n rule) = (tops : List Top) × HaltsSo before now tops (breaks n rule)
+IsRefused before now (refusals.Compressed n name) = (tops : List Top) × HaltsSo before now tops (names n name)
+IsRefused before now (refusals.Limit n) = (tops : List Top) × HaltsSo before now tops (beyond n)
+IsRefused before now refusals.Memory = now.faults ≡ before.faults
+
+-- what the reading of a source came to
+abbrev pub ComesTo : SourceState → SourceState → Reading → Type 0
+ComesTo before now readings.Unopened = ⊥
+ComesTo before now (readings.Lines text) = IsPrinted before now text
+ComesTo before now (readings.Refused why) = IsRefused before now why
+
+-- the source that was opened under the name told the bytes there, where the world tells; it was read, and taken back
+pub record ReadUnder (file : List ℕ) (world : WorldState) (keeping : Keeping) (reading : Reading) : Type 0 where
+  pub source : SourceState
+  pub tells : TellsName world file source
+  pub unused : source.faults ≡ 0
+  pub comes : ComesTo source (record { left = keeping.left; faults = keeping.faults }) reading
+
+-- no entry, where memory lacked for the opening; or it was refused; or a source was given, read, and taken back
+abbrev pub IsReading : List ℕ → WorldState → Option Opening → Reading → Type 0
+IsReading file world None reading = reading ≡ readings.Refused refusals.Memory
+IsReading file world (Some entry) reading = ((entry ≡ opened kinds.Source file false) × (reading ≡ readings.Unopened))
+    ⊎ ((keeping : Keeping) × (entry ≡ kept_source file keeping) × ReadUnder file world keeping reading)
+
+-- where the world tells, it goes on telling: all names hold what they held, and the opening stands behind those before
+abbrev pub Spares : WorldState → WorldState → Option Opening → Type 0
+Spares old new source = (told : Told) → old.told ≡ Some told → (now : Told) × (new.told ≡ Some now) × (now.names ≡ told.names) × (now.log ≡ told.log ++ listed source)
+
+-- what became of a file's name
+pub record NamePlayed (file : List ℕ) (old new : WorldState) (played : Played) : Type 0 where
+  pub source : Option Opening
+  pub reading : IsReading file old source played.reading
+  pub names : Spares old new source
+  pub inputs : new.input_faults ≡ added old.input_faults (faults_of source)
+  pub outputs : new.output_faults ≡ old.output_faults
+  pub failed : played.failed ≡ has_failed source
+  pub cause : played.failed ≡ true → Rose old.faults new.faults ⊎ Rose old.input_faults new.input_faults
+  pub calm : played.failed ≡ false → new.faults ≡ old.faults
+
+-- ---- standard output
+
+-- all of the lines were taken, or a first part where the output failed; it is as it was unless all of the file was read
+abbrev pub PrintsLines : SinkState → SinkState → Reading → Bool → Type 0
+PrintsLines before now readings.Unopened failed = (failed ≡ false) × (now ≡ before)
+PrintsLines before now (readings.Lines text) failed = ((failed ≡ false) × TellsAll before now text) ⊎ ((failed ≡ true) × TellsPart before now text)
+PrintsLines before now (readings.Refused why) failed = (failed ≡ false) × (now ≡ before)
+
+-- ---- standard error
+
+-- the trouble where a reading halted
+abbrev pub halt_troubles : List ℕ → ScanRefused → List Trouble
+halt_troubles file (refusals.Fault faults) = []
+halt_troubles file (refusals.Grammar n rule) = grammar file n ∷ []
+halt_troubles file (refusals.Compressed n name) = compressed file name n ∷ []
+halt_troubles file (refusals.Limit n) = limit file n ∷ []
+halt_troubles file refusals.Memory = []
+
+abbrev pub reading_troubles : List ℕ → Reading → List Trouble
+reading_troubles file readings.Unopened = []
+reading_troubles file (readings.Lines text) = []
+reading_troubles file (readings.Refused why) = halt_troubles file why
+
+abbrev pub is_memory_refused : ScanRefused → Bool
+is_memory_refused (refusals.Fault faults) = false
+is_memory_refused (refusals.Grammar n rule) = false
+is_memory_refused (refusals.Compressed n name) = false
+is_memory_refused (refusals.Limit n) = false
+is_memory_refused refusals.Memory = true
+
+-- memory lacked for the reading
+abbrev pub lacks_memory : Reading → Bool
+lacks_memory readings.Unopened = false
+lacks_memory (readings.Lines text) = false
+lacks_memory (readings.Refused why) = is_memory_refused why
+
+-- the troubles of a printing, in their order: of the file's bytes, of its name, of standard output, of memory
+abbrev pub cat_troubles : List ℕ → Reading → Bool → Bool → List Trouble
+cat_troubles file reading failed printing = reading_troubles file reading ++ (when failed (fault file)
+    ++ (when printing output_fault ++ when (lacks_memory reading) no_memory))
+
+-- ---- the command
+
+-- the status of where a reading halts
+abbrev pub halt_status : Halt → ℕ
+halt_status (at_end n) = 0
+halt_status (breaks n rule) = 1
+halt_status (names n name) = 1
+halt_status (beyond n) = 4
+
+-- what `cat` does
+pub record Cats (file : List ℕ) (old new : Scene) (answer : ℕ) : Type 0 where
+  -- the file is opened, and nothing else; this is what its reading came to
+  pub source : Option Opening
+  pub reading : Reading
+  pub read : IsReading file old.world source reading
+  -- all names hold what they held
+  pub names : Spares old.world new.world source
+  -- the faults of the source are counted
+  pub inputs : new.world.input_faults ≡ added old.world.input_faults (faults_of source)
+  pub outputs : new.world.output_faults ≡ old.world.output_faults
+  -- the file is blamed exactly where its opening, its keeping or its source failed, and each failure shows in a count
+  pub failed : Bool
+  pub blame : failed ≡ has_failed source
+  pub cause : failed ≡ true → Rose old.world.faults new.world.faults ⊎ Rose old.world.input_faults new.world.input_faults
+  pub calm : failed ≡ false → new.world.faults ≡ old.world.faults
+  -- standard output took the lines of the messages
+  pub printing : Bool
+  pub printed : PrintsLines old.out new.out reading printing
+  -- standard error is told of the troubles, and they give the status
+  pub said : Complains (cat_troubles file reading failed printing) old.err new.err answer
+  -- where the world tells, the bytes under the name decide the status, unless a count rises or memory lacks
+  pub decided : (told : Told) (bytes : List ℕ) (tops : List Top) (halt : Halt) → old.world.told ≡ Some told → told.names file ≡ Some bytes → Halts reading_limits bytes tops halt
+      → (AnyRose (counts_in old) (counts_in new) → ⊥) → (answer ≡ halt_status halt) ⊎ (answer ≡ 5)
+  -- the status 0 says that all of the file was read, and all of its lines were taken
+  pub whole : answer ≡ 0 → (text : List ℕ) × (reading ≡ readings.Lines text) × TellsAll old.out new.out text

@@ -1,0 +1,216 @@
+//! Printing the messages of a file in the order of their log times.
+ghost use Rattle.std.specs.Prelude.{◌≡◌, ◌<◌, ◌^◌, ◌++◌, map, IfOk, OnOk};
+ghost use Rattle.mcap_app.specs.Texts.{trouble_of, complained};
+ghost use Rattle.mcap_app.specs.Run.{scene};
+ghost use Rattle.mcap_app.specs.Cat.{ComesTo, NamePlayed, PrintsLines, reading_troubles, halt_troubles, lacks_memory, is_memory_refused, cat_troubles, Cats};
+ghost use Rattle.mcap_app.specs.Answer.{Complains};
+
+use crate::answering::{complain_of, push_when};
+use crate::complaint::Complaint;
+use crate::faults::{Counts, has_failed};
+use mcap_io::{OpenRefused, Sink, Source, World, write_all_of};
+use mcap_model::Range;
+use mcap_scan::ScanRefused;
+use mcap_wire::{Bytes, Memory};
+use std::alloc::Global;
+use time_player::{cat_text, replay_scan};
+
+/// What the reading of a file came to.
+#[derive(Drop)]
+pub enum Reading {
+    /// The world failed to open it.
+    Unopened,
+    /// It was read to its Data End, and its messages have these lines.
+    Lines { text: Bytes },
+    /// It was refused; or memory lacked for the opening or for the lines.
+    Refused { why: ScanRefused },
+}
+
+/// What became of a file's name: its reading, and whether the opening, the source or the keeping failed.
+#[derive(Drop)]
+pub struct Played {
+    pub reading: Reading,
+    pub failed: bool,
+}
+
+// Reads a source to its Data End, and makes the lines of its messages.
+fn read_lines<S: Source>(alloc: Global, source: &mut S) -> Reading
+    ensures { ComesTo (S.state source.old) (S.state source.new) result }
+{
+    let all_times = Range {
+        start: 0,
+        end: None,
+    };
+    let replayed = match replay_scan(alloc, source, all_times, None) {
+        Ok(replayed) => replayed,
+        Err(why) => return Reading::Refused { why },
+    };
+    match cat_text(alloc, &replayed) {
+        Ok(text) => return Reading::Lines { text },
+        Err(_) => {
+            return Reading::Refused {
+                why: ScanRefused::Memory,
+            };
+        }
+    }
+}
+
+// Opens the name, reads it, and keeps it.
+fn play_name<W: World>(alloc: Global, file: &str, world: &mut W) -> Played
+    requires inputs_fit { (W.state world.old).input_faults < 2 ^ 64 }
+    ensures { NamePlayed file.now (W.state world.old) (W.state world.new) result }
+{
+    let mut source = match world.source(file) {
+        Ok(source) => source,
+        Err(OpenRefused::Failed) => {
+            return Played {
+                reading: Reading::Unopened,
+                failed: true,
+            };
+        }
+        Err(OpenRefused::Memory) => {
+            return Played {
+                reading: Reading::Refused {
+                    why: ScanRefused::Memory,
+                },
+                failed: false,
+            };
+        }
+    };
+    let reading = read_lines(alloc, &mut source);
+    let faults = source.faults();
+    let kept = world.keep_source(file, source);
+    Played {
+        reading,
+        failed: has_failed(faults, kept),
+    }
+}
+
+// Prints the lines if all of the file was read, and says whether the output failed.
+fn print_lines<O: Sink>(out: &mut O, reading: &Reading) -> bool
+    ensures { PrintsLines (O.state out.old) (O.state out.new) reading.now result }
+{
+    match reading {
+        Reading::Lines { text } => match write_all_of(out, text.as_slice()) {
+            Ok(()) => return false,
+            Err(_) => return true,
+        },
+        Reading::Unopened => return false,
+        Reading::Refused { .. } => return false,
+    }
+}
+
+// The complaint of why a reading halted.
+fn halt_complaint<'a>(file: &'a str, why: &'a ScanRefused) -> Option<Complaint<'a>>
+    ensures { complained result ≡ halt_troubles file.now why.now }
+{
+    match why {
+        ScanRefused::Grammar { offset, .. } => Some(Complaint::Grammar {
+            name: file,
+            offset: *offset,
+        }),
+        ScanRefused::Compressed { offset, name } => Some(Complaint::Compressed {
+            name: file,
+            compression: name.as_str(),
+            offset: *offset,
+        }),
+        ScanRefused::Limit { offset } => Some(Complaint::Limit {
+            name: file,
+            offset: *offset,
+        }),
+        ScanRefused::Fault { .. } => None,
+        ScanRefused::Memory => None,
+    }
+}
+
+// The complaint of what was read of a file.
+fn reading_complaint<'a>(file: &'a str, reading: &'a Reading) -> Option<Complaint<'a>>
+    ensures { complained result ≡ reading_troubles file.now reading.now }
+{
+    match reading {
+        Reading::Refused { why } => return halt_complaint(file, why),
+        Reading::Lines { .. } => return None,
+        Reading::Unopened => return None,
+    }
+}
+
+// Whether memory lacked for a reading.
+fn is_for_memory(why: &ScanRefused) -> bool
+    ensures { result ≡ is_memory_refused why.now }
+{
+    match why {
+        ScanRefused::Memory => true,
+        ScanRefused::Fault { .. }
+        | ScanRefused::Grammar { .. }
+        | ScanRefused::Compressed { .. }
+        | ScanRefused::Limit { .. } => false,
+    }
+}
+
+fn has_lacked(reading: &Reading) -> bool
+    ensures { result ≡ lacks_memory reading.now }
+{
+    match reading {
+        Reading::Refused { why } => return is_for_memory(why),
+        Reading::Lines { .. } => return false,
+        Reading::Unopened => return false,
+    }
+}
+
+// Adds the complaint, if there is one.
+fn push_some<'a>(
+    all: &mut Vec<Complaint<'a>>,
+    complaint: Option<Complaint<'a>>,
+) -> Result<(), Memory>
+    ensures { OnOk result (map trouble_of all.new.items ≡ map trouble_of all.old.items ++ complained complaint.entry) }
+{
+    match complaint {
+        Some(complaint) => return push_when(all, true, complaint),
+        None => return Ok(()),
+    }
+}
+
+// The complaints of a printing, in their order.
+fn complaints_of<'a>(
+    alloc: Global,
+    file: &'a str,
+    played: &'a Played,
+    printing: bool,
+) -> Result<Vec<Complaint<'a>>, Memory>
+    ensures { IfOk result (λ all. map trouble_of all.items ≡ cat_troubles file.now played.now.reading played.now.failed printing) }
+{
+    let mut all = Vec::new(alloc);
+    push_some(&mut all, reading_complaint(file, &played.reading))?;
+    push_when(&mut all, played.failed, Complaint::Fault { name: file })?;
+    push_when(&mut all, printing, Complaint::OutputFault)?;
+    push_when(&mut all, has_lacked(&played.reading), Complaint::NoMemory)?;
+    Ok(all)
+}
+
+// Complains of what went wrong in a printing, and answers the status.
+fn answer<E: Sink>(alloc: Global, err: &mut E, file: &str, played: &Played, printing: bool) -> u8
+    ensures { Complains (cat_troubles file.now played.now.reading played.now.failed printing) (E.state err.old) (E.state err.new) result }
+{
+    complain_of(alloc, err, complaints_of(alloc, file, played, printing))
+}
+
+/// Prints on `out` the messages of the file under the name, in the order of log time and place, and answers the status:
+/// 0, 1 where the file breaks a rule or is compressed, 3 where the outside failed, 4 where a record passes a limit, and
+/// 5 where memory lacked.
+pub fn cat_command<W: World, O: Sink, E: Sink>(
+    alloc: Global,
+    file: &str,
+    world: &mut W,
+    out: &mut O,
+    err: &mut E,
+) -> u8
+    ensures { Cats file.now
+        (scene (W.state world.old) (O.state out.old) (E.state err.old))
+        (scene (W.state world.new) (O.state out.new) (E.state err.new))
+        result }
+{
+    let _before = Counts::of(world, out);
+    let played = play_name(alloc, file, world);
+    let printing = print_lines(out, &played.reading);
+    answer(alloc, err, file, &played, printing)
+}
