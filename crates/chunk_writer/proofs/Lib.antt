@@ -1,0 +1,5 @@
+pub mod Cuts
+pub mod Noting
+pub mod Planned
+pub mod Stopping
+pub mod Writing

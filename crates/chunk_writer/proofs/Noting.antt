@@ -1,0 +1,197 @@
+-- What is noted of a history that goes on.
+use Rattle.std.proofs.Common.{◌≡◌, ℕ, ◌+◌, ◌^◌, ◌<◌, ◌≤◌, List, [], ◌∷◌, ◌++◌, length, Option, Some, None, Err, sym, ap, subst, ◌∙◌, append_assoc, arith}
+use Rattle.std.proofs.lemmas.List.{append-nil, length-append}
+use Rattle.std.proofs.lemmas.Grind.{flat_map-append}
+use Rattle.rec_data.specs.declared.owned.Rec.{Rec}
+use Rattle.mcap_model.specs.declared.block.Block.{Block}
+use Rattle.mcap_model.specs.declared.ends.Stop.{Stop}
+use Rattle.mcap_model.specs.declared.ends.Stop.TheVariants as stops
+use Rattle.mcap_model.specs.Built.{IsBlock}
+use Rattle.mcap_model.specs.Blocks.{Piece, block, cuts, last_piece, piece_bytes, pieces_bytes, block_in, blocks_in, block_bytes}
+use Rattle.mcap_model.specs.File.{block_at, blocks_from}
+use Rattle.mcap_model.specs.Summary.{Noted}
+use Rattle.mcap_model.proofs.Standing.{count_blocks}
+use Rattle.summary_write.specs.Tally.{Tally, StandsFor, with_noted_block, with_noted_record}
+use Rattle.chunk_build.specs.Chunking.{Chunking}
+use Rattle.chunk_build.specs.Chunker as chunker
+use Rattle.chunk_writer.specs.declared.body.Body.{Body}
+use Rattle.chunk_writer.specs.Limits.{Holds, Kept, IsNoFault}
+use Rattle.chunk_writer.specs.Bodies.{noted_of, IsBody, Takes, TakesLast, StandsSo, Closes, NextBlock, LastBlock}
+use Rattle.chunk_writer.specs.Plans.{Passes, PutStopped, LastStopped}
+use Rattle.chunk_writer.proofs.Cuts.{few_logged}
+
+blocks_behind : (at : ℕ) (ps : List Piece) (p : Piece) → blocks_from at (ps ++ p ∷ []) ≡ blocks_from at ps ++ block_at (at + length (pieces_bytes ps)) p
+blocks_behind at [] p = append-nil (block_at at p) ∙ ap (λ (k : ℕ). block_at k p) (omega arith)
+blocks_behind at (q ∷ ps) p =
+    let size = length-append (piece_bytes q) (pieces_bytes ps) in
+    let place : at + length (piece_bytes q) + length (pieces_bytes ps) ≡ at + length (pieces_bytes (q ∷ ps)) = omega (arith, size) in
+    ap (λ (l : List (ℕ × List Rec)). block_at at q ++ l) (blocks_behind (at + length (piece_bytes q)) ps p
+    ∙ ap (λ (k : ℕ). blocks_from (at + length (piece_bytes q)) ps ++ block_at k p) place)
+    ∙ sym (append_assoc (block_at at q) (blocks_from (at + length (piece_bytes q)) ps) (block_at (at + length (pieces_bytes (q ∷ ps))) p))
+
+pub blocks_more : (ps : List Piece) (p : Piece) → length (blocks_in (ps ++ p ∷ [])) ≡ length (blocks_in ps) + length (blocks_in (p ∷ []))
+blocks_more ps p = ap (λ (l : List (List Rec)). length l) (flat_map-append block_in ps (p ∷ [])) ∙ length-append (blocks_in ps) (blocks_in (p ∷ []))
+
+-- a block more is noted
+pub noted_block : (at k : ℕ) (history records : List Rec) (ps : List Piece) → k ≡ at + length (pieces_bytes ps) → with_noted_block (noted_of at history ps) k records ≡ noted_of at history (ps ++ block records ∷ [])
+noted_block at k history records ps is =
+    ap (λ (l : List (ℕ × List Rec)). with_blocks l) (ap (λ (m : ℕ). blocks_from at ps ++ (m, records) ∷ []) is ∙ sym (blocks_behind at ps (block records)))
+  where
+    with_blocks : List (ℕ × List Rec) → Noted
+    with_blocks l = record { records = history; blocks = l; extras = [] }
+
+-- ---- the numbers of a summary
+
+pub few_messages : (size at : ℕ) (history : List Rec) (b : Body) (blocks bytes : ℕ) → StandsSo size at history b blocks bytes → Holds blocks bytes → b.summary.messages < 2 ^ 48
+few_messages size at history b blocks bytes so within =
+    let body = so.body in
+    let some = body.some in
+    let small = body.within in
+    let summary = body.summary in
+    let same = ap (λ (t : Tally). t.messages) summary.same in
+    let place = so.bytes_are in
+    let most = within.small in
+    let few = few_logged size history some in
+    omega (arith, small, same, place, most, few)
+
+pub few_noted : (t : Tally) (at : ℕ) (history : List Rec) (ps : List Piece) (blocks bytes : ℕ) → StandsFor t (noted_of at history ps) → blocks ≡ length (blocks_in ps) → Holds blocks bytes → t.blocks < 2 ^ 48
+few_noted t at history ps blocks bytes stands is within =
+    let same = ap (λ (u : Tally). u.blocks) stands.same in
+    let most = within.few in
+    omega (arith, same, is, most, count_blocks at ps)
+
+pub few_blocks : (size at : ℕ) (history : List Rec) (b : Body) (blocks bytes n : ℕ) → StandsSo size at history b blocks bytes → Holds blocks bytes → n ≡ b.summary.blocks → n < 2 ^ 48
+few_blocks size at history b blocks bytes n so within is =
+    let few = few_noted b.summary at history (cuts (Some size) history).pieces blocks bytes so.body.summary so.blocks_are within in
+    omega (arith, few, is)
+
+-- ---- a record is taken
+
+pub took : (size at : ℕ) (history : List Rec) (r : Rec) (b : Body) (ch : Chunking) (t : Tally) (closed : Option Block) → ((n : Noted) → StandsFor b.summary n → StandsFor t (with_noted_record n r))
+    → ((h : List Rec) → chunker.StandsFor b.chunker h → chunker.Puts b.chunker.size h r closed ch) → IsBody size at history b → Takes size at history r closed (record { chunker = ch; summary = t })
+took size at history r b ch t closed noted put is =
+    let puts : chunker.Puts size history r closed ch = subst (λ (k : ℕ). chunker.Puts k history r closed ch) is.size_is (put history is.chunk) in
+    record {
+      size_is = puts.same_size;
+      chunk = puts.stands;
+      closes = puts.closes;
+      summary = noted (noted_of at history (cuts (Some size) history).pieces) is.summary;
+    }
+
+abbrev pub TakesIt : Body → Rec → Option Block → Body → Type 0
+TakesIt b r closed after = (size at : ℕ) (history : List Rec) → IsBody size at history b → Takes size at history r closed after
+
+abbrev pub Notes : Tally → ℕ → Block → Tally → Type 0
+Notes t at b after = (records : List Rec) → IsBlock b records → (n : Noted) → StandsFor t n → StandsFor after (with_noted_block n at records)
+
+pub next_none : (size at : ℕ) (history : List Rec) (r : Rec) (b after : Body) (blocks bytes : ℕ) (closed : Option Block) → closed ≡ None → TakesIt b r closed after
+    → StandsSo size at history b blocks bytes → NextBlock size at history r None after
+next_none size at history r b after blocks bytes closed none takes so =
+    let body = so.body in
+    let took : Takes size at history r None after = subst (λ (x : Option Block). Takes size at history r x after) none (takes size at history body) in
+    record {
+      body = record {
+        some = body.some;
+        within = body.within;
+        size_is = took.size_is;
+        chunk = took.chunk;
+        summary = subst (λ (ps : List Piece). StandsFor after.summary (noted_of at (history ++ r ∷ []) ps)) (sym took.closes) took.summary;
+      };
+      closes = took.closes;
+    }
+
+pub next_some : (size at : ℕ) (history : List Rec) (r : Rec) (b after : Body) (blocks bytes : ℕ) (closed : Option Block) (blk : Block) (t : Tally) → closed ≡ Some blk → TakesIt b r closed after
+    → Notes after.summary bytes blk t → StandsSo size at history b blocks bytes → NextBlock size at history r (Some blk) (record { chunker = after.chunker; summary = t })
+next_some size at history r b after blocks bytes closed blk t some takes notes so =
+    let body = so.body in
+    let took : Takes size at history r (Some blk) after = subst (λ (x : Option Block). Takes size at history r x after) some (takes size at history body) in
+    let ps = (cuts (Some size) history).pieces in
+    let records = (cuts (Some size) history).waiting ++ r ∷ [] in
+    let noted : StandsFor t (noted_of at (history ++ r ∷ []) (ps ++ block records ∷ [])) =
+    subst (λ (n : Noted). StandsFor t n) (noted_block at bytes (history ++ r ∷ []) records ps so.bytes_are) (notes records took.closes.1 (noted_of at (history ++ r ∷ []) ps) took.summary) in
+    record {
+      body = record {
+        some = body.some;
+        within = body.within;
+        size_is = took.size_is;
+        chunk = took.chunk;
+        summary = subst (λ (l : List Piece). StandsFor t (noted_of at (history ++ r ∷ []) l)) (sym took.closes.0) noted;
+      };
+      closes = (records, took.closes.0, took.closes.1);
+    }
+
+passes_by : (blocks bytes len : ℕ) (records : List Rec) → len ≡ length (block_bytes records) → (Holds (blocks + 1) (bytes + len) → ⊥) → Passes blocks bytes (block records)
+passes_by blocks bytes len records is passes = λ holds. passes (record { few = holds.few; small = subst (λ (n : ℕ). bytes + n ≤ 1099511627776) (sym is) holds.small })
+
+stopped_by : (size : Option ℕ) (history : List Rec) (r : Rec) (blocks bytes len : ℕ) (records : List Rec) (stop : Stop) → Closes size history r (block records) → len ≡ length (block_bytes records)
+    → Kept {X = Unit} blocks bytes (blocks + 1) (bytes + len) (Err stop) → PutStopped size history r blocks bytes stop
+stopped_by size history r blocks bytes len records (stops.Fault faults) closes is kept = absurd kept
+stopped_by size history r blocks bytes len records (stops.Limit b n) closes is kept = (block records, closes, kept.0, kept.1, passes_by blocks bytes len records is kept.2)
+stopped_by size history r blocks bytes len records stops.Memory closes is kept = tt
+
+pub next_err : (size at : ℕ) (history : List Rec) (r : Rec) (b after : Body) (blocks bytes : ℕ) (closed : Option Block) (blk : Block) (stop : Stop) → closed ≡ Some blk → TakesIt b r closed after
+    → Kept {X = Unit} blocks bytes (blocks + 1) (bytes + length blk.bytes) (Err stop) → StandsSo size at history b blocks bytes → PutStopped (Some size) history r blocks bytes stop
+next_err size at history r b after blocks bytes closed blk stop some takes kept so =
+    let took : Takes size at history r (Some blk) after = subst (λ (x : Option Block). Takes size at history r x after) some (takes size at history so.body) in
+    let built = took.closes.1 in
+    stopped_by (Some size) history r blocks bytes (length blk.bytes) ((cuts (Some size) history).waiting ++ r ∷ []) stop took.closes.0 (ap (λ (l : List ℕ). length l) built.spelled) kept
+
+pub built_next : (size at : ℕ) (history : List Rec) (r : Rec) (b after : Body) (blocks bytes : ℕ) (closed : Option Block) (blk : Block) → closed ≡ Some blk → TakesIt b r closed after
+    → StandsSo size at history b blocks bytes → (records : List Rec) × IsBlock blk records
+built_next size at history r b after blocks bytes closed blk some takes so =
+    let took : Takes size at history r (Some blk) after = subst (λ (x : Option Block). Takes size at history r x after) some (takes size at history so.body) in
+    ((cuts (Some size) history).waiting ++ r ∷ [], took.closes.1)
+
+-- ---- the last block
+
+abbrev pub TakesLastOf : Body → Option Block → Body → Type 0
+TakesLastOf b last after = (size at : ℕ) (history : List Rec) → IsBody size at history b → TakesLast size at history last after
+
+pub last_none : (size at : ℕ) (history : List Rec) (b after : Body) (blocks bytes : ℕ) (last : Option Block) → last ≡ None → TakesLastOf b last after
+    → StandsSo size at history b blocks bytes → LastBlock size at history None after
+last_none size at history b after blocks bytes last none takes so =
+    let took : TakesLast size at history None after = subst (λ (x : Option Block). TakesLast size at history x after) none (takes size at history so.body) in
+    let ps = (cuts (Some size) history).pieces in
+    record {
+      last_block = took.last_block;
+      summary = subst (λ (l : List Piece). StandsFor after.summary (noted_of at history l)) (sym (append-nil ps) ∙ ap (λ (l : List Piece). ps ++ l) (sym took.last_block)) took.summary;
+    }
+
+pub last_some : (size at : ℕ) (history : List Rec) (b after : Body) (blocks bytes : ℕ) (last : Option Block) (blk : Block) (t : Tally) → last ≡ Some blk → TakesLastOf b last after
+    → Notes after.summary bytes blk t → StandsSo size at history b blocks bytes → LastBlock size at history (Some blk) (record { chunker = after.chunker; summary = t })
+last_some size at history b after blocks bytes last blk t some takes notes so =
+    let took : TakesLast size at history (Some blk) after = subst (λ (x : Option Block). TakesLast size at history x after) some (takes size at history so.body) in
+    let ps = (cuts (Some size) history).pieces in
+    let records = (cuts (Some size) history).waiting in
+    let noted : StandsFor t (noted_of at history (ps ++ block records ∷ [])) =
+    subst (λ (n : Noted). StandsFor t n) (noted_block at bytes history records ps so.bytes_are) (notes records took.last_block.1 (noted_of at history ps) took.summary) in
+    record {
+      last_block = took.last_block;
+      summary = subst (λ (l : List Piece). StandsFor t (noted_of at history (ps ++ l))) (sym took.last_block.0) noted;
+    }
+
+last_by : (size : Option ℕ) (history : List Rec) (blocks bytes len : ℕ) (records : List Rec) (stop : Stop) → last_piece (cuts size history).waiting ≡ block records ∷ [] → len ≡ length (block_bytes records)
+    → Kept {X = Unit} blocks bytes (blocks + 1) (bytes + len) (Err stop) → LastStopped size history blocks bytes stop
+last_by size history blocks bytes len records (stops.Fault faults) last is kept = absurd kept
+last_by size history blocks bytes len records (stops.Limit b n) last is kept = (block records, last, kept.0, kept.1, passes_by blocks bytes len records is kept.2)
+last_by size history blocks bytes len records stops.Memory last is kept = tt
+
+pub last_err : (size at : ℕ) (history : List Rec) (b after : Body) (blocks bytes : ℕ) (last : Option Block) (blk : Block) (stop : Stop) → last ≡ Some blk → TakesLastOf b last after
+    → Kept {X = Unit} blocks bytes (blocks + 1) (bytes + length blk.bytes) (Err stop) → StandsSo size at history b blocks bytes → LastStopped (Some size) history blocks bytes stop
+last_err size at history b after blocks bytes last blk stop some takes kept so =
+    let took : TakesLast size at history (Some blk) after = subst (λ (x : Option Block). TakesLast size at history x after) some (takes size at history so.body) in
+    let built = took.last_block.1 in
+    last_by (Some size) history blocks bytes (length blk.bytes) (cuts (Some size) history).waiting stop took.last_block.0 (ap (λ (l : List ℕ). length l) built.spelled) kept
+
+pub built_last : (size at : ℕ) (history : List Rec) (b after : Body) (blocks bytes : ℕ) (last : Option Block) (blk : Block) → last ≡ Some blk → TakesLastOf b last after
+    → StandsSo size at history b blocks bytes → (records : List Rec) × IsBlock blk records
+built_last size at history b after blocks bytes last blk some takes so =
+    let took : TakesLast size at history (Some blk) after = subst (λ (x : Option Block). TakesLast size at history x after) some (takes size at history so.body) in
+    ((cuts (Some size) history).waiting, took.last_block.1)
+
+-- ---- faults
+
+pub no_fault : (blocks bytes with_blocks with_bytes : ℕ) (stop : Stop) → Kept {X = Unit} blocks bytes with_blocks with_bytes (Err stop) → IsNoFault stop
+no_fault blocks bytes with_blocks with_bytes (stops.Fault faults) kept = absurd kept
+no_fault blocks bytes with_blocks with_bytes (stops.Limit b n) kept = tt
+no_fault blocks bytes with_blocks with_bytes stops.Memory kept = tt

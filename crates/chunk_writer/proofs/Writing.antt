@@ -1,0 +1,270 @@
+-- What a scribe stands for after a put, and how its file ends.
+use Rattle.std.proofs.Common.{◌≡◌, ℕ, ◌+◌, List, [], ◌∷◌, ◌++◌, length, Option, Some, None, Result, Ok, Err, refl, sym, ap, subst, ◌∙◌, append_assoc, append-nil, length-append, arith}
+use Rattle.rec_data.specs.declared.owned.Rec.{Rec}
+use Rattle.rec_data.specs.Owned.{rec_bytes}
+use Rattle.mcap_io.specs.Outside.{Adds}
+use Rattle.mcap_io.proofs.Calls.{adds-adds}
+use Rattle.mcap_model.specs.declared.block.Block.{Block}
+use Rattle.mcap_model.specs.declared.options.FileOptions.{FileOptions}
+use Rattle.mcap_model.specs.declared.ends.Stop.{Stop}
+use Rattle.mcap_model.specs.Built.{IsBlock}
+use Rattle.mcap_model.specs.Blocks.{Piece, block, alone, cuts, pieces_of, piece_bytes, pieces_bytes, block_bytes}
+use Rattle.mcap_model.specs.File.{front, data_end, section, noted, tail_by, written_of, file_of}
+use Rattle.mcap_model.specs.Pieces.{back_of}
+use Rattle.chunk_writer.specs.declared.entry.Entry.{Entry}
+use Rattle.chunk_writer.specs.declared.phase.Phase.{Phase}
+use Rattle.chunk_writer.specs.declared.phase.Phase.TheVariants as phases
+use Rattle.chunk_writer.specs.declared.next.Next.{Next}
+use Rattle.chunk_writer.specs.declared.next.Next.TheVariants as nexts
+use Rattle.chunk_writer.specs.Limits.{Holds}
+use Rattle.chunk_writer.specs.Bodies.{Closes}
+use Rattle.chunk_writer.specs.Planning.{Planning}
+use Rattle.chunk_writer.specs.Plans.{Plans, IsPlanned, IsNext, PutStopped, HoldsBlock, HoldsNext, StoppedBefore, IsWhole, IsLast, LastStopped, BackStopped}
+use Rattle.chunk_writer.specs.Stops.{StopsAt, Added}
+use Rattle.chunk_writer.specs.Scribes.{Stands, IsEntryOf, IsEntryWith, AddsLast, Ends, GivesLast}
+use Rattle.chunk_writer.proofs.Cuts.{bytes_behind}
+use Rattle.chunk_writer.proofs.Planned.{whole_none, whole_some}
+use Rattle.chunk_writer.proofs.Stopping.{Holding, put_refused, append_refused, last_refused, last_append_refused, back_refused, back_append_refused}
+
+-- ---- phases
+
+going_apart : (p : Phase) (stop : Stop) → p ≡ phases.Stopped stop → p ≡ phases.Going → ⊥
+going_apart p stop stopped going = cc
+
+ended_apart : (p : Phase) (stop : Stop) → p ≡ phases.Stopped stop → p ≡ phases.Ended → ⊥
+ended_apart p stop stopped ended = cc
+
+end_apart : (p : Phase) → p ≡ phases.Going → p ≡ phases.Ended → ⊥
+end_apart p going ended = cc
+
+stop_apart : (p : Phase) (stop : Stop) → p ≡ phases.Going → p ≡ phases.Stopped stop → ⊥
+stop_apart p stop going stopped = cc
+
+same_stop : (p : Phase) (one other : Stop) → p ≡ phases.Stopped one → p ≡ phases.Stopped other → one ≡ other
+same_stop p one other first second = cc
+
+-- ---- a record was put
+
+pub holding : (options : FileOptions) (opened held : Option (List ℕ)) (history : List Rec) (p : Planning) → p.phase ≡ phases.Going → Stands options opened held history p → Holding options opened held history p.blocks p.bytes
+holding options opened held history p going stands = let (plans, adds) = stands.going going in (adds, plans.blocks, plans.bytes)
+
+more_written : (start : List ℕ) (ps qs : List Piece) (piece : Piece) → qs ≡ ps ++ piece ∷ [] → (start ++ pieces_bytes ps) ++ piece_bytes piece ≡ start ++ pieces_bytes qs
+more_written start ps qs piece closes =
+    append_assoc start (pieces_bytes ps) (piece_bytes piece) ∙ ap (λ (l : List ℕ). start ++ l) (sym (bytes_behind ps piece)) ∙ ap (λ (l : List Piece). start ++ pieces_bytes l) (sym closes)
+
+adds_more : (opened held now : Option (List ℕ)) (start : List ℕ) (ps qs : List Piece) (piece : Piece) → qs ≡ ps ++ piece ∷ [] → Adds opened held (start ++ pieces_bytes ps) → Adds held now (piece_bytes piece) → Adds opened now (start ++ pieces_bytes qs)
+adds_more opened held now start ps qs piece closes first second =
+    subst (λ (l : List ℕ). Adds opened now l) (more_written start ps qs piece closes) (adds-adds opened held now (start ++ pieces_bytes ps) (piece_bytes piece) first second)
+
+stands_going : (options : FileOptions) (opened now : Option (List ℕ)) (history : List Rec) (p : Planning) → p.phase ≡ phases.Going → Plans options history p → Adds opened now (written_of options history) → Stands options opened now history p
+stands_going options opened now history p going plans adds = record {
+  going = λ e. (plans, adds);
+  stopped = λ stop e. absurd (stop_apart p.phase stop going e);
+  unended = λ e. end_apart p.phase going e;
+}
+
+stands_stopped : (options : FileOptions) (opened now : Option (List ℕ)) (history : List Rec) (p : Planning) (stop : Stop) (blocks bytes : ℕ) → StoppedBefore blocks bytes stop p
+    → ((behind : List Rec) → StopsAt options (history ++ behind) opened now stop blocks bytes) → Stands options opened now history p
+stands_stopped options opened now history p stop blocks bytes before stops = record {
+  going = λ e. absurd (going_apart p.phase stop before.phase e);
+  stopped = λ other e behind.
+      subst (λ (s : Stop). StopsAt options (history ++ behind) opened now s p.blocks p.bytes) (same_stop p.phase stop other before.phase e)
+      (subst (λ (n : ℕ). StopsAt options (history ++ behind) opened now stop n p.bytes) (sym before.blocks_are)
+      (subst (λ (n : ℕ). StopsAt options (history ++ behind) opened now stop blocks n) (sym before.bytes_are) (stops behind)));
+  unended = λ e. ended_apart p.phase stop before.phase e;
+}
+
+abbrev pub Planned : Planning → Rec → Next → Planning → Type 0
+Planned p r next mid = (options : FileOptions) (history : List Rec) → Plans options history p → IsPlanned options history r next mid
+
+pub put_block : (options : FileOptions) (opened held now : Option (List ℕ)) (history : List Rec) (r : Rec) (p mid after : Planning) (next : Next) (blk : Block) → next ≡ nexts.Block blk → Planned p r next mid
+    → mid.phase ≡ phases.Going → after ≡ mid → p.phase ≡ phases.Going → Adds held now blk.bytes → Stands options opened held history p → Stands options opened now (history ++ r ∷ []) after
+put_block options opened held now history r p mid after next blk is planned going same before adds stands =
+    let (plans, first) = stands.going before in
+    let made = planned options history plans in
+    let (records, closes, built) : (records : List Rec) × Closes options.chunk history r (block records) × IsBlock blk records = subst (λ (n : Next). IsNext options.chunk history r n) is made.next_is in
+    let piece : Adds held now (piece_bytes (block records)) = subst (λ (l : List ℕ). Adds held now l) built.spelled adds in
+    subst (λ (q : Planning). Stands options opened now (history ++ r ∷ []) q) (sym same)
+    (stands_going options opened now (history ++ r ∷ []) mid going made.stands (adds_more opened held now (front options.profile) (cuts options.chunk history).pieces (cuts options.chunk (history ++ r ∷ [])).pieces (block records) closes first piece))
+
+pub put_record : (options : FileOptions) (opened held now : Option (List ℕ)) (history : List Rec) (r : Rec) (p mid after : Planning) (next : Next) (bytes : List ℕ) → next ≡ nexts.Record bytes → Planned p r next mid
+    → mid.phase ≡ phases.Going → after ≡ mid → p.phase ≡ phases.Going → Adds held now bytes → Stands options opened held history p → Stands options opened now (history ++ r ∷ []) after
+put_record options opened held now history r p mid after next bytes is planned going same before adds stands =
+    let (plans, first) = stands.going before in
+    let made = planned options history plans in
+    let (closes, spelled) : Closes options.chunk history r (alone r) × (bytes ≡ rec_bytes r) = subst (λ (n : Next). IsNext options.chunk history r n) is made.next_is in
+    let piece : Adds held now (piece_bytes (alone r)) = subst (λ (l : List ℕ). Adds held now l) spelled adds in
+    subst (λ (q : Planning). Stands options opened now (history ++ r ∷ []) q) (sym same)
+    (stands_going options opened now (history ++ r ∷ []) mid going made.stands (adds_more opened held now (front options.profile) (cuts options.chunk history).pieces (cuts options.chunk (history ++ r ∷ [])).pieces (alone r) closes first piece))
+
+pub block_refused : (options : FileOptions) (opened held now : Option (List ℕ)) (history : List Rec) (r : Rec) (p mid after : Planning) (next : Next) (blk : Block) (stop : Stop) (blocks bytes : ℕ) → next ≡ nexts.Block blk → Planned p r next mid
+    → HoldsNext p.blocks p.bytes next → blocks ≡ p.blocks → bytes ≡ p.bytes → StoppedBefore blocks bytes stop after → p.phase ≡ phases.Going → Added held now blk.bytes (Err stop) → Stands options opened held history p
+    → Stands options opened now (history ++ r ∷ []) after
+block_refused options opened held now history r p mid after next blk stop blocks bytes is planned room same_b same_n before going added stands =
+    let (plans, first) = stands.going going in
+    let made = planned options history plans in
+    let (records, closes, built) : (records : List Rec) × Closes options.chunk history r (block records) × IsBlock blk records = subst (λ (n : Next). IsNext options.chunk history r n) is made.next_is in
+    let piece : Added held now (piece_bytes (block records)) (Err stop) = subst (λ (l : List ℕ). Added held now l (Err stop)) built.spelled added in
+    let holds : Holds (p.blocks + 1) (p.bytes + length blk.bytes) = subst (λ (n : Next). HoldsNext p.blocks p.bytes n) is room in
+    let fits : Holds (p.blocks + 1) (p.bytes + length (block_bytes records)) = subst (λ (l : List ℕ). Holds (p.blocks + 1) (p.bytes + length l)) built.spelled holds in
+    let stopped : StoppedBefore p.blocks p.bytes stop after = record { phase = before.phase; blocks_are = before.blocks_are ∙ same_b; bytes_are = before.bytes_are ∙ same_n } in
+    stands_stopped options opened now (history ++ r ∷ []) after stop p.blocks p.bytes stopped
+    (λ behind. append_refused options opened held now history r (block records) stop p.blocks p.bytes behind (holding options opened held history p going stands) closes fits piece)
+
+pub record_refused : (options : FileOptions) (opened held now : Option (List ℕ)) (history : List Rec) (r : Rec) (p mid after : Planning) (next : Next) (piece : List ℕ) (stop : Stop) (blocks bytes : ℕ) → next ≡ nexts.Record piece → Planned p r next mid
+    → HoldsNext p.blocks p.bytes next → blocks ≡ p.blocks → bytes ≡ p.bytes → StoppedBefore blocks bytes stop after → p.phase ≡ phases.Going → Added held now piece (Err stop) → Stands options opened held history p
+    → Stands options opened now (history ++ r ∷ []) after
+record_refused options opened held now history r p mid after next piece stop blocks bytes is planned room same_b same_n before going added stands =
+    let (plans, first) = stands.going going in
+    let made = planned options history plans in
+    let (closes, spelled) : Closes options.chunk history r (alone r) × (piece ≡ rec_bytes r) = subst (λ (n : Next). IsNext options.chunk history r n) is made.next_is in
+    let left : Added held now (piece_bytes (alone r)) (Err stop) = subst (λ (l : List ℕ). Added held now l (Err stop)) spelled added in
+    let holds : Holds p.blocks (p.bytes + length piece) = subst (λ (n : Next). HoldsNext p.blocks p.bytes n) is room in
+    let long = ap (λ (l : List ℕ). length l) spelled in
+    let few = holds.few in
+    let small = holds.small in
+    let fits : Holds (p.blocks + 0) (p.bytes + length (rec_bytes r)) = record { few = omega (arith, few); small = omega (arith, small, long) } in
+    let stopped : StoppedBefore p.blocks p.bytes stop after = record { phase = before.phase; blocks_are = before.blocks_are ∙ same_b; bytes_are = before.bytes_are ∙ same_n } in
+    stands_stopped options opened now (history ++ r ∷ []) after stop p.blocks p.bytes stopped
+    (λ behind. append_refused options opened held now history r (alone r) stop p.blocks p.bytes behind (holding options opened held history p going stands) closes fits left)
+
+pub add_refused : (options : FileOptions) (opened held : Option (List ℕ)) (history : List Rec) (r : Rec) (p after : Planning) (stop : Stop) → p.phase ≡ phases.Going
+    → ((o : FileOptions) (h : List Rec) → Plans o h p → PutStopped o.chunk h r p.blocks p.bytes stop) → StoppedBefore p.blocks p.bytes stop after → Stands options opened held history p
+    → Stands options opened held (history ++ r ∷ []) after
+add_refused options opened held history r p after stop going refused before stands =
+    stands_stopped options opened held (history ++ r ∷ []) after stop p.blocks p.bytes before
+    (λ behind. put_refused options opened held history r stop p.blocks p.bytes behind (holding options opened held history p going stands) (refused options history (stands.going going).0))
+
+-- ---- the last block
+
+pub entry_of_block : {X : Type 0} (tells : X → Option (List ℕ)) (size : X → ℕ) (held : Option (List ℕ)) (e : Entry X) (offset : ℕ) (blk : Block) (records : List Rec) → IsEntryWith e e.extent offset blk → IsBlock blk records
+    → size e.extent ≡ length blk.bytes → ((before : List ℕ) → held ≡ Some before → tells e.extent ≡ Some blk.bytes) → IsEntryOf tells size held e offset records
+entry_of_block tells size held e offset blk records is built long told = record {
+  numbers = record {
+    offset_is = is.offset_is;
+    chunk = is.chunk ∙ built.chunk;
+    start = is.start ∙ built.start;
+    end = is.end ∙ built.end;
+    counted = is.counted ∙ built.counted;
+    declaring = is.declaring ∙ built.declaring;
+  };
+  long = long ∙ ap (λ (l : List ℕ). length l) built.spelled;
+  told = λ before holds. told before holds ∙ ap Some built.spelled;
+}
+
+abbrev pub Lasts : Planning → Option Block → Planning → Type 0
+Lasts p last mid = (options : FileOptions) (history : List Rec) → Plans options history p → IsLast options history last mid
+
+pub adds_last : (options : FileOptions) (opened held now : Option (List ℕ)) (history : List Rec) (p mid after : Planning) (last : Option Block) (blk : Block) → last ≡ Some blk → Lasts p last mid → after ≡ mid → p.phase ≡ phases.Going
+    → Adds held now blk.bytes → Stands options opened held history p → AddsLast options opened now history after
+adds_last options opened held now history p mid after last blk is lasts same going adds stands =
+    let (plans, first) = stands.going going in
+    let made : IsLast options history (Some blk) mid = subst (λ (x : Option Block). IsLast options history x mid) is (lasts options history plans) in
+    let piece : Adds held now (piece_bytes (block (cuts options.chunk history).waiting)) = subst (λ (l : List ℕ). Adds held now l) made.last_block.1.spelled adds in
+    subst (λ (q : Planning). AddsLast options opened now history q) (sym same) (record {
+      whole = made.whole;
+      adds = adds_more opened held now (front options.profile) (cuts options.chunk history).pieces (pieces_of options.chunk history) (block (cuts options.chunk history).waiting)
+          (whole_some options.chunk history (block (cuts options.chunk history).waiting) made.last_block.0) first piece;
+    })
+
+pub adds_none : (options : FileOptions) (opened held : Option (List ℕ)) (history : List Rec) (p mid : Planning) (last : Option Block) → last ≡ None → Lasts p last mid → p.phase ≡ phases.Going
+    → Stands options opened held history p → AddsLast options opened held history mid
+adds_none options opened held history p mid last is lasts going stands =
+    let (plans, first) = stands.going going in
+    let made : IsLast options history None mid = subst (λ (x : Option Block). IsLast options history x mid) is (lasts options history plans) in
+    record {
+      whole = made.whole;
+      adds = subst (λ (l : List Piece). Adds opened held (front options.profile ++ pieces_bytes l)) (sym (whole_none options.chunk history made.last_block)) first;
+    }
+
+pub last_entry : {X : Type 0} (tells : X → Option (List ℕ)) (size : X → ℕ) (options : FileOptions) (opened held : Option (List ℕ)) (history : List Rec) (p mid : Planning) (last : Option Block) (blk : Block) (e : Entry X) (bytes : ℕ)
+    → last ≡ Some blk → Lasts p last mid → p.phase ≡ phases.Going → bytes ≡ p.bytes → IsEntryWith e e.extent bytes blk → size e.extent ≡ length blk.bytes
+    → ((before : List ℕ) → held ≡ Some before → tells e.extent ≡ Some blk.bytes) → Stands options opened held history p → GivesLast tells size held options history (Some e)
+last_entry tells size options opened held history p mid last blk e bytes is lasts going place with_it long told stands =
+    let (plans, first) = stands.going going in
+    let made : IsLast options history (Some blk) mid = subst (λ (x : Option Block). IsLast options history x mid) is (lasts options history plans) in
+    let offset : bytes ≡ length (written_of options history) = place ∙ plans.bytes in (
+      made.last_block.0,
+      entry_of_block tells size held e (length (written_of options history)) blk (cuts options.chunk history).waiting
+          (subst (λ (n : ℕ). IsEntryWith e e.extent n blk) offset with_it) made.last_block.1 long told,
+    )
+
+stops_so : (options : FileOptions) (opened now : Option (List ℕ)) (history : List Rec) (p : Planning) (stop : Stop) (blocks bytes : ℕ) → StoppedBefore blocks bytes stop p → StopsAt options history opened now stop blocks bytes
+    → StopsAt options history opened now stop p.blocks p.bytes
+stops_so options opened now history p stop blocks bytes before stops =
+    subst (λ (n : ℕ). StopsAt options history opened now stop n p.bytes) (sym before.blocks_are) (subst (λ (n : ℕ). StopsAt options history opened now stop blocks n) (sym before.bytes_are) stops)
+
+pub block_last_refused : (options : FileOptions) (opened held now : Option (List ℕ)) (history : List Rec) (p mid after : Planning) (last : Option Block) (blk : Block) (stop : Stop) (blocks bytes : ℕ) → last ≡ Some blk → Lasts p last mid
+    → HoldsBlock p.blocks p.bytes last → blocks ≡ p.blocks → bytes ≡ p.bytes → StoppedBefore blocks bytes stop after → p.phase ≡ phases.Going → Added held now blk.bytes (Err stop) → Stands options opened held history p
+    → StopsAt options history opened now stop after.blocks after.bytes
+block_last_refused options opened held now history p mid after last blk stop blocks bytes is lasts room same_b same_n before going added stands =
+    let (plans, first) = stands.going going in
+    let made : IsLast options history (Some blk) mid = subst (λ (x : Option Block). IsLast options history x mid) is (lasts options history plans) in
+    let records = (cuts options.chunk history).waiting in
+    let built = made.last_block.1 in
+    let piece : Added held now (piece_bytes (block records)) (Err stop) = subst (λ (l : List ℕ). Added held now l (Err stop)) built.spelled added in
+    let holds : Holds (p.blocks + 1) (p.bytes + length blk.bytes) = subst (λ (x : Option Block). HoldsBlock p.blocks p.bytes x) is room in
+    let fits : Holds (p.blocks + 1) (p.bytes + length (block_bytes records)) = subst (λ (l : List ℕ). Holds (p.blocks + 1) (p.bytes + length l)) built.spelled holds in
+    let stopped : StoppedBefore p.blocks p.bytes stop after = record { phase = before.phase; blocks_are = before.blocks_are ∙ same_b; bytes_are = before.bytes_are ∙ same_n } in
+    stops_so options opened now history after stop p.blocks p.bytes stopped
+    (last_append_refused options opened held now history (block records) stop p.blocks p.bytes (holding options opened held history p going stands) made.last_block.0 fits piece)
+
+pub last_stopped : (options : FileOptions) (opened held : Option (List ℕ)) (history : List Rec) (p after : Planning) (stop : Stop) → p.phase ≡ phases.Going
+    → ((o : FileOptions) (h : List Rec) → Plans o h p → LastStopped o.chunk h p.blocks p.bytes stop) → StoppedBefore p.blocks p.bytes stop after → Stands options opened held history p
+    → StopsAt options history opened held stop after.blocks after.bytes
+last_stopped options opened held history p after stop going refused before stands =
+    stops_so options opened held history after stop p.blocks p.bytes before
+    (last_refused options opened held history stop p.blocks p.bytes (holding options opened held history p going stands) (refused options history (stands.going going).0))
+
+-- ---- the back
+
+whole_bytes : (f p d t : List ℕ) → (f ++ p) ++ (d ++ t) ≡ ((f ++ (p ++ [])) ++ d) ++ t
+whole_bytes f p d t = simp (append_assoc, append-nil) refl
+
+file_whole : (options : FileOptions) (history : List Rec) → (front options.profile ++ pieces_bytes (pieces_of options.chunk history)) ++ back_of options [] history ≡ file_of options [] history
+unfolding file_of
+file_whole options history =
+    whole_bytes (front options.profile) (pieces_bytes (pieces_of options.chunk history)) data_end
+    (tail_by options.chunk (noted options [] history) (length (section options [] history ++ data_end)))
+
+pub back_ends : (options : FileOptions) (opened held now : Option (List ℕ)) (history : List Rec) (p after : Planning) (piece : List ℕ) → ((o : FileOptions) (h : List Rec) → IsWhole o h p → piece ≡ back_of o [] h)
+    → after.blocks ≡ p.blocks → after.bytes ≡ p.bytes + length piece → Adds held now piece → AddsLast options opened held history p → Ends options opened now history after.blocks after.bytes (Ok tt)
+back_ends options opened held now history p after piece is many long adds lasts =
+    let whole = lasts.whole in
+    let back : piece ≡ back_of options [] history = is options history whole in
+    let start = front options.profile ++ pieces_bytes (pieces_of options.chunk history) in
+    let all : start ++ piece ≡ file_of options [] history = ap (λ (l : List ℕ). start ++ l) back ∙ file_whole options history in (
+      subst (λ (l : List ℕ). Adds opened now l) all (adds-adds opened held now start piece lasts.adds adds),
+      many ∙ whole.blocks,
+      long ∙ ap (λ (n : ℕ). n + length piece) whole.bytes ∙ sym (length-append start piece) ∙ ap (λ (l : List ℕ). length l) all,
+    )
+
+pub back_stopped : (options : FileOptions) (opened held : Option (List ℕ)) (history : List Rec) (p after : Planning) (stop : Stop)
+    → ((o : FileOptions) (h : List Rec) → IsWhole o h p → BackStopped o h p.blocks p.bytes stop) → StoppedBefore p.blocks p.bytes stop after → AddsLast options opened held history p
+    → StopsAt options history opened held stop after.blocks after.bytes
+back_stopped options opened held history p after stop refused before lasts =
+    let whole = lasts.whole in
+    stops_so options opened held history after stop p.blocks p.bytes before
+    (back_refused options opened held history stop p.blocks p.bytes (lasts.adds, whole.blocks, whole.bytes) (refused options history whole))
+
+pub back_not_appended : (options : FileOptions) (opened held now : Option (List ℕ)) (history : List Rec) (p after : Planning) (piece : List ℕ) (stop : Stop) (blocks bytes : ℕ) → ((o : FileOptions) (h : List Rec) → IsWhole o h p → piece ≡ back_of o [] h)
+    → Holds p.blocks (p.bytes + length piece) → blocks ≡ p.blocks → bytes ≡ p.bytes → StoppedBefore blocks bytes stop after → Added held now piece (Err stop) → AddsLast options opened held history p
+    → StopsAt options history opened now stop after.blocks after.bytes
+back_not_appended options opened held now history p after piece stop blocks bytes is holds same_b same_n before added lasts =
+    let whole = lasts.whole in
+    let back : piece ≡ back_of options [] history = is options history whole in
+    let stopped : StoppedBefore p.blocks p.bytes stop after = record { phase = before.phase; blocks_are = before.blocks_are ∙ same_b; bytes_are = before.bytes_are ∙ same_n } in
+    stops_so options opened now history after stop p.blocks p.bytes stopped
+    (back_append_refused options opened held now history stop p.blocks p.bytes (lasts.adds, whole.blocks, whole.bytes) (subst (λ (l : List ℕ). Holds p.blocks (p.bytes + length l)) back holds) (subst (λ (l : List ℕ). Added held now l (Err stop)) back added))
+
+-- the same end, told in other numbers
+pub ends_so : (options : FileOptions) (opened now : Option (List ℕ)) (history : List Rec) (blocks bytes blocks' bytes' : ℕ) (end end' : Result Unit Stop) → end' ≡ end → blocks' ≡ blocks → bytes' ≡ bytes
+    → Ends options opened now history blocks bytes end → Ends options opened now history blocks' bytes' end'
+ends_so options opened now history blocks bytes blocks' bytes' end end' same_end same_b same_n ends =
+    subst (λ (e : Result Unit Stop). Ends options opened now history blocks' bytes' e) (sym same_end)
+    (subst (λ (n : ℕ). Ends options opened now history n bytes' end) (sym same_b) (subst (λ (n : ℕ). Ends options opened now history blocks n end) (sym same_n) ends))
+
+-- a history ends where the scribe had stopped
+pub stopped_ends : (options : FileOptions) (opened now : Option (List ℕ)) (history : List Rec) (p : Planning) (stop : Stop) → p.phase ≡ phases.Stopped stop → Stands options opened now history p
+    → StopsAt options history opened now stop p.blocks p.bytes
+stopped_ends options opened now history p stop is stands = subst (λ (l : List Rec). StopsAt options l opened now stop p.blocks p.bytes) (append-nil history) (stands.stopped stop is [])

@@ -1,0 +1,7 @@
+pub mod Limits
+pub mod Bodies
+pub mod Planning
+pub mod Plans
+pub mod Held
+pub mod Stops
+pub mod Scribes

@@ -1,0 +1,97 @@
+-- The histories for which a plan stands, and what it gives of them.
+use Rattle.std.specs.Prelude.{◌≡◌, ℕ, ◌+◌, List, [], ◌∷◌, ◌++◌, length, Option, Some, None}
+use Rattle.rec_data.specs.declared.owned.Rec.{Rec}
+use Rattle.rec_data.specs.Owned.{rec_bytes}
+use Rattle.mcap_model.specs.declared.block.Block.{Block}
+use Rattle.mcap_model.specs.declared.options.FileOptions.{FileOptions}
+use Rattle.mcap_model.specs.declared.ends.Stop.{Stop}
+use Rattle.mcap_model.specs.declared.ends.Stop.TheVariants as stops
+use Rattle.mcap_model.specs.Built.{IsBlock}
+use Rattle.mcap_model.specs.Blocks.{Piece, block, alone, piece_bytes, cuts, pieces_of, pieces_bytes, last_piece, blocks_in}
+use Rattle.mcap_model.specs.File.{front, written_of}
+use Rattle.mcap_model.specs.Pieces.{back_of}
+use Rattle.chunk_build.specs.Chunker as chunker
+use Rattle.chunk_writer.specs.declared.phase.Phase.TheVariants as phases
+use Rattle.chunk_writer.specs.declared.next.Next.{Next}
+use Rattle.chunk_writer.specs.declared.next.Next.TheVariants as nexts
+use Rattle.chunk_writer.specs.Limits.{Holds}
+use Rattle.chunk_writer.specs.Bodies.{noted_of, Closes, BodyFor, SummaryFor}
+use Rattle.chunk_writer.specs.Planning.{Planning}
+
+-- ---- records
+
+-- A plan stands for a history: its numbers are those of the pieces that are sure, and its body holds the records that wait.
+pub record Plans (options : FileOptions) (history : List Rec) (p : Planning) : Type 0 where
+  pub body : BodyFor options.chunk (length (front options.profile)) history p.body
+  pub blocks : p.blocks ≡ length (blocks_in (cuts options.chunk history).pieces)
+  pub bytes : p.bytes ≡ length (written_of options history)
+
+-- what is to be appended for a record more
+abbrev pub IsNext : Option ℕ → List Rec → Rec → Next → Type 0
+IsNext size history r nexts.Waits = (cuts size (history ++ r ∷ [])).pieces ≡ (cuts size history).pieces
+IsNext size history r (nexts.Block b) = (records : List Rec) × Closes size history r (block records) × IsBlock b records
+IsNext size history r (nexts.Record bytes) = Closes size history r (alone r) × (bytes ≡ rec_bytes r)
+
+-- a record is planned
+pub record IsPlanned (options : FileOptions) (history : List Rec) (r : Rec) (next : Next) (after : Planning) : Type 0 where
+  pub stands : Plans options (history ++ r ∷ []) after
+  pub next_is : IsNext options.chunk history r next
+
+-- with this piece a file passes what it may hold
+abbrev pub Passes : ℕ → ℕ → Piece → Type 0
+Passes blocks bytes piece = Holds (blocks + length (blocks_in (piece ∷ []))) (bytes + length (piece_bytes piece)) → ⊥
+
+-- why there is none: memory lacks, or the piece that the record makes sure would pass the limit
+abbrev pub PutStopped : Option ℕ → List Rec → Rec → ℕ → ℕ → Stop → Type 0
+PutStopped size history r blocks bytes (stops.Fault faults) = ⊥
+PutStopped size history r blocks bytes (stops.Limit at_blocks at_bytes) = (piece : Piece) × Closes size history r piece
+    × (at_blocks ≡ blocks) × (at_bytes ≡ bytes) × Passes blocks bytes piece
+PutStopped size history r blocks bytes stops.Memory = Unit {0}
+
+-- a file may hold a block more, where there is one
+abbrev pub HoldsBlock : ℕ → ℕ → Option Block → Type 0
+HoldsBlock blocks bytes None = Unit {0}
+HoldsBlock blocks bytes (Some b) = Holds (blocks + 1) (bytes + length b.bytes)
+
+abbrev pub HoldsNext : ℕ → ℕ → Next → Type 0
+HoldsNext blocks bytes nexts.Waits = Unit {0}
+HoldsNext blocks bytes (nexts.Block b) = Holds (blocks + 1) (bytes + length b.bytes)
+HoldsNext blocks bytes (nexts.Record piece) = Holds blocks (bytes + length piece)
+
+-- the plan stopped, with so many blocks and bytes before the piece
+pub record StoppedBefore (blocks bytes : ℕ) (stop : Stop) (after : Planning) : Type 0 where
+  pub phase : after.phase ≡ phases.Stopped stop
+  pub blocks_are : after.blocks ≡ blocks
+  pub bytes_are : after.bytes ≡ bytes
+
+-- ---- the end
+
+-- all pieces of a history are counted, and its summary stands for them
+pub record IsWhole (options : FileOptions) (history : List Rec) (p : Planning) : Type 0 where
+  pub body : SummaryFor options.chunk (noted_of (length (front options.profile)) history (pieces_of options.chunk history)) p.body
+  pub blocks : p.blocks ≡ length (blocks_in (pieces_of options.chunk history))
+  pub bytes : p.bytes ≡ length (front options.profile ++ pieces_bytes (pieces_of options.chunk history))
+
+-- a history has ended, with its last block
+pub record IsLast (options : FileOptions) (history : List Rec) (last : Option Block) (after : Planning) : Type 0 where
+  pub whole : IsWhole options history after
+  pub last_block : chunker.Last (cuts options.chunk history).waiting last
+
+-- the numbers with a block more, where there is one
+abbrev pub CountsBlock : Planning → Option Block → Planning → Type 0
+CountsBlock before None after = (after.blocks ≡ before.blocks) × (after.bytes ≡ before.bytes)
+CountsBlock before (Some b) after = (after.blocks ≡ before.blocks + 1) × (after.bytes ≡ before.bytes + length b.bytes)
+
+-- why the last block isn't given
+abbrev pub LastStopped : Option ℕ → List Rec → ℕ → ℕ → Stop → Type 0
+LastStopped size history blocks bytes (stops.Fault faults) = ⊥
+LastStopped size history blocks bytes (stops.Limit at_blocks at_bytes) = (piece : Piece) × (last_piece (cuts size history).waiting ≡ piece ∷ [])
+    × (at_blocks ≡ blocks) × (at_bytes ≡ bytes) × Passes blocks bytes piece
+LastStopped size history blocks bytes stops.Memory = Unit {0}
+
+-- why what closes the file isn't given
+abbrev pub BackStopped : FileOptions → List Rec → ℕ → ℕ → Stop → Type 0
+BackStopped options history blocks bytes (stops.Fault faults) = ⊥
+BackStopped options history blocks bytes (stops.Limit at_blocks at_bytes) = (at_blocks ≡ blocks) × (at_bytes ≡ bytes)
+    × (Holds blocks (bytes + length (back_of options [] history)) → ⊥)
+BackStopped options history blocks bytes stops.Memory = Unit {0}

@@ -1,0 +1,60 @@
+-- Where a writer stopped, and what its store holds then.
+use Rattle.std.specs.Prelude.{◌≡◌, ℕ, ◌+◌, ◌-◌, List, [], ◌++◌, length, take, Option, Some, Result, Ok, Err}
+use Rattle.rec_data.specs.declared.owned.Rec.{Rec}
+use Rattle.mcap_io.specs.declared.outside.AppendRefused.{AppendRefused}
+use Rattle.mcap_io.specs.declared.outside.AppendRefused.TheVariants as append_refusals
+use Rattle.mcap_io.specs.Outside.{LiveState, RisesOnce, Adds, AddsPart}
+use Rattle.mcap_model.specs.declared.options.FileOptions.{FileOptions}
+use Rattle.mcap_model.specs.declared.ends.Stop.{Stop}
+use Rattle.mcap_model.specs.declared.ends.Stop.TheVariants as stops
+use Rattle.mcap_model.specs.Places.{At}
+use Rattle.mcap_model.specs.Blocks.{pieces_of, blocks_in}
+use Rattle.mcap_model.specs.Pieces.{file_pieces, pieces_before, StoppedAt}
+use Rattle.chunk_writer.specs.Limits.{StopWhy}
+
+-- how many blocks stand among the first pieces of a file; the front is the first of them
+abbrev pub blocks_among : FileOptions → List Rec → ℕ → ℕ
+blocks_among options history pieces = length (blocks_in (take (pieces - 1) (pieces_of options.chunk history)))
+
+-- The writer of this history stopped at a piece of its file. So many blocks and bytes stand before the piece, and where the
+-- store tells, these bytes, and of the piece no more than the store took of it in a failure, stand behind what it held.
+pub record StopsAt (options : FileOptions) (history : List Rec) (opened now : Option (List ℕ)) (stop : Stop) (blocks bytes : ℕ) : Type 0 where
+  pub place : ℕ
+  pub next : List ℕ
+  pub at : At (file_pieces options [] history) place next
+  pub blocks_are : blocks ≡ blocks_among options history place
+  pub bytes_are : bytes ≡ length (pieces_before (file_pieces options [] history) place)
+  pub why : StopWhy stop blocks bytes (blocks_among options history (place + 1)) (bytes + length next)
+  pub took : (start : List ℕ) → opened ≡ Some start
+      → (text : List ℕ) × (now ≡ Some (start ++ text)) × StoppedAt (file_pieces options [] history) place stop text bytes
+
+-- the count of a store rises by one where the writer stopped at a fault, which carries it, and stands still otherwise
+abbrev pub StopCause : ℕ → ℕ → Stop → Type 0
+StopCause before now (stops.Fault faults) = RisesOnce before now × (faults ≡ now)
+StopCause before now (stops.Limit blocks bytes) = now ≡ before
+StopCause before now stops.Memory = now ≡ before
+
+abbrev pub Cause : {X : Type 0} → ℕ → ℕ → Result X Stop → Type 0
+Cause before now (Ok it) = now ≡ before
+Cause before now (Err stop) = StopCause before now stop
+
+-- What an append did to a store: the piece stands there, in its extent; or it was refused, and the store took some first
+-- bytes of it where it failed, and none where memory lacked.
+abbrev pub Appends : {X : Type 0} → (X → Option (List ℕ)) → (X → ℕ) → LiveState → LiveState → List ℕ → Result X Stop → Type 0
+Appends tells size old new piece (Ok e) = Adds old.held new.held piece × (size e ≡ length piece)
+    × ((before : List ℕ) → old.held ≡ Some before → tells e ≡ Some piece)
+Appends tells size old new piece (Err (stops.Fault faults)) = AddsPart old.held new.held 0 piece
+Appends tells size old new piece (Err (stops.Limit blocks bytes)) = ⊥
+Appends tells size old new piece (Err stops.Memory) = new.held ≡ old.held
+
+-- the same of what it holds alone
+abbrev pub Added : Option (List ℕ) → Option (List ℕ) → List ℕ → Result Unit Stop → Type 0
+Added old new piece (Ok it) = Adds old new piece
+Added old new piece (Err (stops.Fault faults)) = AddsPart old new 0 piece
+Added old new piece (Err (stops.Limit blocks bytes)) = ⊥
+Added old new piece (Err stops.Memory) = new ≡ old
+
+-- why it was refused, with the count of the store
+abbrev pub refusal : ℕ → AppendRefused → Stop
+refusal faults (append_refusals.Failed taken) = stops.Fault faults
+refusal faults append_refusals.Memory = stops.Memory

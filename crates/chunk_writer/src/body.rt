@@ -1,0 +1,66 @@
+//! The blocks of a file as they are built: the open chunk, and beside it the summary.
+ghost use Rattle.std.specs.Prelude.{◌≡◌, ◌<◌, ◌≤◌, ◌^◌, ℕ, List, [], IfOk, OnOk, OnErr};
+ghost use Rattle.rec_data.specs.declared.owned.Rec.{Rec};
+ghost use Rattle.rec_data.specs.Owned.{LengthsFit};
+ghost use Rattle.chunk_writer.specs.Bodies.{IsBody, Takes, TakesLast};
+
+use chunk_build::Chunker;
+use mcap_model::Block;
+use mcap_wire::Memory;
+use rec_data::Rec;
+use std::alloc::Global;
+use summary_write::Summary;
+
+/// The open chunk, and what was noted of the records and of the blocks before it.
+#[derive(Drop)]
+pub(crate) struct Body {
+    pub(crate) chunker: Chunker,
+    pub(crate) summary: Summary,
+}
+
+/// A body without a record.
+pub(crate) fn begin(alloc: Global, size: u64) -> Result<Body, Memory>
+    requires some { 1 ≤ size }
+    requires within { size ≤ 67108864 }
+    ensures { IfOk result (λ b. (at : ℕ) → IsBody size at [] b) }
+{
+    let chunker = match Chunker::new(alloc, size) {
+        Ok(chunker) => chunker,
+        Err(memory) => return Err(memory),
+    };
+    let summary = match Summary::new(alloc) {
+        Ok(summary) => summary,
+        Err(memory) => return Err(memory),
+    };
+    return Ok(Body { chunker, summary });
+}
+
+/// Notes a record and puts it into the open chunk, and gives the block that this closes. That isn't noted yet.
+pub(crate) fn take(body: &mut Body, r: &Rec) -> Result<Option<Block>, Memory>
+    requires fits { LengthsFit r.now }
+    requires few { body.old.summary.messages < 2 ^ 48 }
+    ensures ok { IfOk result (λ closed. (size at : ℕ) (history : List Rec) → IsBody size at history body.old
+        → Takes size at history r.now closed body.new) }
+    ensures blocks { OnOk result (body.new.summary.blocks ≡ body.old.summary.blocks) }
+{
+    match body.summary.note_record(r) {
+        Ok(()) => {}
+        Err(memory) => return Err(memory),
+    }
+    match body.chunker.put(r) {
+        Ok(closed) => return Ok(closed),
+        Err(memory) => return Err(memory),
+    }
+}
+
+/// Gives the last block, where records wait for one, which isn't noted yet.
+pub(crate) fn take_last(body: &mut Body) -> Result<Option<Block>, Memory>
+    ensures ok { IfOk result (λ last. (size at : ℕ) (history : List Rec) → IsBody size at history body.old
+        → TakesLast size at history last body.new) }
+    ensures blocks { OnOk result (body.new.summary.blocks ≡ body.old.summary.blocks) }
+{
+    match body.chunker.finish() {
+        Ok(last) => return Ok(last),
+        Err(memory) => return Err(memory),
+    }
+}

@@ -1,0 +1,19 @@
+//! Writing a file into a live store: its blocks or its records as they come, then its summary. Each piece of the file is one
+//! append, and each block that stands in the store is told by an entry.
+#![tactic(auto)]
+
+mod body;
+mod entry;
+mod limits;
+mod next;
+mod phase;
+mod pieces;
+mod plan;
+mod scribe;
+
+pub use entry::Entry;
+pub use phase::Phase;
+pub use scribe::{Finished, Scribe};
+
+#[cfg(test)]
+mod tests;

@@ -1,0 +1,323 @@
+//! The plan of a file: which piece is to be appended next, and how many blocks and bytes there are with it.
+ghost use Rattle.std.specs.Prelude.{◌≡◌, ◌<◌, ◌≤◌, ◌+◌, ◌^◌, ℕ, List, [], ◌∷◌, ◌++◌, length, Some, IfOk, IfErr, OnOk, OnErr};
+ghost use Rattle.rec_data.specs.declared.owned.Rec.{Rec};
+ghost use Rattle.rec_data.specs.Owned.{LengthsFit, rec_bytes};
+ghost use Rattle.mcap_model.specs.declared.options.FileOptions.{FileOptions};
+ghost use Rattle.mcap_model.specs.Built.{IsBlock};
+ghost use Rattle.mcap_model.specs.Summary.{Noted};
+ghost use Rattle.mcap_model.specs.File.{front};
+ghost use Rattle.mcap_model.specs.Pieces.{back_of};
+ghost use Rattle.summary_write.specs.Tally.{StandsFor, with_noted_block};
+ghost use Rattle.chunk_writer.specs.declared.phase.Phase.TheVariants as phases;
+ghost use Rattle.chunk_writer.specs.Limits.{Holds, Kept, IsNoFault};
+ghost use Rattle.chunk_writer.specs.Bodies.{BodyFor, StandsSo, NextBlock, LastBlock};
+ghost use Rattle.chunk_writer.specs.Plans.{Plans, IsPlanned, PutStopped, IsLast, LastStopped, IsWhole, BackStopped, HoldsBlock, HoldsNext, CountsBlock, StoppedBefore};
+
+use crate::body::{Body, begin, take, take_last};
+use crate::limits::keep_limit;
+use crate::next::Next;
+use crate::phase::Phase;
+use crate::pieces::back_piece;
+use mcap_model::{Block, FileOptions, Stop};
+use mcap_wire::{Bytes, Memory};
+use rec_data::Rec;
+use std::alloc::Global;
+use std::marker::Model;
+use std::mem;
+use summary_write::Summary;
+
+/// Which pieces of a file are sure, and what waits. Contracts see the body, the numbers of blocks and bytes, and the phase.
+#[derive(Drop)]
+pub(crate) struct Plan {
+    alloc: Global,
+    body: Option<Body>,
+    room: Vec<u8>,
+    blocks: u64,
+    bytes: u64,
+    phase: Phase,
+}
+
+impl Model for Plan {
+    ghost use Rattle.chunk_writer.specs.Planning.{Planning};
+
+    ghost Value = { Planning };
+
+    ghost use Rattle.chunk_writer.specs.Held.{planning, IsHeld};
+
+    ghost view = { planning };
+
+    ghost invariant = { IsHeld };
+}
+
+// The body of a file in chunks of that size, if there is one.
+fn body_for(alloc: Global, size: Option<u64>) -> Result<Option<Body>, Memory>
+    requires { (n : ℕ) → size ≡ Some n → (1 ≤ n) × (n ≤ 67108864) }
+    ensures { IfOk result (λ body. (at : ℕ) → BodyFor size at [] body) }
+{
+    match size {
+        None => return Ok(None),
+        Some(size) => match begin(alloc, size) {
+            Ok(body) => return Ok(Some(body)),
+            Err(memory) => return Err(memory),
+        },
+    }
+}
+
+// Notes a block behind so many blocks and bytes, where the limit has room for it.
+fn note(summary: &mut Summary, blocks: u64, bytes: u64, block: &Block) -> Result<(), Stop>
+    requires within { Holds blocks bytes }
+    requires few { summary.old.blocks < 2 ^ 48 }
+    requires built { (records : List Rec) × IsBlock block.now records }
+    ensures ok { OnOk result ((records : List Rec) → IsBlock block.now records → (n : Noted) → StandsFor summary.old n
+        → StandsFor summary.new (with_noted_block n bytes records)) }
+    ensures limit { Kept blocks bytes (blocks + 1) (bytes + length block.now.bytes) result }
+{
+    match keep_limit(blocks, bytes, 1, block.bytes.as_slice()) {
+        Ok(()) => {}
+        Err(stop) => return Err(stop),
+    }
+    match summary.note_block(bytes, block) {
+        Ok(()) => return Ok(()),
+        Err(_) => return Err(Stop::Memory),
+    }
+}
+
+// The block that a record closes behind so many blocks and bytes, if it does so, noted.
+fn next_block(body: &mut Body, blocks: u64, bytes: u64, r: &Rec) -> Result<Option<Block>, Stop>
+    requires fits { LengthsFit r.now }
+    requires within { Holds blocks bytes }
+    requires stands { (size at : ℕ) × (history : List Rec) × StandsSo size at history body.old blocks bytes }
+    ensures ok { IfOk result (λ closed. (size at : ℕ) (history : List Rec) → StandsSo size at history body.old blocks bytes
+        → NextBlock size at history r.now closed body.new) }
+    ensures room { IfOk result (λ closed. HoldsBlock blocks bytes closed) }
+    ensures err { IfErr result (λ stop. (size at : ℕ) (history : List Rec) → StandsSo size at history body.old blocks bytes
+        → PutStopped (Some size) history r.now blocks bytes stop) }
+    ensures no_fault { IfErr result (λ stop. IsNoFault stop) }
+{
+    match take(body, r) {
+        Err(_) => return Err(Stop::Memory),
+        Ok(None) => return Ok(None),
+        Ok(Some(block)) => match note(&mut body.summary, blocks, bytes, &block) {
+            Ok(()) => return Ok(Some(block)),
+            Err(stop) => return Err(stop),
+        },
+    }
+}
+
+// The last block behind so many blocks and bytes, if records wait for one, noted.
+fn last_block(body: &mut Body, blocks: u64, bytes: u64) -> Result<Option<Block>, Stop>
+    requires within { Holds blocks bytes }
+    requires stands { (size at : ℕ) × (history : List Rec) × StandsSo size at history body.old blocks bytes }
+    ensures ok { IfOk result (λ last. (size at : ℕ) (history : List Rec) → StandsSo size at history body.old blocks bytes
+        → LastBlock size at history last body.new) }
+    ensures room { IfOk result (λ last. HoldsBlock blocks bytes last) }
+    ensures err { IfErr result (λ stop. (size at : ℕ) (history : List Rec) → StandsSo size at history body.old blocks bytes
+        → LastStopped (Some size) history blocks bytes stop) }
+    ensures no_fault { IfErr result (λ stop. IsNoFault stop) }
+{
+    match take_last(body) {
+        Err(_) => return Err(Stop::Memory),
+        Ok(None) => return Ok(None),
+        Ok(Some(block)) => match note(&mut body.summary, blocks, bytes, &block) {
+            Ok(()) => return Ok(Some(block)),
+            Err(stop) => return Err(stop),
+        },
+    }
+}
+
+// The bytes of a record that stands at top level behind so many blocks and bytes.
+fn next_record(
+    alloc: Global,
+    room: &mut Vec<u8>,
+    blocks: u64,
+    bytes: u64,
+    r: &Rec,
+) -> Result<Bytes, Stop>
+    requires fits { LengthsFit r.now }
+    requires within { Holds blocks bytes }
+    ensures framed { IfOk result (λ piece. piece ≡ rec_bytes r.now) }
+    ensures limit { Kept blocks bytes blocks (bytes + length (rec_bytes r.now)) result }
+{
+    let mut piece = mem::replace(room, Vec::new(alloc));
+    piece.clear();
+    match r.frame(&mut piece) {
+        Ok(()) => {}
+        Err(_) => return Err(Stop::Memory),
+    }
+    match keep_limit(blocks, bytes, 0, piece.as_slice()) {
+        Ok(()) => return Ok(Bytes::new(piece)),
+        Err(stop) => return Err(stop),
+    }
+}
+
+impl Plan {
+    /// The plan of a file of these options, whose front has so many bytes.
+    pub(crate) fn new(alloc: Global, options: &FileOptions, bytes: u64) -> Result<Plan, Memory>
+        requires size { (n : ℕ) → options.now.chunk ≡ Some n → (1 ≤ n) × (n ≤ 67108864) }
+        requires front { bytes ≡ length (front options.now.profile) }
+        requires small { bytes ≤ 1099511627776 }
+        ensures stands { IfOk result (λ p. Plans options.now [] p) }
+        ensures goes_on { IfOk result (λ p. p.phase ≡ phases.Going) }
+    {
+        match body_for(alloc, options.chunk) {
+            Ok(body) => return Ok(Plan {
+                alloc,
+                body,
+                room: Vec::new(alloc),
+                blocks: 0,
+                bytes,
+                phase: Phase::Going,
+            }),
+            Err(memory) => return Err(memory),
+        }
+    }
+
+    pub(crate) fn blocks(&self) -> u64
+        ensures value { result ≡ self.now.blocks }
+        ensures few { result ≤ 4294967295 }
+    {
+        self.blocks
+    }
+
+    pub(crate) fn bytes(&self) -> u64
+        ensures value { result ≡ self.now.bytes }
+        ensures small { result ≤ 1099511627776 }
+    {
+        self.bytes
+    }
+
+    pub(crate) fn phase(&self) -> Phase
+        ensures { result ≡ self.now.phase }
+    {
+        self.phase
+    }
+
+    /// Says what is to be appended for a record more, and counts it.
+    pub(crate) fn add(&mut self, r: &Rec) -> Result<Next, Stop>
+        requires fits { LengthsFit r.now }
+        requires goes_on { self.old.phase ≡ phases.Going }
+        ensures ok { IfOk result (λ next. (options : FileOptions) (history : List Rec) → Plans options history self.old
+            → IsPlanned options history r.now next self.new) }
+        ensures going { OnOk result (self.new.phase ≡ phases.Going) }
+        ensures within { OnOk result (Holds self.new.blocks self.new.bytes) }
+        ensures room { IfOk result (λ next. HoldsNext self.old.blocks self.old.bytes next) }
+        ensures err { IfErr result (λ stop. (options : FileOptions) (history : List Rec) → Plans options history self.old
+            → PutStopped options.chunk history r.now self.old.blocks self.old.bytes stop) }
+        ensures no_fault { IfErr result (λ stop. IsNoFault stop) }
+        ensures stopped { IfErr result (λ stop. StoppedBefore self.old.blocks self.old.bytes stop self.new) }
+    {
+        match &mut self.body {
+            Some(body) => match next_block(body, self.blocks, self.bytes, r) {
+                Ok(None) => return Ok(Next::Waits),
+                Ok(Some(block)) => {
+                    self.blocks += 1;
+                    self.bytes += block.bytes.as_slice().len() as u64;
+                    return Ok(Next::Block { block });
+                }
+                Err(stop) => {
+                    self.phase = Phase::Stopped { stop };
+                    return Err(stop);
+                }
+            },
+            None => match next_record(self.alloc, &mut self.room, self.blocks, self.bytes, r) {
+                Ok(bytes) => {
+                    self.bytes += bytes.as_slice().len() as u64;
+                    return Ok(Next::Record { bytes });
+                }
+                Err(stop) => {
+                    self.phase = Phase::Stopped { stop };
+                    return Err(stop);
+                }
+            },
+        }
+    }
+
+    /// Says which block is last, if records wait for one, and counts it. No more records come.
+    pub(crate) fn last(&mut self) -> Result<Option<Block>, Stop>
+        requires goes_on { self.old.phase ≡ phases.Going }
+        ensures ok { IfOk result (λ last. (options : FileOptions) (history : List Rec) → Plans options history self.old
+            → IsLast options history last self.new) }
+        ensures ended { OnOk result (self.new.phase ≡ phases.Ended) }
+        ensures room { IfOk result (λ last. HoldsBlock self.old.blocks self.old.bytes last) }
+        ensures counted { IfOk result (λ last. CountsBlock self.old last self.new) }
+        ensures err { IfErr result (λ stop. (options : FileOptions) (history : List Rec) → Plans options history self.old
+            → LastStopped options.chunk history self.old.blocks self.old.bytes stop) }
+        ensures no_fault { IfErr result (λ stop. IsNoFault stop) }
+        ensures stopped { IfErr result (λ stop. StoppedBefore self.old.blocks self.old.bytes stop self.new) }
+    {
+        match &mut self.body {
+            None => {
+                self.phase = Phase::Ended;
+                return Ok(None);
+            }
+            Some(body) => match last_block(body, self.blocks, self.bytes) {
+                Ok(None) => {
+                    self.phase = Phase::Ended;
+                    return Ok(None);
+                }
+                Ok(Some(block)) => {
+                    self.blocks += 1;
+                    self.bytes += block.bytes.as_slice().len() as u64;
+                    self.phase = Phase::Ended;
+                    return Ok(Some(block));
+                }
+                Err(stop) => {
+                    self.phase = Phase::Stopped { stop };
+                    return Err(stop);
+                }
+            },
+        }
+    }
+
+    /// The Data End and all behind it, which it counts.
+    pub(crate) fn back(&mut self) -> Result<Bytes, Stop>
+        requires { self.old.phase ≡ phases.Ended }
+        ensures ok { IfOk result (λ piece. (options : FileOptions) (history : List Rec) → IsWhole options history self.old
+            → piece ≡ back_of options [] history) }
+        ensures counted { IfOk result (λ piece. self.new.bytes ≡ self.old.bytes + length piece) }
+        ensures same { OnOk result ((self.new.blocks ≡ self.old.blocks) × (self.new.phase ≡ phases.Ended)) }
+        ensures room { IfOk result (λ piece. Holds self.old.blocks (self.old.bytes + length piece)) }
+        ensures err { IfErr result (λ stop. (options : FileOptions) (history : List Rec) → IsWhole options history self.old
+            → BackStopped options history self.old.blocks self.old.bytes stop) }
+        ensures no_fault { IfErr result (λ stop. IsNoFault stop) }
+        ensures stopped { IfErr result (λ stop. StoppedBefore self.old.blocks self.old.bytes stop self.new) }
+    {
+        let piece = match back_piece(self.alloc, &self.body, self.bytes) {
+            Ok(piece) => piece,
+            Err(_) => {
+                self.phase = Phase::Stopped { stop: Stop::Memory };
+                return Err(Stop::Memory);
+            }
+        };
+        match keep_limit(self.blocks, self.bytes, 0, piece.as_slice()) {
+            Ok(()) => {
+                self.bytes += piece.as_slice().len() as u64;
+                return Ok(piece);
+            }
+            Err(stop) => {
+                self.phase = Phase::Stopped { stop };
+                return Err(stop);
+            }
+        }
+    }
+
+    /// The piece that was counted last wasn't appended, for that reason; there were so many blocks and bytes before it.
+    pub(crate) fn stop(&mut self, stop: Stop, blocks: u64, bytes: u64)
+        requires { Holds blocks bytes }
+        ensures { StoppedBefore blocks bytes stop self.new }
+    {
+        self.phase = Phase::Stopped { stop };
+        self.blocks = blocks;
+        self.bytes = bytes;
+    }
+
+    /// Takes the vector of a piece that was appended, so that its room serves a later one. Its bytes are forgotten.
+    pub(crate) fn give_back(&mut self, room: Vec<u8>)
+        ensures { self.new ≡ self.old }
+    {
+        match &mut self.body {
+            Some(body) => body.chunker.give_back(room),
+            None => self.room = room,
+        }
+    }
+}

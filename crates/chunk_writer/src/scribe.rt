@@ -1,0 +1,377 @@
+//! The scribe appends the pieces of a file to its store: the magic and the Header; each block, or each record where there are
+//! no chunks; and the Data End with all behind it.
+ghost use Rattle.std.specs.Prelude.{◌≡◌, ◌≤◌, ◌+◌, ℕ, List, Option, [], ◌∷◌, ◌++◌, length, Some, None, Ok, Err, IfOk, IfErr, OnOk, OnErr};
+ghost use Rattle.rec_data.specs.declared.owned.Rec.{Rec};
+ghost use Rattle.rec_data.specs.Owned.{LengthsFit};
+ghost use Rattle.mcap_io.specs.Outside.{LiveState};
+ghost use Rattle.mcap_model.specs.declared.options.FileOptions.{FileOptions};
+ghost use Rattle.mcap_model.specs.declared.ends.Stop.{Stop};
+ghost use Rattle.mcap_model.specs.File.{front};
+ghost use Rattle.chunk_writer.specs.declared.phase.Phase.TheVariants as phases;
+ghost use Rattle.chunk_writer.specs.Limits.{Holds};
+ghost use Rattle.chunk_writer.specs.Plans.{Plans, StoppedBefore};
+ghost use Rattle.chunk_writer.specs.Stops.{StopsAt, Cause, StopCause, Appends, Added, refusal};
+ghost use Rattle.chunk_writer.specs.Scribes.{Writes, store_of, phase_of, blocks_of, bytes_of, GivesEntry, GivesLast, Ends, CountsLast, IsEntryWith, AddsLast};
+
+use crate::entry::Entry;
+use crate::next::Next;
+use crate::phase::Phase;
+use crate::pieces::front_piece;
+use crate::plan::Plan;
+use mcap_io::{AppendRefused, LiveStore};
+use mcap_model::{Block, FileOptions, Stop};
+use mcap_wire::{Bytes, Memory};
+use rec_data::Rec;
+use std::alloc::Global;
+
+/// Writes the file of a history into a store, record by record. A scribe stands for each history (`Writes`) whose sure pieces
+/// stand in its store and whose other records wait in its plan. Once an append was refused it keeps the refusal: it answers
+/// that at every call, and appends nothing.
+#[derive(Drop)]
+pub struct Scribe<L> {
+    store: L,
+    plan: Plan,
+}
+
+/// How a file ended: the entry of a block that was appended at its end, the blocks and bytes that the store took in whole
+/// pieces, and why the file isn't whole, if so.
+#[derive(Drop)]
+pub struct Finished<X> {
+    pub last: Option<Entry<X>>,
+    pub blocks: u64,
+    pub bytes: u64,
+    pub end: Result<(), Stop>,
+}
+
+// Why an append was refused.
+fn refused<L: LiveStore>(store: &L, why: AppendRefused) -> Stop
+    ensures { result ≡ refusal (L.state store.now).faults why }
+{
+    match why {
+        AppendRefused::Failed { .. } => {
+            return Stop::Fault {
+                faults: store.faults(),
+            };
+        }
+        AppendRefused::Memory => return Stop::Memory,
+    }
+}
+
+// Appends a piece.
+fn append<L: LiveStore>(store: &mut L, piece: &[u8]) -> Result<L::Extent, Stop>
+    ensures appends { Appends (λ e. L.Extent.tells e) (λ e. L.Extent.size e) (L.state store.old) (L.state store.new) piece.now result }
+    ensures cause { Cause (L.state store.old).faults (L.state store.new).faults result }
+{
+    match store.append(piece) {
+        Ok(extent) => return Ok(extent),
+        Err(why) => return Err(refused(store, why)),
+    }
+}
+
+// Appends a piece, after which all that was appended is with the system.
+fn append_through<L: LiveStore>(store: &mut L, piece: &[u8]) -> Result<L::Extent, Stop>
+    ensures appends { Appends (λ e. L.Extent.tells e) (λ e. L.Extent.size e) (L.state store.old) (L.state store.new) piece.now result }
+    ensures cause { Cause (L.state store.old).faults (L.state store.new).faults result }
+{
+    match store.append_through(piece) {
+        Ok(extent) => return Ok(extent),
+        Err(why) => return Err(refused(store, why)),
+    }
+}
+
+// The front of a file, and the plan of what follows it.
+fn opening(alloc: Global, options: &FileOptions) -> Result<(Plan, Vec<u8>), Memory>
+    requires size { (n : ℕ) → options.now.chunk ≡ Some n → (1 ≤ n) × (n ≤ 67108864) }
+    requires profile { length options.now.profile ≤ 268435456 }
+    ensures front { IfOk result (λ o. o.1.items ≡ front options.now.profile) }
+    ensures stands { IfOk result (λ o. Plans options.now [] o.0) }
+    ensures goes_on { IfOk result (λ o. o.0.phase ≡ phases.Going) }
+{
+    let piece = match front_piece(alloc, options.profile.as_str()) {
+        Ok(piece) => piece,
+        Err(memory) => return Err(memory),
+    };
+    match Plan::new(alloc, options, piece.len() as u64) {
+        Ok(plan) => return Ok((plan, piece)),
+        Err(memory) => return Err(memory),
+    }
+}
+
+// The entry of a block at that offset.
+fn entry_of<X>(extent: X, offset: u64, block: &Block) -> Entry<X>
+    ensures { IsEntryWith result extent offset block.now }
+{
+    Entry {
+        extent,
+        offset,
+        chunk_length: block.chunk_length,
+        start_time: block.start_time,
+        end_time: block.end_time,
+        messages: block.messages,
+        declared: block.declared,
+    }
+}
+
+impl<L: LiveStore> Scribe<L> {
+    /// Begins a file of these options behind what the store holds, which is nothing where the file is to be read back. The
+    /// magic and the Header are one append, appended through. Where it is refused, or memory lacks, the store is given back
+    /// with what it took of them.
+    pub fn open(alloc: Global, store: L, options: &FileOptions) -> Result<Scribe<L>, (L, Stop)>
+        requires size { (n : ℕ) → options.now.chunk ≡ Some n → (1 ≤ n) × (n ≤ 67108864) }
+        requires profile { length options.now.profile ≤ 268435456 }
+        ensures stands { IfOk result (λ s. Writes L.state options.now (L.state store) [] s) }
+        ensures goes_on { IfOk result (λ s. phase_of s ≡ phases.Going) }
+        ensures still { IfOk result (λ s. (L.state (store_of s)).faults ≡ (L.state store).faults) }
+        ensures refused { IfErr result (λ e. (history : List Rec) → StopsAt options.now history (L.state store).held (L.state e.0).held e.1 0 0) }
+        ensures cause { IfErr result (λ e. StopCause (L.state store).faults (L.state e.0).faults e.1) }
+    {
+        let mut store = store;
+        let (plan, piece) = match opening(alloc, options) {
+            Ok(opened) => opened,
+            Err(_) => return Err((store, Stop::Memory)),
+        };
+        match append_through(&mut store, piece.as_slice()) {
+            Ok(_) => return Ok(Scribe { store, plan }),
+            Err(stop) => return Err((store, stop)),
+        }
+    }
+
+    /// Adds a record to the history, and gives the entry of the block that this closes, if it does so. A block is appended
+    /// through; a record that stands at top level is appended alone.
+    pub fn put(&mut self, r: &Rec) -> Result<Option<Entry<L::Extent>>, Stop>
+        requires fits { LengthsFit r.now }
+        requires unended { phase_of self.old ≡ phases.Ended → ⊥ }
+        ensures stands { (options : FileOptions) (opened : LiveState) (history : List Rec) → Writes L.state options opened history self.old
+            → Writes L.state options opened (history ++ r.now ∷ []) self.new }
+        ensures entry { IfOk result (λ entry. (options : FileOptions) (opened : LiveState) (history : List Rec) → Writes L.state options opened history self.old
+            → GivesEntry (λ e. L.Extent.tells e) (λ e. L.Extent.size e) (L.state (store_of self.old)).held options history r.now entry) }
+        ensures goes_on { OnOk result ((phase_of self.old ≡ phases.Going) × (phase_of self.new ≡ phases.Going)) }
+        ensures within { OnOk result (Holds (blocks_of self.new) (bytes_of self.new)) }
+        ensures stopped { IfErr result (λ stop. phase_of self.new ≡ phases.Stopped stop) }
+        // What stopped it isn't counted.
+        ensures uncounted { OnErr result ((blocks_of self.new ≡ blocks_of self.old) × (bytes_of self.new ≡ bytes_of self.old)) }
+        ensures kept { (stop : Stop) → phase_of self.old ≡ phases.Stopped stop → (result ≡ Err stop) × (self.new ≡ self.old) }
+        ensures cause { phase_of self.old ≡ phases.Going → Cause (L.state (store_of self.old)).faults (L.state (store_of self.new)).faults result }
+    {
+        match self.plan.phase() {
+            Phase::Going => return self.put_next(r),
+            Phase::Stopped { stop } => return Err(stop),
+            Phase::Ended => unreachable!(),
+        }
+    }
+
+    // The same, where no append was refused.
+    fn put_next(&mut self, r: &Rec) -> Result<Option<Entry<L::Extent>>, Stop>
+        requires fits { LengthsFit r.now }
+        requires going { phase_of self.old ≡ phases.Going }
+        ensures stands { (options : FileOptions) (opened : LiveState) (history : List Rec) → Writes L.state options opened history self.old
+            → Writes L.state options opened (history ++ r.now ∷ []) self.new }
+        ensures entry { IfOk result (λ entry. (options : FileOptions) (opened : LiveState) (history : List Rec) → Writes L.state options opened history self.old
+            → GivesEntry (λ e. L.Extent.tells e) (λ e. L.Extent.size e) (L.state (store_of self.old)).held options history r.now entry) }
+        ensures goes_on { OnOk result (phase_of self.new ≡ phases.Going) }
+        ensures within { OnOk result (Holds (blocks_of self.new) (bytes_of self.new)) }
+        ensures stopped { IfErr result (λ stop. phase_of self.new ≡ phases.Stopped stop) }
+        // What stopped it isn't counted.
+        ensures uncounted { OnErr result ((blocks_of self.new ≡ blocks_of self.old) × (bytes_of self.new ≡ bytes_of self.old)) }
+        ensures cause { Cause (L.state (store_of self.old)).faults (L.state (store_of self.new)).faults result }
+    {
+        let blocks = self.plan.blocks();
+        let bytes = self.plan.bytes();
+        match self.plan.add(r) {
+            Ok(Next::Waits) => return Ok(None),
+            Ok(Next::Block { block }) => match self.append_block(block, blocks, bytes) {
+                Ok(entry) => return Ok(Some(entry)),
+                Err(stop) => return Err(stop),
+            },
+            Ok(Next::Record { bytes: piece }) => match self.append_record(piece, blocks, bytes) {
+                Ok(()) => return Ok(None),
+                Err(stop) => return Err(stop),
+            },
+            Err(stop) => return Err(stop),
+        }
+    }
+
+    // Appends a block behind so many blocks and bytes. The plan counts it already.
+    fn append_block(
+        &mut self,
+        block: Block,
+        blocks: u64,
+        bytes: u64,
+    ) -> Result<Entry<L::Extent>, Stop>
+        requires { Holds blocks bytes }
+        ensures appends { Appends (λ e. L.Extent.tells e.extent) (λ e. L.Extent.size e.extent) (L.state (store_of self.old)) (L.state (store_of self.new)) block.bytes result }
+        ensures cause { Cause (L.state (store_of self.old)).faults (L.state (store_of self.new)).faults result }
+        ensures entry { IfOk result (λ e. IsEntryWith e e.extent bytes block) }
+        ensures ok { OnOk result (self.new.plan ≡ self.old.plan) }
+        ensures err { IfErr result (λ stop. StoppedBefore blocks bytes stop self.new.plan) }
+    {
+        match append_through(&mut self.store, block.bytes.as_slice()) {
+            Ok(extent) => {
+                let entry = entry_of(extent, bytes, &block);
+                self.plan.give_back(block.bytes.into_vec());
+                return Ok(entry);
+            }
+            Err(stop) => {
+                self.plan.stop(stop, blocks, bytes);
+                return Err(stop);
+            }
+        }
+    }
+
+    // Appends a record behind so many blocks and bytes. The plan counts it already.
+    fn append_record(&mut self, piece: Bytes, blocks: u64, bytes: u64) -> Result<(), Stop>
+        requires { Holds blocks bytes }
+        ensures appends { Added (L.state (store_of self.old)).held (L.state (store_of self.new)).held piece result }
+        ensures cause { Cause (L.state (store_of self.old)).faults (L.state (store_of self.new)).faults result }
+        ensures ok { OnOk result (self.new.plan ≡ self.old.plan) }
+        ensures err { IfErr result (λ stop. StoppedBefore blocks bytes stop self.new.plan) }
+    {
+        match append(&mut self.store, piece.as_slice()) {
+            Ok(_) => {
+                self.plan.give_back(piece.into_vec());
+                return Ok(());
+            }
+            Err(stop) => {
+                self.plan.stop(stop, blocks, bytes);
+                return Err(stop);
+            }
+        }
+    }
+
+    /// Ends the file: the last block, if records wait for one, and then the Data End and all behind it, both appended through.
+    pub fn finish(&mut self) -> Finished<L::Extent>
+        requires unended { phase_of self.old ≡ phases.Ended → ⊥ }
+        ensures ends { (options : FileOptions) (opened : LiveState) (history : List Rec) → Writes L.state options opened history self.old
+            → Ends options opened.held (L.state (store_of self.new)).held history result.blocks result.bytes result.end }
+        ensures last { (options : FileOptions) (opened : LiveState) (history : List Rec) → Writes L.state options opened history self.old
+            → GivesLast (λ e. L.Extent.tells e) (λ e. L.Extent.size e) (L.state (store_of self.old)).held options history result.last }
+        ensures counted { CountsLast (blocks_of self.old) result.blocks result.last }
+        ensures numbers { (result.blocks ≡ blocks_of self.new) × (result.bytes ≡ bytes_of self.new) }
+        ensures ended { OnOk result.end (phase_of self.new ≡ phases.Ended) }
+        ensures within { OnOk result.end (Holds result.blocks result.bytes) }
+        ensures stopped { IfErr result.end (λ stop. phase_of self.new ≡ phases.Stopped stop) }
+        ensures kept { (stop : Stop) → phase_of self.old ≡ phases.Stopped stop → (result.end ≡ Err stop) × (result.last ≡ None) × (self.new ≡ self.old) }
+        ensures cause { phase_of self.old ≡ phases.Going → Cause (L.state (store_of self.old)).faults (L.state (store_of self.new)).faults result.end }
+    {
+        match self.plan.phase() {
+            Phase::Going => return self.finish_next(),
+            Phase::Stopped { stop } => return self.finished(None, Err(stop)),
+            Phase::Ended => unreachable!(),
+        }
+    }
+
+    // The same, where no append was refused.
+    fn finish_next(&mut self) -> Finished<L::Extent>
+        requires going { phase_of self.old ≡ phases.Going }
+        ensures ends { (options : FileOptions) (opened : LiveState) (history : List Rec) → Writes L.state options opened history self.old
+            → Ends options opened.held (L.state (store_of self.new)).held history result.blocks result.bytes result.end }
+        ensures last { (options : FileOptions) (opened : LiveState) (history : List Rec) → Writes L.state options opened history self.old
+            → GivesLast (λ e. L.Extent.tells e) (λ e. L.Extent.size e) (L.state (store_of self.old)).held options history result.last }
+        ensures counted { CountsLast (blocks_of self.old) result.blocks result.last }
+        ensures numbers { (result.blocks ≡ blocks_of self.new) × (result.bytes ≡ bytes_of self.new) }
+        ensures ended { OnOk result.end (phase_of self.new ≡ phases.Ended) }
+        ensures within { OnOk result.end (Holds result.blocks result.bytes) }
+        ensures stopped { IfErr result.end (λ stop. phase_of self.new ≡ phases.Stopped stop) }
+        ensures cause { Cause (L.state (store_of self.old)).faults (L.state (store_of self.new)).faults result.end }
+    {
+        match self.append_last() {
+            Ok(last) => {
+                let end = self.append_back();
+                return self.finished(last, end);
+            }
+            Err(stop) => return self.finished(None, Err(stop)),
+        }
+    }
+
+    // Appends the last block, if records wait for one. Records no longer come.
+    fn append_last(&mut self) -> Result<Option<Entry<L::Extent>>, Stop>
+        requires going { phase_of self.old ≡ phases.Going }
+        ensures last { IfOk result (λ last. (options : FileOptions) (opened : LiveState) (history : List Rec) → Writes L.state options opened history self.old
+            → AddsLast options opened.held (L.state (store_of self.new)).held history self.new.plan × GivesLast (λ e. L.Extent.tells e) (λ e. L.Extent.size e) (L.state (store_of self.old)).held options history last) }
+        ensures counted { IfOk result (λ last. CountsLast (blocks_of self.old) (blocks_of self.new) last) }
+        ensures ended { OnOk result (phase_of self.new ≡ phases.Ended) }
+        ensures refused { IfErr result (λ stop. (options : FileOptions) (opened : LiveState) (history : List Rec) → Writes L.state options opened history self.old
+            → StopsAt options history opened.held (L.state (store_of self.new)).held stop (blocks_of self.new) (bytes_of self.new)) }
+        ensures stopped { IfErr result (λ stop. StoppedBefore (blocks_of self.old) (bytes_of self.old) stop self.new.plan) }
+        ensures cause { Cause (L.state (store_of self.old)).faults (L.state (store_of self.new)).faults result }
+    {
+        let blocks = self.plan.blocks();
+        let bytes = self.plan.bytes();
+        match self.plan.last() {
+            Ok(None) => return Ok(None),
+            Ok(Some(block)) => match self.append_block(block, blocks, bytes) {
+                Ok(entry) => return Ok(Some(entry)),
+                Err(stop) => return Err(stop),
+            },
+            Err(stop) => return Err(stop),
+        }
+    }
+
+    // Appends the Data End and all behind it.
+    fn append_back(&mut self) -> Result<(), Stop>
+        requires ended { phase_of self.old ≡ phases.Ended }
+        ensures ends { (options : FileOptions) (opened : LiveState) (history : List Rec) → AddsLast options opened.held (L.state (store_of self.old)).held history self.old.plan
+            → Ends options opened.held (L.state (store_of self.new)).held history (blocks_of self.new) (bytes_of self.new) result }
+        ensures same { blocks_of self.new ≡ blocks_of self.old }
+        ensures stays { OnOk result (phase_of self.new ≡ phases.Ended) }
+        ensures within { OnOk result (Holds (blocks_of self.new) (bytes_of self.new)) }
+        ensures stopped { IfErr result (λ stop. phase_of self.new ≡ phases.Stopped stop) }
+        // What stopped it isn't counted.
+        ensures uncounted { OnErr result ((blocks_of self.new ≡ blocks_of self.old) × (bytes_of self.new ≡ bytes_of self.old)) }
+        ensures cause { Cause (L.state (store_of self.old)).faults (L.state (store_of self.new)).faults result }
+    {
+        let blocks = self.plan.blocks();
+        let bytes = self.plan.bytes();
+        match self.plan.back() {
+            Ok(piece) => match append_through(&mut self.store, piece.as_slice()) {
+                Ok(_) => return Ok(()),
+                Err(stop) => {
+                    self.plan.stop(stop, blocks, bytes);
+                    return Err(stop);
+                }
+            },
+            Err(stop) => return Err(stop),
+        }
+    }
+
+    // How the file ended, with the numbers as they are now.
+    fn finished(&self, last: Option<Entry<L::Extent>>, end: Result<(), Stop>) -> Finished<L::Extent>
+        ensures { (result.last ≡ last) × (result.end ≡ end) × (result.blocks ≡ blocks_of self.now) × (result.bytes ≡ bytes_of self.now) }
+    {
+        Finished {
+            last,
+            blocks: self.plan.blocks(),
+            bytes: self.plan.bytes(),
+            end,
+        }
+    }
+
+    /// How many blocks the store took in whole appends.
+    pub fn blocks(&self) -> u64
+        ensures { result ≡ blocks_of self.now }
+    {
+        self.plan.blocks()
+    }
+
+    /// How many bytes the store took in whole appends.
+    pub fn bytes(&self) -> u64
+        ensures { result ≡ bytes_of self.now }
+    {
+        self.plan.bytes()
+    }
+
+    /// How far the writing has come.
+    pub fn phase(&self) -> Phase
+        ensures { result ≡ phase_of self.now }
+    {
+        self.plan.phase()
+    }
+
+    /// Gives the store back.
+    pub fn into_store(self) -> L
+        ensures { result ≡ store_of self }
+    {
+        let Scribe { store, plan: _ } = self;
+        store
+    }
+}
