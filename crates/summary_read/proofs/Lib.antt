@@ -1,0 +1,7 @@
+pub mod Answered
+pub mod Walking
+pub mod FileEnds
+pub mod FileFront
+pub mod Holding
+pub mod Listing
+pub mod Composing

@@ -1,0 +1,4 @@
+pub mod Reached
+pub mod Parts
+pub mod Loading
+pub mod Steps

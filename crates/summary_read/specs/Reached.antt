@@ -1,0 +1,96 @@
+-- What is read of a file to load its summary: the two magics, the Header, the Footer, and the records from summary_start
+-- up to the Footer. Where a rule fails on these, and where one passes a limit.
+use Rattle.std.specs.Prelude.{◌≡◌, ◌≢◌, ◌⊎◌, ℕ, ◌+◌, ◌-◌, ◌<◌, ◌≤◌, List, [], ◌++◌, length, drop, true, false}
+use Rattle.mcap_wire.specs.Layout.{part, content_limit}
+use Rattle.rec_data.specs.declared.footer.Footer.{Footer}
+use Rattle.mcap_model.specs.Tops.{Top, top_bytes, spelled, opcode, declared_length, has_head, is_whole}
+use Rattle.mcap_model.specs.Fields.{IsFooter}
+use Rattle.mcap_model.specs.Rules.{V6}
+use Rattle.mcap_model.specs.Whole.{stands_in_summary}
+use Rattle.mcap_model.specs.Valid.{Flaw}
+
+-- ---- limits
+
+-- the longest file that is read: 1 TiB (2 ^ 40)
+abbrev pub file_limit : ℕ
+file_limit = 1099511627776
+
+-- the longest summary that is read: 256 MiB (2 ^ 28)
+abbrev pub summary_limit : ℕ
+summary_limit = 268435456
+
+-- ---- the Footer
+
+-- the record shows this Footer
+abbrev pub ShowsFooter : Top → Footer → Type 0
+ShowsFooter t f = IsFooter t f.summary_start f.summary_offset_start f.summary_crc
+
+-- this Footer stands in front of the last eight bytes
+pub record EndsIn (file : List ℕ) (f : Footer) : Type 0 where
+  pub before : List ℕ
+  pub top : Top
+  pub last : List ℕ
+  pub split : file ≡ before ++ (top_bytes top ++ last)
+  pub size : length last ≡ 8
+  pub is : ShowsFooter top f
+
+-- a whole Footer stands there, and says that there is no summary
+abbrev pub HasNoSummary : List ℕ → Type 0
+HasNoSummary file = (f : Footer) × EndsIn file f × (f.summary_start ≡ 0)
+
+-- ---- the summary
+
+-- the bytes from there up to the Footer, which stands 37 bytes before the end
+abbrev pub summary_part : List ℕ → ℕ → List ℕ
+summary_part file start = part start (length file - 37) file
+
+-- the Footer names a summary that starts behind the magic and not behind the Footer's own place
+pub record StartsAt (file : List ℕ) (start : ℕ) : Type 0 where
+  pub footer : Footer
+  pub ends : EndsIn file footer
+  pub named : footer.summary_start ≡ start
+  pub behind : 8 ≤ start
+  pub before : start + 37 ≤ length file
+
+-- a summary that starts at that offset begins with these records, and the rest stands there
+pub record CutTo (summary : List ℕ) (start : ℕ) (tops : List Top) (rest : List ℕ) (offset : ℕ) : Type 0 where
+  pub split : summary ≡ spelled tops ++ rest
+  pub there : offset ≡ start + length (spelled tops)
+
+-- ---- where a rule fails
+
+-- the first record of the rest breaks the rule of that number: it isn't whole, or it is none that stands in a summary, or
+-- its content can't be read
+pub data BreaksFirst (rest : List ℕ) : ℕ → Type 0 where
+  breaks_4 : (has_head rest ≡ false) ⊎ (is_whole rest ≡ false) → BreaksFirst rest 4
+  breaks_5 : has_head rest ≡ true → stands_in_summary (opcode rest) ≡ false → BreaksFirst rest 5
+  breaks_6 : (t : Top) (behind : List ℕ) → rest ≡ top_bytes t ++ behind → (V6 t → ⊥) → BreaksFirst rest 6
+
+-- a record of the summary breaks the rule
+abbrev pub FailsInside : List ℕ → ℕ → ℕ → ℕ → Type 0
+FailsInside summary start rule offset = (tops : List Top) × (rest : List ℕ) × CutTo summary start tops rest offset × (rest ≢ []) × BreaksFirst rest rule
+
+-- The rule of that number fails at that offset: on the file's ends, on the Footer, which names no place of a summary, or
+-- on a record of the summary.
+pub data Fails (file : List ℕ) : ℕ → ℕ → Type 0 where
+  at_end : (rule offset : ℕ) → Flaw file rule offset → Fails file rule offset
+  by_start : (f : Footer) → EndsIn file f → f.summary_start ≢ 0 → (f.summary_start < 8) ⊎ (length file < f.summary_start + 37) → Fails file 11 (length file - 37)
+  inside : (start rule offset : ℕ) → StartsAt file start → FailsInside (summary_part file start) start rule offset → Fails file rule offset
+
+-- ---- where a limit is passed
+
+-- a head stands at the front, and declares a content past the limit
+pub record DeclaresPast (rest : List ℕ) : Type 0 where
+  pub head : has_head rest ≡ true
+  pub past : content_limit < declared_length rest
+
+-- a record of the summary does
+abbrev pub PassesInside : List ℕ → ℕ → ℕ → Type 0
+PassesInside summary start offset = (tops : List Top) × (rest : List ℕ) × CutTo summary start tops rest offset × DeclaresPast rest
+
+-- the file is too long, or its summary, or the content that the Header or a record of the summary declares
+pub data Passes (file : List ℕ) : ℕ → Type 0 where
+  file_passes : file_limit < length file → Passes file file_limit
+  summary_passes : (start : ℕ) → StartsAt file start → summary_limit < length file - 37 - start → Passes file start
+  header_passes : DeclaresPast (drop 8 file) → Passes file 8
+  record_passes : (start offset : ℕ) → StartsAt file start → PassesInside (summary_part file start) start offset → Passes file offset

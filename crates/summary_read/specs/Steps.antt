@@ -1,0 +1,152 @@
+-- The steps of loading.
+use Rattle.std.specs.Prelude.{◌≡◌, ◌⊎◌, ℕ, ◌+◌, ◌-◌, ◌≤◌, List, ◌∷◌, ◌++◌, length, take, drop, true, false, Option, Some, None, Result, Ok, Err, Vec, vec_len}
+use Rattle.mcap_io.specs.Stores.{StoreState}
+use Rattle.mcap_wire.specs.declared.faults.Cut.{Cut}
+use Rattle.mcap_wire.specs.Layout.{le, magic, content_limit}
+use Rattle.mcap_wire.specs.Reading.{IsCut}
+use Rattle.rec_data.specs.declared.footer.Footer.{Footer}
+use Rattle.mcap_model.specs.Places.{Each}
+use Rattle.mcap_model.specs.Tops.{Top, top_bytes, spelled, declared_length, StandsIn}
+use Rattle.mcap_model.specs.Rules.{V1, V6}
+use Rattle.mcap_model.specs.Whole.{V2, stands_in_summary}
+use Rattle.mcap_model.specs.Made.{top}
+use Rattle.mcap_model.specs.Plain.{cut_top}
+use Rattle.summary_read.specs.declared.refusals.LoadRefused.{LoadRefused}
+use Rattle.summary_read.specs.declared.refusals.LoadRefused.TheVariants as refusals
+use Rattle.summary_read.specs.Reached.{file_limit, summary_limit, ShowsFooter, EndsIn, HasNoSummary, BreaksFirst, DeclaresPast, FailsInside, PassesInside}
+use Rattle.summary_read.specs.Parts.{tops_of, AreInside, IsSound}
+use Rattle.summary_read.specs.Loading.{IsRefused}
+
+-- ---- the ends of a file
+
+-- a refusal that comes of the bytes alone
+abbrev pub IsOfBytes : LoadRefused → Type 0
+IsOfBytes (refusals.Fault faults) = ⊥
+IsOfBytes refusals.NoSummary = Unit {0}
+IsOfBytes (refusals.Grammar offset rule) = Unit {0}
+IsOfBytes (refusals.Limit offset) = Unit {0}
+IsOfBytes refusals.Memory = Unit {0}
+
+-- bytes end with the magic
+abbrev pub EndsWithMagic : List ℕ → Type 0
+EndsWithMagic bytes = (start : List ℕ) × (bytes ≡ start ++ magic)
+
+-- bytes begin with that Footer, or with none
+abbrev pub BeginsWithFooter : List ℕ → Option Footer → Type 0
+BeginsWithFooter bytes (Some f) = (t : Top) × (rest : List ℕ) × (bytes ≡ top_bytes t ++ rest) × ShowsFooter t f
+BeginsWithFooter bytes None = (f : Footer) (t : Top) (rest : List ℕ) → bytes ≡ top_bytes t ++ rest → ShowsFooter t f → ⊥
+
+-- the Footer names a summary that can be read
+pub record NamesPart (file : List ℕ) (f : Footer) : Type 0 where
+  pub v2 : V2 file
+  pub ends : EndsIn file f
+  pub behind : 8 ≤ f.summary_start
+  pub before : f.summary_start + 37 ≤ length file
+  pub file_fits : length file ≤ file_limit
+  pub summary_fits : length file - 37 - f.summary_start ≤ summary_limit
+  pub some : HasNoSummary file → ⊥
+
+abbrev pub EndJudged : List ℕ → Result Footer LoadRefused → Type 0
+EndJudged file (Ok f) = NamesPart file f
+EndJudged file (Err why) = IsRefused file why
+
+-- the file begins with the magic and the head of a Header, whose content is whole
+pub record HasHead (file : List ℕ) (len : ℕ) : Type 0 where
+  pub v1 : V1 file
+  pub spelled_there : drop 8 file ≡ 1 ∷ (le 8 len ++ drop 17 file)
+  pub within : len ≤ content_limit
+  pub whole : 25 + len ≤ length file
+
+abbrev pub FrontJudged : List ℕ → Result ℕ LoadRefused → Type 0
+FrontJudged file (Ok len) = HasHead file len
+FrontJudged file (Err why) = IsRefused file why
+
+-- ---- what was read of a store
+
+-- the bytes and the length that the store tells stay, and it was asked for at most so many bytes
+pub record Takes (old new : StoreState) (len : ℕ) : Type 0 where
+  pub bytes : new.bytes ≡ old.bytes
+  pub known : new.known ≡ old.known
+  pub asked : new.asked ≤ old.asked + len
+
+-- the Footer of a file of that length names a place in it
+pub record IsInside (len : ℕ) (f : Footer) : Type 0 where
+  pub whole : 37 ≤ len
+  pub behind : 8 ≤ f.summary_start
+  pub before : f.summary_start + 37 ≤ len
+
+-- where the store tells a file of that length, its end is judged
+abbrev pub TellsEnd : Option (List ℕ) → ℕ → Result Footer LoadRefused → Type 0
+TellsEnd told len result = (file : List ℕ) → told ≡ Some file → length file ≡ len → EndJudged file result
+
+-- and its front
+abbrev pub TellsFront : Option (List ℕ) → ℕ → Result ℕ LoadRefused → Type 0
+TellsFront told len result = (file : List ℕ) → told ≡ Some file → length file ≡ len → (HasNoSummary file → ⊥) → FrontJudged file result
+
+-- so many bytes from there on, where the store tells; or it failed, or memory lacked
+abbrev pub TellsPart : {Y : Type 0} → Option (List ℕ) → ℕ → ℕ → Result (Vec ℕ Y) LoadRefused → Type 0
+TellsPart told at len (Ok part) = (vec_len part ≡ len) × ((file : List ℕ) → told ≡ Some file → part.items ≡ take len (drop at file))
+TellsPart told at len (Err (refusals.Fault faults)) = Unit {0}
+TellsPart told at len (Err refusals.NoSummary) = ⊥
+TellsPart told at len (Err (refusals.Grammar offset rule)) = ⊥
+TellsPart told at len (Err (refusals.Limit offset)) = ⊥
+TellsPart told at len (Err refusals.Memory) = Unit {0}
+
+-- the Header stands behind the magic
+pub record HasHeader (file content : List ℕ) : Type 0 where
+  pub v1 : V1 file
+  pub stands : StandsIn file 8 (top 1 content)
+
+abbrev pub HeaderJudged : {Y : Type 0} → List ℕ → Result (Vec ℕ Y) LoadRefused → Type 0
+HeaderJudged file (Ok content) = HasHeader file content.items
+HeaderJudged file (Err why) = IsRefused file why
+
+abbrev pub TellsHeader : {Y : Type 0} → Option (List ℕ) → ℕ → Result (Vec ℕ Y) LoadRefused → Type 0
+TellsHeader told len result = (file : List ℕ) → told ≡ Some file → length file ≡ len → (HasNoSummary file → ⊥) → HeaderJudged file result
+
+-- the magic, the head of the Header and the content that it declares were asked for
+abbrev pub HeaderAsks : StoreState → StoreState → ℕ → Type 0
+HeaderAsks old new len = (file : List ℕ) → old.bytes ≡ Some file → length file ≡ len → (HasNoSummary file → ⊥) → new.asked ≤ old.asked + 17 + declared_length (drop 8 file)
+
+-- ---- the records of the summary
+
+-- a record keeps the rules that are looked at, or breaks one of them
+abbrev pub Judged : Top → Option ℕ → Type 0
+Judged t None = (stands_in_summary t.op ≡ true) × V6 t
+Judged t (Some rule) = ((rule ≡ 5) × (stands_in_summary t.op ≡ false)) ⊎ ((rule ≡ 6) × (V6 t → ⊥))
+
+-- the record there was cut, and may stand in a summary
+pub record IsTaken (bytes : List ℕ) (at : ℕ) (c : Cut) : Type 0 where
+  pub is : IsCut bytes at c
+  pub kind : stands_in_summary c.op ≡ true
+  pub layout : V6 (cut_top bytes c)
+
+abbrev pub RecordTaken : List ℕ → ℕ → ℕ → Result Cut LoadRefused → Type 0
+RecordTaken bytes at start (Ok c) = IsTaken bytes at c
+RecordTaken bytes at start (Err (refusals.Fault faults)) = ⊥
+RecordTaken bytes at start (Err refusals.NoSummary) = ⊥
+RecordTaken bytes at start (Err (refusals.Grammar offset rule)) = (offset ≡ start + at) × BreaksFirst (drop at bytes) rule
+RecordTaken bytes at start (Err (refusals.Limit offset)) = (offset ≡ start + at) × DeclaresPast (drop at bytes)
+RecordTaken bytes at start (Err refusals.Memory) = ⊥
+
+-- so far these records were cut
+pub record CutsTo (bytes : List ℕ) (at : ℕ) (cuts : List Cut) : Type 0 where
+  pub within : at ≤ length bytes
+  pub split : bytes ≡ spelled (tops_of bytes cuts) ++ drop at bytes
+  pub there : at ≡ length (spelled (tops_of bytes cuts))
+  pub inside : AreInside bytes cuts
+  pub sound : Each IsSound (tops_of bytes cuts)
+
+-- all records of the summary were cut
+pub record AreCut (bytes : List ℕ) (cuts : List Cut) : Type 0 where
+  pub split : bytes ≡ spelled (tops_of bytes cuts)
+  pub inside : AreInside bytes cuts
+  pub sound : Each IsSound (tops_of bytes cuts)
+
+abbrev pub SummaryCut : {Y : Type 0} → List ℕ → ℕ → Result (Vec Cut Y) LoadRefused → Type 0
+SummaryCut bytes start (Ok cuts) = AreCut bytes cuts.items
+SummaryCut bytes start (Err (refusals.Fault faults)) = ⊥
+SummaryCut bytes start (Err refusals.NoSummary) = ⊥
+SummaryCut bytes start (Err (refusals.Grammar offset rule)) = FailsInside bytes start rule offset
+SummaryCut bytes start (Err (refusals.Limit offset)) = PassesInside bytes start offset
+SummaryCut bytes start (Err refusals.Memory) = Unit {0}

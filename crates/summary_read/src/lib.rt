@@ -1,0 +1,17 @@
+//! Reading of a file by its summary: only the ends of the file and the summary are asked for.
+#![tactic(auto)]
+
+mod ends;
+mod lists;
+mod loaded;
+mod loading;
+mod records;
+mod refusals;
+mod walk;
+
+pub use loaded::Loaded;
+pub use loading::load;
+pub use refusals::LoadRefused;
+
+#[cfg(test)]
+mod tests;

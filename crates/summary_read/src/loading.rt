@@ -1,0 +1,196 @@
+//! Loading: the ends of a file are read and judged, then its summary.
+ghost use Rattle.std.specs.Prelude.{◌≡◌, ◌+◌, ◌≤◌, IfOk};
+ghost use Rattle.mcap_model.specs.Fields.{IsHeader};
+ghost use Rattle.mcap_model.specs.Made.{top};
+ghost use Rattle.summary_read.specs.Loading.{Loads, LoadCause, AsksLittle, Leaves};
+ghost use Rattle.summary_read.specs.Parts.{IsListed};
+ghost use Rattle.summary_read.specs.Steps.{AreCut, IsInside, TellsEnd, TellsFront, TellsHeader, HeaderAsks, TellsPart, Takes};
+
+use crate::ends::{END_LENGTH, FRONT_LENGTH, is_header, judge_end, judge_front};
+use crate::lists::of_kind;
+use crate::loaded::Loaded;
+use crate::refusals::LoadRefused;
+use crate::walk::cut_records;
+use mcap_io::{Failed, ReadRefused, Store, read_part};
+use mcap_wire::{Cut, Memory};
+use rec_data::{CHANNEL, Footer, SCHEMA};
+use rec_index::{ATTACHMENT_INDEX, CHUNK_INDEX, METADATA_INDEX, STATISTICS, SUMMARY_OFFSET};
+use std::alloc::Global;
+
+// The Footer of a store of that length.
+fn read_end<T: Store>(store: &mut T, len: u64) -> Result<Footer, LoadRefused>
+    requires { len ≤ (T.state store.old).known }
+    ensures judged { TellsEnd (T.state store.old).bytes len result }
+    ensures inside { IfOk result (IsInside len) }
+    ensures cause { LoadCause (T.state store.old).faults (T.state store.new).faults result }
+    ensures takes { Takes (T.state store.old) (T.state store.new) 37 }
+{
+    if len < END_LENGTH {
+        return Err(LoadRefused::Grammar {
+            offset: 0,
+            rule: 17,
+        });
+    }
+    let mut end = [0; 37];
+    match store.read_at(len - END_LENGTH, &mut end) {
+        Ok(()) => return judge_end(&end, len),
+        Err(Failed) => {
+            return Err(LoadRefused::Fault {
+                faults: store.faults(),
+            });
+        }
+    }
+}
+
+// The length of the content of the Header of a store of that length.
+fn read_front<T: Store>(store: &mut T, len: u64) -> Result<u64, LoadRefused>
+    requires known { len ≤ (T.state store.old).known }
+    requires whole { 37 ≤ len }
+    ensures judged { TellsFront (T.state store.old).bytes len result }
+    ensures inside { IfOk result (λ n. 25 + n ≤ len) }
+    ensures cause { LoadCause (T.state store.old).faults (T.state store.new).faults result }
+    ensures takes { Takes (T.state store.old) (T.state store.new) 17 }
+{
+    let mut front = [0; 17];
+    match store.read_at(0, &mut front) {
+        Ok(()) => return judge_front(&front, len),
+        Err(Failed) => {
+            return Err(LoadRefused::Fault {
+                faults: store.faults(),
+            });
+        }
+    }
+}
+
+// So many bytes of the store.
+fn take_part<T: Store>(
+    alloc: Global,
+    store: &mut T,
+    at: u64,
+    len: u64,
+) -> Result<Vec<u8>, LoadRefused>
+    requires { at + len ≤ (T.state store.old).known }
+    ensures given { TellsPart (T.state store.old).bytes at len result }
+    ensures cause { LoadCause (T.state store.old).faults (T.state store.new).faults result }
+    ensures takes { Takes (T.state store.old) (T.state store.new) len }
+{
+    match read_part(alloc, store, at, len) {
+        Ok(part) => return Ok(part),
+        Err(ReadRefused::Failed) => {
+            return Err(LoadRefused::Fault {
+                faults: store.faults(),
+            });
+        }
+        Err(ReadRefused::Memory) => return Err(LoadRefused::Memory),
+    }
+}
+
+// The content of the Header of a store of that length.
+fn read_header<T: Store>(alloc: Global, store: &mut T, len: u64) -> Result<Vec<u8>, LoadRefused>
+    requires known { len ≤ (T.state store.old).known }
+    requires whole { 37 ≤ len }
+    ensures judged { TellsHeader (T.state store.old).bytes len result }
+    ensures is { IfOk result (λ content. IsHeader (top 1 content.items)) }
+    ensures cause { LoadCause (T.state store.old).faults (T.state store.new).faults result }
+    ensures takes { Takes (T.state store.old) (T.state store.new) len }
+    ensures asks { HeaderAsks (T.state store.old) (T.state store.new) len }
+{
+    let declared = match read_front(store, len) {
+        Ok(declared) => declared,
+        Err(why) => return Err(why),
+    };
+    let content = match take_part(alloc, store, FRONT_LENGTH, declared) {
+        Ok(content) => content,
+        Err(why) => return Err(why),
+    };
+    if is_header(&content) {
+        return Ok(content);
+    }
+    return Err(LoadRefused::Grammar { offset: 8, rule: 3 });
+}
+
+// Lists the records that were cut from the summary.
+fn list_records(
+    alloc: Global,
+    header: Vec<u8>,
+    footer: Footer,
+    summary: Vec<u8>,
+    cuts: &[Cut],
+) -> Result<Loaded, Memory>
+    requires is { IsHeader (top 1 header.items) }
+    requires cut { AreCut summary.items cuts.now }
+    ensures { IfOk result (IsListed header.items footer summary.items cuts.now) }
+{
+    let Ok(statistics) = of_kind(alloc, cuts, STATISTICS) else {
+        return Err(Memory);
+    };
+    let Ok(schemas) = of_kind(alloc, cuts, SCHEMA) else {
+        return Err(Memory);
+    };
+    let Ok(channels) = of_kind(alloc, cuts, CHANNEL) else {
+        return Err(Memory);
+    };
+    let Ok(chunk_indexes) = of_kind(alloc, cuts, CHUNK_INDEX) else {
+        return Err(Memory);
+    };
+    let Ok(attachment_indexes) = of_kind(alloc, cuts, ATTACHMENT_INDEX) else {
+        return Err(Memory);
+    };
+    let Ok(metadata_indexes) = of_kind(alloc, cuts, METADATA_INDEX) else {
+        return Err(Memory);
+    };
+    let Ok(summary_offsets) = of_kind(alloc, cuts, SUMMARY_OFFSET) else {
+        return Err(Memory);
+    };
+    return Ok(Loaded {
+        header,
+        footer,
+        summary,
+        statistics,
+        schemas,
+        channels,
+        chunk_indexes,
+        attachment_indexes,
+        metadata_indexes,
+        summary_offsets,
+    });
+}
+
+/// Loads the summary of the file that the store holds. It asks for the magic and the Header, for the last 37 bytes, and
+/// for the summary.
+pub fn load<T: Store>(alloc: Global, store: &mut T) -> Result<Loaded, LoadRefused>
+    ensures loads { Loads (T.state store.old).bytes result }
+    ensures cause { LoadCause (T.state store.old).faults (T.state store.new).faults result }
+    ensures asks { AsksLittle (T.state store.old) (T.state store.new) }
+    ensures leaves { Leaves (T.state store.old) (T.state store.new) }
+{
+    let len = match store.len() {
+        Ok(len) => len,
+        Err(Failed) => {
+            return Err(LoadRefused::Fault {
+                faults: store.faults(),
+            });
+        }
+    };
+    let footer = match read_end(store, len) {
+        Ok(footer) => footer,
+        Err(why) => return Err(why),
+    };
+    let header = match read_header(alloc, store, len) {
+        Ok(header) => header,
+        Err(why) => return Err(why),
+    };
+    let start = footer.summary_start;
+    let summary = match take_part(alloc, store, start, len - END_LENGTH - start) {
+        Ok(summary) => summary,
+        Err(why) => return Err(why),
+    };
+    let cuts = match cut_records(alloc, &summary, start) {
+        Ok(cuts) => cuts,
+        Err(why) => return Err(why),
+    };
+    match list_records(alloc, header, footer, summary, &cuts) {
+        Ok(loaded) => return Ok(loaded),
+        Err(Memory) => return Err(LoadRefused::Memory),
+    }
+}
