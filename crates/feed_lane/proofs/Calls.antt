@@ -1,0 +1,157 @@
+-- What the calls on a pass come to for the message at hand.
+use Rattle.std.proofs.Common.{◌≡◌, ℕ, ◌+◌, ◌≤◌, List, [], ◌∷◌, ◌++◌, Some, Err, refl, sym, ap, subst, inl, inr, ◌∙◌, arith, Result, Ok}
+use Rattle.std.proofs.lemmas.List.{append-nil}
+use Rattle.rec_data.specs.declared.channel.ChannelDef.{ChannelDef}
+use Rattle.mcap_model.specs.Places.{At, Has, Each}
+use Rattle.mcap_model.specs.declared.ends.End.{End}
+use Rattle.mcap_model.specs.declared.ends.End.TheVariants as ends
+use Rattle.mcap_model.specs.Tops.{Top}
+use Rattle.mcap_model.specs.Fields.{IsMessage}
+use Rattle.mcap_model.proofs.Places.{at_none, at_more, has_kept, has_last}
+use Rattle.record_core.specs.Desk.{fields_of_message}
+use Rattle.record_core.specs.declared.answers.Found.{Found}
+use Rattle.record_core.specs.declared.answers.NewMessage.{NewMessage}
+use Rattle.record_core.specs.declared.answers.PublishRefused.{PublishRefused}
+use Rattle.record_core.specs.declared.answers.PublishRefused.TheVariants as publishing
+use Rattle.record_core.specs.declared.answers.DeclareRefused.{DeclareRefused}
+use Rattle.record_core.specs.declared.answers.DeclareRefused.TheVariants as declaring
+use Rattle.record_core.specs.declared.answers.Declared.{Declared}
+use Rattle.feed_lane.specs.declared.report.Cause.{Cause}
+use Rattle.feed_lane.specs.declared.report.Cause.TheVariants as causes
+use Rattle.feed_lane.specs.Pass.{FullAt, PassState, Finds, full_at, with_found, with_full, with_lack, PublishedBy, DeclaredInto, Seen}
+use Rattle.feed_lane.specs.Lanes.{messages, IsChannelOf, EndsWith, CauseFits, full_in}
+use Rattle.feed_lane.specs.Steps.{Above, IsRefusal, publish_cause, declare_cause, full_cause}
+use Rattle.feed_lane.proofs.Members.{finds_above, seen_later}
+
+-- ---- refusals
+
+none_in : (P : FullAt → Type 0) (cause : Cause) → full_in cause ≡ [] → Each P (full_in cause)
+none_in P cause none n full at = absurd (at_none n full (subst (λ (l : List FullAt). At l n full) none at))
+
+-- no call was made, or one that left the pass as it was
+pub unchanged : (records : List Top) (handled : ℕ) (pass : PassState) (cause : Cause) → full_in cause ≡ [] → CauseFits records (handled + 1) pass handled cause → IsRefusal records handled pass pass cause
+unchanged records handled pass cause none fits = record {
+  extends = record { own = λ pair has. has; named = λ pair has. has; fulls = λ full has. has; lacks = λ pair has. has; limit = refl; seen = λ n s. s };
+  own = refl;
+  fulls = sym (append-nil pass.fulls) ∙ ap (λ (l : List FullAt). pass.fulls ++ l) (sym none);
+  fits = fits;
+  above = none_in _ cause none;
+  tos = none_in _ cause none;
+}
+
+-- the call found the intake, and left the rest as it was
+found_only : (records : List Top) (handled : ℕ) (before : PassState) (found : Found) (cause : Cause) → Finds before found → full_in cause ≡ [] → CauseFits records (handled + 1) (with_found before found) handled cause → IsRefusal records handled before (with_found before found) cause
+found_only records handled before found cause finds none fits = record {
+  extends = record { own = λ pair has. has; named = λ pair has. has; fulls = λ full has. has; lacks = λ pair has. has; limit = refl; seen = seen_later before (with_found before found) found finds refl };
+  own = refl;
+  fulls = sym (append-nil before.fulls) ∙ ap (λ (l : List FullAt). before.fulls ++ l) (sym none);
+  fits = fits;
+  above = none_in _ cause none;
+  tos = none_in _ cause none;
+}
+
+-- the buffer was full
+was_full : (records : List Top) (handled : ℕ) (before : PassState) (found : Found) (held : ℕ) → Finds before found → held ≡ found.held → before.limit ≤ held → IsRefusal records handled before (with_full before found) (full_cause held (Some found))
+was_full records handled before found held finds same le =
+    let full : FullAt = record { from = found.taken; to = found.count; held = held } in
+    let is : full ≡ full_at found = ap (λ (n : ℕ). made n) same in
+    record {
+      extends = record { own = λ pair has. has; named = λ pair has. has; fulls = λ x has. has_kept before.fulls (full_at found ∷ []) x has; lacks = λ pair has. has; limit = refl; seen = seen_later before (with_full before found) found finds refl };
+      own = refl;
+      fulls = ap (λ (x : FullAt). before.fulls ++ x ∷ []) (sym is);
+      fits = (subst (Has (before.fulls ++ full_at found ∷ [])) (sym is) (has_last before.fulls (full_at found) []), le, finds.within);
+      above = λ n x at. subst (λ (y : FullAt). Above before y.to) (sym (only n x at)) (finds_above before found finds);
+      tos = λ n x at. subst (λ (y : FullAt). Seen (with_full before found) y.to) (sym (only n x at)) (record { found = found; shown = refl; within = omega arith });
+    }
+  where
+    made : ℕ → FullAt
+    made n = record { from = found.taken; to = found.count; held = n }
+
+    only : (n : ℕ) (x : FullAt) → At (full_in (full_cause held (Some found))) n x → x ≡ record { from = found.taken; to = found.count; held = held }
+    only n x at = elim (at_more [] (record { from = found.taken; to = found.count; held = held }) n x at) [
+      | inl old ↦ absurd (at_none n x old)
+      | inr last ↦ last.1
+    ]
+
+-- no id was left
+lacked : (records : List Top) (handled : ℕ) (before : PassState) (found : Found) (d : ChannelDef) (refusal : DeclareRefused) (cause : Cause) → Finds before found → full_in cause ≡ [] → CauseFits records (handled + 1) (with_lack before found d refusal) handled cause → IsRefusal records handled before (with_lack before found d refusal) cause
+lacked records handled before found d refusal cause finds none fits = record {
+  extends = record { own = λ pair has. has; named = λ pair has. has; fulls = λ full has. has; lacks = λ pair has. has_kept before.lacks ((d, refusal) ∷ []) pair has; limit = refl; seen = seen_later before (with_lack before found d refusal) found finds refl };
+  own = refl;
+  fulls = sym (append-nil before.fulls) ∙ ap (λ (l : List FullAt). before.fulls ++ l) (sym none);
+  fits = fits;
+  above = none_in _ cause none;
+  tos = none_in _ cause none;
+}
+
+-- the intake has ended
+ended : (handled : ℕ) (before : PassState) (found : Found) (at : ℕ) (end : End) → found.end ≡ Some end → at ≤ found.count → EndsWith (handled + 1) (with_found before found) handled at end
+ended handled before found at end is within = record { last = refl; found = found; shown = refl; ended = is; within = within }
+
+-- the refusal of a message that stands there
+pub publish_refused : (records : List Top) (handled source : ℕ) (t : Top) (before after : PassState) (m : NewMessage) (refusal : PublishRefused) → At (messages records) handled t → IsMessage t source (fields_of_message m) → PublishedBy before after m (Err refusal) → IsRefusal records handled before after (publish_cause refusal after.found)
+publish_refused records handled source t before after m (publishing.TooLarge len) at is (size, over, same) =
+    subst (λ (p : PassState). IsRefusal records handled before p (causes.TooLarge len)) (sym same)
+    (unchanged records handled before (causes.TooLarge len) refl (inl (record { source = source; message = fields_of_message m; top = t; at = at; is = is; size = size; over = over })))
+publish_refused records handled source t before after m (publishing.Closed place) at is (found, finds, end, within, same) =
+    subst (λ (p : PassState). IsRefusal records handled before p (causes.Closed place)) (sym same)
+    (found_only records handled before found (causes.Closed place) finds refl (ended handled before found place ends.Closed end within))
+publish_refused records handled source t before after m (publishing.Stopped place stop) at is (found, finds, end, within, same) =
+    subst (λ (p : PassState). IsRefusal records handled before p (causes.Stopped place stop)) (sym same)
+    (found_only records handled before found (causes.Stopped place stop) finds refl (ended handled before found place (ends.Stopped stop) end within))
+publish_refused records handled source t before after m publishing.UnknownChannel at is (found, finds, end, unknown, same) =
+    subst (λ (p : PassState). IsRefusal records handled before p causes.Memory) (sym same) (found_only records handled before found causes.Memory finds refl tt)
+publish_refused records handled source t before after m (publishing.TooManyRecords count) at is (found, finds, end, here, many, same) =
+    subst (λ (p : PassState). IsRefusal records handled before p (causes.TooManyRecords count)) (sym same) (found_only records handled before found (causes.TooManyRecords count) finds refl (many, record { found = found; shown = refl; within = omega (arith, here) }))
+publish_refused records handled source t before after m (publishing.Full held) at is (found, finds, end, here, le, same) =
+    subst (λ (p : PassState). IsRefusal records handled before p (full_cause held p.found)) (sym same) (was_full records handled before found held finds here le)
+publish_refused records handled source t before after m publishing.Memory at is (found, finds, end, same) =
+    subst (λ (p : PassState). IsRefusal records handled before p causes.Memory) (sym same) (found_only records handled before found causes.Memory finds refl tt)
+
+-- the refusal of a declaration of the channel of the message at hand
+pub declare_refused : (records : List Top) (handled : ℕ) (before after : PassState) (d : ChannelDef) (refusal : DeclareRefused) → IsChannelOf records handled d → DeclaredInto before after d (Err refusal) → IsRefusal records handled before after (declare_cause refusal after.found)
+declare_refused records handled before after d (declaring.TooLarge len) is (size, over, same) =
+    subst (λ (p : PassState). IsRefusal records handled before p (causes.TooLarge len)) (sym same)
+    (unchanged records handled before (causes.TooLarge len) refl (inr (d, is, size, over)))
+declare_refused records handled before after d (declaring.Closed place) is (found, finds, end, within, same) =
+    subst (λ (p : PassState). IsRefusal records handled before p (causes.Closed place)) (sym same)
+    (found_only records handled before found (causes.Closed place) finds refl (ended handled before found place ends.Closed end within))
+declare_refused records handled before after d (declaring.Stopped place stop) is (found, finds, end, within, same) =
+    subst (λ (p : PassState). IsRefusal records handled before p (causes.Stopped place stop)) (sym same)
+    (found_only records handled before found (causes.Stopped place stop) finds refl (ended handled before found place (ends.Stopped stop) end within))
+declare_refused records handled before after d (declaring.TooManyRecords count) is (found, finds, end, here, many, same) =
+    subst (λ (p : PassState). IsRefusal records handled before p (causes.TooManyRecords count)) (sym same) (found_only records handled before found (causes.TooManyRecords count) finds refl (many, record { found = found; shown = refl; within = omega (arith, here) }))
+declare_refused records handled before after d (declaring.Full held) is (found, finds, end, here, le, same) =
+    subst (λ (p : PassState). IsRefusal records handled before p (full_cause held p.found)) (sym same) (was_full records handled before found held finds here le)
+declare_refused records handled before after d declaring.TooManySchemas is (found, finds, end, many, same) =
+    subst (λ (p : PassState). IsRefusal records handled before p causes.TooManySchemas) (sym same)
+    (lacked records handled before found d declaring.TooManySchemas causes.TooManySchemas finds refl (d, is, has_last before.lacks (d, declaring.TooManySchemas) []))
+declare_refused records handled before after d declaring.TooManyChannels is (found, finds, end, many, same) =
+    subst (λ (p : PassState). IsRefusal records handled before p causes.TooManyChannels) (sym same)
+    (lacked records handled before found d declaring.TooManyChannels causes.TooManyChannels finds refl (d, is, has_last before.lacks (d, declaring.TooManyChannels) []))
+declare_refused records handled before after d declaring.Memory is (found, finds, end, same) =
+    subst (λ (p : PassState). IsRefusal records handled before p causes.Memory) (sym same) (found_only records handled before found causes.Memory finds refl tt)
+
+-- ---- the limit
+
+-- a call leaves the limit as it was
+pub published_limit : (before after : PassState) (m : NewMessage) (result : Result ℕ PublishRefused) → PublishedBy before after m result → after.limit ≡ before.limit
+published_limit before after m (Ok place) call = ap (λ (p : PassState). p.limit) call.4
+published_limit before after m (Err (publishing.TooLarge len)) call = ap (λ (p : PassState). p.limit) call.2
+published_limit before after m (Err (publishing.Closed at)) call = ap (λ (p : PassState). p.limit) call.4
+published_limit before after m (Err (publishing.Stopped at stop)) call = ap (λ (p : PassState). p.limit) call.4
+published_limit before after m (Err publishing.UnknownChannel) call = ap (λ (p : PassState). p.limit) call.4
+published_limit before after m (Err (publishing.TooManyRecords count)) call = ap (λ (p : PassState). p.limit) call.5
+published_limit before after m (Err (publishing.Full held)) call = ap (λ (p : PassState). p.limit) call.5
+published_limit before after m (Err publishing.Memory) call = ap (λ (p : PassState). p.limit) call.3
+
+pub declared_limit : (before after : PassState) (d : ChannelDef) (result : Result Declared DeclareRefused) → DeclaredInto before after d result → after.limit ≡ before.limit
+declared_limit before after d (Ok given) call = ap (λ (p : PassState). p.limit) call.8
+declared_limit before after d (Err (declaring.TooLarge len)) call = ap (λ (p : PassState). p.limit) call.2
+declared_limit before after d (Err (declaring.Closed at)) call = ap (λ (p : PassState). p.limit) call.4
+declared_limit before after d (Err (declaring.Stopped at stop)) call = ap (λ (p : PassState). p.limit) call.4
+declared_limit before after d (Err (declaring.TooManyRecords count)) call = ap (λ (p : PassState). p.limit) call.5
+declared_limit before after d (Err (declaring.Full held)) call = ap (λ (p : PassState). p.limit) call.5
+declared_limit before after d (Err declaring.TooManySchemas) call = ap (λ (p : PassState). p.limit) call.4
+declared_limit before after d (Err declaring.TooManyChannels) call = ap (λ (p : PassState). p.limit) call.4
+declared_limit before after d (Err declaring.Memory) call = ap (λ (p : PassState). p.limit) call.3

@@ -1,0 +1,145 @@
+-- What a call on the pass leaves of what was said of the members of the lists.
+use Rattle.std.proofs.Common.{◌≡◌, ℕ, zero, suc, ◌+◌, ◌<◌, ◌≤◌, List, [], ◌∷◌, ◌++◌, length, true, false, Some, refl, sym, ap, subst, arith}
+use Rattle.rec_data.specs.declared.owned.Rec.{Rec}
+use Rattle.mcap_model.specs.Places.{At, Has, Each}
+use Rattle.mcap_model.specs.Tops.{Top}
+use Rattle.mcap_model.proofs.Places.{at_none, has_kept}
+use Rattle.record_core.specs.declared.answers.Found.{Found}
+use Rattle.record_core.specs.declared.answers.DeclareRefused.{DeclareRefused}
+use Rattle.record_core.specs.declared.answers.DeclareRefused.TheVariants as declaring
+use Rattle.feed_lane.specs.declared.report.Accepted.{Accepted}
+use Rattle.feed_lane.specs.declared.report.DeclaredAt.{DeclaredAt}
+use Rattle.feed_lane.specs.declared.report.Cause.{Cause}
+use Rattle.feed_lane.specs.declared.report.Cause.TheVariants as causes
+use Rattle.feed_lane.specs.Pass.{FullAt, PassState, placed_from, Finds, Seen}
+use Rattle.feed_lane.specs.Lanes.{Declares, Accepts, LacksId, CauseFits, full_in}
+use Rattle.feed_lane.specs.Steps.{Above, Extends, goes_on, HasId}
+
+pub false_true : false ≡ true → ⊥
+false_true e = cc
+
+-- ---- the numbers that a pass has seen
+
+pub finds_above : (before : PassState) (found : Found) → Finds before found → Above before found.count
+finds_above before found finds = record {
+  own = finds.places;
+  seen = λ m s. let later = (finds.later s.found s.shown).count in omega (arith, s.within, later);
+}
+
+-- the intake was found so, later than before
+pub seen_later : (before after : PassState) (found : Found) → Finds before found → after.found ≡ Some found → (n : ℕ) → Seen before n → Seen after n
+seen_later before after found finds shown n s = record {
+  found = found;
+  shown = shown;
+  within = let later = (finds.later s.found s.shown).count in omega (arith, s.within, later);
+}
+
+-- ---- members
+
+pub declares_on : (records : List Top) (before after : PassState) (d : DeclaredAt) → Extends before after → Declares records before d → Declares records after d
+declares_on records before after d extends was = record {
+  source = was.source;
+  on = was.on;
+  content = was.content;
+  describes = was.describes;
+  named = extends.named (d.channel, was.content) was.named;
+  added = was.added;
+  are = was.are;
+  many = was.many;
+  own = λ k pair at. extends.own pair (was.own k pair at);
+}
+
+pub accepts_on : (records : List Top) (declared : List DeclaredAt) (before after : PassState) (a : Accepted) → Extends before after → Accepts records declared before a → Accepts records declared after a
+accepts_on records declared before after a extends was = record {
+  source = was.source;
+  message = was.message;
+  top = was.top;
+  at = was.at;
+  is = was.is;
+  small = was.small;
+  by = was.by;
+  listed = was.listed;
+  before = was.before;
+  on = was.on;
+  own = extends.own _ was.own;
+}
+
+-- behind more declarations
+pub accepts_listed : (records : List Top) (declared more : List DeclaredAt) (pass : PassState) (a : Accepted) → Accepts records declared pass a → Accepts records (declared ++ more) pass a
+accepts_listed records declared more pass a was = record {
+  source = was.source;
+  message = was.message;
+  top = was.top;
+  at = was.at;
+  is = was.is;
+  small = was.small;
+  by = was.by;
+  listed = has_kept declared more was.by was.listed;
+  before = was.before;
+  on = was.on;
+  own = was.own;
+}
+
+pub has_id_listed : (records : List Top) (declared more : List DeclaredAt) (source id : ℕ) → HasId records declared source id → HasId records (declared ++ more) source id
+has_id_listed records declared more source id was = record {
+  by = was.by;
+  listed = has_kept declared more was.by was.listed;
+  on = was.on;
+  is = was.is;
+}
+
+lacks_on : (records : List Top) (before after : PassState) (index : ℕ) (refusal : DeclareRefused) → Extends before after → LacksId records before index refusal → LacksId records after index refusal
+lacks_on records before after index refusal extends was = (was.0, was.1, extends.lacks (was.0, refusal) was.2)
+
+-- a cause behind which the lane goes on
+pub cause_on : (records : List Top) (handled later : ℕ) (before after : PassState) (index : ℕ) (cause : Cause) → goes_on cause ≡ true → Extends before after → CauseFits records handled before index cause → CauseFits records later after index cause
+cause_on records handled later before after index (causes.Full held from to) on extends was = (extends.fulls _ was.0, subst (λ (n : ℕ). n ≤ held) (sym extends.limit) was.1, was.2)
+cause_on records handled later before after index (causes.TooLarge len) on extends was = was
+cause_on records handled later before after index (causes.Closed at) on extends was = absurd (false_true on)
+cause_on records handled later before after index (causes.Stopped at stop) on extends was = absurd (false_true on)
+cause_on records handled later before after index causes.TooManySchemas on extends was = lacks_on records before after index declaring.TooManySchemas extends was
+cause_on records handled later before after index causes.TooManyChannels on extends was = lacks_on records before after index declaring.TooManyChannels extends was
+cause_on records handled later before after index (causes.TooManyRecords count) on extends was = (was.0, extends.seen count was.1)
+cause_on records handled later before after index causes.Memory on extends was = was
+
+-- the pass shows the full buffer of a cause
+pub full_shown : (records : List Top) (handled : ℕ) (pass : PassState) (index : ℕ) (cause : Cause) (n : ℕ) (full : FullAt) → CauseFits records handled pass index cause → At (full_in cause) n full → Has pass.fulls full
+full_shown records handled pass index (causes.Full held from to) zero full was at = subst (Has pass.fulls) (some_same at) was.0
+  where
+    some_same : {x y : FullAt} → Some x ≡ Some y → x ≡ y
+    some_same e = cc
+full_shown records handled pass index (causes.Full held from to) (suc n) full was at = absurd (at_none n full at)
+full_shown records handled pass index (causes.TooLarge len) n full was at = absurd (at_none n full at)
+full_shown records handled pass index (causes.Closed place) n full was at = absurd (at_none n full at)
+full_shown records handled pass index (causes.Stopped place stop) n full was at = absurd (at_none n full at)
+full_shown records handled pass index causes.TooManySchemas n full was at = absurd (at_none n full at)
+full_shown records handled pass index causes.TooManyChannels n full was at = absurd (at_none n full at)
+full_shown records handled pass index (causes.TooManyRecords count) n full was at = absurd (at_none n full at)
+full_shown records handled pass index causes.Memory n full was at = absurd (at_none n full at)
+
+-- ---- places
+
+-- records whose places are all below one
+placed_below : (first : ℕ) (rs : List Rec) (n : ℕ) → first ≤ n → Each (λ pair. pair.0 < n) (placed_from first rs) → first + length rs ≤ n
+placed_below first [] n le each = omega (arith, le)
+placed_below first (r ∷ rs) n le each =
+    let here = each 0 (first, r) refl in
+    let more = placed_below (first + 1) rs n (omega (arith, here)) (λ k pair at. each (suc k) pair at) in
+    omega (arith, more)
+
+-- where each of them stands
+pub placed_at : (first : ℕ) (rs : List Rec) (k : ℕ) (pair : ℕ × Rec) → At (placed_from first rs) k pair → (pair.0 ≡ first + k) × (k < length rs)
+placed_at first [] k pair at = absurd (at_none k pair at)
+placed_at first (r ∷ rs) zero pair at = (omega (arith, ap (λ (p : ℕ × Rec). p.0) (some_same at)), omega arith)
+  where
+    some_same : {x y : ℕ × Rec} → Some x ≡ Some y → x ≡ y
+    some_same e = cc
+placed_at first (r ∷ rs) (suc k) pair at = let t = placed_at (first + 1) rs k pair at in (omega (arith, t.0), omega (arith, t.1))
+
+pub declared_above : (records : List Top) (pass : PassState) (d : DeclaredAt) (n : ℕ) → Declares records pass d → Seen pass d.first → Above pass n → d.first + d.count ≤ n
+declared_above records pass d n was seen above =
+    let below = placed_below d.first was.added n (above.seen d.first seen) (λ k pair at. let own = was.own k pair at in above.own own.0 pair own.1) in
+    omega (arith, below, was.many)
+
+pub accepted_above : (records : List Top) (declared : List DeclaredAt) (pass : PassState) (a : Accepted) (n : ℕ) → Accepts records declared pass a → Above pass n → a.place < n
+accepted_above records declared pass a n was above = above.own was.own.0 _ was.own.1

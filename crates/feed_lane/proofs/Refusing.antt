@@ -1,0 +1,106 @@
+-- The message at hand is refused.
+use Rattle.std.proofs.Common.{◌≡◌, ◌⊎◌, ℕ, ◌+◌, ◌<◌, List, [], ◌∷◌, ◌++◌, length, true, false, refl, sym, ap, subst, inl, inr, ◌∙◌, arith}
+use Rattle.std.specs.Prelude.{AllPairs}
+use Rattle.std.proofs.lemmas.Bool.{cases_lt}
+use Rattle.std.proofs.lemmas.List.{append-nil, length-append}
+use Rattle.std.proofs.lemmas.Grind.{flat_map-append}
+use Rattle.rec_data.specs.declared.owned.Rec.{Rec}
+use Rattle.mcap_model.specs.Places.{At, Has, Each}
+use Rattle.mcap_model.specs.Tops.{Top}
+use Rattle.mcap_model.proofs.Places.{at_kept, at_last, at_more, pairs_more}
+use Rattle.mcap_model.proofs.Lists.{at_either}
+use Rattle.feed_lane.specs.declared.report.Refused.{Refused}
+use Rattle.feed_lane.specs.declared.report.Cause.{Cause}
+use Rattle.feed_lane.specs.Pass.{FullAt, PassState}
+use Rattle.feed_lane.specs.Lanes.{Lists, messages, CauseFits, full_in, fulls_of, InTurnWith, ListsFit}
+use Rattle.feed_lane.specs.Steps.{goes_on, IsRefusal, Stands, LastEnds}
+use Rattle.feed_lane.proofs.Members.{declares_on, accepts_on, cause_on, declared_above, accepted_above}
+
+abbrev pub refused_at : ℕ → Cause → Refused
+refused_at index cause = record { index = index; cause = cause }
+
+-- the lists with one more refusal
+abbrev pub with_refused : Lists → Refused → Lists
+with_refused lists r = record { accepted = lists.accepted; declared = lists.declared; refused = lists.refused ++ r ∷ [] }
+
+at_in : {X : Type 0} (xs ys : List X) (n : ℕ) (x : X) → At (xs ++ ys) n x → At xs n x ⊎ Has ys x
+at_in xs ys n x at = elim (at_either xs ys n x at) [
+  | inl old ↦ inl old
+  | inr later ↦ inr (later.0, later.2)
+]
+
+pub refused_fits : (records : List Top) (handled : ℕ) (ids : List ℕ) (lists : Lists) (before after : PassState) (cause : Cause) → Stands records handled (handled + 1) ids lists before → IsRefusal records handled before after cause → handled < length (messages records) → ListsFit records (handled + 1) (handled + 1) (with_refused lists (refused_at handled cause)) after
+refused_fits records handled ids lists before after cause stands is some =
+    let was = stands.fits in
+    let new = refused_at handled cause in
+    record {
+      accepts = λ k a at. accepts_on records lists.declared before after a is.extends (was.accepts k a at);
+      declares = λ k d at. declares_on records before after d is.extends (was.declares k d at);
+      refuses = λ k r at. elim (at_more lists.refused new k r at) [
+        | inl old ↦ cause_on records handled (handled + 1) before after r.index r.cause (stands.going k r old) is.extends (was.refuses k r old)
+        | inr last ↦ subst (λ (x : Refused). CauseFits records (handled + 1) after x.index x.cause) (sym last.1) is.fits
+      ];
+      once = was.once;
+      given = λ k pair at. was.given k pair (subst (λ (l : List (ℕ × Rec)). At l k pair) is.own at);
+      own_rise = subst (AllPairs (λ (p q : ℕ × Rec). p.0 < q.0)) (sym is.own) was.own_rise;
+      accepted_rise = was.accepted_rise;
+      declared_rise = was.declared_rise;
+      refused_rise = pairs_more (λ (r s : Refused). r.index < s.index) lists.refused new was.refused_rise (λ k s at. was.refused_below k s at);
+      in_turn = was.in_turn;
+      fulls =
+          flat_map-append (λ (r : Refused). full_in r.cause) lists.refused (new ∷ [])
+          ∙ ap (λ (l : List FullAt). fulls_of lists.refused ++ l) (append-nil (full_in cause))
+          ∙ ap (λ (l : List FullAt). l ++ full_in cause) was.fulls
+          ∙ sym is.fulls;
+      accepted_between = λ j k r a at_j at_k. elim (at_more lists.refused new j r at_j) [
+        | inl old ↦ was.accepted_between j k r a old at_k
+        | inr last ↦ subst (λ (x : Refused). Each (λ full. InTurnWith full x.index a.index a.place (a.place + 1)) (full_in x.cause)) (sym last.1)
+            (λ n full at. (λ lt. let below = accepted_above records lists.declared before a full.to (was.accepts k a at_k) (is.above n full at) in omega (arith, below), λ lt. absurd (let below = was.accepted_below k a at_k in omega (arith, lt, below))))
+      ];
+      declared_between = λ j k r d at_j at_k. elim (at_more lists.refused new j r at_j) [
+        | inl old ↦ was.declared_between j k r d old at_k
+        | inr last ↦ subst (λ (x : Refused). Each (λ full. InTurnWith full x.index d.index d.first (d.first + d.count)) (full_in x.cause)) (sym last.1)
+            (λ n full at. (λ lt. declared_above records before d full.to (was.declares k d at_k) (stands.firsts k d at_k) (is.above n full at), λ lt. absurd (let below = was.declared_below k d at_k in omega (arith, lt, below))))
+      ];
+      handled_some = omega (arith, some);
+      count = omega (arith, was.count, length-append lists.refused (new ∷ []));
+      listed = λ index lt. elim (cases_lt index handled) [
+        | inl old ↦ elim (was.listed index old) [
+          | inl one ↦ inl one
+          | inr (r, has, same) ↦ inr (r, (has.0, at_kept lists.refused (new ∷ []) has.0 r has.1), same)
+        ]
+        | inr last ↦ inr (new, (length lists.refused, at_last lists.refused new []), omega (arith, lt, last))
+      ];
+      accepted_below = λ k a at. let below = was.accepted_below k a at in omega (arith, below);
+      refused_below = λ k r at. elim (at_more lists.refused new k r at) [
+        | inl old ↦ let below = was.refused_below k r old in omega (arith, below)
+        | inr last ↦ let same = ap (λ (x : Refused). x.index) last.1 in omega (arith, same)
+      ];
+      declared_below = was.declared_below;
+      apart = λ j k a r at_j at_k same. elim (at_more lists.refused new k r at_k) [
+        | inl old ↦ was.apart j k a r at_j old same
+        | inr last ↦ let below = was.accepted_below j a at_j in let here = ap (λ (x : Refused). x.index) last.1 in absurd (omega (arith, below, here, same))
+      ];
+    }
+
+-- the lane goes on
+pub refused_stands : (records : List Top) (handled : ℕ) (ids : List ℕ) (lists : Lists) (before after : PassState) (cause : Cause) → Stands records handled (handled + 1) ids lists before → IsRefusal records handled before after cause → handled < length (messages records) → goes_on cause ≡ true → Stands records (handled + 1) (handled + 1) ids (with_refused lists (refused_at handled cause)) after
+refused_stands records handled ids lists before after cause stands is some on =
+    let new = refused_at handled cause in
+    record {
+      fits = refused_fits records handled ids lists before after cause stands is some;
+      ids_stand = stands.ids_stand;
+      going = λ k r at. elim (at_more lists.refused new k r at) [
+        | inl old ↦ stands.going k r old
+        | inr last ↦ subst (λ (x : Refused). goes_on x.cause ≡ true) (sym last.1) on
+      ];
+      firsts = λ k d at. is.extends.seen d.first (stands.firsts k d at);
+      tos = λ k full at. elim (at_in before.fulls (full_in cause) k full (subst (λ (l : List FullAt). At l k full) is.fulls at)) [
+        | inl old ↦ is.extends.seen full.to (stands.tos k full old)
+        | inr (n, last) ↦ is.tos n full last
+      ];
+    }
+
+-- the lane is over
+pub refused_last : (handled : ℕ) (lists : Lists) (cause : Cause) → goes_on cause ≡ false → LastEnds (handled + 1) (lists.refused ++ refused_at handled cause ∷ [])
+refused_last handled lists cause off = (refused_at handled cause, (length lists.refused, at_last lists.refused (refused_at handled cause) []), refl, off)

@@ -1,0 +1,100 @@
+-- What a lane takes of a feed, record by record, and what its report says at the end.
+use Rattle.std.specs.Prelude.{◌≡◌, ℕ, ◌+◌, ◌^◌, ◌<◌, List, ◌++◌, length, filter, Result, Ok, Err}
+use Rattle.mcap_io.specs.Outside.{SourceState}
+use Rattle.mcap_model.specs.Tops.{Top, flat}
+use Rattle.mcap_model.specs.Rules.{is_unknown}
+use Rattle.mcap_model.specs.Kept.{reading_limits, Good, at_end, grammar, compressed, beyond}
+use Rattle.mcap_model.specs.Written.{passed}
+use Rattle.mcap_scan.specs.declared.answers.ScanRefused.{ScanRefused}
+use Rattle.mcap_scan.specs.declared.answers.ScanRefused.TheVariants as refusals
+use Rattle.mcap_scan.specs.Sources.{ReadTo}
+use Rattle.mcap_scan.specs.Scanning.{HaltsSo, FaultStands, MemoryStands}
+use Rattle.feed_lane.specs.declared.report.Refused.{Refused}
+use Rattle.feed_lane.specs.declared.report.FeedReport.{FeedReport}
+use Rattle.feed_lane.specs.declared.report.FeedEnd.{FeedEnd}
+use Rattle.feed_lane.specs.declared.report.FeedEnd.TheVariants as feed_ends
+use Rattle.feed_lane.specs.declared.lane.Lane.{Lane}
+use Rattle.feed_lane.specs.declared.lane.Over.{Over}
+use Rattle.feed_lane.specs.declared.lane.Over.TheVariants as overs
+use Rattle.feed_lane.specs.Pass.{PassState}
+use Rattle.feed_lane.specs.Lanes.{Lists, messages, LaneFits}
+use Rattle.feed_lane.specs.Steps.{LaneStands, LaneOver, LastEnds}
+
+-- ---- records
+
+-- the messages of the records that aren't handled yet are those of these
+pub record Waits (records : List Top) (handled : ℕ) (more : List Top) : Type 0 where
+  pub done : List Top
+  pub split : messages records ≡ done ++ messages more
+  pub many : length done ≡ handled
+
+-- what a record comes to, behind which these still wait
+abbrev pub RecordTaken : Lane → List Top → List Top → PassState → Result Unit Over → Type 0
+RecordTaken lane records more pass (Ok it) = (handled : ℕ) × LaneStands lane records handled pass × Waits records handled more
+RecordTaken lane records more pass (Err over) = (handled : ℕ) × LaneOver lane records handled pass over
+
+-- how many of the records inside a chunk are passed over
+abbrev pub unknown_in : List Top → ℕ
+unknown_in records = length (filter (λ u. is_unknown u.op) records)
+
+-- so many were counted, where the count doesn't pass the end of its type
+abbrev pub Counts : ℕ → ℕ → ℕ → Type 0
+Counts before now n = before + n < 2 ^ 64 → now ≡ before + n
+
+-- ---- ends
+
+-- what a refused reading says of a feed
+abbrev pub refused_end : ScanRefused → FeedEnd
+refused_end (refusals.Fault faults) = feed_ends.Fault faults
+refused_end (refusals.Grammar offset rule) = feed_ends.Grammar offset
+refused_end (refusals.Compressed offset name) = feed_ends.Compressed offset name
+refused_end (refusals.Limit offset) = feed_ends.Limit offset
+refused_end refusals.Memory = feed_ends.Memory
+
+abbrev pub over_end : Over → FeedEnd
+over_end overs.Memory = feed_ends.Memory
+over_end overs.Ended = feed_ends.Ended
+
+-- these records were read, and the source has what follows them
+pub record ReadSoFar (before now : SourceState) (tops : List Top) : Type 0 where
+  pub still : now.faults ≡ before.faults
+  pub good : Good reading_limits tops
+  pub read : ReadTo before now tops
+
+-- The source as it was before and is now, and the records that were read: where the reading halted, whether the source
+-- failed or memory lacked, or that the records so far were read.
+abbrev pub FeedEnds : SourceState → SourceState → List Top → FeedEnd → Type 0
+FeedEnds before now tops feed_ends.Done = (offset : ℕ) × HaltsSo before now tops (at_end offset)
+FeedEnds before now tops (feed_ends.Grammar offset) = (rule : ℕ) × HaltsSo before now tops (grammar offset rule)
+FeedEnds before now tops (feed_ends.Compressed offset name) = HaltsSo before now tops (compressed offset name)
+FeedEnds before now tops (feed_ends.Limit offset) = HaltsSo before now tops (beyond offset)
+FeedEnds before now tops (feed_ends.Fault faults) = FaultStands faults before now tops
+FeedEnds before now tops feed_ends.Memory = MemoryStands before now tops
+FeedEnds before now tops feed_ends.Ended = ReadSoFar before now tops
+
+-- All messages of the records were handled, and so many were passed over.
+abbrev pub AllTaken : List Top → ℕ → ℕ → Type 0
+AllTaken tops handled count = (handled ≡ length (messages (flat tops))) × (count ≡ passed tops)
+
+-- so it is unless memory lacked, or the intake had ended and refused the last message that was handled
+abbrev pub Takes : List Top → ℕ → ℕ → List Refused → FeedEnd → Type 0
+Takes tops handled count refused feed_ends.Done = AllTaken tops handled count
+Takes tops handled count refused (feed_ends.Grammar offset) = AllTaken tops handled count
+Takes tops handled count refused (feed_ends.Compressed offset name) = AllTaken tops handled count
+Takes tops handled count refused (feed_ends.Limit offset) = AllTaken tops handled count
+Takes tops handled count refused (feed_ends.Fault faults) = AllTaken tops handled count
+Takes tops handled count refused feed_ends.Memory = Unit {0}
+Takes tops handled count refused feed_ends.Ended = LastEnds handled refused
+
+-- the lists of a report
+abbrev pub reported : FeedReport → Lists
+reported report = record { accepted = report.accepted.items; declared = report.declared.items; refused = report.refused.items }
+
+-- A report on a feed, of the source as it was before and is now and of the pass as it is now: records that were read, how
+-- many of their messages were handled, how it ended, and that the lists fit.
+pub record Reports (before now : SourceState) (pass : PassState) (report : FeedReport) : Type 0 where
+  pub tops : List Top
+  pub handled : ℕ
+  pub ends : FeedEnds before now tops report.end
+  pub takes : Takes tops handled report.passed report.refused.items report.end
+  pub fits : LaneFits (flat tops) handled (reported report) pass

@@ -1,0 +1,208 @@
+-- What the lists of a feed's report say, of the records that its reading kept and of the pass of its lane.
+use Rattle.std.specs.Prelude.{◌≡◌, ◌⊎◌, ℕ, ◌+◌, ◌^◌, ◌<◌, ◌≤◌, List, [], ◌∷◌, length, filter, AllPairs, ◌==◌, Option, Some, None, IsPermutation}
+use Rattle.std.specs.List.{flat_map}
+use Rattle.rec_data.specs.declared.owned.Rec.{Rec}
+use Rattle.rec_data.specs.declared.channel.ChannelDef.{ChannelDef}
+use Rattle.rec_data.specs.declared.schema.SchemaDef.{SchemaDef}
+use Rattle.mcap_model.specs.declared.ends.End.{End}
+use Rattle.mcap_model.specs.declared.ends.End.TheVariants as ends
+use Rattle.mcap_model.specs.Places.{At, Has, Each}
+use Rattle.mcap_model.specs.Tops.{Top}
+use Rattle.mcap_model.specs.Fields.{IsSchema, ChannelFields, MessageFields, IsMessage}
+use Rattle.mcap_model.specs.History.{message_of}
+use Rattle.mcap_model.specs.Written.{SourceShows}
+use Rattle.record_core.specs.Ids.{fields_of_schema}
+use Rattle.record_core.specs.Desk.{declared_size}
+use Rattle.record_core.specs.declared.answers.Found.{Found}
+use Rattle.record_core.specs.declared.answers.DeclareRefused.{DeclareRefused}
+use Rattle.record_core.specs.declared.answers.DeclareRefused.TheVariants as declaring
+use Rattle.feed_lane.specs.declared.report.Accepted.{Accepted}
+use Rattle.feed_lane.specs.declared.report.DeclaredAt.{DeclaredAt}
+use Rattle.feed_lane.specs.declared.report.Refused.{Refused}
+use Rattle.feed_lane.specs.declared.report.Cause.{Cause}
+use Rattle.feed_lane.specs.declared.report.Cause.TheVariants as causes
+use Rattle.feed_lane.specs.Pass.{FullAt, PassState, Seen, placed_from, AreAdded}
+
+-- the lists of a report
+pub record Lists : Type 0 where
+  pub accepted : List Accepted
+  pub declared : List DeclaredAt
+  pub refused : List Refused
+
+-- the messages among flat records, in their order: the first one has index 0
+abbrev pub messages : List Top → List Top
+messages records = filter (λ t. t.op == 5) records
+
+-- the message of that index is on the feed's channel of that id
+pub record IsOn (records : List Top) (index channel : ℕ) : Type 0 where
+  pub top : Top
+  pub message : MessageFields
+  pub at : At (messages records) index top
+  pub is : IsMessage top channel message
+
+-- ---- declarations
+
+-- the record of that place shows a Schema of that id with the fields of the declaration's schema
+pub record ShowsDef (records : List Top) (id : ℕ) (s : SchemaDef) : Type 0 where
+  pub place : ℕ
+  pub top : Top
+  pub at : At records place top
+  pub is : IsSchema top id (fields_of_schema s)
+
+-- a schema of the feed, as a declaration has it: none for 0, else with the fields of the Schema of that id
+abbrev pub SchemaShown : List Top → ℕ → Option SchemaDef → Type 0
+SchemaShown records id None = id ≡ 0
+SchemaShown records id (Some s) = ShowsDef records id s
+
+-- the declaration has the content of the feed's channel of that id
+pub record Describes (records : List Top) (channel : ℕ) (d : ChannelDef) : Type 0 where
+  pub shown : ChannelFields
+  pub known : SourceShows records channel shown
+  pub topic : d.topic ≡ shown.topic
+  pub encoding : d.message_encoding ≡ shown.encoding
+  pub metadata : IsPermutation shown.metadata d.metadata
+  pub schema : SchemaShown records shown.schema d.schema
+
+-- a declaration for a message's channel: it got this id, and added these records
+pub record Declares (records : List Top) (pass : PassState) (d : DeclaredAt) : Type 0 where
+  pub source : ℕ
+  pub on : IsOn records d.index source
+  pub content : ChannelDef
+  pub describes : Describes records source content
+  pub named : Has pass.named (d.channel, content)
+  pub added : List Rec
+  pub are : AreAdded content d.channel added
+  pub many : d.count ≡ length added
+  pub own : Each (Has pass.own) (placed_from d.first added)
+
+-- ---- recorded messages
+
+-- a recorded message stands at its place, on the channel that the declaration for its channel of the feed got
+pub record Accepts (records : List Top) (declared : List DeclaredAt) (pass : PassState) (a : Accepted) : Type 0 where
+  pub source : ℕ
+  pub message : MessageFields
+  pub top : Top
+  pub at : At (messages records) a.index top
+  pub is : IsMessage top source message
+  pub small : length message.payload ≤ 33554432
+  pub by : DeclaredAt
+  pub listed : Has declared by
+  pub before : by.index ≤ a.index
+  pub on : IsOn records by.index source
+  pub own : Has pass.own (a.place, message_of by.channel message)
+
+-- ---- refused messages
+
+-- that message has more data than a message may have
+pub record IsLong (records : List Top) (index len : ℕ) : Type 0 where
+  pub source : ℕ
+  pub message : MessageFields
+  pub top : Top
+  pub at : At (messages records) index top
+  pub is : IsMessage top source message
+  pub size : len ≡ length message.payload
+  pub over : 33554432 < len
+
+-- a declaration of that message's channel has this content
+pub record IsChannelOf (records : List Top) (index : ℕ) (content : ChannelDef) : Type 0 where
+  pub source : ℕ
+  pub on : IsOn records index source
+  pub describes : Describes records source content
+
+-- the records of that message's channel are longer than those of a declaration may be
+abbrev pub IsWide : List Top → ℕ → ℕ → Type 0
+IsWide records index len = (content : ChannelDef) × IsChannelOf records index content × (len ≡ declared_size content) × (1048576 < len)
+
+-- no id was left for that message's channel
+abbrev pub LacksId : List Top → PassState → ℕ → DeclareRefused → Type 0
+LacksId records pass index refusal = (content : ChannelDef) × IsChannelOf records index content × Has pass.lacks (content, refusal)
+
+-- The last of the handled messages was refused since the intake had ended.
+pub record EndsWith (handled : ℕ) (pass : PassState) (index at : ℕ) (end : End) : Type 0 where
+  pub last : index + 1 ≡ handled
+  pub found : Found
+  pub shown : pass.found ≡ Some found
+  pub ended : found.end ≡ Some end
+  pub within : at ≤ found.count
+
+-- what the cause of a refusal says of the message of that index, of its channel and of the pass
+abbrev pub CauseFits : List Top → ℕ → PassState → ℕ → Cause → Type 0
+CauseFits records handled pass index (causes.Full held from to) = Has pass.fulls (record { from = from; to = to; held = held }) × (pass.limit ≤ held) × (from ≤ to)
+CauseFits records handled pass index (causes.TooLarge len) = IsLong records index len ⊎ IsWide records index len
+CauseFits records handled pass index (causes.Closed at) = EndsWith handled pass index at ends.Closed
+CauseFits records handled pass index (causes.Stopped at stop) = EndsWith handled pass index at (ends.Stopped stop)
+CauseFits records handled pass index causes.TooManySchemas = LacksId records pass index declaring.TooManySchemas
+CauseFits records handled pass index causes.TooManyChannels = LacksId records pass index declaring.TooManyChannels
+CauseFits records handled pass index (causes.TooManyRecords count) = (2 ^ 48 ≤ count) × Seen pass count
+CauseFits records handled pass index causes.Memory = Unit {0}
+
+-- where the buffer was full, if that is the cause
+abbrev pub full_in : Cause → List FullAt
+full_in (causes.Full held from to) = (record { from = from; to = to; held = held }) ∷ []
+full_in (causes.TooLarge len) = []
+full_in (causes.Closed at) = []
+full_in (causes.Stopped at stop) = []
+full_in causes.TooManySchemas = []
+full_in causes.TooManyChannels = []
+full_in (causes.TooManyRecords count) = []
+full_in causes.Memory = []
+
+abbrev pub fulls_of : List Refused → List FullAt
+fulls_of refused = flat_map (λ r. full_in r.cause) refused
+
+-- Records that a message added, which stand from one place to before another: those of an earlier message stand before
+-- the place behind a full buffer, and those of a later one from there on.
+abbrev pub InTurnWith : FullAt → ℕ → ℕ → ℕ → ℕ → Type 0
+InTurnWith full index other first behind = (other < index → behind ≤ full.to) × (index < other → full.to ≤ first)
+
+-- ---- all lists
+
+-- the place is that of a recorded message or of a record that a declaration added
+abbrev pub IsGiven : Lists → ℕ → Type 0
+IsGiven lists place = ((a : Accepted) × Has lists.accepted a × (a.place ≡ place))
+    ⊎ ((d : DeclaredAt) × Has lists.declared d × (d.first ≤ place) × (place < d.first + d.count))
+
+-- the message was recorded or refused
+abbrev pub IsListed : Lists → ℕ → Type 0
+IsListed lists index = ((a : Accepted) × Has lists.accepted a × (a.index ≡ index))
+    ⊎ ((r : Refused) × Has lists.refused r × (r.index ≡ index))
+
+-- The lists fit the records and the pass, where the first `handled` messages were recorded or refused, and declarations
+-- were made for messages below the bound.
+pub record ListsFit (records : List Top) (handled bound : ℕ) (lists : Lists) (pass : PassState) : Type 0 where
+  -- each list says of each of its members what it is
+  pub accepts : Each (Accepts records lists.declared pass) lists.accepted
+  pub declares : Each (Declares records pass) lists.declared
+  pub refuses : Each (λ r. CauseFits records handled pass r.index r.cause) lists.refused
+  -- a channel of the feed is declared once
+  pub once : (j k : ℕ) (d e : DeclaredAt) (source : ℕ) → At lists.declared j d → At lists.declared k e → IsOn records d.index source → IsOn records e.index source → j ≡ k
+  -- each place that the pass got is given; it got each once
+  pub given : Each (λ pair. IsGiven lists pair.0) pass.own
+  pub own_rise : AllPairs (λ p q. p.0 < q.0) pass.own
+  -- places rise with the index
+  pub accepted_rise : AllPairs (λ a b. (a.index < b.index) × (a.place < b.place)) lists.accepted
+  pub declared_rise : AllPairs (λ d e. (d.index < e.index) × (d.first + d.count ≤ e.first)) lists.declared
+  pub refused_rise : AllPairs (λ r s. r.index < s.index) lists.refused
+  -- A declaration's records stand behind the messages before its own, and before its own and later ones; so does the
+  -- `first` of one that added none.
+  pub in_turn : (j k : ℕ) (d : DeclaredAt) (a : Accepted) → At lists.declared j d → At lists.accepted k a
+      → (d.index ≤ a.index → d.first + d.count ≤ a.place) × (a.index < d.index → a.place < d.first)
+  -- the refusals for a full buffer are those that the pass shows, in their order, one each, and between the places
+  pub fulls : fulls_of lists.refused ≡ pass.fulls
+  pub accepted_between : (j k : ℕ) (r : Refused) (a : Accepted) → At lists.refused j r → At lists.accepted k a
+      → Each (λ full. InTurnWith full r.index a.index a.place (a.place + 1)) (full_in r.cause)
+  pub declared_between : (j k : ℕ) (r : Refused) (d : DeclaredAt) → At lists.refused j r → At lists.declared k d
+      → Each (λ full. InTurnWith full r.index d.index d.first (d.first + d.count)) (full_in r.cause)
+  -- each of the first messages was recorded or refused, and no other
+  pub handled_some : handled ≤ length (messages records)
+  pub count : handled ≡ length lists.accepted + length lists.refused
+  pub listed : (index : ℕ) → index < handled → IsListed lists index
+  pub accepted_below : Each (λ a. a.index < handled) lists.accepted
+  pub refused_below : Each (λ r. r.index < handled) lists.refused
+  pub declared_below : Each (λ d. d.index < bound) lists.declared
+  -- and none both
+  pub apart : (j k : ℕ) (a : Accepted) (r : Refused) → At lists.accepted j a → At lists.refused k r → a.index ≡ r.index → ⊥
+
+-- the same, of a lane that has no message at hand
+abbrev pub LaneFits : List Top → ℕ → Lists → PassState → Type 0
+LaneFits records handled lists pass = ListsFit records handled handled lists pass

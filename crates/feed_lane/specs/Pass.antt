@@ -1,0 +1,144 @@
+-- What a pass shows of its calls on the intake, and what each call adds to that.
+use Rattle.std.specs.Prelude.{◌≡◌, ◌⊎◌, ℕ, ◌+◌, ◌^◌, ◌<◌, ◌≤◌, List, [], ◌∷◌, ◌++◌, length, Option, Some, None, Result, Ok, Err}
+use Rattle.rec_data.specs.declared.owned.Rec.{Rec}
+use Rattle.rec_data.specs.declared.channel.ChannelDef.{ChannelDef}
+use Rattle.mcap_model.specs.declared.ends.End.{End}
+use Rattle.mcap_model.specs.declared.ends.End.TheVariants.{Closed, Stopped}
+use Rattle.mcap_model.specs.Places.{Each}
+use Rattle.mcap_model.specs.History.{schema_of, channel_of, message_of}
+use Rattle.record_core.specs.Ids.{fields_of_schema, fields_with}
+use Rattle.record_core.specs.Desk.{declared_size, fields_of_message}
+use Rattle.record_core.specs.declared.answers.Declared.{Declared}
+use Rattle.record_core.specs.declared.answers.Found.{Found}
+use Rattle.record_core.specs.declared.answers.NewMessage.{NewMessage}
+use Rattle.record_core.specs.declared.answers.PublishRefused.{PublishRefused}
+use Rattle.record_core.specs.declared.answers.PublishRefused.TheVariants as publishing
+use Rattle.record_core.specs.declared.answers.DeclareRefused.{DeclareRefused}
+use Rattle.record_core.specs.declared.answers.DeclareRefused.TheVariants as declaring
+
+-- where a buffer was full: it held the records from one place to before another, of so many bytes
+pub record FullAt : Type 0 where
+  pub from : ℕ
+  pub to : ℕ
+  pub held : ℕ
+
+-- The records that the pass added, each with its place; the ids that its declarations got; where it met a full buffer;
+-- the declarations that no id was left for; how the intake stood in its last call, before what that did; and how many
+-- bytes a buffer may hold before it is full.
+pub record PassState : Type 0 where
+  pub own : List (ℕ × Rec)
+  pub named : List (ℕ × ChannelDef)
+  pub fulls : List FullAt
+  pub lacks : List (ChannelDef × DeclareRefused)
+  pub found : Option Found
+  pub limit : ℕ
+
+abbrev pub no_calls : ℕ → PassState
+no_calls limit = record { own = []; named = []; fulls = []; lacks = []; found = None; limit = limit }
+
+-- the pass found the intake with at least so many records
+pub record Seen (pass : PassState) (n : ℕ) : Type 0 where
+  pub found : Found
+  pub shown : pass.found ≡ Some found
+  pub within : n ≤ found.count
+
+-- records from a place on, each with its place
+abbrev pub placed_from : ℕ → List Rec → List (ℕ × Rec)
+placed_from place [] = []
+placed_from place (r ∷ rs) = (place, r) ∷ placed_from (place + 1) rs
+
+-- ---- a call
+
+-- The intake stands later than it was found before: no number has fallen but that of the bytes held, and an end stays.
+pub record IsLater (before now : Found) : Type 0 where
+  pub taken : before.taken ≤ now.taken
+  pub count : before.count ≤ now.count
+  pub schemas : before.schemas ≤ now.schemas
+  pub channels : before.channels ≤ now.channels
+  pub end : (end : End) → before.end ≡ Some end → now.end ≡ Some end
+
+-- The intake was found so, later than before: it has more records than each place that the pass had, and gave each id
+-- that the pass had.
+pub record Finds (before : PassState) (found : Found) : Type 0 where
+  pub places : Each (λ pair. pair.0 < found.count) before.own
+  pub ids : Each (λ pair. (1 ≤ pair.0) × (pair.0 ≤ found.channels)) before.named
+  pub later : (last : Found) → before.found ≡ Some last → IsLater last found
+  pub within : found.taken ≤ found.count
+
+-- the pass shows the same, but for how it found the intake
+abbrev pub with_found : PassState → Found → PassState
+with_found before found = record before { found = Some found }
+
+abbrev pub full_at : Found → FullAt
+full_at found = record { from = found.taken; to = found.count; held = found.held }
+
+abbrev pub with_full : PassState → Found → PassState
+with_full before found = record before { fulls = before.fulls ++ full_at found ∷ []; found = Some found }
+
+-- ---- publishing
+
+abbrev pub message_record : NewMessage → Rec
+message_record m = message_of m.channel (fields_of_message m)
+
+abbrev pub with_message : PassState → Found → NewMessage → PassState
+with_message before found m = record before { own = before.own ++ (found.count, message_record m) ∷ []; found = Some found }
+
+-- the intake may take a message on that channel
+pub record MayTake (before : PassState) (found : Found) (channel : ℕ) : Type 0 where
+  pub finds : Finds before found
+  pub unended : found.end ≡ None
+  pub room : found.held < before.limit
+  pub few : found.count < 2 ^ 48
+  pub known : (1 ≤ channel) × (channel ≤ found.channels)
+
+-- A message was accepted at a place, or refused for a reason by which the intake was found. A message of too much data is
+-- refused without a look at the intake.
+abbrev pub PublishedBy : PassState → PassState → NewMessage → Result ℕ PublishRefused → Type 0
+PublishedBy before after m (Ok place) = (found : Found) × MayTake before found m.channel × (length m.payload.now ≤ 33554432) × (place ≡ found.count)
+    × (after ≡ with_message before found m)
+PublishedBy before after m (Err (publishing.TooLarge len)) = (len ≡ length m.payload.now) × (33554432 < len) × (after ≡ before)
+PublishedBy before after m (Err (publishing.Closed at)) = (found : Found) × Finds before found × (found.end ≡ Some Closed) × (at ≤ found.count)
+    × (after ≡ with_found before found)
+PublishedBy before after m (Err (publishing.Stopped at stop)) = (found : Found) × Finds before found × (found.end ≡ Some (Stopped stop)) × (at ≤ found.count)
+    × (after ≡ with_found before found)
+PublishedBy before after m (Err publishing.UnknownChannel) = (found : Found) × Finds before found × (found.end ≡ None)
+    × ((m.channel ≡ 0) ⊎ (found.channels < m.channel)) × (after ≡ with_found before found)
+PublishedBy before after m (Err (publishing.TooManyRecords count)) = (found : Found) × Finds before found × (found.end ≡ None) × (count ≡ found.count) × (2 ^ 48 ≤ count)
+    × (after ≡ with_found before found)
+PublishedBy before after m (Err (publishing.Full held)) = (found : Found) × Finds before found × (found.end ≡ None) × (held ≡ found.held) × (before.limit ≤ held)
+    × (after ≡ with_full before found)
+PublishedBy before after m (Err publishing.Memory) = (found : Found) × Finds before found × (found.end ≡ None) × (after ≡ with_found before found)
+
+-- ---- declaring
+
+-- the records that a declaration adds: none, its Channel, or its Schema and its Channel
+abbrev pub AreAdded : ChannelDef → ℕ → List Rec → Type 0
+AreAdded d channel records = (records ≡ [])
+    ⊎ (((schema : ℕ) × (records ≡ channel_of channel (fields_with d schema) ∷ []))
+    ⊎ ((schema : ℕ) × (s : _) × (d.schema ≡ Some s) × (records ≡ schema_of schema (fields_of_schema s) ∷ channel_of channel (fields_with d schema) ∷ [])))
+
+abbrev pub with_declared : PassState → Found → ChannelDef → ℕ → List Rec → PassState
+with_declared before found d channel records = record before { own = before.own ++ placed_from found.count records; named = before.named ++ (channel, d) ∷ []; found = Some found }
+
+abbrev pub with_lack : PassState → Found → ChannelDef → DeclareRefused → PassState
+with_lack before found d refusal = record before { lacks = before.lacks ++ (d, refusal) ∷ []; found = Some found }
+
+-- A channel got an id and its records their places, or the declaration was refused for a reason by which the intake was
+-- found.
+abbrev pub DeclaredInto : PassState → PassState → ChannelDef → Result Declared DeclareRefused → Type 0
+DeclaredInto before after d (Ok given) = (found : Found) × (records : List Rec) × Finds before found × (found.end ≡ None) × (given.first ≡ found.count) × (1 ≤ given.channel)
+    × (given.count ≡ length records) × AreAdded d given.channel records × (after ≡ with_declared before found d given.channel records)
+DeclaredInto before after d (Err (declaring.TooLarge len)) = (len ≡ declared_size d) × (1048576 < len) × (after ≡ before)
+DeclaredInto before after d (Err (declaring.Closed at)) = (found : Found) × Finds before found × (found.end ≡ Some Closed) × (at ≤ found.count)
+    × (after ≡ with_found before found)
+DeclaredInto before after d (Err (declaring.Stopped at stop)) = (found : Found) × Finds before found × (found.end ≡ Some (Stopped stop)) × (at ≤ found.count)
+    × (after ≡ with_found before found)
+DeclaredInto before after d (Err (declaring.TooManyRecords count)) = (found : Found) × Finds before found × (found.end ≡ None) × (count ≡ found.count) × (2 ^ 48 ≤ count)
+    × (after ≡ with_found before found)
+DeclaredInto before after d (Err (declaring.Full held)) = (found : Found) × Finds before found × (found.end ≡ None) × (held ≡ found.held) × (before.limit ≤ held)
+    × (after ≡ with_full before found)
+DeclaredInto before after d (Err declaring.TooManySchemas) = (found : Found) × Finds before found × (found.end ≡ None) × (found.schemas ≡ 65535)
+    × (after ≡ with_lack before found d declaring.TooManySchemas)
+DeclaredInto before after d (Err declaring.TooManyChannels) = (found : Found) × Finds before found × (found.end ≡ None) × (found.channels ≡ 65535)
+    × (after ≡ with_lack before found d declaring.TooManyChannels)
+DeclaredInto before after d (Err declaring.Memory) = (found : Found) × Finds before found × (found.end ≡ None) × (after ≡ with_found before found)

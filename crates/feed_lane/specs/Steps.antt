@@ -1,0 +1,167 @@
+-- A lane between its steps: for which records it stands, what a call on its pass leaves to be listed, and what becomes of
+-- the message at hand.
+use Rattle.std.specs.Prelude.{◌≡◌, ℕ, ◌+◌, ◌<◌, ◌≤◌, List, ◌++◌, length, Bool, true, false, vec_len, vec_capacity, Option, Some, None, Result, Ok, Err}
+use Rattle.rec_data.specs.declared.owned.Rec.{Rec}
+use Rattle.rec_data.specs.declared.channel.ChannelDef.{ChannelDef}
+use Rattle.mcap_model.specs.Places.{At, Has, Each}
+use Rattle.mcap_model.specs.Tops.{Top}
+use Rattle.mcap_model.specs.Made.{top}
+use Rattle.mcap_model.specs.Fields.{MessageFields}
+use Rattle.rec_data.specs.declared.message.Message.{Message}
+use Rattle.mcap_model.specs.Rules.{V6}
+use Rattle.mcap_model.specs.declared.tables.Tables.{Tables}
+use Rattle.mcap_model.specs.Declarations.{TablesOf}
+use Rattle.record_core.specs.declared.answers.Found.{Found}
+use Rattle.record_core.specs.declared.answers.PublishRefused.{PublishRefused}
+use Rattle.record_core.specs.declared.answers.PublishRefused.TheVariants as publishing
+use Rattle.record_core.specs.declared.answers.DeclareRefused.{DeclareRefused}
+use Rattle.record_core.specs.declared.answers.DeclareRefused.TheVariants as declaring
+use Rattle.feed_lane.specs.declared.report.DeclaredAt.{DeclaredAt}
+use Rattle.feed_lane.specs.declared.report.Refused.{Refused}
+use Rattle.feed_lane.specs.declared.report.Cause.{Cause}
+use Rattle.feed_lane.specs.declared.report.Cause.TheVariants as causes
+use Rattle.feed_lane.specs.declared.lane.Lane.{Lane}
+use Rattle.feed_lane.specs.declared.lane.Over.{Over}
+use Rattle.feed_lane.specs.declared.lane.Over.TheVariants as overs
+use Rattle.feed_lane.specs.Pass.{FullAt, PassState, Seen}
+use Rattle.feed_lane.specs.Lanes.{Lists, messages, IsOn, CauseFits, full_in, ListsFit, LaneFits}
+
+-- ---- what a pass shows, call by call
+
+-- all places of the pass are below this one, and no number that it found is above
+pub record Above (pass : PassState) (n : ℕ) : Type 0 where
+  pub own : Each (λ pair. pair.0 < n) pass.own
+  pub seen : (m : ℕ) → Seen pass m → m ≤ n
+
+-- what the pass showed it shows still
+pub record Extends (before after : PassState) : Type 0 where
+  pub own : (pair : ℕ × Rec) → Has before.own pair → Has after.own pair
+  pub named : (pair : ℕ × ChannelDef) → Has before.named pair → Has after.named pair
+  pub fulls : (full : FullAt) → Has before.fulls full → Has after.fulls full
+  pub lacks : (pair : ChannelDef × DeclareRefused) → Has before.lacks pair → Has after.lacks pair
+  pub limit : after.limit ≡ before.limit
+  pub seen : (n : ℕ) → Seen before n → Seen after n
+
+-- ---- a lane
+
+-- a lane goes on behind a message that was refused for that
+abbrev pub goes_on : Cause → Bool
+goes_on (causes.Full held from to) = true
+goes_on (causes.TooLarge len) = true
+goes_on (causes.Closed at) = false
+goes_on (causes.Stopped at stop) = false
+goes_on causes.TooManySchemas = true
+goes_on causes.TooManyChannels = true
+goes_on (causes.TooManyRecords count) = true
+goes_on causes.Memory = true
+
+-- a channel of the feed was declared, and got this id
+pub record HasId (records : List Top) (declared : List DeclaredAt) (source id : ℕ) : Type 0 where
+  pub by : DeclaredAt
+  pub listed : Has declared by
+  pub on : IsOn records by.index source
+  pub is : by.channel ≡ id
+
+-- for each id that a channel of a feed may have, the id that it got, or 0
+pub record IdsStand (records : List Top) (declared : List DeclaredAt) (ids : List ℕ) : Type 0 where
+  pub fresh : (source : ℕ) (d : DeclaredAt) → At ids source 0 → Has declared d → IsOn records d.index source → ⊥
+  pub known : (source id : ℕ) → At ids source id → (id ≡ 0 → ⊥) → HasId records declared source id
+
+abbrev pub lists_of : Lane → Lists
+lists_of lane = record { accepted = lane.accepted.items; declared = lane.declared.items; refused = lane.refused.items }
+
+pub record Stands (records : List Top) (handled bound : ℕ) (ids : List ℕ) (lists : Lists) (pass : PassState) : Type 0 where
+  pub fits : ListsFit records handled bound lists pass
+  pub ids_stand : IdsStand records lists.declared ids
+  pub going : Each (λ r. goes_on r.cause ≡ true) lists.refused
+  pub firsts : Each (λ d. Seen pass d.first) lists.declared
+  pub tos : Each (λ full. Seen pass full.to) pass.fulls
+
+-- the lane goes on, with so many messages handled
+abbrev pub LaneStands : Lane → List Top → ℕ → PassState → Type 0
+LaneStands lane records handled pass = Stands records handled handled lane.ids (lists_of lane) pass
+
+-- ---- a message at hand
+
+-- The tables are those of the records, each of which meets its layout.
+pub record AreKnown (records : List Top) (tables : Tables) : Type 0 where
+  pub tables_are : TablesOf records tables
+  pub layouts : Each V6 records
+
+-- that message stands at its place among the records
+abbrev pub AtHand : List Top → ℕ → List ℕ → Type 0
+AtHand records handled content = At (messages records) handled (top 5 content)
+
+-- what a refused call leaves to be listed, for that cause
+pub record IsRefusal (records : List Top) (handled : ℕ) (before after : PassState) (cause : Cause) : Type 0 where
+  pub extends : Extends before after
+  pub own : after.own ≡ before.own
+  pub fulls : after.fulls ≡ before.fulls ++ full_in cause
+  pub fits : CauseFits records (handled + 1) after handled cause
+  pub above : Each (λ full. Above before full.to) (full_in cause)
+  pub tos : Each (λ full. Seen after full.to) (full_in cause)
+
+-- the lane stood before the call, with declarations up to the message at hand
+pub record IsDue (lane : Lane) (records : List Top) (handled : ℕ) (after : PassState) (cause : Cause) : Type 0 where
+  pub before : PassState
+  pub stands : Stands records handled (handled + 1) lane.ids (lists_of lane) before
+  pub refusal : IsRefusal records handled before after cause
+  pub some : handled < length (messages records)
+
+-- what the channel of the message at hand came to: an id, or the message is refused
+abbrev pub ChannelFound : Lane → List Top → ℕ → ℕ → PassState → Result ℕ Cause → Type 0
+ChannelFound lane records handled source pass (Ok id) = HasId records lane.declared.items source id × Stands records handled (handled + 1) lane.ids (lists_of lane) pass
+ChannelFound lane records handled source pass (Err cause) = IsDue lane records handled pass cause
+
+-- the last message that was handled was refused for an end of the intake, and ends the list
+abbrev pub LastEnds : ℕ → List Refused → Type 0
+LastEnds handled refused = (r : Refused) × Has refused r × (r.index + 1 ≡ handled) × (goes_on r.cause ≡ false)
+
+-- a lane that is over, for want of room or since the intake had ended
+abbrev pub LaneOver : Lane → List Top → ℕ → PassState → Over → Type 0
+LaneOver lane records handled pass overs.Memory = LaneFits records handled (lists_of lane) pass
+LaneOver lane records handled pass overs.Ended = LaneFits records (handled + 1) (lists_of lane) pass × LastEnds (handled + 1) lane.refused.items
+
+-- what the message at hand came to
+abbrev pub MessageTaken : Lane → List Top → ℕ → PassState → Result Unit Over → Type 0
+MessageTaken lane records handled pass (Ok it) = LaneStands lane records (handled + 1) pass
+MessageTaken lane records handled pass (Err over) = LaneOver lane records handled pass over
+
+-- what a Message shows but for its channel
+abbrev pub fields_of : Message → MessageFields
+fields_of m = record { sequence = m.sequence; log_time = m.log_time; publish_time = m.publish_time; payload = m.payload.now }
+
+-- ---- causes
+
+-- where the buffer was full, as the pass found the intake; a call that answers so found it
+abbrev pub full_cause : ℕ → Option Found → Cause
+full_cause held None = causes.Memory
+full_cause held (Some found) = causes.Full held found.taken found.count
+
+-- the cause of a refusal; that a channel isn't known can't come, since the pass named it
+abbrev pub publish_cause : PublishRefused → Option Found → Cause
+publish_cause (publishing.TooLarge len) found = causes.TooLarge len
+publish_cause (publishing.Closed at) found = causes.Closed at
+publish_cause (publishing.Stopped at stop) found = causes.Stopped at stop
+publish_cause publishing.UnknownChannel found = causes.Memory
+publish_cause (publishing.TooManyRecords count) found = causes.TooManyRecords count
+publish_cause (publishing.Full held) found = full_cause held found
+publish_cause publishing.Memory found = causes.Memory
+
+abbrev pub declare_cause : DeclareRefused → Option Found → Cause
+declare_cause (declaring.TooLarge len) found = causes.TooLarge len
+declare_cause (declaring.Closed at) found = causes.Closed at
+declare_cause (declaring.Stopped at stop) found = causes.Stopped at stop
+declare_cause (declaring.TooManyRecords count) found = causes.TooManyRecords count
+declare_cause (declaring.Full held) found = full_cause held found
+declare_cause declaring.TooManySchemas found = causes.TooManySchemas
+declare_cause declaring.TooManyChannels found = causes.TooManyChannels
+declare_cause declaring.Memory found = causes.Memory
+
+-- ---- a lane's own steps
+
+-- there is room for one more in each list
+pub record Roomy (lane : Lane) : Type 0 where
+  pub accepted : vec_len lane.accepted + 1 ≤ vec_capacity lane.accepted
+  pub declared : vec_len lane.declared + 1 ≤ vec_capacity lane.declared
+  pub refused : vec_len lane.refused + 1 ≤ vec_capacity lane.refused

@@ -1,0 +1,105 @@
+//! The lane of a feed, from its first record to its end.
+ghost use Rattle.std.specs.Prelude.{◌≡◌, ℕ, []};
+ghost use Rattle.feed_lane.specs.Pass.{no_calls};
+ghost use Rattle.feed_lane.specs.Lanes.{LaneFits};
+ghost use Rattle.feed_lane.specs.Feeds.{refused_end, over_end as end_of_over, reported, Reports};
+
+use crate::lane::{Lane, Over};
+use crate::pass::Pass;
+use crate::report::{FeedEnd, FeedReport};
+use mcap_io::Source;
+use mcap_scan::{Reader, ScanRefused, Step};
+use std::alloc::Global;
+
+// The end of a feed whose reading was refused.
+fn end_of(why: ScanRefused) -> FeedEnd
+    ensures { result ≡ refused_end why }
+{
+    match why {
+        ScanRefused::Fault { faults } => return FeedEnd::Fault { faults },
+        ScanRefused::Grammar { offset, rule: _ } => return FeedEnd::Grammar { offset },
+        ScanRefused::Compressed { offset, name } => return FeedEnd::Compressed { offset, name },
+        ScanRefused::Limit { offset } => return FeedEnd::Limit { offset },
+        ScanRefused::Memory => return FeedEnd::Memory,
+    }
+}
+
+// The end of a feed whose lane was over before.
+fn over_end(over: Over) -> FeedEnd
+    ensures { result ≡ end_of_over over }
+{
+    match over {
+        Over::Memory => return FeedEnd::Memory,
+        Over::Ended => return FeedEnd::Ended,
+    }
+}
+
+impl Lane {
+    // The report of the lane, which came to this end.
+    fn report(self, end: FeedEnd) -> FeedReport
+        ensures { result ≡ record { accepted = self.accepted; declared = self.declared; refused = self.refused; passed = self.passed; end = end } }
+    {
+        let Lane {
+            ids: _,
+            accepted,
+            declared,
+            refused,
+            passed,
+        } = self;
+        FeedReport {
+            accepted,
+            declared,
+            refused,
+            passed,
+            end,
+        }
+    }
+}
+
+// The report of a lane for which there was no memory.
+fn nothing(alloc: Global) -> FeedReport
+    ensures end { result.end ≡ FeedEnd.Memory }
+    ensures fits { (limit : ℕ) → LaneFits [] 0 (reported result) (no_calls limit) }
+{
+    FeedReport {
+        accepted: Vec::new(alloc),
+        declared: Vec::new(alloc),
+        refused: Vec::new(alloc),
+        passed: 0,
+        end: FeedEnd::Memory,
+    }
+}
+
+/// Reads a feed up to and with its Data End, declares each of its channels at the first message on it and publishes its
+/// messages over the pass, and reports what became of each. A message that is refused doesn't end the lane, unless the
+/// intake has ended.
+pub fn publish_feed<S: Source, P: Pass>(alloc: Global, source: &mut S, pass: &mut P) -> FeedReport
+    requires { (limit : ℕ) × (P.state pass.old ≡ no_calls limit) }
+    ensures reports { Reports (S.state source.old) (S.state source.new) (P.state pass.new) result }
+    ensures stays { S.stays source.old source.new }
+    ensures limit { (P.state pass.new).limit ≡ (P.state pass.old).limit }
+{
+    let mut reader = match Reader::new(alloc) {
+        Ok(reader) => reader,
+        Err(_) => return nothing(alloc),
+    };
+    let mut lane = match Lane::new(alloc) {
+        Ok(lane) => lane,
+        Err(_) => return nothing(alloc),
+    };
+    'records: loop {
+        match reader.advance(source) {
+            Step::Record { op, offset: _ } => {
+                match lane.take(alloc, reader.tables(), op, reader.content(), pass) {
+                    Ok(()) => {}
+                    Err(over) => return lane.report(over_end(over)),
+                }
+            }
+            Step::End { offset: _ } => return lane.report(FeedEnd::Done),
+            Step::Refused => match reader.into_refusal() {
+                Some(why) => return lane.report(end_of(why)),
+                None => return lane.report(FeedEnd::Memory),
+            },
+        }
+    }
+}

@@ -1,0 +1,282 @@
+//! A lane at a message: its channel is declared where it wasn't, the message is published, and what became of both is listed.
+ghost use Rattle.std.specs.Prelude.{◌≡◌, ◌+◌, ◌∷◌, ◌++◌, [], ℕ, List, length, vec_len, vec_capacity, ◌≤◌, IfOk, OnOk};
+ghost use Rattle.mcap_model.specs.Places.{At};
+ghost use Rattle.mcap_model.specs.Tops.{Top};
+ghost use Rattle.mcap_model.specs.Fields.{IsMessage};
+ghost use Rattle.feed_lane.specs.Pass.{PassState, no_calls};
+ghost use Rattle.feed_lane.specs.Lanes.{messages, IsOn};
+ghost use Rattle.feed_lane.specs.Steps.{lists_of, LaneStands, Stands, Roomy, AreKnown, AtHand, IsDue, HasId, ChannelFound, MessageTaken, goes_on as goes_on_behind, publish_cause as cause_of_publishing, declare_cause as cause_of_declaring, full_cause as cause_of_full, fields_of};
+
+use crate::definition::definition;
+use crate::ids::Ids;
+use crate::pass::Pass;
+use crate::report::{Accepted, Cause, DeclaredAt, Refused};
+use mcap_model::Tables;
+use mcap_wire::Memory;
+use rec_data::Message;
+use record_core::{DeclareRefused, Found, NewMessage, PublishRefused};
+use std::alloc::Global;
+
+/// What a lane has done: the ids that the feed's channels got, what became of each message, and how many records were passed
+/// over.
+#[derive(Debug, Drop)]
+pub(crate) struct Lane {
+    pub ids: Ids,
+    pub accepted: Vec<Accepted>,
+    pub declared: Vec<DeclaredAt>,
+    pub refused: Vec<Refused>,
+    pub passed: u64,
+}
+
+/// Why a lane is over before its feed is.
+#[derive(Clone, Copy, Debug)]
+pub(crate) enum Over {
+    /// There is no room in its lists.
+    Memory,
+    /// The intake has ended.
+    Ended,
+}
+
+// Whether the lane goes on behind a message that was refused for that.
+fn goes_on(cause: Cause) -> bool
+    ensures { result ≡ goes_on_behind cause }
+{
+    !matches!(cause, Cause::Closed { .. } | Cause::Stopped { .. })
+}
+
+// A full buffer as it was found.
+fn full_cause(held: u64, found: Option<Found>) -> Cause
+    ensures { result ≡ cause_of_full held found }
+{
+    match found {
+        None => return Cause::Memory,
+        Some(found) => {
+            return Cause::Full {
+                held,
+                from: found.taken,
+                to: found.count,
+            };
+        }
+    }
+}
+
+// Why a message is refused that wasn't accepted. The pass gave the channel's id, so that it is known.
+fn publish_cause(refusal: PublishRefused, found: Option<Found>) -> Cause
+    ensures { result ≡ cause_of_publishing refusal found }
+{
+    match refusal {
+        PublishRefused::TooLarge { len } => return Cause::TooLarge { len },
+        PublishRefused::Closed { at } => return Cause::Closed { at },
+        PublishRefused::Stopped { at, stop } => return Cause::Stopped { at, stop },
+        PublishRefused::UnknownChannel => return Cause::Memory,
+        PublishRefused::TooManyRecords { count } => return Cause::TooManyRecords { count },
+        PublishRefused::Full { held } => return full_cause(held, found),
+        PublishRefused::Memory => return Cause::Memory,
+    }
+}
+
+// Why a message is refused whose channel wasn't declared.
+fn declare_cause(refusal: DeclareRefused, found: Option<Found>) -> Cause
+    ensures { result ≡ cause_of_declaring refusal found }
+{
+    match refusal {
+        DeclareRefused::TooLarge { len } => return Cause::TooLarge { len },
+        DeclareRefused::Closed { at } => return Cause::Closed { at },
+        DeclareRefused::Stopped { at, stop } => return Cause::Stopped { at, stop },
+        DeclareRefused::TooManyRecords { count } => return Cause::TooManyRecords { count },
+        DeclareRefused::Full { held } => return full_cause(held, found),
+        DeclareRefused::TooManySchemas => return Cause::TooManySchemas,
+        DeclareRefused::TooManyChannels => return Cause::TooManyChannels,
+        DeclareRefused::Memory => return Cause::Memory,
+    }
+}
+
+// Lists one more, for which there is room.
+pub(crate) fn add<T: Drop>(list: &mut Vec<T>, one: T)
+    requires { vec_len list.old + 1 ≤ vec_capacity list.old }
+    ensures { list.new.items ≡ list.old.items ++ one ∷ [] }
+{
+    match list.push(one) {
+        Ok(()) => {}
+        Err(_) => unreachable!(),
+    }
+}
+
+impl Lane {
+    /// A lane that has read nothing.
+    pub(crate) fn new(alloc: Global) -> Result<Lane, Memory>
+        ensures stands { IfOk result (λ lane. (limit : ℕ) → LaneStands lane [] 0 (no_calls limit)) }
+        ensures passed { IfOk result (λ lane. lane.passed ≡ 0) }
+    {
+        match Ids::new(alloc) {
+            Ok(ids) => return Ok(Lane {
+                ids,
+                accepted: Vec::new(alloc),
+                declared: Vec::new(alloc),
+                refused: Vec::new(alloc),
+                passed: 0,
+            }),
+            Err(memory) => return Err(memory),
+        }
+    }
+
+    // How many messages were handled.
+    fn handled(&self) -> u64
+        ensures { result ≡ length self.now.accepted.items + length self.now.refused.items }
+    {
+        self.accepted.len() as u64 + self.refused.len() as u64
+    }
+
+    // Makes room for one more in each list.
+    fn make_room(&mut self) -> Result<(), Memory>
+        ensures lists { lists_of self.new ≡ lists_of self.old }
+        ensures ids { self.new.ids ≡ self.old.ids }
+        ensures passed { self.new.passed ≡ self.old.passed }
+        ensures room { OnOk result (Roomy self.new) }
+    {
+        match self.accepted.reserve(1) {
+            Ok(()) => {}
+            Err(_) => return Err(Memory),
+        }
+        match self.declared.reserve(1) {
+            Ok(()) => {}
+            Err(_) => return Err(Memory),
+        }
+        match self.refused.reserve(1) {
+            Ok(()) => {}
+            Err(_) => return Err(Memory),
+        }
+        return Ok(());
+    }
+
+    // Lists the message at hand as refused. That the intake has ended ends the lane.
+    fn refuse(&mut self, cause: Cause) -> Result<(), Over>
+        requires { vec_len self.old.refused + 1 ≤ vec_capacity self.old.refused }
+        ensures taken { (records : List Top) (handled : ℕ) (pass : PassState) → IsDue self.old records handled pass cause
+            → MessageTaken self.new records handled pass result }
+        ensures passed { self.new.passed ≡ self.old.passed }
+    {
+        let index = self.handled();
+        add(&mut self.refused, Refused { index, cause });
+        if goes_on(cause) {
+            return Ok(());
+        }
+        return Err(Over::Ended);
+    }
+
+    // Publishes the message at hand on the channel that got that id.
+    fn publish<P: Pass>(&mut self, id: u16, m: &Message<'_>, pass: &mut P) -> Result<(), Over>
+        requires accepted { vec_len self.old.accepted + 1 ≤ vec_capacity self.old.accepted }
+        requires refused { vec_len self.old.refused + 1 ≤ vec_capacity self.old.refused }
+        ensures taken { (records : List Top) (handled source : ℕ) (t : Top) → Stands records handled (handled + 1) self.old.ids (lists_of self.old) (P.state pass.old)
+            → HasId records self.old.declared.items source id → At (messages records) handled t → IsMessage t source (fields_of m.now)
+            → MessageTaken self.new records handled (P.state pass.new) result }
+        ensures limit { (P.state pass.new).limit ≡ (P.state pass.old).limit }
+        ensures passed { self.new.passed ≡ self.old.passed }
+    {
+        let message = NewMessage {
+            channel: id,
+            sequence: m.sequence,
+            log_time: m.log_time,
+            publish_time: m.publish_time,
+            payload: m.payload,
+        };
+        match pass.publish(&message) {
+            Ok(place) => {
+                let index = self.handled();
+                add(&mut self.accepted, Accepted { index, place });
+                return Ok(());
+            }
+            Err(refusal) => {
+                let cause = publish_cause(refusal, pass.found());
+                return self.refuse(cause);
+            }
+        }
+    }
+
+    // Declares the feed's channel of that id for the message at hand, and says which id it got.
+    fn declare<P: Pass>(
+        &mut self,
+        alloc: Global,
+        tables: &Tables,
+        source: u16,
+        pass: &mut P,
+    ) -> Result<u16, Cause>
+        requires { vec_len self.old.declared + 1 ≤ vec_capacity self.old.declared }
+        ensures found { (records : List Top) (handled : ℕ) → LaneStands self.old records handled (P.state pass.old) → AreKnown records tables.now
+            → IsOn records handled source → At self.old.ids source 0 → ChannelFound self.new records handled source (P.state pass.new) result }
+        ensures limit { (P.state pass.new).limit ≡ (P.state pass.old).limit }
+        ensures passed { self.new.passed ≡ self.old.passed }
+        ensures accepted { self.new.accepted ≡ self.old.accepted }
+        ensures refused { self.new.refused ≡ self.old.refused }
+    {
+        let channel = match definition(alloc, tables, source) {
+            Ok(channel) => channel,
+            Err(_) => return Err(Cause::Memory),
+        };
+        match pass.declare(&channel) {
+            Ok(given) => {
+                let declared = DeclaredAt {
+                    index: self.handled(),
+                    channel: given.channel,
+                    first: given.first,
+                    count: given.count,
+                };
+                add(&mut self.declared, declared);
+                self.ids.set(source, given.channel);
+                return Ok(given.channel);
+            }
+            Err(refusal) => return Err(declare_cause(refusal, pass.found())),
+        }
+    }
+
+    // The id that the feed's channel of that id got, or gets now for the message at hand.
+    fn channel_of<P: Pass>(
+        &mut self,
+        alloc: Global,
+        tables: &Tables,
+        source: u16,
+        pass: &mut P,
+    ) -> Result<u16, Cause>
+        requires { vec_len self.old.declared + 1 ≤ vec_capacity self.old.declared }
+        ensures found { (records : List Top) (handled : ℕ) → LaneStands self.old records handled (P.state pass.old) → AreKnown records tables.now
+            → IsOn records handled source → ChannelFound self.new records handled source (P.state pass.new) result }
+        ensures limit { (P.state pass.new).limit ≡ (P.state pass.old).limit }
+        ensures passed { self.new.passed ≡ self.old.passed }
+        ensures accepted { self.new.accepted ≡ self.old.accepted }
+        ensures refused { self.new.refused ≡ self.old.refused }
+    {
+        let id = self.ids.get(source);
+        if id == 0 {
+            return self.declare(alloc, tables, source, pass);
+        }
+        return Ok(id);
+    }
+
+    /// Takes a Message: its channel is declared if it wasn't, and it is published.
+    pub(crate) fn take_message<P: Pass>(
+        &mut self,
+        alloc: Global,
+        tables: &Tables,
+        content: &[u8],
+        pass: &mut P,
+    ) -> Result<(), Over>
+        ensures taken { (records : List Top) (handled : ℕ) → LaneStands self.old records handled (P.state pass.old) → AreKnown records tables.now
+            → AtHand records handled content.now → MessageTaken self.new records handled (P.state pass.new) result }
+        ensures limit { (P.state pass.new).limit ≡ (P.state pass.old).limit }
+        ensures passed { self.new.passed ≡ self.old.passed }
+    {
+        match self.make_room() {
+            Ok(()) => {}
+            Err(_) => return Err(Over::Memory),
+        }
+        let message = match Message::parse(content) {
+            Ok(message) => message,
+            Err(_) => return Ok(()),
+        };
+        match self.channel_of(alloc, tables, message.channel_id, pass) {
+            Ok(id) => return self.publish(id, &message, pass),
+            Err(cause) => return self.refuse(cause),
+        }
+    }
+}

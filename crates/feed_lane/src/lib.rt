@@ -1,0 +1,19 @@
+//! The lane of one feed: it reads the feed, declares its channels and publishes its messages over a pass, and reports what
+//! became of each message.
+#![tactic(auto)]
+
+mod definition;
+mod feed;
+mod ids;
+mod lane;
+pub mod laws;
+mod pass;
+mod report;
+mod section;
+
+pub use feed::publish_feed;
+pub use pass::Pass;
+pub use report::{Accepted, Cause, DeclaredAt, FeedEnd, FeedReport, Refused};
+
+#[cfg(test)]
+mod tests;

@@ -1,0 +1,78 @@
+//! What the lane of a feed came to.
+use mcap_model::Stop;
+use mcap_wire::Text;
+
+/// A message that was recorded: its number in the feed, and its place among the recorded records.
+#[derive(Clone, Copy, Debug, PartialEq, Eq)]
+pub struct Accepted {
+    pub index: u64,
+    pub place: u64,
+}
+
+/// A channel that was declared for a message: the message's number in the feed, the id that the channel got, and the
+/// places of the `count` records that the declaration added, from `first`.
+#[derive(Clone, Copy, Debug, PartialEq, Eq)]
+pub struct DeclaredAt {
+    pub index: u64,
+    pub channel: u16,
+    pub first: u64,
+    pub count: u8,
+}
+
+/// Why a message was not recorded.
+#[derive(Clone, Copy, Debug, PartialEq, Eq)]
+pub enum Cause {
+    /// The buffer was full: it held these bytes, the records at the places from `from` to before `to`.
+    Full { held: u64, from: u64, to: u64 },
+    /// The message's data is longer than a message may have, or its channel's records than a declaration may have.
+    TooLarge { len: u64 },
+    /// The intake was closed at that place.
+    Closed { at: u64 },
+    /// The intake was stopped at that place.
+    Stopped { at: u64, stop: Stop },
+    /// No more schemas get an id.
+    TooManySchemas,
+    /// No more channels get an id.
+    TooManyChannels,
+    /// No more records are accepted.
+    TooManyRecords { count: u64 },
+    /// Memory lacked.
+    Memory,
+}
+
+/// A message that was not recorded: its number in the feed, and why.
+#[derive(Clone, Copy, Debug, PartialEq, Eq)]
+pub struct Refused {
+    pub index: u64,
+    pub cause: Cause,
+}
+
+/// How the reading of a feed ended. Offsets count from the feed's first byte.
+#[derive(Debug, Drop)]
+pub enum FeedEnd {
+    /// The Data End was read.
+    Done,
+    /// The record at the offset breaks a rule of the format.
+    Grammar { offset: u64 },
+    /// The chunk at the offset names that compression.
+    Compressed { offset: u64, name: Text },
+    /// The record at the offset is longer than a record may be, or ends behind the last offset of a file.
+    Limit { offset: u64 },
+    /// The source failed; `faults` is its count of faults.
+    Fault { faults: u64 },
+    /// Memory lacked.
+    Memory,
+    /// The intake was closed or stopped, and the message at hand was refused for it.
+    Ended,
+}
+
+/// One feed's part of a recording.
+#[derive(Debug, Drop)]
+pub struct FeedReport {
+    pub accepted: Vec<Accepted>,
+    pub declared: Vec<DeclaredAt>,
+    pub refused: Vec<Refused>,
+    /// Attachments, Metadata and unknown records that were passed over, those in chunks too.
+    pub passed: u64,
+    pub end: FeedEnd,
+}

@@ -1,0 +1,92 @@
+//! A lane at a record of the data section, or at one inside a chunk.
+ghost use Rattle.std.specs.Prelude.{◌≡◌, ◌∷◌, [], ℕ, List, OnOk};
+ghost use Rattle.mcap_model.specs.Tops.{Top, records_in, opened};
+ghost use Rattle.mcap_model.specs.Rules.{V6};
+ghost use Rattle.mcap_model.specs.Made.{top};
+ghost use Rattle.mcap_model.specs.Written.{passed_in};
+ghost use Rattle.feed_lane.specs.Steps.{LaneStands, AreKnown};
+ghost use Rattle.feed_lane.specs.Feeds.{Waits, RecordTaken, unknown_in, Counts};
+
+use crate::lane::{Lane, Over};
+use crate::pass::Pass;
+use mcap_model::{InnerWalk, Tables};
+use rec_data::{ATTACHMENT, MESSAGE, METADATA};
+use rec_index::{CHUNK, Chunk};
+use std::alloc::Global;
+
+impl Lane {
+    // Takes a record inside a chunk.
+    fn take_inner<P: Pass>(
+        &mut self,
+        alloc: Global,
+        tables: &Tables,
+        op: u8,
+        content: &[u8],
+        pass: &mut P,
+    ) -> Result<(), Over>
+        ensures taken { (records more : List Top) (handled : ℕ) → LaneStands self.old records handled (P.state pass.old) → AreKnown records tables.now
+            → Waits records handled (top op content.now ∷ more) → RecordTaken self.new records more (P.state pass.new) result }
+        ensures limit { (P.state pass.new).limit ≡ (P.state pass.old).limit }
+        ensures passed { OnOk result (Counts self.old.passed self.new.passed (unknown_in (top op content.now ∷ []))) }
+    {
+        match op {
+            MESSAGE => return self.take_message(alloc, tables, content, pass),
+            16..=255 => {
+                self.passed = self.passed.saturating_add(1);
+                return Ok(());
+            }
+            _ => return Ok(()),
+        }
+    }
+
+    // Takes the records inside a chunk, where they stand.
+    fn take_chunk<P: Pass>(
+        &mut self,
+        alloc: Global,
+        tables: &Tables,
+        bytes: &[u8],
+        pass: &mut P,
+    ) -> Result<(), Over>
+        ensures taken { (records : List Top) (handled : ℕ) → LaneStands self.old records handled (P.state pass.old) → AreKnown records tables.now
+            → Waits records handled (records_in bytes.now) → RecordTaken self.new records [] (P.state pass.new) result }
+        ensures limit { (P.state pass.new).limit ≡ (P.state pass.old).limit }
+        ensures passed { OnOk result (Counts self.old.passed self.new.passed (unknown_in (records_in bytes.now))) }
+    {
+        let mut walk = InnerWalk::new(bytes);
+        'records: while let Some(inner) = walk.next() {
+            match self.take_inner(alloc, tables, inner.op, inner.content, pass) {
+                Ok(()) => {}
+                Err(over) => return Err(over),
+            }
+        }
+        return Ok(());
+    }
+
+    /// Takes a record of the top level.
+    pub(crate) fn take<P: Pass>(
+        &mut self,
+        alloc: Global,
+        tables: &Tables,
+        op: u8,
+        content: &[u8],
+        pass: &mut P,
+    ) -> Result<(), Over>
+        ensures taken { (records : List Top) (handled : ℕ) → LaneStands self.old records handled (P.state pass.old) → AreKnown records tables.now
+            → V6 (top op content.now) → Waits records handled (opened (top op content.now)) → RecordTaken self.new records [] (P.state pass.new) result }
+        ensures limit { (P.state pass.new).limit ≡ (P.state pass.old).limit }
+        ensures passed { V6 (top op content.now) → OnOk result (Counts self.old.passed self.new.passed (passed_in (top op content.now))) }
+    {
+        match op {
+            MESSAGE => return self.take_message(alloc, tables, content, pass),
+            CHUNK => match Chunk::parse(content) {
+                Ok(chunk) => return self.take_chunk(alloc, tables, chunk.records, pass),
+                Err(_) => return Ok(()),
+            },
+            ATTACHMENT | METADATA | 16..=255 => {
+                self.passed = self.passed.saturating_add(1);
+                return Ok(());
+            }
+            _ => return Ok(()),
+        }
+    }
+}
