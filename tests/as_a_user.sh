@@ -103,7 +103,8 @@ session_lines='feed 1 accepted=5 refused=0 passed=0 end
 file records=8 blocks=0 bytes=411 closed'
 usage='mcaprec: bad words
 usage: mcaprec
-  record --plain OUT FEED'
+  record --plain OUT FEED
+  cat FILE'
 
 "$root/mcaprec" >/dev/null </dev/null
 compare 'the status without words' 2 $?
@@ -183,6 +184,46 @@ done <"$session" >pipe &
 expect 0 "$session_lines" '' mcaprec record --plain from-pipe.mcap pipe
 expect_records from-pipe.mcap "$imu_first$log$log_1$imu_2$imu_3$log_2"
 
+# ---- messages, by time
+
+session_messages='1000 990 1 1 "/imu" 7b227a223a392e387d
+1005 1005 2 1 "/log" 7374617274
+1010 1000 1 2 "/imu" 7b227a223a392e377d
+1020 1010 1 3 "/imu" -
+1030 1030 2 2 "/log" 73746f70'
+expect 2 '' "$usage" mcaprec cat
+expect 0 '10 9 1 1 "/a" aa' '' mcaprec cat "$root/samples/one.mcap"
+expect 0 "$session_messages" '' mcaprec cat session-out.mcap
+expect 0 '' '' mcaprec cat out.mcap
+cat -- session-out.mcap >pipe &
+expect 0 "$session_messages" '' mcaprec cat pipe
+wait
+expect 1 '' 'mcaprec: "cut.mcap": grammar at 25' mcaprec cat cut.mcap
+{ head -c 25 -- "$sample" && printf '\005\0\0\0\0\0\0\0\200'; } >long.mcap
+expect 4 '' 'mcaprec: "long.mcap": limit at 25' mcaprec cat long.mcap
+expect 3 '' 'mcaprec: "missing.mcap": fault' mcaprec cat missing.mcap
+# shellcheck disable=SC2016  # the inner shell is to expand it
+expect 3 '' 'mcaprec: output: fault' sh -c 'mcaprec cat "$1" >/dev/full' sh session-out.mcap
+
+mkfifo out-pipe
+cat out-pipe >through-pipe.mcap &
+expect 0 "$session_lines" '' mcaprec record --plain out-pipe "$session"
+wait
+expect_records through-pipe.mcap "$imu_first$log$log_1$imu_2$imu_3$log_2"
+
+# ---- an output that is another name of the feed: refused before anything is emptied
+
+cp -- "$session" named.mcap
+ln -s named.mcap link.mcap
+ln named.mcap hard.mcap
+expect 3 '' 'mcaprec: "link.mcap": fault' mcaprec record --plain link.mcap named.mcap
+expect 3 '' 'mcaprec: "named.mcap": fault' mcaprec record --plain named.mcap link.mcap
+expect 3 '' 'mcaprec: "hard.mcap": fault' mcaprec record --plain hard.mcap named.mcap
+compare named.mcap "$(digits_of "$session")" "$(digits_of named.mcap)"
+ln -s /dev/null nothing.mcap
+expect 1 "$feed_line grammar 0
+$file_line" 'mcaprec: "/dev/null": grammar at 0' mcaprec record --plain nothing.mcap /dev/null
+
 # ---- an output that takes nothing, or a part
 
 # That the file is a first part of the other one, and no more than so many bytes of it.
@@ -192,19 +233,34 @@ expect_first_part() {
     head -c "$held" -- "$2" | cmp -s -- - "$1" || say_wrong "$1 is no first part of $2"
 }
 
-# What is gathered is tried at the close; what is more than that stops the recording before.
-expect 3 "$session_lines" 'mcaprec: "/dev/full": fault' mcaprec record --plain /dev/full "$session"
+# The front goes through to the system, so a device that is full stops the recording there.
+unwritten='file records=0 blocks=0 bytes=0 stopped fault'
+expect 3 "$feed_line end
+$unwritten" 'mcaprec: "/dev/full": fault' mcaprec record --plain /dev/full "$sample"
+expect 3 "feed 1 accepted=0 refused=1 passed=0 ended
+$unwritten" 'mcaprec: "/dev/full": fault' mcaprec record --plain /dev/full "$session"
 stopped='feed N accepted=N refused=N passed=N ended
 file records=N blocks=N bytes=N stopped fault'
 filter='sed s/[0-9][0-9]*/N/g'
 expect 3 "$stopped" 'mcaprec: "/dev/full": fault' mcaprec record --plain /dev/full many.mcap
 filter='cat'
 
+# A channel and a message of 3,955 bytes.
+{
+    printf '\211MCAP0\r\n\001\010\0\0\0\0\0\0\0' && head -c 8 /dev/zero
+    printf '\004\022\0\0\0\0\0\0\0\007\0\0\0\002\0\0\0/a' && head -c 8 /dev/zero
+    printf '\005\211\017\0\0\0\0\0\0\007\0\001\0\0\0\012\0\0\0\0\0\0\0\011\0\0\0\0\0\0\0' && head -c 3955 /dev/zero
+    printf '\017\004\0\0\0\0\0\0\0\0\0\0\0'
+} >last.mcap
+last_lines='feed 1 accepted=1 refused=0 passed=0 end
+file records=2 blocks=0'
+
 # A file system of 1 MB: full, with room for a part of the file, and one that may only be read.
 if mount -t tmpfs -o size=1m none "$disk" 2>/dev/null; then
     cp -- "$session" "$disk/feed.mcap"
     dd if=/dev/zero of="$disk/filling" bs=4096 count=512 2>/dev/null
-    expect 3 "$both_lines" "mcaprec: \"$disk/out.mcap\": fault" mcaprec record --plain "$disk/out.mcap" "$sample"
+    expect 3 "$feed_line end
+$unwritten" "mcaprec: \"$disk/out.mcap\": fault" mcaprec record --plain "$disk/out.mcap" "$sample"
     expect_first_part "$disk/out.mcap" out.mcap 0
     dd if=/dev/zero of="$disk/filling" bs=4096 count=224 2>/dev/null
     filter='sed s/[0-9][0-9]*/N/g'
@@ -212,6 +268,17 @@ if mount -t tmpfs -o size=1m none "$disk" 2>/dev/null; then
     filter='cat'
     expect_first_part "$disk/out.mcap" many-out.mcap 131072
     [ -s "$disk/out.mcap" ] || say_wrong "$disk/out.mcap is empty"
+
+    # Room for all but the last byte: the file takes a page of 4,096 bytes and one more.
+    expect 0 "$last_lines bytes=4097 closed" '' mcaprec record --plain last-out.mcap last.mcap
+    rm -f -- "$disk/out.mcap"
+    cat /dev/zero >"$disk/filling" 2>/dev/null
+    truncate -s -4096 "$disk/filling"
+    expect 3 "$last_lines bytes=4047 stopped fault" "mcaprec: \"$disk/out.mcap\": fault" \
+        mcaprec record --plain "$disk/out.mcap" last.mcap
+    compare 'the length of what the disk took' 4096 "$(($(wc -c <"$disk/out.mcap")))"
+    expect_first_part "$disk/out.mcap" last-out.mcap 4096
+    rm -f -- "$disk/filling"
     if mount -o remount,ro "$disk" 2>/dev/null; then
         expect 0 "$session_lines" '' mcaprec record --plain from-disk.mcap "$disk/feed.mcap"
         expect_records from-disk.mcap "$imu_first$log$log_1$imu_2$imu_3$log_2"
