@@ -7,7 +7,7 @@ work="$(mktemp -d)"
 trap 'rm -rf "$work"' EXIT
 mkdir -p "$work/crates/mcap_counts_c/src"
 cp -r "$here/../crates/mcap_wire" "$work/crates/mcap_wire"
-printf 'mcap_wire:\nmcap_counts_c staticlib: mcap_wire\n' >"$work/crates.txt"
+printf 'mcap_wire: byteorder\nmcap_counts_c staticlib: mcap_wire\n' >"$work/crates.txt"
 cat >"$work/crates/mcap_counts_c/src/lib.rt" <<'END'
 #![tactic(auto)]
 

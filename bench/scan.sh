@@ -28,9 +28,13 @@ struct Stretch<'a> {
 }
 
 impl<'a> Source for Stretch<'a> {
-    ghost left = { λ s. Some s.left.now };
+    ghost state = { λ s. record { left = Some s.left.now; faults = 0 } };
 
-    ghost faults = { λ _. 0 };
+    ghost stays = { λ _ _. Unit {0} };
+
+    ghost stays_so = { λ _. tt };
+
+    ghost stays_on = { λ _ _ _ _ _. tt };
 
     fn read(&mut self, out: &mut [u8]) -> Result<usize, Failed> {
         let n = self.left.len().min(out.len());
