@@ -1,5 +1,6 @@
 pub mod Calls
 pub mod Filling
+pub mod Fronts
 pub mod Gathering
 pub mod Known
 pub mod Notes

@@ -9,6 +9,7 @@ use Rattle.mcap_io.specs.declared.openings.Kept.{Kept}
 use Rattle.mcap_io.specs.declared.openings.Opened.{Opened}
 use Rattle.mcap_io.specs.Outside.{Names, Told, Opening, SourceState, LiveState, WorldState, IsOut, NoneIsOut, Notes, Keeps, KeepsSource, KeepsLive, went_well}
 use Rattle.mcap_io.specs.Standing.{shown, shown_keeping}
+use Rattle.mcap_io.specs.Stores.{StoreState, KeepsStore}
 
 -- the entry, with the keeping
 abbrev kept_entry : Opened → Kept → Opened
@@ -38,25 +39,37 @@ well_is (Ok it) = refl
 well_is (Err why) = refl
 
 pub keeps-source : (names names' : Names) (log log' : List Opening) (name : List ℕ) (it : SourceState) (result : Result Unit Failed) → names' ≡ names
-    → Notes log log' kinds.Source name (record { well = is_ok result; faults = it.faults; left = it.left }) → KeepsSource (telling names log) (telling names' log') name it result
+    → Notes log log' kinds.Source name (record { well = is_ok result; faults = it.faults; left = it.left; asked = 0 }) → KeepsSource (telling names log) (telling names' log') name it result
 keeps-source names names' log log' name it result same notes told told_is =
     let was : Told = record { names = names; log = log } in
     let is : was ≡ told = cc in
-    let noted = subst (λ b. Notes log log' kinds.Source name (record { well = b; faults = it.faults; left = it.left })) (well_is result) notes in (
+    let noted = subst (λ b. Notes log log' kinds.Source name (record { well = b; faults = it.faults; left = it.left; asked = 0 })) (well_is result) notes in (
       record { names = names'; log = log' },
       refl,
       same ∙ ap (λ t. t.names) is,
-      subst (λ t. Notes t.log log' kinds.Source name (record { well = went_well result; faults = it.faults; left = it.left })) is noted,
+      subst (λ t. Notes t.log log' kinds.Source name (record { well = went_well result; faults = it.faults; left = it.left; asked = 0 })) is noted,
+    )
+
+pub keeps-store : (names names' : Names) (log log' : List Opening) (name : List ℕ) (it : StoreState) (result : Result Unit Failed) → names' ≡ names
+    → Notes log log' kinds.Store name (record { well = is_ok result; faults = it.faults; left = None; asked = it.asked }) → KeepsStore (telling names log) (telling names' log') name it result
+keeps-store names names' log log' name it result same notes told told_is =
+    let was : Told = record { names = names; log = log } in
+    let is : was ≡ told = cc in
+    let noted = subst (λ b. Notes log log' kinds.Store name (record { well = b; faults = it.faults; left = None; asked = it.asked })) (well_is result) notes in (
+      record { names = names'; log = log' },
+      refl,
+      same ∙ ap (λ t. t.names) is,
+      subst (λ t. Notes t.log log' kinds.Store name (record { well = went_well result; faults = it.faults; left = None; asked = it.asked })) is noted,
     )
 
 pub keeps-live : (names names' : Names) (log log' : List Opening) (name : List ℕ) (it : LiveState) (result : Result Unit Failed) → Keeps names names' name it.held result
-    → Notes log log' kinds.Live name (record { well = is_ok result; faults = it.faults; left = None }) → KeepsLive (telling names log) (telling names' log') name it result
+    → Notes log log' kinds.Live name (record { well = is_ok result; faults = it.faults; left = None; asked = 0 }) → KeepsLive (telling names log) (telling names' log') name it result
 keeps-live names names' log log' name it result keeps notes told told_is =
     let was : Told = record { names = names; log = log } in
     let is : was ≡ told = cc in
-    let noted = subst (λ b. Notes log log' kinds.Live name (record { well = b; faults = it.faults; left = None })) (well_is result) notes in (
+    let noted = subst (λ b. Notes log log' kinds.Live name (record { well = b; faults = it.faults; left = None; asked = 0 })) (well_is result) notes in (
       record { names = names'; log = log' },
       refl,
       subst (λ t. Keeps t.names names' name it.held result) is keeps,
-      subst (λ t. Notes t.log log' kinds.Live name (record { well = went_well result; faults = it.faults; left = None })) is noted,
+      subst (λ t. Notes t.log log' kinds.Live name (record { well = went_well result; faults = it.faults; left = None; asked = 0 })) is noted,
     )

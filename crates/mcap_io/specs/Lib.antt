@@ -4,6 +4,7 @@ pub mod Gathered
 pub mod Inputs
 pub mod Outside
 pub mod Stores
+pub mod StoreSources
 pub mod Planned
 pub mod Standing
 pub mod Stretch

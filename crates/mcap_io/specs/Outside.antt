@@ -33,12 +33,13 @@ pub record LiveState : Type 0 where
 abbrev pub Names : Type 0
 Names = List ℕ → Option (List ℕ)
 
--- how an object was taken back: whether that went well, how often the object had failed, and what it had left, if it is
--- a source
+-- how an object was taken back: whether that went well, how often the object had failed, what it had left, if it is a
+-- source, and how many bytes it was asked for, if it is a store; 0 of others
 pub record Keeping : Type 0 where
   pub well : Bool
   pub faults : ℕ
   pub left : Option (List ℕ)
+  pub asked : ℕ
 
 -- an opening: of what, under which name, whether it gave an object, and how that was taken back, once it was
 pub record Opening : Type 0 where
@@ -53,7 +54,7 @@ pub record Told : Type 0 where
   pub log : List Opening
 
 -- of a world: what it tells, if it does; how often an opening or a keeping has failed; and the faults of the sources
--- and of the live stores that it took back
+-- and stores and of the live stores that it took back
 pub record WorldState : Type 0 where
   pub told : Option Told
   pub faults : ℕ
@@ -221,12 +222,12 @@ pub record Keeps (all now : Names) (name : List ℕ) (held : Option (List ℕ)) 
 -- where the world tells, it goes on telling: a source that is taken back is noted, and the names hold what they held
 abbrev pub KeepsSource : WorldState → WorldState → List ℕ → SourceState → Result Unit Failed → Type 0
 KeepsSource old new name it result = (told : Told) → old.told ≡ Some told → (now : Told) × (new.told ≡ Some now) × (now.names ≡ told.names)
-    × Notes told.log now.log kinds.Source name (record { well = went_well result; faults = it.faults; left = it.left })
+    × Notes told.log now.log kinds.Source name (record { well = went_well result; faults = it.faults; left = it.left; asked = 0 })
 
 -- a live store that is taken back is noted, and its bytes stand under its name alone
 abbrev pub KeepsLive : WorldState → WorldState → List ℕ → LiveState → Result Unit Failed → Type 0
 KeepsLive old new name it result = (told : Told) → old.told ≡ Some told → (now : Told) × (new.told ≡ Some now) × Keeps told.names now.names name it.held result
-    × Notes told.log now.log kinds.Live name (record { well = went_well result; faults = it.faults; left = None })
+    × Notes told.log now.log kinds.Live name (record { well = went_well result; faults = it.faults; left = None; asked = 0 })
 
 -- what an opened source tells: the bytes under its name, which is there
 abbrev pub TellsName : WorldState → List ℕ → SourceState → Type 0

@@ -21,7 +21,7 @@ left_of-source (Some source) = left_of source.bytes.items source.next
 
 -- a keeping that is noted
 abbrev pub shown_keeping : Kept → Keeping
-shown_keeping kept = record { well = kept.well; faults = kept.faults; left = left_of-source kept.rest }
+shown_keeping kept = record { well = kept.well; faults = kept.faults; left = left_of-source kept.rest; asked = kept.asked }
 
 -- an opening that is listed
 abbrev pub shown : Opened → Opening

@@ -1,9 +1,10 @@
 -- What is seen of a store, and what its calls do to that.
-use Rattle.std.specs.Prelude.{◌≡◌, ℕ, ◌+◌, ◌-◌, ◌^◌, ◌≤◌, min, max, List, length, take, drop, Option, Some, Result, Ok, Err, IsErrOf, Vec, vec_len}
+use Rattle.std.specs.Prelude.{◌≡◌, ℕ, ◌+◌, ◌-◌, ◌^◌, ◌≤◌, min, max, List, length, take, drop, Option, Some, None, IsSome, Result, Ok, Err, IsErrOf, Vec, vec_len}
 use Rattle.mcap_io.specs.declared.outside.Failed.{Failed}
 use Rattle.mcap_io.specs.declared.outside.ReadRefused.{ReadRefused}
 use Rattle.mcap_io.specs.declared.outside.ReadRefused.TheVariants as read_refusals
-use Rattle.mcap_io.specs.Outside.{HasCause, ReadCause}
+use Rattle.mcap_io.specs.declared.outside.ObjectKind.TheVariants as kinds
+use Rattle.mcap_io.specs.Outside.{HasCause, ReadCause, Told, WorldState, Notes, went_well}
 
 -- of a store: the bytes that it tells, if it does; the greatest length that it has answered; how often it has failed; and
 -- how many bytes it was asked for
@@ -61,3 +62,20 @@ pub record TakesPart {Y : Type 0} (old new : StoreState) (at len : ℕ) (result 
   pub asked : new.asked ≤ old.asked + len
   pub none : IsErrOf result read_refusals.Memory → new.asked ≡ old.asked
   pub cause : ReadCause old.faults new.faults result
+
+-- ---- stores in worlds
+
+-- a store that nothing was asked of yet
+pub record IsUnused (store : StoreState) : Type 0 where
+  pub known : store.known ≡ 0
+  pub faults : store.faults ≡ 0
+  pub asked : store.asked ≡ 0
+
+-- what an opened store tells: the bytes under its name, which is there
+abbrev pub TellsStore : WorldState → List ℕ → StoreState → Type 0
+TellsStore world name store = (told : Told) → world.told ≡ Some told → (store.bytes ≡ told.names name) × IsSome (told.names name)
+
+-- where the world tells, it goes on telling: a store that is taken back is noted, and the names hold what they held
+abbrev pub KeepsStore : WorldState → WorldState → List ℕ → StoreState → Result Unit Failed → Type 0
+KeepsStore old new name it result = (told : Told) → old.told ≡ Some told → (now : Told) × (new.told ≡ Some now) × (now.names ≡ told.names)
+    × Notes told.log now.log kinds.Store name (record { well = went_well result; faults = it.faults; left = None; asked = it.asked })

@@ -5,16 +5,20 @@ ghost use Rattle.mcap_io.specs.Ahead.{ahead, Gives};
 ghost use Rattle.mcap_io.specs.Files.{nothing, PlacedAs, IsWritten};
 ghost use Rattle.mcap_io.specs.Gathered.{Stores};
 ghost use Rattle.mcap_io.specs.Inputs.{LetsGo};
+ghost use Rattle.mcap_io.specs.Stores.{IsUnused};
 ghost use Rattle.mcap_io.specs.Outside.{HasCause, OpenCause, ReadGives, Adds, AppendCause, AppendLeaves, RisesOnce, added};
 
 use crate::ahead::{ROOM, ReadAhead};
 use crate::gather::Gather;
 use crate::inputs::{FileId, holds, let_go};
 use crate::outside::{AppendRefused, Extent, Failed, LiveStore, OpenRefused, Short, Source, World};
+use crate::store::Store;
+use crate::store_files::FileStore;
 use crate::writer::WriterSink;
 use std::alloc::{AllocError, Global};
 use std::fs::{OpenFile, OpenOptions};
 use std::io::{Read, Write};
+use std::os::unix::fs::FileExt;
 use std::rt::Files;
 
 /// A source over a file. It reads 262,144 bytes ahead; a larger read goes past its buffer.
@@ -229,7 +233,7 @@ pub struct FileWorld<R> {
 
 impl<R: Files + AllocGlobal> FileWorld<R>
 where
-    R::File: Send,
+    R::File: Send + FileExt,
 {
     /// The files of this runtime.
     pub fn new(runtime: R) -> Self
@@ -285,9 +289,11 @@ fn open_input<R: Files>(runtime: &R, name: &str) -> Result<(R::File, FileId), Fa
 
 impl<R: Files + AllocGlobal> World for FileWorld<R>
 where
-    R::File: Send,
+    R::File: Send + FileExt,
 {
     type Source = FileSource<R::File>;
+
+    type Store = FileStore<R::File>;
 
     type Live = FileLive<R::File>;
 
@@ -317,6 +323,25 @@ where
         }
     }
 
+    fn store(&mut self, name: &str) -> Result<FileStore<R::File>, OpenRefused>
+        ensures unused { IfOk result (λ it. IsUnused (⟦<FileStore<R::File> as Store>⟧.state it)) }
+        ensures input_faults { self.new.input_faults ≡ self.old.input_faults }
+        ensures output_faults { self.new.output_faults ≡ self.old.output_faults }
+        ensures cause { OpenCause self.old.faults self.new.faults result }
+        ensures noted { IfOk result (λ it. self.new.inputs.items ≡ self.old.inputs.items ++ it.id ∷ []) }
+        ensures rest { OnErr result (self.new.inputs.items ≡ self.old.inputs.items) }
+    {
+        let Ok(()) = self.inputs.reserve(1) else {
+            return Err(OpenRefused::Memory);
+        };
+        let Ok((file, id)) = open_input(&self.runtime, name) else {
+            self.faults = self.faults.saturating_add(1);
+            return Err(OpenRefused::Failed);
+        };
+        self.inputs.push(id).unwrap();
+        Ok(FileStore::new(file, id))
+    }
+
     fn live(&mut self, name: &str) -> Result<FileLive<R::File>, OpenRefused> {
         let Ok(room) = Vec::with_capacity(self.runtime.alloc(), ROOM) else {
             return Err(OpenRefused::Memory);
@@ -339,6 +364,17 @@ where
         self.input_faults = self.input_faults.saturating_add(it.faults());
         let_go(&mut self.inputs, it.id);
         it.close();
+        Ok(())
+    }
+
+    fn keep_store(&mut self, _name: &str, it: FileStore<R::File>) -> Result<(), Failed>
+        ensures input_faults { self.new.input_faults ≡ added self.old.input_faults it.faults }
+        ensures output_faults { self.new.output_faults ≡ self.old.output_faults }
+        ensures cause { HasCause self.old.faults self.new.faults result }
+        ensures let_go { LetsGo self.old.inputs.items self.new.inputs.items it.id }
+    {
+        self.input_faults = self.input_faults.saturating_add(it.faults());
+        let_go(&mut self.inputs, it.close());
         Ok(())
     }
 

@@ -1,4 +1,4 @@
-//! The outside as the recorder sees it: sources, sinks, live stores and the world that opens and keeps them,
+//! The outside as the recorder sees it: sources, sinks, stores, live stores and the world that opens and keeps them,
 //! each with a meaning that contracts can name and a count of its faults.
 #![tactic(auto)]
 
@@ -11,8 +11,10 @@ mod memory_world;
 mod openings;
 mod outside;
 mod store;
+mod store_files;
 mod store_memory;
 mod store_part;
+mod store_source;
 mod stretch;
 mod writer;
 
@@ -27,10 +29,14 @@ pub use outside::{
     Source, World,
 };
 pub use store::Store;
+pub use store_files::FileStore;
 pub use store_memory::{MemoryStore, QuietStore};
 pub use store_part::read_part;
+pub use store_source::StoreSource;
 pub use stretch::{read_up_to, write_all_of};
 pub use writer::WriterSink;
 
+#[cfg(test)]
+mod callers;
 #[cfg(test)]
 mod tests;

@@ -2,23 +2,26 @@
 ghost use Rattle.std.specs.Prelude.{◌≡◌, ◌↔◌, Some, None, [], map, Contains, IfOk, OnOk, OnErr, IsErr, IsTrue};
 ghost use Rattle.std.specs.Option.{option_copied, option_map};
 ghost use Rattle.mcap_io.specs.Outside.{OthersSame, Keeps, OpenCause, HasCause, TellsName, TellsNothingYet, Opens, CountsStand, KeepsSource, KeepsLive, added};
+ghost use Rattle.mcap_io.specs.Stores.{IsUnused, TellsStore, KeepsStore};
 ghost use Rattle.mcap_io.specs.Planned.{next_call, OpensAsPlanned};
 ghost use Rattle.mcap_io.specs.Standing.{standing, shown, seen};
 
 use crate::memory::{Calls, FailingWrite, MemoryLive, MemorySource};
 use crate::openings::{Kept, Opened, list, make_room, note};
 use crate::outside::{Failed, LiveStore, ObjectKind, OpenRefused, Source, World};
+use crate::store::Store;
+use crate::store_memory::MemoryStore;
 use std::alloc::{AllocError, Global};
 use std::collections::BTreeMap;
 
 /// Which calls on a world in memory are to fail, by their numbers from 0.
 #[derive(Debug, Drop)]
 pub struct Plan {
-    /// The openings, of sources and of live stores in one count.
+    /// The openings, of all objects in one count.
     pub openings: Vec<u64>,
-    /// The keepings, of sources and of live stores in one count. Those of live stores put nothing under the name.
+    /// The keepings, of all objects in one count. Those of live stores put nothing under the name.
     pub keepings: Vec<u64>,
-    /// The reads of each source that it opens.
+    /// The reads of each source that it opens; of each store the questions for its length and the reads, in one count.
     pub reads: Vec<u64>,
     /// The appends of each live store that it opens.
     pub appends: Vec<FailingWrite>,
@@ -90,10 +93,10 @@ impl MemoryWorld {
         }
     }
 
-    // A source of a copy of what stands under the name, with a plan of its own.
-    fn open_source(&mut self, name: &str, fails: bool) -> Result<MemorySource, OpenRefused>
-        ensures tells { IfOk result (λ it. Some (⟦<MemorySource as Source>⟧.state it).left ≡ option_map Some (standing self.old.entries name.now)) }
-        ensures unused { IfOk result (λ it. ((⟦<MemorySource as Source>⟧.state it).faults ≡ 0) × (it.reads.failing.items ≡ self.old.reads.items) × (it.reads.made ≡ 0)) }
+    // A copy of what stands under the name, and one of the plan of reads.
+    fn copy_under(&mut self, name: &str, fails: bool) -> Result<(Vec<u8>, Vec<u64>), OpenRefused>
+        ensures bytes { IfOk result (λ copies. standing self.old.entries name.now ≡ Some copies.0.items) }
+        ensures reads { IfOk result (λ copies. copies.1.items ≡ self.old.reads.items) }
         ensures cause { OpenCause self.old.faults self.new.faults result }
         ensures planned { OpensAsPlanned (IsTrue fails) (standing self.old.entries name.now ≡ None) result }
         ensures rest { self.new ≡ record self.old { faults = self.new.faults } }
@@ -112,7 +115,35 @@ impl MemoryWorld {
         let Ok(reads) = Vec::from_slice(self.alloc, &self.reads) else {
             return Err(OpenRefused::Memory);
         };
-        Ok(MemorySource::new(copy, reads))
+        Ok((copy, reads))
+    }
+
+    // A source of a copy of what stands under the name, with a plan of its own.
+    fn open_source(&mut self, name: &str, fails: bool) -> Result<MemorySource, OpenRefused>
+        ensures tells { IfOk result (λ it. Some (⟦<MemorySource as Source>⟧.state it).left ≡ option_map Some (standing self.old.entries name.now)) }
+        ensures unused { IfOk result (λ it. ((⟦<MemorySource as Source>⟧.state it).faults ≡ 0) × (it.reads.failing.items ≡ self.old.reads.items) × (it.reads.made ≡ 0)) }
+        ensures cause { OpenCause self.old.faults self.new.faults result }
+        ensures planned { OpensAsPlanned (IsTrue fails) (standing self.old.entries name.now ≡ None) result }
+        ensures rest { self.new ≡ record self.old { faults = self.new.faults } }
+    {
+        match self.copy_under(name, fails) {
+            Ok((bytes, reads)) => return Ok(MemorySource::new(bytes, reads)),
+            Err(why) => return Err(why),
+        }
+    }
+
+    // A store of a copy of what stands under the name, with a plan of its own.
+    fn open_store(&mut self, name: &str, fails: bool) -> Result<MemoryStore, OpenRefused>
+        ensures tells { IfOk result (λ it. Some (⟦<MemoryStore as Store>⟧.state it).bytes ≡ option_map Some (standing self.old.entries name.now)) }
+        ensures unused { IfOk result (λ it. IsUnused (⟦<MemoryStore as Store>⟧.state it) × (it.calls.failing.items ≡ self.old.reads.items) × (it.calls.made ≡ 0)) }
+        ensures cause { OpenCause self.old.faults self.new.faults result }
+        ensures planned { OpensAsPlanned (IsTrue fails) (standing self.old.entries name.now ≡ None) result }
+        ensures rest { self.new ≡ record self.old { faults = self.new.faults } }
+    {
+        match self.copy_under(name, fails) {
+            Ok((bytes, reads)) => return Ok(MemoryStore::new(bytes, reads)),
+            Err(why) => return Err(why),
+        }
     }
 
     // An empty live store, with a plan of its own.
@@ -208,6 +239,8 @@ fn place(
 impl World for MemoryWorld {
     type Source = MemorySource;
 
+    type Store = MemoryStore;
+
     type Live = MemoryLive;
 
     ghost state = { λ w. seen w };
@@ -233,6 +266,33 @@ impl World for MemoryWorld {
             }
             Err(OpenRefused::Failed) => {
                 list(&mut self.log, ObjectKind::Source, copy, false);
+                return Err(OpenRefused::Failed);
+            }
+            Err(OpenRefused::Memory) => return Err(OpenRefused::Memory),
+        }
+    }
+
+    fn store(&mut self, name: &str) -> Result<MemoryStore, OpenRefused>
+        ensures opens { Opens (seen self.old) (seen self.new) ObjectKind.Store name.now result }
+        ensures tells { IfOk result (λ it. TellsStore (seen self.old) name.now (⟦<MemoryStore as Store>⟧.state it)) }
+        ensures unused { IfOk result (λ it. IsUnused (⟦<MemoryStore as Store>⟧.state it)) }
+        ensures counts { CountsStand (seen self.old) (seen self.new) }
+        ensures cause { OpenCause self.old.faults self.new.faults result }
+        ensures planned { OpensAsPlanned (Contains self.old.openings.failing.items self.old.openings.made) (standing self.old.entries name.now ≡ None) result }
+        ensures plan { IfOk result (λ it. (it.calls.failing.items ≡ self.old.reads.items) × (it.calls.made ≡ 0)) }
+        ensures rest { self.new ≡ record self.old { log = self.new.log; faults = self.new.faults; openings = record { failing = self.old.openings.failing; made = next_call self.old.openings.made } } }
+    {
+        let fails = self.openings.next_fails();
+        let Ok(copy) = make_room(self.alloc, &mut self.log, name) else {
+            return Err(OpenRefused::Memory);
+        };
+        match self.open_store(name, fails) {
+            Ok(store) => {
+                list(&mut self.log, ObjectKind::Store, copy, true);
+                return Ok(store);
+            }
+            Err(OpenRefused::Failed) => {
+                list(&mut self.log, ObjectKind::Store, copy, false);
                 return Err(OpenRefused::Failed);
             }
             Err(OpenRefused::Memory) => return Err(OpenRefused::Memory),
@@ -282,8 +342,31 @@ impl World for MemoryWorld {
             well: counted.is_ok(),
             faults,
             rest: Some(rest),
+            asked: 0,
         };
         note(&mut self.log, ObjectKind::Source, name, kept);
+        counted
+    }
+
+    fn keep_store(&mut self, name: &str, it: MemoryStore) -> Result<(), Failed>
+        ensures keeps { KeepsStore (seen self.old) (seen self.new) name.now (⟦<MemoryStore as Store>⟧.state it) result }
+        ensures input_faults { self.new.input_faults ≡ added self.old.input_faults it.faults }
+        ensures output_faults { self.new.output_faults ≡ self.old.output_faults }
+        ensures cause { HasCause self.old.faults self.new.faults result }
+        ensures planned { IsErr result ↔ Contains self.old.keepings.failing.items self.old.keepings.made }
+        ensures rest { self.new ≡ record self.old { log = self.new.log; faults = self.new.faults; input_faults = self.new.input_faults; keepings = record { failing = self.old.keepings.failing; made = next_call self.old.keepings.made } } }
+    {
+        self.input_faults = self.input_faults.saturating_add(it.faults());
+        let faults = it.faults();
+        let asked = it.asked();
+        let counted = self.count_keeping();
+        let kept = Kept {
+            well: counted.is_ok(),
+            faults,
+            rest: None,
+            asked,
+        };
+        note(&mut self.log, ObjectKind::Store, name, kept);
         counted
     }
 
@@ -303,6 +386,7 @@ impl World for MemoryWorld {
             well: put.is_ok(),
             faults,
             rest: None,
+            asked: 0,
         };
         note(&mut self.log, ObjectKind::Live, name, kept);
         put

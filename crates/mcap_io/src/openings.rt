@@ -7,13 +7,14 @@ use crate::memory::QuietSource;
 use crate::outside::ObjectKind;
 use std::alloc::{AllocError, Global};
 
-/// How an object was taken back: whether that went well, how often the object had failed, and what is left of it, if it
-/// is a source.
+/// How an object was taken back: whether that went well, how often the object had failed, what is left of it, if it is a
+/// source, and how many bytes it was asked for, if it is a store; 0 of others.
 #[derive(Drop)]
 pub struct Kept {
     pub well: bool,
     pub faults: u64,
     pub rest: Option<QuietSource>,
+    pub asked: u128,
 }
 
 /// An opening: of what, under which name, whether it gave an object, and how that was taken back, once it was.

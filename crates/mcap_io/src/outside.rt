@@ -1,6 +1,9 @@
 //! The traits of the outside, and the answers of their calls.
 ghost use Rattle.std.specs.Prelude.{◌≡◌, ◌≤◌, ◌<◌, ℕ, List, Option, Some, length, Ok, IfOk, IfErr};
+ghost use Rattle.mcap_io.specs.Stores.{IsUnused, TellsStore, KeepsStore};
 ghost use Rattle.mcap_io.specs.Outside.{SourceState, SinkState, LiveState, WorldState, HasCause, OpenCause, AppendCause, ReadGives, Writes, Adds, AppendLeaves, Opens, CountsStand, KeepsSource, KeepsLive, TellsName, TellsNothingYet, added};
+
+use crate::store::Store;
 
 /// The outside failed: the count of the object has risen in that call.
 #[derive(Clone, Copy, Debug, PartialEq, Eq)]
@@ -10,6 +13,7 @@ pub struct Failed;
 #[derive(Clone, Copy, Debug, PartialEq, Eq)]
 pub enum ObjectKind {
     Source,
+    Store,
     Live,
 }
 
@@ -130,6 +134,8 @@ pub trait LiveStore {
 pub trait World {
     type Source: Source + Send;
 
+    type Store: Store + Send;
+
     type Live: LiveStore + Send;
 
     /// What it tells of its names and openings, how often an opening or a keeping has failed, and the faults of what was
@@ -141,6 +147,14 @@ pub trait World {
         ensures opens { Opens (state self.old) (state self.new) ObjectKind.Source name.now result }
         ensures tells { IfOk result (λ it. TellsName (state self.old) name.now (Self.Source.state it)) }
         ensures unused { IfOk result (λ it. (Self.Source.state it).faults ≡ 0) }
+        ensures counts { CountsStand (state self.old) (state self.new) }
+        ensures cause { OpenCause (state self.old).faults (state self.new).faults result };
+
+    /// Opens what stands under the name, to be read at any place. A name that isn't there is a fault.
+    fn store(&mut self, name: &str) -> Result<Self::Store, OpenRefused>
+        ensures opens { Opens (state self.old) (state self.new) ObjectKind.Store name.now result }
+        ensures tells { IfOk result (λ it. TellsStore (state self.old) name.now (Self.Store.state it)) }
+        ensures unused { IfOk result (λ it. IsUnused (Self.Store.state it)) }
         ensures counts { CountsStand (state self.old) (state self.new) }
         ensures cause { OpenCause (state self.old).faults (state self.new).faults result };
 
@@ -156,6 +170,13 @@ pub trait World {
     fn keep_source(&mut self, name: &str, it: Self::Source) -> Result<(), Failed>
         ensures keeps { KeepsSource (state self.old) (state self.new) name.now (Self.Source.state it) result }
         ensures input_faults { (state self.new).input_faults ≡ added (state self.old).input_faults (Self.Source.state it).faults }
+        ensures output_faults { (state self.new).output_faults ≡ (state self.old).output_faults }
+        ensures cause { HasCause (state self.old).faults (state self.new).faults result };
+
+    /// Takes a store back, after a failure too.
+    fn keep_store(&mut self, name: &str, it: Self::Store) -> Result<(), Failed>
+        ensures keeps { KeepsStore (state self.old) (state self.new) name.now (Self.Store.state it) result }
+        ensures input_faults { (state self.new).input_faults ≡ added (state self.old).input_faults (Self.Store.state it).faults }
         ensures output_faults { (state self.new).output_faults ≡ (state self.old).output_faults }
         ensures cause { HasCause (state self.old).faults (state self.new).faults result };
 

@@ -1,4 +1,5 @@
 use super::*;
+use crate::callers::read_front;
 use std::alloc::Global;
 use std::fs;
 use std::test::Fail;
@@ -244,5 +245,105 @@ fn a_writer_takes_all_pieces(rt: HostRuntime) -> Result<(), Fail> {
     }
     assert_eq!(rt; sink.faults(), 0);
     assert_eq!(rt; sink.into_inner().as_slice(), b"abcd".as_slice());
+    Ok(())
+}
+
+// Of "abcdefgh" the first five bytes, in stretches; the first read behind the question for the length fails once, and
+// counts as asked for.
+#[test]
+fn a_source_gives_the_front_of_a_store(rt: HostRuntime) -> Result<(), Fail> {
+    let bytes = Vec::from_slice(rt.alloc(), b"abcdefgh")?;
+    let mut store = MemoryStore::new(bytes, vec![in rt.alloc(); 1]?);
+    assert!(rt; store.len() == Ok(8));
+    let mut source = StoreSource::new(&mut store, 5);
+    let mut buffer = Vec::new(rt.alloc());
+    let stretches: [(u64, Result<(), ReadRefused>, &[u8], u64); 4] = [
+        (3, Err(ReadRefused::Failed), b"", 1),
+        (3, Ok(()), b"abc", 1),
+        (3, Ok(()), b"de", 1),
+        (3, Ok(()), b"", 1),
+    ];
+    for (len, answer, held, faults) in stretches {
+        assert!(rt; read_up_to(&mut source, &mut buffer, len) == answer);
+        assert_eq!(rt; buffer.as_slice(), held);
+        assert_eq!(rt; source.faults(), faults);
+    }
+    assert_eq!(rt; (store.asked(), store.faults()), (8, 1));
+    let len = store.len().ok().ok_or("the call isn't to fail")?;
+    assert!(rt; read_front(&mut store, &mut buffer, len.min(2)) == Ok(()));
+    assert_eq!(rt; buffer.as_slice(), b"ab".as_slice());
+    Ok(())
+}
+
+// The second opening fails, and so does the second call on each store: of the first that is the read of two bytes.
+#[test]
+fn a_world_gives_stores_and_takes_them_back(rt: HostRuntime) -> Result<(), Fail> {
+    let mut plan = plan(rt.alloc());
+    plan.openings.push(1)?;
+    plan.reads.push(1)?;
+    let mut world = MemoryWorld::new(rt.alloc(), plan);
+    world.put("in", b"abc")?;
+    let mut store = world.store("in").ok().ok_or("it is there")?;
+    assert!(rt; matches!(world.store("in"), Err(OpenRefused::Failed)));
+    assert!(rt; matches!(world.store("none"), Err(OpenRefused::Failed)));
+    assert!(rt; store.len() == Ok(3));
+    let mut room = [0; 2];
+    assert!(rt; store.read_at(1, &mut room) == Err(Failed));
+    assert!(rt; store.read_at(1, &mut room) == Ok(()));
+    assert_eq!(rt; room, *b"bc");
+    assert!(rt; world.keep_store("in", store) == Ok(()));
+    let openings = [("in", true), ("in", false), ("none", false)];
+    assert_eq!(rt; world.log().len(), 3);
+    for (entry, (name, given)) in world.log().iter().zip(openings) {
+        assert_eq!(rt; entry.kind, ObjectKind::Store);
+        assert_eq!(rt; (entry.name.as_str(), entry.given), (name, given));
+    }
+    let first = world.log().first().ok_or("it was opened")?;
+    let kept = first.kept.as_ref().ok_or("it was kept")?;
+    assert_eq!(rt; (kept.well, kept.faults, kept.asked), (true, 1, 4));
+    assert_eq!(rt;
+        (world.faults(), world.input_faults(), world.output_faults()),
+        (2, 1, 0)
+    );
+    Ok(())
+}
+
+// A file that is open as a store isn't opened as an output. Bytes are read at any place, and where the file has fallen
+// short since the question for its length, the read fails.
+#[test]
+fn a_file_is_read_at_any_place(rt: HostRuntime) -> Result<(), Fail> {
+    fs::write(&rt, "stored", b"abcdef")?;
+    let mut world = FileWorld::new(&rt);
+    for name in ["none", "."] {
+        match world.store(name) {
+            Ok(store) => assert!(rt; world.keep_store(name, store).is_err(), "no file is there"),
+            Err(why) => assert_eq!(rt; why, OpenRefused::Failed),
+        }
+    }
+    let mut store = world.store("stored").ok().ok_or("it is there")?;
+    match world.live("stored") {
+        Ok(live) => assert!(rt; world.keep_live("stored", live).is_err(), "it is read"),
+        Err(why) => assert_eq!(rt; why, OpenRefused::Failed),
+    }
+    let Ok(len) = store.len() else {
+        let _kept = world.keep_store("stored", store);
+        return Err("it is a file".into());
+    };
+    assert_eq!(rt; len, 6);
+    let mut room = [0; 2];
+    let mut cut = Ok(());
+    if len == 6 {
+        assert!(rt; store.read_at(4, &mut room) == Ok(()));
+        assert_eq!(rt; room, *b"ef");
+        assert!(rt; store.read_at(0, &mut room) == Ok(()));
+        assert_eq!(rt; room, *b"ab");
+        cut = fs::write(&rt, "stored", b"abc");
+        assert!(rt; store.read_at(2, &mut room) == Err(Failed));
+    }
+    assert_eq!(rt; (store.asked(), store.faults()), (6, 1));
+    assert!(rt; world.keep_store("stored", store) == Ok(()));
+    cut?;
+    fs::remove_file(&rt, "stored")?;
+    assert_eq!(rt; (world.faults(), world.input_faults()), (3, 1));
     Ok(())
 }

@@ -10,9 +10,9 @@ use Rattle.mcap_io.proofs.memory_world.MemoryWorldWorld.keep_live.Goals as goal
 pub returns-clause-keeps : goal.returns-clause-keeps
 returns-clause-keeps c =
     let log' = map shown c.note.new.log.items in
-    let keeping : Keeping = record { well = is_ok c.put_back-put.result; faults = c.args.it.faults; left = None } in
-    let is : shown_keeping (record { well = c.is_ok.result; faults = c.faults-faults.result; rest = None }) ≡ keeping =
-    ap₂ (λ b n. record { well = b; faults = n; left = None }) c.is_ok.ensures.value c.faults-faults.ensures in
+    let keeping : Keeping = record { well = is_ok c.put_back-put.result; faults = c.args.it.faults; left = None; asked = 0 } in
+    let is : shown_keeping (record { well = c.is_ok.result; faults = c.faults-faults.result; rest = None; asked = 0 }) ≡ keeping =
+    ap₂ (λ b n. record { well = b; faults = n; left = None; asked = 0 }) c.is_ok.ensures.value c.faults-faults.ensures in
     let names = standing c.args.self.now.entries in
     let names' = standing c.put_back-put.new.self.entries in
     let rest = c.put_back-put.ensures.rest in
