@@ -43,7 +43,7 @@ each_filter P test (x ∷ xs) each = by (test x) (each_filter P test xs (λ n y 
 pub flat_more : (done : List Top) (t : Top) → flat (done ++ t ∷ []) ≡ flat done ++ flattened t
 flat_more done t = flat_map-append flattened done (t ∷ []) ∙ ap (λ (l : List Top). flat done ++ l) (append-nil (flattened t))
 
-agree_more : (done rs : List Top) → EachBehind V7 (done ++ rs) → EachBehind Agrees (flat done) → EachBehind Agrees (flat (done ++ rs))
+pub agree_more : (done rs : List Top) → EachBehind V7 (done ++ rs) → EachBehind Agrees (flat done) → EachBehind Agrees (flat (done ++ rs))
 agree_more done [] v7 agree = subst (λ (l : List Top). EachBehind Agrees (flat l)) (sym (append-nil done)) agree
 agree_more done (t ∷ ts) v7 agree =
     let here : V7 done t = each_at V7 done t ts v7 in
@@ -83,7 +83,7 @@ good_lists_agree limits tops good = (
 
 -- ---- places
 
-inside_tops : (chunk at : ℕ) (tops : List Top) → tops_of (placed_inside chunk at tops) ≡ tops
+pub inside_tops : (chunk at : ℕ) (tops : List Top) → tops_of (placed_inside chunk at tops) ≡ tops
 inside_tops chunk at [] = refl
 inside_tops chunk at (t ∷ ts) = ap (λ (l : List Top). t ∷ l) (inside_tops chunk (at + length (top_bytes t)) ts)
 

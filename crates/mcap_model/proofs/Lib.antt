@@ -63,3 +63,4 @@ pub mod NamedTopics
 pub mod Replays
 pub mod PlacesApart
 pub mod Pieces
+pub mod Leading

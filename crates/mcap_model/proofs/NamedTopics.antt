@@ -43,7 +43,7 @@ unmapped f [] n y at = absurd (at_none n y at)
 unmapped f (x ∷ xs) zero y at = (x, refl, same_Some (f x) y at)
 unmapped f (x ∷ xs) (suc n) y at = unmapped f xs n y at
 
-zip_front : {X Y : Type 0} (R : X → Y → Type 0) (xs : List X) (ys : List Y) (n : ℕ) (x : X) → AllZip R xs ys → At xs n x → (y : Y) × At ys n y × R x y
+pub zip_front : {X Y : Type 0} (R : X → Y → Type 0) (xs : List X) (ys : List Y) (n : ℕ) (x : X) → AllZip R xs ys → At xs n x → (y : Y) × At ys n y × R x y
 zip_front R [] ys n x zip at = absurd (at_none n x at)
 zip_front R (z ∷ xs) [] n x zip at = absurd zip
 zip_front {X} R (z ∷ xs) (y ∷ ys) zero x zip at = (y, refl, subst (λ (w : X). R w y) (same_Some z x at) zip.0)

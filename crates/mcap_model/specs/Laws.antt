@@ -1,5 +1,5 @@
 -- What holds of the definitions.
-use Rattle.std.specs.Prelude.{◌≡◌, ◌⊎◌, ℕ, suc, ◌^◌, ◌<◌, List, [], ◌∷◌, ◌++◌, length, Bool, false, ◌≤◌, take, filter, map, Option, Some, IsUtf8}
+use Rattle.std.specs.Prelude.{◌≡◌, ◌⊎◌, ◌↔◌, ℕ, suc, ◌^◌, ◌<◌, List, [], ◌∷◌, ◌++◌, length, Bool, false, ◌≤◌, take, filter, map, Option, Some, IsUtf8}
 use Rattle.std.specs.List.{AllZip}
 use Rattle.rec_data.specs.Records.{header_text}
 use Rattle.rec_data.specs.declared.owned.Rec.{Rec}
@@ -7,12 +7,12 @@ use Rattle.rec_data.specs.Owned.{rec_opcode, rec_text, ShowsRec}
 use Rattle.rec_index.specs.Records.{attachment_index_text, metadata_index_text}
 use Rattle.mcap_model.specs.declared.replay.Range.{Range}
 use Rattle.mcap_model.specs.declared.options.FileOptions.{FileOptions}
-use Rattle.mcap_model.specs.Places.{Each, EachBehind}
+use Rattle.mcap_model.specs.Places.{Has, Each, EachBehind}
 use Rattle.mcap_model.specs.Tops.{Top, Tops, top_bytes, offset_behind, spelled, begins_record, records_in, chunk_records, inner_tops, flat}
 use Rattle.mcap_model.specs.Fields.{SchemaFields, ChunkFields, IsChunk, IsMessageIndex, AttachmentFields, IsAttachment, IsMetadata}
 use Rattle.mcap_model.specs.Rules.{V1, HasDataEnd, V6, V8, V10, Agrees}
 use Rattle.mcap_model.specs.Kept.{Limits, Good, Kept, Halt, HaltsThere, Halts, SameHalt, reading_limits, at_end, grammar}
-use Rattle.mcap_model.specs.Scan.{Seen, Scan, Replay}
+use Rattle.mcap_model.specs.Scan.{Seen, Scan, InRange, Replay}
 use Rattle.mcap_model.specs.History.{schema_of, message_of, is_message, Numbered, history_bytes, rec_top, flat_history, without_repeats}
 use Rattle.mcap_model.specs.Blocks.{Piece, block, alone, chunk_content, entries_for, index_content, logged_channels, reaches, Ripens, AreBlocks, blocks_in, pieces_of, pieces_by}
 use Rattle.mcap_model.specs.Written.{IdsAgree}
@@ -23,6 +23,7 @@ use Rattle.mcap_model.specs.Pieces.{joined, file_pieces, StoppedAt}
 use Rattle.mcap_model.specs.Whole.{count_of, IsWhole}
 use Rattle.mcap_model.specs.Valid.{IsValid, IsFullyIndexed, Flaw}
 use Rattle.mcap_model.specs.Repaired.{Repaired}
+use Rattle.mcap_model.specs.Led.{Led, LedReplay}
 
 -- a record that is found where it stands: its opcode isn't 0, and its length can be declared
 pub record IsFound (t : Top) : Type 0 where
@@ -235,3 +236,16 @@ PiecesMakeFiles = (options : FileOptions) (extras : List Top) (history : List Re
 -- what stands where a writer stopped is a first part of all its pieces
 abbrev pub StopsLeavePrefixes : Type 0
 StopsLeavePrefixes = (pieces : List (List ℕ)) (place : ℕ) (stop : Stop) (text : List ℕ) (bytes : ℕ) → StoppedAt pieces place stop text bytes → IsPrefix text (joined pieces)
+
+-- ---- what indexes lead to
+
+-- On a fully indexed file that is read to its Data End the summary leads, in a range, to just those messages of the scan
+-- that lie in it, at the same places and with the same topics.
+abbrev pub IndexesLeadToTheScan : Type 0
+IndexesLeadToTheScan = (file : List ℕ) (tops : List Top) (end : ℕ) (messages : List Seen) (range : Range) → IsFullyIndexed file → Halts reading_limits file tops (at_end end) → Scan tops messages
+    → (s : Seen) → Led file range s ↔ (Has messages s × InRange range s.message.log_time)
+
+-- so a replay of what the summary leads to is one of the scan, and the other way round
+abbrev pub LedReplaysAreScans : Type 0
+LedReplaysAreScans = (file : List ℕ) (tops : List Top) (end : ℕ) (messages : List Seen) (range : Range) → IsFullyIndexed file → Halts reading_limits file tops (at_end end) → Scan tops messages
+    → (topic : Option (List ℕ)) (shown : List Seen) → LedReplay file range topic shown ↔ Replay range topic messages shown

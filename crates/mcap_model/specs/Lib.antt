@@ -26,3 +26,4 @@ pub mod Chunked
 pub mod Judging
 pub mod Showing
 pub mod Plain
+pub mod Led

@@ -1,5 +1,5 @@
 //! What holds of the definitions, each law as the contract of a function that does nothing.
-ghost use Rattle.mcap_model.specs.Laws.{GoodFromTheFront, ReadingsHaltOnce, KeptIsOne, HaltsAreLast, FrontsKeepWhole, RecordsAreFound, ChunksAreOpened, ExtrasAreIndexed, ChunksAreWritten, IndexesAreWritten, ReplaysAreOne, BlocksAreOne, SizesRipen, GoodListsAgree, GoodListsAreScanned, NumberedIdsAgree, RepeatsMayGo, RepairsAreOne, FlawsExcludeValidity, FilesAreScanned, FilesAreValid, FilesAreIndexed, PrefixesAreKept, GoodHistoriesAgree, SmallBlocksFit, WholeFilesAreOne, PiecesMakeFiles, StopsLeavePrefixes};
+ghost use Rattle.mcap_model.specs.Laws.{GoodFromTheFront, ReadingsHaltOnce, KeptIsOne, HaltsAreLast, FrontsKeepWhole, RecordsAreFound, ChunksAreOpened, ExtrasAreIndexed, ChunksAreWritten, IndexesAreWritten, ReplaysAreOne, BlocksAreOne, SizesRipen, GoodListsAgree, GoodListsAreScanned, NumberedIdsAgree, RepeatsMayGo, RepairsAreOne, FlawsExcludeValidity, FilesAreScanned, FilesAreValid, FilesAreIndexed, PrefixesAreKept, GoodHistoriesAgree, SmallBlocksFit, WholeFilesAreOne, PiecesMakeFiles, StopsLeavePrefixes, IndexesLeadToTheScan, LedReplaysAreScans};
 
 /// What stands in front in a good list is a good list.
 pub fn good_from_the_front()
@@ -140,4 +140,14 @@ pub fn pieces_make_files()
 /// What stands where a writer stopped is a first part of all its pieces.
 pub fn stops_leave_prefixes()
     ensures { StopsLeavePrefixes }
+{}
+
+/// On a fully indexed file the summary leads, in a range, to just the messages of the scan.
+pub fn indexes_lead_to_the_scan()
+    ensures { IndexesLeadToTheScan }
+{}
+
+/// There a replay of what the summary leads to is one of the scan, and the other way round.
+pub fn led_replays_are_scans()
+    ensures { LedReplaysAreScans }
 {}
