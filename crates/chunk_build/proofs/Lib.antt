@@ -1,5 +1,6 @@
 mod RowLemmas
-mod Marks
+pub mod Marks
 pub mod Growing
 mod Blocks
 mod Putting
+pub mod Tables

@@ -4,3 +4,4 @@ pub mod Building
 pub mod Chunking
 pub mod Held
 pub mod Chunker
+pub mod IndexTable

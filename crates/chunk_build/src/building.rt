@@ -38,9 +38,9 @@ pub(crate) struct Building {
 
 /// The channel and the log time of a message.
 #[derive(Clone, Copy, Debug, PartialEq, Eq)]
-pub(crate) struct Mark {
-    pub(crate) channel: u16,
-    pub(crate) time: u64,
+pub struct Mark {
+    pub channel: u16,
+    pub time: u64,
 }
 
 /// What is ready for a record, so that it is put with no refusal: the place of its channel's row, and what closes the chunk

@@ -8,9 +8,10 @@ ghost use Rattle.chunk_build.specs.Chunker.{StandsFor, Puts, AreFramed, Finishes
 use crate::building::{
     Building, HEAD, Mark, begin, close, closing_for, keep_room, prepare, settle,
 };
+use crate::framed::mark_of_bytes;
 use mcap_model::Block;
 use mcap_wire::{Memory, add_bytes, make_room};
-use rec_data::{MESSAGE, Message, Rec};
+use rec_data::Rec;
 use std::alloc::Global;
 use std::marker::Model;
 
@@ -136,23 +137,5 @@ fn mark_of_record(r: &Rec) -> Option<Mark>
             time: *log_time,
         }),
         _ => None,
-    }
-}
-
-// The same of a framed record.
-fn mark_of_bytes(bytes: &[u8]) -> Option<Mark>
-    requires { (r : Rec) × AreFramed bytes.now r }
-    ensures mark { (r : Rec) → AreFramed bytes.now r → result ≡ mark_of r }
-    ensures long { IsLong (length bytes.now) result }
-{
-    if bytes[0] != MESSAGE {
-        return None;
-    }
-    match Message::parse(&bytes[9..]) {
-        Ok(message) => return Some(Mark {
-            channel: message.channel_id,
-            time: message.log_time,
-        }),
-        Err(_) => unreachable!(),
     }
 }
