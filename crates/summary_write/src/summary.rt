@@ -1,17 +1,20 @@
 //! The summary as it grows (MCAP specification, "Summary Section").
-ghost use Rattle.std.specs.Prelude.{◌≡◌, ◌+◌, ◌^◌, ◌<◌, ◌≤◌, ◌++◌, ◌==◌, List, map, min, if◌then◌else◌, All, IfOk, OnOk, OnErr};
+ghost use Rattle.std.specs.Prelude.{◌≡◌, ◌+◌, ◌^◌, ◌<◌, ◌≤◌, ◌++◌, ◌==◌, Some, List, map, min, if◌then◌else◌, All, IfOk, OnOk, OnErr};
 ghost use Rattle.rec_data.specs.declared.owned.Rec.{Rec};
-ghost use Rattle.rec_data.specs.Owned.{rec_bytes, LengthsFit};
+ghost use Rattle.rec_data.specs.Owned.{LengthsFit};
+ghost use Rattle.chunk_build.specs.Building.{mark_of};
+ghost use Rattle.chunk_build.specs.Chunker.{AreFramed};
 ghost use Rattle.mcap_model.specs.Built.{IsBlock};
 ghost use Rattle.mcap_model.specs.Summary.{Noted, summary_text};
-ghost use Rattle.summary_write.specs.Tally.{StandsFor, no_notes, with_id_once, with_bytes_once, with_noted_record, with_noted_block, index_of_block};
+ghost use Rattle.summary_write.specs.Tally.{StandsFor, no_notes, id_of, with_record, with_id_once, with_bytes_once, with_noted_record, with_noted_block, index_of_block};
 
 use crate::counts::count;
 use crate::text::{Numbers, put_end, put_offsets, put_statistics};
+use chunk_build::{framed_of, mark_of_bytes};
 use indexmap::IndexSet;
 use mcap_model::{Block, IndexPart};
-use mcap_wire::{Bytes, CountsRef, Memory, put_bytes};
-use rec_data::Rec;
+use mcap_wire::{Bytes, CountsRef, Memory, put_bytes, take_u16};
+use rec_data::{Rec, SCHEMA};
 use rec_index::ChunkIndex;
 use std::alloc::Global;
 use std::marker::Model;
@@ -77,39 +80,66 @@ impl Summary {
         ensures blocks { self.new.blocks ≡ self.old.blocks }
     {
         match r {
-            Rec::Schema { id, .. } => match declare(
-                &mut self.schema_ids,
-                &mut self.schemas,
-                *id,
-                r,
-            ) {
-                Ok(()) => return Ok(()),
-                Err(memory) => return Err(memory),
-            },
-            Rec::Channel { id, .. } => match declare(
-                &mut self.channel_ids,
-                &mut self.channels,
-                *id,
-                r,
-            ) {
-                Ok(()) => return Ok(()),
-                Err(memory) => return Err(memory),
-            },
             Rec::Message {
                 channel_id,
                 log_time,
                 ..
-            } => {
-                match count(&mut self.counts, *channel_id, self.messages) {
-                    Ok(()) => {}
-                    Err(memory) => return Err(memory),
-                }
-                self.start = first_time(self.messages, self.start, *log_time);
-                self.end = self.end.max(*log_time);
-                self.messages += 1;
-                return Ok(());
+            } => match self.note_message(*channel_id, *log_time) {
+                Ok(()) => return Ok(()),
+                Err(memory) => return Err(memory),
+            },
+            _ => match framed_of(self.alloc, r) {
+                Ok(bytes) => return self.note_framed(bytes.as_slice()),
+                Err(memory) => return Err(memory),
+            },
+        }
+    }
+
+    /// Does the same with a record that is given by its framed bytes.
+    pub fn note_framed(&mut self, bytes: &[u8]) -> Result<(), Memory>
+        requires framed { (r : Rec) × AreFramed bytes.now r }
+        requires few { self.old.messages < 2 ^ 48 }
+        ensures ok { OnOk result ((r : Rec) → AreFramed bytes.now r → (n : Noted) → StandsFor self.old n → StandsFor self.new (with_noted_record n r)) }
+        ensures err { OnErr result (self.new ≡ self.old) }
+        ensures messages { self.new.messages ≤ self.old.messages + 1 }
+        ensures blocks { self.new.blocks ≡ self.old.blocks }
+    {
+        match mark_of_bytes(bytes) {
+            Some(mark) => match self.note_message(mark.channel, mark.time) {
+                Ok(()) => return Ok(()),
+                Err(memory) => return Err(memory),
+            },
+            None => {}
+        }
+        let id = id_of_bytes(bytes);
+        if bytes[0] == SCHEMA {
+            match declare(&mut self.schema_ids, &mut self.schemas, id, bytes) {
+                Ok(()) => return Ok(()),
+                Err(memory) => return Err(memory),
             }
         }
+        match declare(&mut self.channel_ids, &mut self.channels, id, bytes) {
+            Ok(()) => return Ok(()),
+            Err(memory) => return Err(memory),
+        }
+    }
+
+    // Notes a message.
+    fn note_message(&mut self, channel: u16, time: u64) -> Result<(), Memory>
+        requires few { self.old.messages < 2 ^ 48 }
+        ensures ok { OnOk result ((r : Rec) → mark_of r ≡ Some (record { channel = channel; time = time }) → self.new ≡ with_record self.old r) }
+        ensures err { OnErr result (self.new ≡ self.old) }
+        ensures messages { self.new.messages ≤ self.old.messages + 1 }
+        ensures blocks { self.new.blocks ≡ self.old.blocks }
+    {
+        match count(&mut self.counts, channel, self.messages) {
+            Ok(()) => {}
+            Err(memory) => return Err(memory),
+        }
+        self.start = first_time(self.messages, self.start, time);
+        self.end = self.end.max(time);
+        self.messages += 1;
+        return Ok(());
     }
 
     /// Notes a block that starts at that offset of the file, in bytes. Where memory lacks nothing changes.
@@ -185,11 +215,26 @@ fn first_time(messages: u64, start: u64, time: u64) -> u64
     if messages == 0 { time } else { start.min(time) }
 }
 
-// Appends a record that declares an id, unless the id was declared before.
-fn declare(ids: &mut IndexSet<u16>, framed: &mut Vec<u8>, id: u16, r: &Rec) -> Result<(), Memory>
-    requires { LengthsFit r.now }
+// The id that a framed record declares, or that it is on: the first field of its content.
+fn id_of_bytes(bytes: &[u8]) -> u16
+    requires { (r : Rec) × AreFramed bytes.now r }
+    ensures { (r : Rec) → AreFramed bytes.now r → result ≡ id_of r }
+{
+    match take_u16(bytes, 9) {
+        Ok((id, _)) => return id,
+        Err(_) => unreachable!(),
+    }
+}
+
+// Appends the bytes of a record that declares an id, unless the id was declared before.
+fn declare(
+    ids: &mut IndexSet<u16>,
+    framed: &mut Vec<u8>,
+    id: u16,
+    bytes: &[u8],
+) -> Result<(), Memory>
     ensures ids { OnOk result (ids.new.keys ≡ with_id_once ids.old.keys id) }
-    ensures framed { OnOk result (framed.new.items ≡ with_bytes_once ids.old.keys id framed.old.items (rec_bytes r.now)) }
+    ensures framed { OnOk result (framed.new.items ≡ with_bytes_once ids.old.keys id framed.old.items bytes.now) }
     ensures same_ids { OnErr result (ids.new.keys ≡ ids.old.keys) }
     ensures same_framed { OnErr result (framed.new.items ≡ framed.old.items) }
 {
@@ -200,7 +245,7 @@ fn declare(ids: &mut IndexSet<u16>, framed: &mut Vec<u8>, id: u16, r: &Rec) -> R
         Ok(()) => {}
         Err(_) => return Err(Memory),
     }
-    match r.frame(framed) {
+    match put_bytes(framed, bytes) {
         Ok(()) => {}
         Err(memory) => return Err(memory),
     }
