@@ -138,6 +138,10 @@ end_of d = first_of d.end
 abbrev pub EndsAt : DeskView → ℕ → Type 0
 EndsAt d at = (end : End) × (d.end ≡ Some (end, at))
 
+-- where an end stands, nothing was accepted behind it
+abbrev pub EndIsLast : DeskView → Type 0
+EndIsLast d = (end : End) (at : ℕ) → d.end ≡ Some (end, at) → at ≡ accepted d
+
 -- a stop for a fault comes behind a fault
 abbrev pub IsCause : Stop → Type 0
 IsCause (Fault faults) = 1 ≤ faults

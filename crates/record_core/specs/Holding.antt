@@ -1,7 +1,7 @@
 -- What a desk holds: a buffer of records, and a table that gives the ids of the history's contents.
 use Rattle.std.specs.Prelude.{◌+◌, ◌^◌, ◌≤◌, length}
 use Rattle.record_core.specs.declared.desk.Desk.TheInside.{Inside}
-use Rattle.record_core.specs.Desk.{DeskView}
+use Rattle.record_core.specs.Desk.{DeskView, EndIsLast}
 use Rattle.record_core.specs.Tables.{ids_in, HasSchemas}
 
 abbrev pub view_of : Inside → DeskView
@@ -10,3 +10,4 @@ view_of d = record { limit = d.primary.limit; taken = d.taken; primary = d.prima
 pub record IsDesk (d : Inside) : Type 0 where
   pub few : d.taken + length d.primary.records ≤ 2 ^ 48 + 1
   pub schemas : HasSchemas d.ids
+  pub last : EndIsLast (view_of d)

@@ -3,7 +3,7 @@ ghost use Rattle.std.specs.Prelude.{◌≡◌, ◌≤◌, ◌<◌, ◌+◌, ◌^
 ghost use Rattle.mcap_model.specs.declared.ends.End.TheVariants.{Closed, Stopped};
 ghost use Rattle.record_core.specs.Ids.{is_known};
 ghost use Rattle.record_core.specs.Tables.{IsTable};
-ghost use Rattle.record_core.specs.Desk.{new_desk, accepted, held, added, swapped, ended, fields_of_message, publish_refusal, Published, SwapAnswered, EndsAt, IsCause, end_of, found_of, DeclaredBy};
+ghost use Rattle.record_core.specs.Desk.{new_desk, accepted, held, added, swapped, ended, fields_of_message, publish_refusal, Published, SwapAnswered, EndIsLast, EndsAt, IsCause, end_of, found_of, DeclaredBy};
 ghost use Rattle.mcap_model.specs.History.{message_of};
 ghost use Rattle.record_cache.specs.Offers.{Offered};
 ghost use Rattle.record_core.specs.Machine.{start, swap, close, stop};
@@ -128,7 +128,8 @@ impl Desk {
 
     // Adds a message, unless it is refused.
     fn accept(&mut self, m: &NewMessage<'_>) -> Result<u64, PublishRefused>
-        ensures { Published self.old m.now.channel (fields_of_message m.now) result self.new }
+        ensures answer { Published self.old m.now.channel (fields_of_message m.now) result self.new }
+        ensures last { EndIsLast self.old }
     {
         match self.publish_refusal(m.channel, m.payload.len() as u64) {
             Some(refused) => return Err(refused),
@@ -149,6 +150,7 @@ impl Desk {
         ensures steps { PublishSteps self.old m.now.channel (fields_of_message m.now) result self.new }
         ensures unended { OnOk result (self.old.end ≡ None) }
         ensures known { OnOk result (is_known self.old.ids m.now.channel ≡ true) }
+        ensures last { EndIsLast self.old }
     {
         self.accept(m)
     }
@@ -241,6 +243,7 @@ impl Desk {
         ensures steps { DeclareSteps self.old channel.now result self.new }
         ensures unended { OnOk result (self.old.end ≡ None) }
         ensures few { IsTable self.new.ids }
+        ensures last { EndIsLast self.old }
     {
         let _pairs = channel.metadata.as_slice();
         let answer = self.accept_channel(channel);
@@ -301,7 +304,8 @@ impl Desk {
 
     /// The end, if one stands.
     pub fn end(&self) -> Option<End>
-        ensures { result ≡ end_of self.now }
+        ensures end { result ≡ end_of self.now }
+        ensures last { EndIsLast self.now }
     {
         match self.end {
             Some((end, _)) => return Some(end),
@@ -311,7 +315,8 @@ impl Desk {
 
     /// How the desk stands.
     pub fn found(&self) -> Found
-        ensures { result ≡ found_of self.now }
+        ensures found { result ≡ found_of self.now }
+        ensures last { EndIsLast self.now }
     {
         Found {
             taken: self.taken,

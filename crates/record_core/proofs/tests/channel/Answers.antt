@@ -1,4 +1,4 @@
-use Rattle.std.proofs.Common.{◌≡◌, ◌<◌, ◌^◌, List, ℕ, length, ap, arith}
+use Rattle.std.proofs.Common.{◌<◌, ◌^◌, length, ap, arith}
 use Rattle.std.specs.Prelude.{IsPermutation}
 use Rattle.mcap_wire.specs.Maps.{pair_texts}
 use Rattle.record_core.proofs.Sizes.{length-sorted}
