@@ -29,7 +29,7 @@ one_by : (c : Cuts) (r : Rec) (b : Bool) → (more : List Piece) × ((chosen c r
 one_by c r true = (block (c.waiting ++ r ∷ []) ∷ [], refl)
 one_by c r false = ([], sym (append-nil c.pieces))
 
-one_more : (size : Option ℕ) (c : Cuts) (r : Rec) → (more : List Piece) × ((put_behind size c r).pieces ≡ c.pieces ++ more)
+pub one_more : (size : Option ℕ) (c : Cuts) (r : Rec) → (more : List Piece) × ((put_behind size c r).pieces ≡ c.pieces ++ more)
 one_more None c r = (alone r ∷ [], refl)
 one_more (Some size) c r = one_by c r (reaches size (c.waiting ++ r ∷ []))
 

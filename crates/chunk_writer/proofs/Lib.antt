@@ -3,3 +3,5 @@ pub mod Noting
 pub mod Planned
 pub mod Stopping
 pub mod Writing
+pub mod Entries
+pub mod Taking

@@ -20,14 +20,14 @@ use Rattle.chunk_writer.specs.Bodies.{noted_of, IsBody, Takes, TakesLast, Stands
 use Rattle.chunk_writer.specs.Plans.{Passes, PutStopped, LastStopped}
 use Rattle.chunk_writer.proofs.Cuts.{few_logged}
 
-blocks_behind : (at : ℕ) (ps : List Piece) (p : Piece) → blocks_from at (ps ++ p ∷ []) ≡ blocks_from at ps ++ block_at (at + length (pieces_bytes ps)) p
-blocks_behind at [] p = append-nil (block_at at p) ∙ ap (λ (k : ℕ). block_at k p) (omega arith)
-blocks_behind at (q ∷ ps) p =
-    let size = length-append (piece_bytes q) (pieces_bytes ps) in
-    let place : at + length (piece_bytes q) + length (pieces_bytes ps) ≡ at + length (pieces_bytes (q ∷ ps)) = omega (arith, size) in
-    ap (λ (l : List (ℕ × List Rec)). block_at at q ++ l) (blocks_behind (at + length (piece_bytes q)) ps p
-    ∙ ap (λ (k : ℕ). blocks_from (at + length (piece_bytes q)) ps ++ block_at k p) place)
-    ∙ sym (append_assoc (block_at at q) (blocks_from (at + length (piece_bytes q)) ps) (block_at (at + length (pieces_bytes (q ∷ ps))) p))
+pub blocks_append : (at : ℕ) (ps qs : List Piece) → blocks_from at (ps ++ qs) ≡ blocks_from at ps ++ blocks_from (at + length (pieces_bytes ps)) qs
+blocks_append at [] qs = ap (λ (k : ℕ). blocks_from k qs) (omega arith)
+blocks_append at (p ∷ ps) qs =
+    let size = length-append (piece_bytes p) (pieces_bytes ps) in
+    let place : at + length (piece_bytes p) + length (pieces_bytes ps) ≡ at + length (pieces_bytes (p ∷ ps)) = omega (arith, size) in
+    ap (λ (l : List (ℕ × List Rec)). block_at at p ++ l) (blocks_append (at + length (piece_bytes p)) ps qs
+    ∙ ap (λ (k : ℕ). blocks_from (at + length (piece_bytes p)) ps ++ blocks_from k qs) place)
+    ∙ sym (append_assoc (block_at at p) (blocks_from (at + length (piece_bytes p)) ps) (blocks_from (at + length (pieces_bytes (p ∷ ps))) qs))
 
 pub blocks_more : (ps : List Piece) (p : Piece) → length (blocks_in (ps ++ p ∷ [])) ≡ length (blocks_in ps) + length (blocks_in (p ∷ []))
 blocks_more ps p = ap (λ (l : List (List Rec)). length l) (flat_map-append block_in ps (p ∷ [])) ∙ length-append (blocks_in ps) (blocks_in (p ∷ []))
@@ -35,7 +35,7 @@ blocks_more ps p = ap (λ (l : List (List Rec)). length l) (flat_map-append bloc
 -- a block more is noted
 pub noted_block : (at k : ℕ) (history records : List Rec) (ps : List Piece) → k ≡ at + length (pieces_bytes ps) → with_noted_block (noted_of at history ps) k records ≡ noted_of at history (ps ++ block records ∷ [])
 noted_block at k history records ps is =
-    ap (λ (l : List (ℕ × List Rec)). with_blocks l) (ap (λ (m : ℕ). blocks_from at ps ++ (m, records) ∷ []) is ∙ sym (blocks_behind at ps (block records)))
+    ap (λ (l : List (ℕ × List Rec)). with_blocks l) (ap (λ (m : ℕ). blocks_from at ps ++ (m, records) ∷ []) is ∙ sym (blocks_append at ps (block records ∷ [])))
   where
     with_blocks : List (ℕ × List Rec) → Noted
     with_blocks l = record { records = history; blocks = l; extras = [] }

@@ -11,7 +11,6 @@ use Rattle.rec_data.proofs.Contents.{length-header_text}
 use Rattle.mcap_model.specs.declared.block.Block.{Block}
 use Rattle.mcap_model.specs.declared.options.FileOptions.{FileOptions}
 use Rattle.mcap_model.specs.declared.ends.Stop.{Stop}
-use Rattle.mcap_model.specs.declared.ends.Stop.TheVariants as stops
 use Rattle.mcap_model.specs.Built.{IsBlock}
 use Rattle.mcap_model.specs.Blocks.{Piece, block, alone, Cuts, cuts, last_piece, pieces_of, piece_bytes, pieces_bytes, blocks_in}
 use Rattle.mcap_model.specs.File.{library, front, data_end}
@@ -19,7 +18,7 @@ use Rattle.chunk_build.specs.Chunker as chunker
 use Rattle.chunk_writer.specs.declared.body.Body.{Body}
 use Rattle.chunk_writer.specs.declared.phase.Phase.{Phase}
 use Rattle.chunk_writer.specs.declared.next.Next.TheVariants as nexts
-use Rattle.chunk_writer.specs.Limits.{Kept}
+use Rattle.chunk_writer.specs.Limits.{Holds, LimitKept}
 use Rattle.chunk_writer.specs.Bodies.{noted_of, IsBody, StandsSo, Closes, ClosesBlock, NextBlock, LastBlock, BodyFor, SummaryFor}
 use Rattle.chunk_writer.specs.Planning.{Planning}
 use Rattle.chunk_writer.specs.Plans.{Plans, IsPlanned, PutStopped, IsLast, LastStopped}
@@ -125,7 +124,7 @@ pub closes_record : (options : FileOptions) (history : List Rec) (r : Rec) (p : 
 closes_record options history r p is plans = subst (λ (s : Option ℕ). Closes s history r (alone r)) (sym (has_none options history p is plans)) (closes_alone history r)
 
 pub plans_record : (options : FileOptions) (history : List Rec) (r : Rec) (p : Planning) (piece : List ℕ) (phase : Phase) (len : ℕ) → p.body ≡ None → len ≡ length piece → piece ≡ rec_bytes r → Plans options history p
-    → IsPlanned options history r (nexts.Record piece) (record { body = p.body; blocks = p.blocks; bytes = p.bytes + len; phase = phase })
+    → IsPlanned options history r nexts.Record (record { body = p.body; blocks = p.blocks; bytes = p.bytes + len; phase = phase })
 plans_record options history r p piece phase len is size_is spelled plans =
     let at = length (front options.profile) in
     let closes = closes_record options history r p is plans in
@@ -137,7 +136,7 @@ plans_record options history r p piece phase len is size_is spelled plans =
         bytes = more_bytes (front options.profile) (cuts options.chunk history).pieces (cuts options.chunk (history ++ r ∷ [])).pieces (alone r) p.bytes len closes plans.bytes
             (size_is ∙ ap (λ (l : List ℕ). length l) spelled);
       };
-      next_is = (closes, spelled);
+      next_is = closes;
     }
 
 pub stopped_block : (options : FileOptions) (history : List Rec) (r : Rec) (p : Planning) (b : Body) (stop : Stop) → p.body ≡ Some b → Plans options history p
@@ -146,16 +145,11 @@ stopped_block options history r p b stop is plans stopped =
     let (size, chunk, so) = has_size options history p b is plans in
     subst (λ (s : Option ℕ). PutStopped s history r p.blocks p.bytes stop) (sym chunk) (stopped size (length (front options.profile)) history so)
 
-stopped_alone : (size : Option ℕ) (history : List Rec) (r : Rec) (blocks bytes : ℕ) (stop : Stop) → Closes size history r (alone r) → Kept {X = List ℕ} blocks bytes blocks (bytes + length (rec_bytes r)) (Err stop)
-    → PutStopped size history r blocks bytes stop
-stopped_alone size history r blocks bytes (stops.Fault faults) closes kept = absurd kept
-stopped_alone size history r blocks bytes (stops.Limit b n) closes kept =
-    (alone r, closes, kept.0, kept.1, λ holds. let few = holds.few in kept.2 (record { few = omega (arith, few); small = holds.small }))
-stopped_alone size history r blocks bytes stops.Memory closes kept = tt
-
-pub stopped_record : (options : FileOptions) (history : List Rec) (r : Rec) (p : Planning) (stop : Stop) → p.body ≡ None → Plans options history p
-    → Kept {X = List ℕ} p.blocks p.bytes p.blocks (p.bytes + length (rec_bytes r)) (Err stop) → PutStopped options.chunk history r p.blocks p.bytes stop
-stopped_record options history r p stop is plans kept = stopped_alone options.chunk history r p.blocks p.bytes stop (closes_record options history r p is plans) kept
+pub stopped_record : (options : FileOptions) (history : List Rec) (r : Rec) (p : Planning) (piece : List ℕ) (stop : Stop) → p.body ≡ None → piece ≡ rec_bytes r → Plans options history p
+    → LimitKept p.blocks p.bytes (p.blocks + 0) (p.bytes + length piece) (Err stop) → PutStopped options.chunk history r p.blocks p.bytes stop
+stopped_record options history r p piece stop is spelled plans (limit, passes) =
+    subst (λ (s : Stop). PutStopped options.chunk history r p.blocks p.bytes s) (sym limit)
+    (alone r, closes_record options history r p is plans, refl, refl, subst (λ (l : List ℕ). Holds (p.blocks + 0) (p.bytes + length l) → ⊥) spelled passes)
 
 -- ---- the end
 

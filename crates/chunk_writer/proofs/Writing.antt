@@ -21,14 +21,14 @@ use Rattle.chunk_writer.specs.Bodies.{Closes}
 use Rattle.chunk_writer.specs.Planning.{Planning}
 use Rattle.chunk_writer.specs.Plans.{Plans, IsPlanned, IsNext, PutStopped, HoldsBlock, HoldsNext, StoppedBefore, IsWhole, IsLast, LastStopped, BackStopped}
 use Rattle.chunk_writer.specs.Stops.{StopsAt, Added}
-use Rattle.chunk_writer.specs.Scribes.{Stands, IsEntryOf, IsEntryWith, AddsLast, Ends, GivesLast}
+use Rattle.chunk_writer.specs.Scribes.{Stands, Seen, IsEntryOf, IsEntryWith, AddsLast, Ends, GivesEntry, GivesLast}
 use Rattle.chunk_writer.proofs.Cuts.{bytes_behind}
 use Rattle.chunk_writer.proofs.Planned.{whole_none, whole_some}
 use Rattle.chunk_writer.proofs.Stopping.{Holding, put_refused, append_refused, last_refused, last_append_refused, back_refused, back_append_refused}
 
 -- ---- phases
 
-going_apart : (p : Phase) (stop : Stop) → p ≡ phases.Stopped stop → p ≡ phases.Going → ⊥
+pub going_apart : (p : Phase) (stop : Stop) → p ≡ phases.Stopped stop → p ≡ phases.Going → ⊥
 going_apart p stop stopped going = cc
 
 ended_apart : (p : Phase) (stop : Stop) → p ≡ phases.Stopped stop → p ≡ phases.Ended → ⊥
@@ -87,39 +87,39 @@ put_block options opened held now history r p mid after next blk is planned goin
     subst (λ (q : Planning). Stands options opened now (history ++ r ∷ []) q) (sym same)
     (stands_going options opened now (history ++ r ∷ []) mid going made.stands (adds_more opened held now (front options.profile) (cuts options.chunk history).pieces (cuts options.chunk (history ++ r ∷ [])).pieces (block records) closes first piece))
 
-pub put_record : (options : FileOptions) (opened held now : Option (List ℕ)) (history : List Rec) (r : Rec) (p mid after : Planning) (next : Next) (bytes : List ℕ) → next ≡ nexts.Record bytes → Planned p r next mid
+pub put_record : (options : FileOptions) (opened held now : Option (List ℕ)) (history : List Rec) (r : Rec) (p mid after : Planning) (next : Next) (bytes : List ℕ) → next ≡ nexts.Record → bytes ≡ rec_bytes r → Planned p r next mid
     → mid.phase ≡ phases.Going → after ≡ mid → p.phase ≡ phases.Going → Adds held now bytes → Stands options opened held history p → Stands options opened now (history ++ r ∷ []) after
-put_record options opened held now history r p mid after next bytes is planned going same before adds stands =
+put_record options opened held now history r p mid after next bytes is spelled planned going same before adds stands =
     let (plans, first) = stands.going before in
     let made = planned options history plans in
-    let (closes, spelled) : Closes options.chunk history r (alone r) × (bytes ≡ rec_bytes r) = subst (λ (n : Next). IsNext options.chunk history r n) is made.next_is in
+    let closes : Closes options.chunk history r (alone r) = subst (λ (n : Next). IsNext options.chunk history r n) is made.next_is in
     let piece : Adds held now (piece_bytes (alone r)) = subst (λ (l : List ℕ). Adds held now l) spelled adds in
     subst (λ (q : Planning). Stands options opened now (history ++ r ∷ []) q) (sym same)
     (stands_going options opened now (history ++ r ∷ []) mid going made.stands (adds_more opened held now (front options.profile) (cuts options.chunk history).pieces (cuts options.chunk (history ++ r ∷ [])).pieces (alone r) closes first piece))
 
-pub block_refused : (options : FileOptions) (opened held now : Option (List ℕ)) (history : List Rec) (r : Rec) (p mid after : Planning) (next : Next) (blk : Block) (stop : Stop) (blocks bytes : ℕ) → next ≡ nexts.Block blk → Planned p r next mid
-    → HoldsNext p.blocks p.bytes next → blocks ≡ p.blocks → bytes ≡ p.bytes → StoppedBefore blocks bytes stop after → p.phase ≡ phases.Going → Added held now blk.bytes (Err stop) → Stands options opened held history p
+pub block_refused : (options : FileOptions) (opened held now : Option (List ℕ)) (history : List Rec) (r : Rec) (p mid after : Planning) (next : Next) (framed : List ℕ) (blk : Block) (stop : Stop) (blocks bytes : ℕ) → next ≡ nexts.Block blk → Planned p r next mid
+    → HoldsNext p.blocks p.bytes framed next → blocks ≡ p.blocks → bytes ≡ p.bytes → StoppedBefore blocks bytes stop after → p.phase ≡ phases.Going → Added held now blk.bytes (Err stop) → Stands options opened held history p
     → Stands options opened now (history ++ r ∷ []) after
-block_refused options opened held now history r p mid after next blk stop blocks bytes is planned room same_b same_n before going added stands =
+block_refused options opened held now history r p mid after next framed blk stop blocks bytes is planned room same_b same_n before going added stands =
     let (plans, first) = stands.going going in
     let made = planned options history plans in
     let (records, closes, built) : (records : List Rec) × Closes options.chunk history r (block records) × IsBlock blk records = subst (λ (n : Next). IsNext options.chunk history r n) is made.next_is in
     let piece : Added held now (piece_bytes (block records)) (Err stop) = subst (λ (l : List ℕ). Added held now l (Err stop)) built.spelled added in
-    let holds : Holds (p.blocks + 1) (p.bytes + length blk.bytes) = subst (λ (n : Next). HoldsNext p.blocks p.bytes n) is room in
+    let holds : Holds (p.blocks + 1) (p.bytes + length blk.bytes) = subst (λ (n : Next). HoldsNext p.blocks p.bytes framed n) is room in
     let fits : Holds (p.blocks + 1) (p.bytes + length (block_bytes records)) = subst (λ (l : List ℕ). Holds (p.blocks + 1) (p.bytes + length l)) built.spelled holds in
     let stopped : StoppedBefore p.blocks p.bytes stop after = record { phase = before.phase; blocks_are = before.blocks_are ∙ same_b; bytes_are = before.bytes_are ∙ same_n } in
     stands_stopped options opened now (history ++ r ∷ []) after stop p.blocks p.bytes stopped
     (λ behind. append_refused options opened held now history r (block records) stop p.blocks p.bytes behind (holding options opened held history p going stands) closes fits piece)
 
-pub record_refused : (options : FileOptions) (opened held now : Option (List ℕ)) (history : List Rec) (r : Rec) (p mid after : Planning) (next : Next) (piece : List ℕ) (stop : Stop) (blocks bytes : ℕ) → next ≡ nexts.Record piece → Planned p r next mid
-    → HoldsNext p.blocks p.bytes next → blocks ≡ p.blocks → bytes ≡ p.bytes → StoppedBefore blocks bytes stop after → p.phase ≡ phases.Going → Added held now piece (Err stop) → Stands options opened held history p
+pub record_refused : (options : FileOptions) (opened held now : Option (List ℕ)) (history : List Rec) (r : Rec) (p mid after : Planning) (next : Next) (piece : List ℕ) (stop : Stop) (blocks bytes : ℕ) → next ≡ nexts.Record → piece ≡ rec_bytes r → Planned p r next mid
+    → HoldsNext p.blocks p.bytes piece next → blocks ≡ p.blocks → bytes ≡ p.bytes → StoppedBefore blocks bytes stop after → p.phase ≡ phases.Going → Added held now piece (Err stop) → Stands options opened held history p
     → Stands options opened now (history ++ r ∷ []) after
-record_refused options opened held now history r p mid after next piece stop blocks bytes is planned room same_b same_n before going added stands =
+record_refused options opened held now history r p mid after next piece stop blocks bytes is spelled planned room same_b same_n before going added stands =
     let (plans, first) = stands.going going in
     let made = planned options history plans in
-    let (closes, spelled) : Closes options.chunk history r (alone r) × (piece ≡ rec_bytes r) = subst (λ (n : Next). IsNext options.chunk history r n) is made.next_is in
+    let closes : Closes options.chunk history r (alone r) = subst (λ (n : Next). IsNext options.chunk history r n) is made.next_is in
     let left : Added held now (piece_bytes (alone r)) (Err stop) = subst (λ (l : List ℕ). Added held now l (Err stop)) spelled added in
-    let holds : Holds p.blocks (p.bytes + length piece) = subst (λ (n : Next). HoldsNext p.blocks p.bytes n) is room in
+    let holds : Holds p.blocks (p.bytes + length piece) = subst (λ (n : Next). HoldsNext p.blocks p.bytes piece n) is room in
     let long = ap (λ (l : List ℕ). length l) spelled in
     let few = holds.few in
     let small = holds.small in
@@ -135,11 +135,11 @@ add_refused options opened held history r p after stop going refused before stan
     stands_stopped options opened held (history ++ r ∷ []) after stop p.blocks p.bytes before
     (λ behind. put_refused options opened held history r stop p.blocks p.bytes behind (holding options opened held history p going stands) (refused options history (stands.going going).0))
 
--- ---- the last block
+-- ---- entries
 
-pub entry_of_block : {X : Type 0} (tells : X → Option (List ℕ)) (size : X → ℕ) (held : Option (List ℕ)) (e : Entry X) (offset : ℕ) (blk : Block) (records : List Rec) → IsEntryWith e e.extent offset blk → IsBlock blk records
-    → size e.extent ≡ length blk.bytes → ((before : List ℕ) → held ≡ Some before → tells e.extent ≡ Some blk.bytes) → IsEntryOf tells size held e offset records
-entry_of_block tells size held e offset blk records is built long told = record {
+pub entry_of_block : {X : Type 0} (seen : Seen X) (e : Entry X) (offset : ℕ) (blk : Block) (records : List Rec) → IsEntryWith e e.extent offset blk → IsBlock blk records
+    → seen.size e.extent ≡ length blk.bytes → ((before : List ℕ) → seen.held ≡ Some before → seen.tells e.extent ≡ Some blk.bytes) → IsEntryOf seen e offset records
+entry_of_block seen e offset blk records is built long told = record {
   numbers = record {
     offset_is = is.offset_is;
     chunk = is.chunk ∙ built.chunk;
@@ -151,6 +151,19 @@ entry_of_block tells size held e offset blk records is built long told = record 
   long = long ∙ ap (λ (l : List ℕ). length l) built.spelled;
   told = λ before holds. told before holds ∙ ap Some built.spelled;
 }
+
+-- the entry of the block that a record closed
+pub block_entry : {X : Type 0} (seen : Seen X) (options : FileOptions) (opened held : Option (List ℕ)) (history : List Rec) (r : Rec) (p mid : Planning) (next : Next) (blk : Block) (e : Entry X) (bytes : ℕ) → next ≡ nexts.Block blk → Planned p r next mid
+    → p.phase ≡ phases.Going → bytes ≡ p.bytes → IsEntryWith e e.extent bytes blk → seen.size e.extent ≡ length blk.bytes → ((before : List ℕ) → seen.held ≡ Some before → seen.tells e.extent ≡ Some blk.bytes)
+    → Stands options opened held history p → GivesEntry seen options history r (Some e)
+block_entry seen options opened held history r p mid next blk e bytes is planned going place with_it long told stands =
+    let (plans, first) = stands.going going in
+    let made = planned options history plans in
+    let (records, closes, built) : (records : List Rec) × Closes options.chunk history r (block records) × IsBlock blk records = subst (λ (n : Next). IsNext options.chunk history r n) is made.next_is in
+    let offset : bytes ≡ length (written_of options history) = place ∙ plans.bytes in
+    (records, closes, entry_of_block seen e (length (written_of options history)) blk records (subst (λ (n : ℕ). IsEntryWith e e.extent n blk) offset with_it) built long told)
+
+-- ---- the last block
 
 abbrev pub Lasts : Planning → Option Block → Planning → Type 0
 Lasts p last mid = (options : FileOptions) (history : List Rec) → Plans options history p → IsLast options history last mid
@@ -177,15 +190,15 @@ adds_none options opened held history p mid last is lasts going stands =
       adds = subst (λ (l : List Piece). Adds opened held (front options.profile ++ pieces_bytes l)) (sym (whole_none options.chunk history made.last_block)) first;
     }
 
-pub last_entry : {X : Type 0} (tells : X → Option (List ℕ)) (size : X → ℕ) (options : FileOptions) (opened held : Option (List ℕ)) (history : List Rec) (p mid : Planning) (last : Option Block) (blk : Block) (e : Entry X) (bytes : ℕ)
-    → last ≡ Some blk → Lasts p last mid → p.phase ≡ phases.Going → bytes ≡ p.bytes → IsEntryWith e e.extent bytes blk → size e.extent ≡ length blk.bytes
-    → ((before : List ℕ) → held ≡ Some before → tells e.extent ≡ Some blk.bytes) → Stands options opened held history p → GivesLast tells size held options history (Some e)
-last_entry tells size options opened held history p mid last blk e bytes is lasts going place with_it long told stands =
+pub last_entry : {X : Type 0} (seen : Seen X) (options : FileOptions) (opened held : Option (List ℕ)) (history : List Rec) (p mid : Planning) (last : Option Block) (blk : Block) (e : Entry X) (bytes : ℕ)
+    → last ≡ Some blk → Lasts p last mid → p.phase ≡ phases.Going → bytes ≡ p.bytes → IsEntryWith e e.extent bytes blk → seen.size e.extent ≡ length blk.bytes
+    → ((before : List ℕ) → seen.held ≡ Some before → seen.tells e.extent ≡ Some blk.bytes) → Stands options opened held history p → GivesLast seen options history (Some e)
+last_entry seen options opened held history p mid last blk e bytes is lasts going place with_it long told stands =
     let (plans, first) = stands.going going in
     let made : IsLast options history (Some blk) mid = subst (λ (x : Option Block). IsLast options history x mid) is (lasts options history plans) in
     let offset : bytes ≡ length (written_of options history) = place ∙ plans.bytes in (
       made.last_block.0,
-      entry_of_block tells size held e (length (written_of options history)) blk (cuts options.chunk history).waiting
+      entry_of_block seen e (length (written_of options history)) blk (cuts options.chunk history).waiting
           (subst (λ (n : ℕ). IsEntryWith e e.extent n blk) offset with_it) made.last_block.1 long told,
     )
 

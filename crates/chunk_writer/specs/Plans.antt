@@ -1,7 +1,6 @@
 -- The histories for which a plan stands, and what it gives of them.
 use Rattle.std.specs.Prelude.{◌≡◌, ℕ, ◌+◌, List, [], ◌∷◌, ◌++◌, length, Option, Some, None}
 use Rattle.rec_data.specs.declared.owned.Rec.{Rec}
-use Rattle.rec_data.specs.Owned.{rec_bytes}
 use Rattle.mcap_model.specs.declared.block.Block.{Block}
 use Rattle.mcap_model.specs.declared.options.FileOptions.{FileOptions}
 use Rattle.mcap_model.specs.declared.ends.Stop.{Stop}
@@ -30,7 +29,7 @@ pub record Plans (options : FileOptions) (history : List Rec) (p : Planning) : T
 abbrev pub IsNext : Option ℕ → List Rec → Rec → Next → Type 0
 IsNext size history r nexts.Waits = (cuts size (history ++ r ∷ [])).pieces ≡ (cuts size history).pieces
 IsNext size history r (nexts.Block b) = (records : List Rec) × Closes size history r (block records) × IsBlock b records
-IsNext size history r (nexts.Record bytes) = Closes size history r (alone r) × (bytes ≡ rec_bytes r)
+IsNext size history r nexts.Record = Closes size history r (alone r)
 
 -- a record is planned
 pub record IsPlanned (options : FileOptions) (history : List Rec) (r : Rec) (next : Next) (after : Planning) : Type 0 where
@@ -53,10 +52,17 @@ abbrev pub HoldsBlock : ℕ → ℕ → Option Block → Type 0
 HoldsBlock blocks bytes None = Unit {0}
 HoldsBlock blocks bytes (Some b) = Holds (blocks + 1) (bytes + length b.bytes)
 
-abbrev pub HoldsNext : ℕ → ℕ → Next → Type 0
-HoldsNext blocks bytes nexts.Waits = Unit {0}
-HoldsNext blocks bytes (nexts.Block b) = Holds (blocks + 1) (bytes + length b.bytes)
-HoldsNext blocks bytes (nexts.Record piece) = Holds blocks (bytes + length piece)
+-- it may hold what is next, where the record has these bytes
+abbrev pub HoldsNext : ℕ → ℕ → List ℕ → Next → Type 0
+HoldsNext blocks bytes framed nexts.Waits = Unit {0}
+HoldsNext blocks bytes framed (nexts.Block b) = Holds (blocks + 1) (bytes + length b.bytes)
+HoldsNext blocks bytes framed nexts.Record = Holds blocks (bytes + length framed)
+
+-- how many blocks there are with it
+abbrev pub CountsNext : ℕ → ℕ → Next → Type 0
+CountsNext before after nexts.Waits = after ≡ before
+CountsNext before after (nexts.Block b) = after ≡ before + 1
+CountsNext before after nexts.Record = after ≡ before
 
 -- the plan stopped, with so many blocks and bytes before the piece
 pub record StoppedBefore (blocks bytes : ℕ) (stop : Stop) (after : Planning) : Type 0 where

@@ -1,5 +1,7 @@
 -- The histories for which a scribe stands, its entries, and how its file ends.
-use Rattle.std.specs.Prelude.{◌≡◌, ℕ, ◌+◌, List, [], ◌∷◌, ◌++◌, length, Option, Some, None, Result, Ok, Err}
+use Rattle.std.specs.Prelude.{◌≡◌, ℕ, ◌+◌, ◌<◌, List, [], ◌∷◌, ◌++◌, length, take, Option, Some, None, Result, Ok, Err, OnOk, OnErr}
+use Rattle.std.specs.List.{AllZip}
+use Rattle.std.proofs.Common.{sym, subst, append-nil, append_assoc}
 use Rattle.rec_data.specs.declared.owned.Rec.{Rec}
 use Rattle.mcap_io.specs.Outside.{LiveState, Adds}
 use Rattle.mcap_model.specs.declared.options.FileOptions.{FileOptions}
@@ -7,11 +9,13 @@ use Rattle.mcap_model.specs.declared.block.Block.{Block}
 use Rattle.mcap_model.specs.declared.ends.Stop.{Stop}
 use Rattle.mcap_model.specs.Blocks.{block, cuts, pieces_of, pieces_bytes, last_piece, blocks_in, block_bytes, chunk_bytes, least, greatest, log_times, logged}
 use Rattle.mcap_model.specs.Built.{declarations}
-use Rattle.mcap_model.specs.File.{front, written_of, file_of}
+use Rattle.mcap_model.specs.File.{front, blocks_from, written_of, file_of}
+use Rattle.chunk_build.specs.Chunker.{AreFramed}
 use Rattle.chunk_writer.specs.declared.entry.Entry.{Entry}
 use Rattle.chunk_writer.specs.declared.phase.Phase.{Phase}
 use Rattle.chunk_writer.specs.declared.phase.Phase.TheVariants as phases
 use Rattle.chunk_writer.specs.declared.scribe.Scribe.{Scribe}
+use Rattle.chunk_writer.specs.declared.tape.Written.{Written}
 use Rattle.chunk_writer.specs.Planning.{Planning}
 use Rattle.chunk_writer.specs.Bodies.{Closes}
 use Rattle.chunk_writer.specs.Plans.{Plans, IsWhole}
@@ -44,6 +48,28 @@ blocks_of scribe = scribe.plan.blocks
 abbrev pub bytes_of : {L : Type 0} → Scribe L → ℕ
 bytes_of scribe = scribe.plan.bytes
 
+-- The second scribe is the first, later: of whatever history the first stands, the second stands for that history with these
+-- records behind it.
+abbrev pub Grows : {L : Type 0} → (L → LiveState) → Scribe L → Scribe L → List Rec → Type 0
+Grows seen before after records = (options : FileOptions) (opened : LiveState) (history : List Rec) → Writes seen options opened history before
+    → Writes seen options opened (history ++ records) after
+
+-- a scribe stands for the same where nothing is called, and over several calls
+pub grows_none : {L : Type 0} (seen : L → LiveState) (scribe : Scribe L) → Grows seen scribe scribe []
+grows_none seen scribe = λ options opened history writes. subst (λ (l : List Rec). Writes seen options opened l scribe) (sym (append-nil history)) writes
+
+pub grows_on : {L : Type 0} (seen : L → LiveState) (one two three : Scribe L) (before behind : List Rec) → Grows seen one two before → Grows seen two three behind → Grows seen one three (before ++ behind)
+grows_on seen one two three before behind first second = λ options opened history writes.
+    subst (λ (l : List Rec). Writes seen options opened l three) (append_assoc history before behind) (second options opened (history ++ before) (first options opened history writes))
+
+-- this holds of each history for which a scribe stands
+abbrev pub OfEach : {L : Type 0} → (L → LiveState) → Scribe L → (FileOptions → List Rec → Type 0) → Type 0
+OfEach seen scribe holds = (options : FileOptions) (opened : LiveState) (history : List Rec) → Writes seen options opened history scribe → holds options history
+
+-- a store keeps what it told, whatever it takes behind it
+abbrev pub KeepsOn : Option (List ℕ) → Option (List ℕ) → Type 0
+KeepsOn old new = (before : List ℕ) → old ≡ Some before → (more : List ℕ) × (new ≡ Some (before ++ more))
+
 -- ---- entries
 
 -- an entry has the numbers of the block of these records, which stands at that offset
@@ -55,23 +81,62 @@ pub record IsEntry {X : Type 0} (e : Entry X) (offset : ℕ) (records : List Rec
   pub counted : e.messages ≡ length (logged records)
   pub declaring : e.declared ≡ length (declarations records)
 
+-- what is seen of the extents of a store, their bytes and their size, and what the store held before a call
+pub record Seen (X : Type 0) : Type 0 where
+  pub tells : X → Option (List ℕ)
+  pub size : X → ℕ
+  pub held : Option (List ℕ)
+
+abbrev pub seen_before : {X : Type 0} → (X → Option (List ℕ)) → (X → ℕ) → LiveState → Seen X
+seen_before tells size store = record { tells = tells; size = size; held = store.held }
+
 -- its extent is as long as the block, and tells the block's bytes where the store told what it held
-pub record IsEntryOf {X : Type 0} (tells : X → Option (List ℕ)) (size : X → ℕ) (held : Option (List ℕ)) (e : Entry X) (offset : ℕ) (records : List Rec) : Type 0 where
+pub record IsEntryOf {X : Type 0} (seen : Seen X) (e : Entry X) (offset : ℕ) (records : List Rec) : Type 0 where
   pub numbers : IsEntry e offset records
-  pub long : size e.extent ≡ length (block_bytes records)
-  pub told : (before : List ℕ) → held ≡ Some before → tells e.extent ≡ Some (block_bytes records)
+  pub long : seen.size e.extent ≡ length (block_bytes records)
+  pub told : (before : List ℕ) → seen.held ≡ Some before → seen.tells e.extent ≡ Some (block_bytes records)
 
 -- which entry a put record gives: that of the block that it closes, if it does so
-abbrev pub GivesEntry : {X : Type 0} → (X → Option (List ℕ)) → (X → ℕ) → Option (List ℕ) → FileOptions → List Rec → Rec → Option (Entry X) → Type 0
-GivesEntry tells size held options history r None = blocks_in (cuts options.chunk (history ++ r ∷ [])).pieces ≡ blocks_in (cuts options.chunk history).pieces
-GivesEntry tells size held options history r (Some e) = (records : List Rec) × Closes options.chunk history r (block records)
-    × IsEntryOf tells size held e (length (written_of options history)) records
+abbrev pub GivesEntry : {X : Type 0} → Seen X → FileOptions → List Rec → Rec → Option (Entry X) → Type 0
+GivesEntry seen options history r None = blocks_in (cuts options.chunk (history ++ r ∷ [])).pieces ≡ blocks_in (cuts options.chunk history).pieces
+GivesEntry seen options history r (Some e) = (records : List Rec) × Closes options.chunk history r (block records)
+    × IsEntryOf seen e (length (written_of options history)) records
 
 -- the last entry is that of the block of the records that wait, where there are any
-abbrev pub GivesLast : {X : Type 0} → (X → Option (List ℕ)) → (X → ℕ) → Option (List ℕ) → FileOptions → List Rec → Option (Entry X) → Type 0
-GivesLast tells size held options history None = Unit {0}
-GivesLast tells size held options history (Some e) = let waiting = (cuts options.chunk history).waiting in
-    (last_piece waiting ≡ block waiting ∷ []) × IsEntryOf tells size held e (length (written_of options history)) waiting
+abbrev pub GivesLast : {X : Type 0} → Seen X → FileOptions → List Rec → Option (Entry X) → Type 0
+GivesLast seen options history None = Unit {0}
+GivesLast seen options history (Some e) = let waiting = (cuts options.chunk history).waiting in
+    (last_piece waiting ≡ block waiting ∷ []) × IsEntryOf seen e (length (written_of options history)) waiting
+
+-- a list of entries, with one more if it is given
+abbrev pub Lists : {X : Type 0} → List (Entry X) → List (Entry X) → Option (Entry X) → Type 0
+Lists old new None = new ≡ old
+Lists old new (Some e) = new ≡ old ++ e ∷ []
+
+-- a record was put by its framed bytes, and the entry that this gave was listed
+pub record ListsEntry {L X : Type 0} (state : L → LiveState) (seen : Seen X) (before : Scribe L) (framed : List ℕ) (old new : List (Entry X)) : Type 0 where
+  pub given : Option (Entry X)
+  pub listed : Lists old new given
+  pub entry : (r : Rec) → AreFramed framed r → OfEach state before (λ options history. GivesEntry seen options history r given)
+
+-- the blocks of a history that are sure, each with its offset in the file
+abbrev pub sure_blocks : FileOptions → List Rec → List (ℕ × List Rec)
+sure_blocks options history = blocks_from (length (front options.profile)) (cuts options.chunk history).pieces
+
+-- records that are put behind a history give an entry for each block that they make sure, in the order of these
+pub record GivesEntries {X : Type 0} (seen : Seen X) (options : FileOptions) (history records : List Rec) (entries : List (Entry X)) : Type 0 where
+  pub closed : List (ℕ × List Rec)
+  pub sure : sure_blocks options (history ++ records) ≡ sure_blocks options history ++ closed
+  pub each : AllZip (λ (b : ℕ × List Rec) (e : Entry X). IsEntryOf seen e b.0 b.1) closed entries
+
+-- So many of some records were put behind a history: all of them, or those before the one at which the writing stopped. The
+-- entries are those of the blocks that these made sure, and so many bytes are those of the pieces that are sure with them.
+pub record PutsFront {X : Type 0} (seen : Seen X) (options : FileOptions) (history records : List Rec) (entries : List (Entry X)) (bytes : ℕ) (end : Result Unit Stop) : Type 0 where
+  pub count : ℕ
+  pub entries_are : GivesEntries seen options history (take count records) entries
+  pub bytes_are : bytes ≡ length (written_of options (history ++ take count records))
+  pub all : OnOk end (count ≡ length records)
+  pub before : OnErr end (count < length records)
 
 -- ---- the end
 
@@ -81,10 +146,20 @@ Ends options opened now history blocks bytes (Ok it) = Adds opened now (file_of 
     × (blocks ≡ length (blocks_in (pieces_of options.chunk history))) × (bytes ≡ length (file_of options [] history))
 Ends options opened now history blocks bytes (Err stop) = StopsAt options history opened now stop blocks bytes
 
--- a finished file has an entry for each block that was appended at its end
+-- the second scribe is the first with its end, which came to this with so many blocks and bytes
+abbrev pub EndsFile : {L : Type 0} → (L → LiveState) → Scribe L → Scribe L → Written → Result Unit Stop → Type 0
+EndsFile seen before after written end = (options : FileOptions) (opened : LiveState) (history : List Rec) → Writes seen options opened history before
+    → Ends options opened.held (seen after.store).held history written.blocks written.bytes end
+
+-- there is an entry for each block that was appended, at most one
 abbrev pub CountsLast : {X : Type 0} → ℕ → ℕ → Option (Entry X) → Type 0
 CountsLast before after None = after ≡ before
 CountsLast before after (Some e) = after ≡ before + 1
+
+-- its bytes are counted
+abbrev pub CountsBytes : {X : Type 0} → (X → ℕ) → ℕ → ℕ → Option (Entry X) → Type 0
+CountsBytes size before after None = after ≡ before
+CountsBytes size before after (Some e) = after ≡ before + size e.extent
 
 -- all pieces but the back stand behind what the store held, and the plan counts them
 pub record AddsLast (options : FileOptions) (opened now : Option (List ℕ)) (history : List Rec) (p : Planning) : Type 0 where

@@ -1,13 +1,12 @@
 //! The blocks of a file as they are built: the open chunk, and beside it the summary.
 ghost use Rattle.std.specs.Prelude.{◌≡◌, ◌<◌, ◌≤◌, ◌^◌, ℕ, List, [], IfOk, OnOk, OnErr};
 ghost use Rattle.rec_data.specs.declared.owned.Rec.{Rec};
-ghost use Rattle.rec_data.specs.Owned.{LengthsFit};
+ghost use Rattle.chunk_build.specs.Chunker.{AreFramed};
 ghost use Rattle.chunk_writer.specs.Bodies.{IsBody, Takes, TakesLast};
 
 use chunk_build::Chunker;
 use mcap_model::Block;
 use mcap_wire::Memory;
-use rec_data::Rec;
 use std::alloc::Global;
 use summary_write::Summary;
 
@@ -35,19 +34,19 @@ pub(crate) fn begin(alloc: Global, size: u64) -> Result<Body, Memory>
     return Ok(Body { chunker, summary });
 }
 
-/// Notes a record and puts it into the open chunk, and gives the block that this closes. That isn't noted yet.
-pub(crate) fn take(body: &mut Body, r: &Rec) -> Result<Option<Block>, Memory>
-    requires fits { LengthsFit r.now }
+/// Notes a framed record and puts it into the open chunk, and gives the block that this closes. That isn't noted yet.
+pub(crate) fn take(body: &mut Body, framed: &[u8]) -> Result<Option<Block>, Memory>
+    requires framed { (r : Rec) × AreFramed framed.now r }
     requires few { body.old.summary.messages < 2 ^ 48 }
-    ensures ok { IfOk result (λ closed. (size at : ℕ) (history : List Rec) → IsBody size at history body.old
-        → Takes size at history r.now closed body.new) }
+    ensures ok { IfOk result (λ closed. (r : Rec) → AreFramed framed.now r → (size at : ℕ) (history : List Rec) → IsBody size at history body.old
+        → Takes size at history r closed body.new) }
     ensures blocks { OnOk result (body.new.summary.blocks ≡ body.old.summary.blocks) }
 {
-    match body.summary.note_record(r) {
+    match body.summary.note_framed(framed) {
         Ok(()) => {}
         Err(memory) => return Err(memory),
     }
-    match body.chunker.put(r) {
+    match body.chunker.put_framed(framed) {
         Ok(closed) => return Ok(closed),
         Err(memory) => return Err(memory),
     }

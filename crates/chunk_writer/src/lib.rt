@@ -10,10 +10,12 @@ mod phase;
 mod pieces;
 mod plan;
 mod scribe;
+mod tape;
 
 pub use entry::Entry;
 pub use phase::Phase;
-pub use scribe::{Finished, Scribe};
+pub use scribe::Scribe;
+pub use tape::{Finished, Taken, Tape, Written};
 
 #[cfg(test)]
 mod tests;

@@ -1,7 +1,7 @@
 //! The plan of a file: which piece is to be appended next, and how many blocks and bytes there are with it.
 ghost use Rattle.std.specs.Prelude.{◌≡◌, ◌<◌, ◌≤◌, ◌+◌, ◌^◌, ℕ, List, [], ◌∷◌, ◌++◌, length, Some, IfOk, IfErr, OnOk, OnErr};
 ghost use Rattle.rec_data.specs.declared.owned.Rec.{Rec};
-ghost use Rattle.rec_data.specs.Owned.{LengthsFit, rec_bytes};
+ghost use Rattle.chunk_build.specs.Chunker.{AreFramed};
 ghost use Rattle.mcap_model.specs.declared.options.FileOptions.{FileOptions};
 ghost use Rattle.mcap_model.specs.Built.{IsBlock};
 ghost use Rattle.mcap_model.specs.Summary.{Noted};
@@ -11,7 +11,7 @@ ghost use Rattle.summary_write.specs.Tally.{StandsFor, with_noted_block};
 ghost use Rattle.chunk_writer.specs.declared.phase.Phase.TheVariants as phases;
 ghost use Rattle.chunk_writer.specs.Limits.{Holds, Kept, IsNoFault};
 ghost use Rattle.chunk_writer.specs.Bodies.{BodyFor, StandsSo, NextBlock, LastBlock};
-ghost use Rattle.chunk_writer.specs.Plans.{Plans, IsPlanned, PutStopped, IsLast, LastStopped, IsWhole, BackStopped, HoldsBlock, HoldsNext, CountsBlock, StoppedBefore};
+ghost use Rattle.chunk_writer.specs.Plans.{Plans, IsPlanned, PutStopped, IsLast, LastStopped, IsWhole, BackStopped, HoldsBlock, HoldsNext, CountsNext, CountsBlock, StoppedBefore};
 
 use crate::body::{Body, begin, take, take_last};
 use crate::limits::keep_limit;
@@ -20,10 +20,8 @@ use crate::phase::Phase;
 use crate::pieces::back_piece;
 use mcap_model::{Block, FileOptions, Stop};
 use mcap_wire::{Bytes, Memory};
-use rec_data::Rec;
 use std::alloc::Global;
 use std::marker::Model;
-use std::mem;
 use summary_write::Summary;
 
 /// Which pieces of a file are sure, and what waits. Contracts see the body, the numbers of blocks and bytes, and the phase.
@@ -31,7 +29,6 @@ use summary_write::Summary;
 pub(crate) struct Plan {
     alloc: Global,
     body: Option<Body>,
-    room: Vec<u8>,
     blocks: u64,
     bytes: u64,
     phase: Phase,
@@ -82,19 +79,24 @@ fn note(summary: &mut Summary, blocks: u64, bytes: u64, block: &Block) -> Result
     }
 }
 
-// The block that a record closes behind so many blocks and bytes, if it does so, noted.
-fn next_block(body: &mut Body, blocks: u64, bytes: u64, r: &Rec) -> Result<Option<Block>, Stop>
-    requires fits { LengthsFit r.now }
+// The block that a framed record closes behind so many blocks and bytes, if it does so, noted.
+fn next_block(
+    body: &mut Body,
+    blocks: u64,
+    bytes: u64,
+    framed: &[u8],
+) -> Result<Option<Block>, Stop>
+    requires framed { (r : Rec) × AreFramed framed.now r }
     requires within { Holds blocks bytes }
     requires stands { (size at : ℕ) × (history : List Rec) × StandsSo size at history body.old blocks bytes }
-    ensures ok { IfOk result (λ closed. (size at : ℕ) (history : List Rec) → StandsSo size at history body.old blocks bytes
-        → NextBlock size at history r.now closed body.new) }
+    ensures ok { IfOk result (λ closed. (r : Rec) → AreFramed framed.now r → (size at : ℕ) (history : List Rec) → StandsSo size at history body.old blocks bytes
+        → NextBlock size at history r closed body.new) }
     ensures room { IfOk result (λ closed. HoldsBlock blocks bytes closed) }
-    ensures err { IfErr result (λ stop. (size at : ℕ) (history : List Rec) → StandsSo size at history body.old blocks bytes
-        → PutStopped (Some size) history r.now blocks bytes stop) }
+    ensures err { IfErr result (λ stop. (r : Rec) → AreFramed framed.now r → (size at : ℕ) (history : List Rec) → StandsSo size at history body.old blocks bytes
+        → PutStopped (Some size) history r blocks bytes stop) }
     ensures no_fault { IfErr result (λ stop. IsNoFault stop) }
 {
-    match take(body, r) {
+    match take(body, framed) {
         Err(_) => return Err(Stop::Memory),
         Ok(None) => return Ok(None),
         Ok(Some(block)) => match note(&mut body.summary, blocks, bytes, &block) {
@@ -125,31 +127,6 @@ fn last_block(body: &mut Body, blocks: u64, bytes: u64) -> Result<Option<Block>,
     }
 }
 
-// The bytes of a record that stands at top level behind so many blocks and bytes.
-fn next_record(
-    alloc: Global,
-    room: &mut Vec<u8>,
-    blocks: u64,
-    bytes: u64,
-    r: &Rec,
-) -> Result<Bytes, Stop>
-    requires fits { LengthsFit r.now }
-    requires within { Holds blocks bytes }
-    ensures framed { IfOk result (λ piece. piece ≡ rec_bytes r.now) }
-    ensures limit { Kept blocks bytes blocks (bytes + length (rec_bytes r.now)) result }
-{
-    let mut piece = mem::replace(room, Vec::new(alloc));
-    piece.clear();
-    match r.frame(&mut piece) {
-        Ok(()) => {}
-        Err(_) => return Err(Stop::Memory),
-    }
-    match keep_limit(blocks, bytes, 0, piece.as_slice()) {
-        Ok(()) => return Ok(Bytes::new(piece)),
-        Err(stop) => return Err(stop),
-    }
-}
-
 impl Plan {
     /// The plan of a file of these options, whose front has so many bytes.
     pub(crate) fn new(alloc: Global, options: &FileOptions, bytes: u64) -> Result<Plan, Memory>
@@ -163,13 +140,16 @@ impl Plan {
             Ok(body) => return Ok(Plan {
                 alloc,
                 body,
-                room: Vec::new(alloc),
                 blocks: 0,
                 bytes,
                 phase: Phase::Going,
             }),
             Err(memory) => return Err(memory),
         }
+    }
+
+    pub(crate) fn alloc(&self) -> Global {
+        self.alloc
     }
 
     pub(crate) fn blocks(&self) -> u64
@@ -192,22 +172,23 @@ impl Plan {
         self.phase
     }
 
-    /// Says what is to be appended for a record more, and counts it.
-    pub(crate) fn add(&mut self, r: &Rec) -> Result<Next, Stop>
-        requires fits { LengthsFit r.now }
+    /// Says what is to be appended for a framed record more, and counts it.
+    pub(crate) fn add(&mut self, framed: &[u8]) -> Result<Next, Stop>
+        requires framed { (r : Rec) × AreFramed framed.now r }
         requires goes_on { self.old.phase ≡ phases.Going }
-        ensures ok { IfOk result (λ next. (options : FileOptions) (history : List Rec) → Plans options history self.old
-            → IsPlanned options history r.now next self.new) }
+        ensures ok { IfOk result (λ next. (r : Rec) → AreFramed framed.now r → (options : FileOptions) (history : List Rec) → Plans options history self.old
+            → IsPlanned options history r next self.new) }
         ensures going { OnOk result (self.new.phase ≡ phases.Going) }
         ensures within { OnOk result (Holds self.new.blocks self.new.bytes) }
-        ensures room { IfOk result (λ next. HoldsNext self.old.blocks self.old.bytes next) }
-        ensures err { IfErr result (λ stop. (options : FileOptions) (history : List Rec) → Plans options history self.old
-            → PutStopped options.chunk history r.now self.old.blocks self.old.bytes stop) }
+        ensures room { IfOk result (λ next. HoldsNext self.old.blocks self.old.bytes framed.now next) }
+        ensures counted { IfOk result (λ next. CountsNext self.old.blocks self.new.blocks next) }
+        ensures err { IfErr result (λ stop. (r : Rec) → AreFramed framed.now r → (options : FileOptions) (history : List Rec) → Plans options history self.old
+            → PutStopped options.chunk history r self.old.blocks self.old.bytes stop) }
         ensures no_fault { IfErr result (λ stop. IsNoFault stop) }
         ensures stopped { IfErr result (λ stop. StoppedBefore self.old.blocks self.old.bytes stop self.new) }
     {
         match &mut self.body {
-            Some(body) => match next_block(body, self.blocks, self.bytes, r) {
+            Some(body) => match next_block(body, self.blocks, self.bytes, framed) {
                 Ok(None) => return Ok(Next::Waits),
                 Ok(Some(block)) => {
                     self.blocks += 1;
@@ -219,10 +200,10 @@ impl Plan {
                     return Err(stop);
                 }
             },
-            None => match next_record(self.alloc, &mut self.room, self.blocks, self.bytes, r) {
-                Ok(bytes) => {
-                    self.bytes += bytes.as_slice().len() as u64;
-                    return Ok(Next::Record { bytes });
+            None => match keep_limit(self.blocks, self.bytes, 0, framed) {
+                Ok(()) => {
+                    self.bytes += framed.len() as u64;
+                    return Ok(Next::Record);
                 }
                 Err(stop) => {
                     self.phase = Phase::Stopped { stop };
@@ -311,13 +292,13 @@ impl Plan {
         self.bytes = bytes;
     }
 
-    /// Takes the vector of a piece that was appended, so that its room serves a later one. Its bytes are forgotten.
+    /// Takes the vector of a block that was appended, so that its room serves a later one. Its bytes are forgotten.
     pub(crate) fn give_back(&mut self, room: Vec<u8>)
         ensures { self.new ≡ self.old }
     {
         match &mut self.body {
             Some(body) => body.chunker.give_back(room),
-            None => self.room = room,
+            None => {}
         }
     }
 }

@@ -6,22 +6,27 @@ ghost use Rattle.rec_data.specs.Owned.{LengthsFit};
 ghost use Rattle.mcap_io.specs.Outside.{LiveState};
 ghost use Rattle.mcap_model.specs.declared.options.FileOptions.{FileOptions};
 ghost use Rattle.mcap_model.specs.declared.ends.Stop.{Stop};
+ghost use Rattle.mcap_model.specs.declared.ends.Stop.TheVariants as stops;
+ghost use Rattle.chunk_build.specs.Chunker.{AreFramed};
 ghost use Rattle.mcap_model.specs.File.{front};
 ghost use Rattle.chunk_writer.specs.declared.phase.Phase.TheVariants as phases;
 ghost use Rattle.chunk_writer.specs.Limits.{Holds};
 ghost use Rattle.chunk_writer.specs.Plans.{Plans, StoppedBefore};
 ghost use Rattle.chunk_writer.specs.Stops.{StopsAt, Cause, StopCause, Appends, Added, refusal};
-ghost use Rattle.chunk_writer.specs.Scribes.{Writes, store_of, phase_of, blocks_of, bytes_of, GivesEntry, GivesLast, Ends, CountsLast, IsEntryWith, AddsLast};
+ghost use Rattle.chunk_writer.specs.Scribes.{Writes, Grows, OfEach, KeepsOn, store_of, phase_of, blocks_of, bytes_of, seen_before, GivesEntry, GivesLast, ListsEntry, PutsFront, Ends, EndsFile, CountsLast, CountsBytes, IsEntryWith, AddsLast};
 
 use crate::entry::Entry;
 use crate::next::Next;
 use crate::phase::Phase;
 use crate::pieces::front_piece;
 use crate::plan::Plan;
+use crate::tape::{Finished, Taken};
+use chunk_build::framed_of;
 use mcap_io::{AppendRefused, LiveStore};
 use mcap_model::{Block, FileOptions, Stop};
-use mcap_wire::{Bytes, Memory};
+use mcap_wire::Memory;
 use rec_data::Rec;
+use record_cache::Cache;
 use std::alloc::Global;
 
 /// Writes the file of a history into a store, record by record. A scribe stands for each history (`Writes`) whose sure pieces
@@ -31,16 +36,6 @@ use std::alloc::Global;
 pub struct Scribe<L> {
     store: L,
     plan: Plan,
-}
-
-/// How a file ended: the entry of a block that was appended at its end, the blocks and bytes that the store took in whole
-/// pieces, and why the file isn't whole, if so.
-#[derive(Drop)]
-pub struct Finished<X> {
-    pub last: Option<Entry<X>>,
-    pub blocks: u64,
-    pub bytes: u64,
-    pub end: Result<(), Stop>,
 }
 
 // Why an append was refused.
@@ -76,6 +71,21 @@ fn append_through<L: LiveStore>(store: &mut L, piece: &[u8]) -> Result<L::Extent
     match store.append_through(piece) {
         Ok(extent) => return Ok(extent),
         Err(why) => return Err(refused(store, why)),
+    }
+}
+
+// The buffer without its records, and what came of these.
+fn taken<X>(full: Cache, entries: Vec<Entry<X>>, end: Result<(), Stop>) -> Taken<X>
+    ensures cleared { result.cache ≡ record { limit = full.limit; records = [] } }
+    ensures entries { result.entries ≡ entries }
+    ensures end { result.end ≡ end }
+{
+    let mut cache = full;
+    cache.clear();
+    Taken {
+        cache,
+        entries,
+        end,
     }
 }
 
@@ -141,10 +151,10 @@ impl<L: LiveStore> Scribe<L> {
     pub fn put(&mut self, r: &Rec) -> Result<Option<Entry<L::Extent>>, Stop>
         requires fits { LengthsFit r.now }
         requires unended { phase_of self.old ≡ phases.Ended → ⊥ }
-        ensures stands { (options : FileOptions) (opened : LiveState) (history : List Rec) → Writes L.state options opened history self.old
-            → Writes L.state options opened (history ++ r.now ∷ []) self.new }
-        ensures entry { IfOk result (λ entry. (options : FileOptions) (opened : LiveState) (history : List Rec) → Writes L.state options opened history self.old
-            → GivesEntry (λ e. L.Extent.tells e) (λ e. L.Extent.size e) (L.state (store_of self.old)).held options history r.now entry) }
+        ensures stands { Grows L.state self.old self.new (r.now ∷ []) }
+        ensures entry { IfOk result (λ entry. OfEach L.state self.old (λ options history. GivesEntry (seen_before (λ e. L.Extent.tells e) (λ e. L.Extent.size e) (L.state (store_of self.old))) options history r.now entry)) }
+        ensures counted { IfOk result (λ entry. CountsLast (blocks_of self.old) (blocks_of self.new) entry) }
+        ensures keeps { KeepsOn (L.state (store_of self.old)).held (L.state (store_of self.new)).held }
         ensures goes_on { OnOk result ((phase_of self.old ≡ phases.Going) × (phase_of self.new ≡ phases.Going)) }
         ensures within { OnOk result (Holds (blocks_of self.new) (bytes_of self.new)) }
         ensures stopped { IfErr result (λ stop. phase_of self.new ≡ phases.Stopped stop) }
@@ -154,20 +164,126 @@ impl<L: LiveStore> Scribe<L> {
         ensures cause { phase_of self.old ≡ phases.Going → Cause (L.state (store_of self.old)).faults (L.state (store_of self.new)).faults result }
     {
         match self.plan.phase() {
-            Phase::Going => return self.put_next(r),
+            Phase::Going => {}
             Phase::Stopped { stop } => return Err(stop),
+            Phase::Ended => unreachable!(),
+        }
+        let framed = match framed_of(self.plan.alloc(), r) {
+            Ok(framed) => framed,
+            Err(_) => return Err(self.stop_for_memory()),
+        };
+        match self.put_framed(framed.as_slice()) {
+            Ok(entry) => return Ok(entry),
+            Err(stop) => return Err(stop),
+        }
+    }
+
+    /// Puts the buffer's records, in their order, each once, and gives the entries of the blocks that are appended. Where that is
+    /// refused the records behind are dropped. The buffer comes back without records.
+    pub fn take(&mut self, full: Cache) -> Taken<L::Extent>
+        requires unended { phase_of self.old ≡ phases.Ended → ⊥ }
+        ensures grows { Grows L.state self.old self.new full.records }
+        ensures front { phase_of self.old ≡ phases.Going → OfEach L.state self.old (λ options history. PutsFront (seen_before (λ e. L.Extent.tells e) (λ e. L.Extent.size e) (L.state (store_of self.old))) options history full.records result.entries.items (bytes_of self.new) result.end) }
+        ensures counted { blocks_of self.new ≡ blocks_of self.old + length result.entries.items }
+        ensures keeps { KeepsOn (L.state (store_of self.old)).held (L.state (store_of self.new)).held }
+        ensures cleared { result.cache ≡ record { limit = full.limit; records = [] } }
+        ensures goes_on { OnOk result.end ((phase_of self.old ≡ phases.Going) × (phase_of self.new ≡ phases.Going)) }
+        ensures within { OnOk result.end (Holds (blocks_of self.new) (bytes_of self.new)) }
+        ensures stopped { IfErr result.end (λ stop. phase_of self.new ≡ phases.Stopped stop) }
+        ensures kept { (stop : Stop) → phase_of self.old ≡ phases.Stopped stop → (result.end ≡ Err stop) × (result.entries.items ≡ []) × (self.new ≡ self.old) }
+        ensures cause { phase_of self.old ≡ phases.Going → Cause (L.state (store_of self.old)).faults (L.state (store_of self.new)).faults result.end }
+    {
+        let mut entries = Vec::new(self.plan.alloc());
+        match self.plan.phase() {
+            Phase::Going => {
+                let end = self.put_each(&full, &mut entries);
+                return taken(full, entries, end);
+            }
+            Phase::Stopped { stop } => return taken(full, entries, Err(stop)),
             Phase::Ended => unreachable!(),
         }
     }
 
-    // The same, where no append was refused.
-    fn put_next(&mut self, r: &Rec) -> Result<Option<Entry<L::Extent>>, Stop>
-        requires fits { LengthsFit r.now }
+    // Puts the records of a buffer, where no append was refused.
+    fn put_each(&mut self, full: &Cache, entries: &mut Vec<Entry<L::Extent>>) -> Result<(), Stop>
         requires going { phase_of self.old ≡ phases.Going }
-        ensures stands { (options : FileOptions) (opened : LiveState) (history : List Rec) → Writes L.state options opened history self.old
-            → Writes L.state options opened (history ++ r.now ∷ []) self.new }
-        ensures entry { IfOk result (λ entry. (options : FileOptions) (opened : LiveState) (history : List Rec) → Writes L.state options opened history self.old
-            → GivesEntry (λ e. L.Extent.tells e) (λ e. L.Extent.size e) (L.state (store_of self.old)).held options history r.now entry) }
+        requires none { entries.old.items ≡ [] }
+        ensures grows { Grows L.state self.old self.new full.now.records }
+        ensures front { OfEach L.state self.old (λ options history. PutsFront (seen_before (λ e. L.Extent.tells e) (λ e. L.Extent.size e) (L.state (store_of self.old))) options history full.now.records entries.new.items (bytes_of self.new) result) }
+        ensures counted { blocks_of self.new ≡ blocks_of self.old + length entries.new.items }
+        ensures keeps { KeepsOn (L.state (store_of self.old)).held (L.state (store_of self.new)).held }
+        ensures goes_on { OnOk result (phase_of self.new ≡ phases.Going) }
+        ensures within { OnOk result (Holds (blocks_of self.new) (bytes_of self.new)) }
+        ensures stopped { IfErr result (λ stop. phase_of self.new ≡ phases.Stopped stop) }
+        ensures cause { Cause (L.state (store_of self.old)).faults (L.state (store_of self.new)).faults result }
+    {
+        // The numbers are within the limit.
+        let _blocks = self.plan.blocks();
+        let _bytes = self.plan.bytes();
+        let held = full.held();
+        let mut at = 0;
+        'records: while at < held {
+            let found = full.record(at);
+            match self.put_listed(found.framed, entries) {
+                Ok(()) => {}
+                Err(stop) => return Err(stop),
+            }
+            at = found.next;
+        }
+        return Ok(());
+    }
+
+    // Puts a framed record, and lists the entry that this gives.
+    fn put_listed(&mut self, framed: &[u8], entries: &mut Vec<Entry<L::Extent>>) -> Result<(), Stop>
+        requires framed { (r : Rec) × AreFramed framed.now r }
+        requires going { phase_of self.old ≡ phases.Going }
+        ensures grows { (r : Rec) → AreFramed framed.now r → Grows L.state self.old self.new (r ∷ []) }
+        ensures lists { OnOk result (ListsEntry L.state (seen_before (λ e. L.Extent.tells e) (λ e. L.Extent.size e) (L.state (store_of self.old))) self.old framed.now entries.old.items entries.new.items) }
+        ensures counted { blocks_of self.new + length entries.old.items ≡ blocks_of self.old + length entries.new.items }
+        ensures keeps { KeepsOn (L.state (store_of self.old)).held (L.state (store_of self.new)).held }
+        ensures goes_on { OnOk result (phase_of self.new ≡ phases.Going) }
+        ensures within { OnOk result (Holds (blocks_of self.new) (bytes_of self.new)) }
+        ensures stopped { IfErr result (λ stop. phase_of self.new ≡ phases.Stopped stop) }
+        // What stopped it isn't counted.
+        ensures uncounted { OnErr result ((bytes_of self.new ≡ bytes_of self.old) × (entries.new.items ≡ entries.old.items)) }
+        ensures cause { Cause (L.state (store_of self.old)).faults (L.state (store_of self.new)).faults result }
+    {
+        match entries.reserve(1) {
+            Ok(()) => {}
+            Err(_) => return Err(self.stop_for_memory()),
+        }
+        match self.put_framed(framed) {
+            Ok(Some(entry)) => {
+                entries.push_reserved(entry);
+                return Ok(());
+            }
+            Ok(None) => return Ok(()),
+            Err(stop) => return Err(stop),
+        }
+    }
+
+    // Stops where memory lacks for a record.
+    fn stop_for_memory(&mut self) -> Stop
+        requires going { phase_of self.old ≡ phases.Going }
+        ensures memory { result ≡ stops.Memory }
+        ensures grows { (r : Rec) → Grows L.state self.old self.new (r ∷ []) }
+        ensures store { self.new.store ≡ self.old.store }
+        ensures stopped { StoppedBefore (blocks_of self.old) (bytes_of self.old) stops.Memory self.new.plan }
+    {
+        let blocks = self.plan.blocks();
+        let bytes = self.plan.bytes();
+        self.plan.stop(Stop::Memory, blocks, bytes);
+        return Stop::Memory;
+    }
+
+    // Puts a framed record, where no append was refused.
+    fn put_framed(&mut self, framed: &[u8]) -> Result<Option<Entry<L::Extent>>, Stop>
+        requires framed { (r : Rec) × AreFramed framed.now r }
+        requires going { phase_of self.old ≡ phases.Going }
+        ensures grows { (r : Rec) → AreFramed framed.now r → Grows L.state self.old self.new (r ∷ []) }
+        ensures entry { IfOk result (λ entry. (r : Rec) → AreFramed framed.now r → OfEach L.state self.old (λ options history. GivesEntry (seen_before (λ e. L.Extent.tells e) (λ e. L.Extent.size e) (L.state (store_of self.old))) options history r entry)) }
+        ensures counted { IfOk result (λ entry. CountsLast (blocks_of self.old) (blocks_of self.new) entry) }
+        ensures keeps { KeepsOn (L.state (store_of self.old)).held (L.state (store_of self.new)).held }
         ensures goes_on { OnOk result (phase_of self.new ≡ phases.Going) }
         ensures within { OnOk result (Holds (blocks_of self.new) (bytes_of self.new)) }
         ensures stopped { IfErr result (λ stop. phase_of self.new ≡ phases.Stopped stop) }
@@ -177,13 +293,13 @@ impl<L: LiveStore> Scribe<L> {
     {
         let blocks = self.plan.blocks();
         let bytes = self.plan.bytes();
-        match self.plan.add(r) {
+        match self.plan.add(framed) {
             Ok(Next::Waits) => return Ok(None),
             Ok(Next::Block { block }) => match self.append_block(block, blocks, bytes) {
                 Ok(entry) => return Ok(Some(entry)),
                 Err(stop) => return Err(stop),
             },
-            Ok(Next::Record { bytes: piece }) => match self.append_record(piece, blocks, bytes) {
+            Ok(Next::Record) => match self.append_record(framed, blocks, bytes) {
                 Ok(()) => return Ok(None),
                 Err(stop) => return Err(stop),
             },
@@ -218,19 +334,16 @@ impl<L: LiveStore> Scribe<L> {
         }
     }
 
-    // Appends a record behind so many blocks and bytes. The plan counts it already.
-    fn append_record(&mut self, piece: Bytes, blocks: u64, bytes: u64) -> Result<(), Stop>
+    // Appends a framed record behind so many blocks and bytes. The plan counts it already.
+    fn append_record(&mut self, framed: &[u8], blocks: u64, bytes: u64) -> Result<(), Stop>
         requires { Holds blocks bytes }
-        ensures appends { Added (L.state (store_of self.old)).held (L.state (store_of self.new)).held piece result }
+        ensures appends { Added (L.state (store_of self.old)).held (L.state (store_of self.new)).held framed.now result }
         ensures cause { Cause (L.state (store_of self.old)).faults (L.state (store_of self.new)).faults result }
         ensures ok { OnOk result (self.new.plan ≡ self.old.plan) }
         ensures err { IfErr result (λ stop. StoppedBefore blocks bytes stop self.new.plan) }
     {
-        match append(&mut self.store, piece.as_slice()) {
-            Ok(_) => {
-                self.plan.give_back(piece.into_vec());
-                return Ok(());
-            }
+        match append(&mut self.store, framed) {
+            Ok(_) => return Ok(()),
             Err(stop) => {
                 self.plan.stop(stop, blocks, bytes);
                 return Err(stop);
@@ -241,39 +354,23 @@ impl<L: LiveStore> Scribe<L> {
     /// Ends the file: the last block, if records wait for one, and then the Data End and all behind it, both appended through.
     pub fn finish(&mut self) -> Finished<L::Extent>
         requires unended { phase_of self.old ≡ phases.Ended → ⊥ }
-        ensures ends { (options : FileOptions) (opened : LiveState) (history : List Rec) → Writes L.state options opened history self.old
-            → Ends options opened.held (L.state (store_of self.new)).held history result.blocks result.bytes result.end }
-        ensures last { (options : FileOptions) (opened : LiveState) (history : List Rec) → Writes L.state options opened history self.old
-            → GivesLast (λ e. L.Extent.tells e) (λ e. L.Extent.size e) (L.state (store_of self.old)).held options history result.last }
+        ensures ends { EndsFile L.state self.old self.new (record { blocks = result.blocks; bytes = result.bytes }) result.end }
+        ensures last { OfEach L.state self.old (λ options history. GivesLast (seen_before (λ e. L.Extent.tells e) (λ e. L.Extent.size e) (L.state (store_of self.old))) options history result.last) }
         ensures counted { CountsLast (blocks_of self.old) result.blocks result.last }
+        // What stopped it isn't counted.
+        ensures uncounted { OnErr result.end (CountsBytes (λ e. L.Extent.size e) (bytes_of self.old) result.bytes result.last) }
         ensures numbers { (result.blocks ≡ blocks_of self.new) × (result.bytes ≡ bytes_of self.new) }
         ensures ended { OnOk result.end (phase_of self.new ≡ phases.Ended) }
-        ensures within { OnOk result.end (Holds result.blocks result.bytes) }
+        ensures within { Holds result.blocks result.bytes }
         ensures stopped { IfErr result.end (λ stop. phase_of self.new ≡ phases.Stopped stop) }
         ensures kept { (stop : Stop) → phase_of self.old ≡ phases.Stopped stop → (result.end ≡ Err stop) × (result.last ≡ None) × (self.new ≡ self.old) }
         ensures cause { phase_of self.old ≡ phases.Going → Cause (L.state (store_of self.old)).faults (L.state (store_of self.new)).faults result.end }
     {
         match self.plan.phase() {
-            Phase::Going => return self.finish_next(),
+            Phase::Going => {}
             Phase::Stopped { stop } => return self.finished(None, Err(stop)),
             Phase::Ended => unreachable!(),
         }
-    }
-
-    // The same, where no append was refused.
-    fn finish_next(&mut self) -> Finished<L::Extent>
-        requires going { phase_of self.old ≡ phases.Going }
-        ensures ends { (options : FileOptions) (opened : LiveState) (history : List Rec) → Writes L.state options opened history self.old
-            → Ends options opened.held (L.state (store_of self.new)).held history result.blocks result.bytes result.end }
-        ensures last { (options : FileOptions) (opened : LiveState) (history : List Rec) → Writes L.state options opened history self.old
-            → GivesLast (λ e. L.Extent.tells e) (λ e. L.Extent.size e) (L.state (store_of self.old)).held options history result.last }
-        ensures counted { CountsLast (blocks_of self.old) result.blocks result.last }
-        ensures numbers { (result.blocks ≡ blocks_of self.new) × (result.bytes ≡ bytes_of self.new) }
-        ensures ended { OnOk result.end (phase_of self.new ≡ phases.Ended) }
-        ensures within { OnOk result.end (Holds result.blocks result.bytes) }
-        ensures stopped { IfErr result.end (λ stop. phase_of self.new ≡ phases.Stopped stop) }
-        ensures cause { Cause (L.state (store_of self.old)).faults (L.state (store_of self.new)).faults result.end }
-    {
         match self.append_last() {
             Ok(last) => {
                 let end = self.append_back();
@@ -287,8 +384,10 @@ impl<L: LiveStore> Scribe<L> {
     fn append_last(&mut self) -> Result<Option<Entry<L::Extent>>, Stop>
         requires going { phase_of self.old ≡ phases.Going }
         ensures last { IfOk result (λ last. (options : FileOptions) (opened : LiveState) (history : List Rec) → Writes L.state options opened history self.old
-            → AddsLast options opened.held (L.state (store_of self.new)).held history self.new.plan × GivesLast (λ e. L.Extent.tells e) (λ e. L.Extent.size e) (L.state (store_of self.old)).held options history last) }
+            → AddsLast options opened.held (L.state (store_of self.new)).held history self.new.plan) }
+        ensures entry { IfOk result (λ last. OfEach L.state self.old (λ options history. GivesLast (seen_before (λ e. L.Extent.tells e) (λ e. L.Extent.size e) (L.state (store_of self.old))) options history last)) }
         ensures counted { IfOk result (λ last. CountsLast (blocks_of self.old) (blocks_of self.new) last) }
+        ensures bytes { IfOk result (λ last. CountsBytes (λ e. L.Extent.size e) (bytes_of self.old) (bytes_of self.new) last) }
         ensures ended { OnOk result (phase_of self.new ≡ phases.Ended) }
         ensures refused { IfErr result (λ stop. (options : FileOptions) (opened : LiveState) (history : List Rec) → Writes L.state options opened history self.old
             → StopsAt options history opened.held (L.state (store_of self.new)).held stop (blocks_of self.new) (bytes_of self.new)) }
@@ -336,7 +435,8 @@ impl<L: LiveStore> Scribe<L> {
 
     // How the file ended, with the numbers as they are now.
     fn finished(&self, last: Option<Entry<L::Extent>>, end: Result<(), Stop>) -> Finished<L::Extent>
-        ensures { (result.last ≡ last) × (result.end ≡ end) × (result.blocks ≡ blocks_of self.now) × (result.bytes ≡ bytes_of self.now) }
+        ensures is { (result.last ≡ last) × (result.end ≡ end) × (result.blocks ≡ blocks_of self.now) × (result.bytes ≡ bytes_of self.now) }
+        ensures within { Holds result.blocks result.bytes }
     {
         Finished {
             last,
@@ -358,6 +458,13 @@ impl<L: LiveStore> Scribe<L> {
         ensures { result ≡ bytes_of self.now }
     {
         self.plan.bytes()
+    }
+
+    /// How often the store has failed.
+    pub fn faults(&self) -> u64
+        ensures { result ≡ (L.state (store_of self.now)).faults }
+    {
+        self.store.faults()
     }
 
     /// How far the writing has come.

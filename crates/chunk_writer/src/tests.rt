@@ -1,7 +1,8 @@
-//! The lengths of small files, what each failing append leaves of them, the entries of blocks, and the limits.
-ghost use Rattle.std.specs.Prelude.{◌≡◌, ◌≤◌, ℕ, Some, IfOk};
-ghost use Rattle.rec_data.specs.declared.owned.Rec.{Rec};
-ghost use Rattle.rec_data.specs.Owned.{LengthsFit};
+//! The lengths of small files that are written record by record and buffer by buffer, what each failing append leaves of them,
+//! the entries of blocks, and the limits.
+ghost use Rattle.std.specs.Prelude.{◌≡◌, ◌≤◌, ℕ, Some};
+ghost use Rattle.record_cache.specs.Buffers.{IsKept};
+ghost use Rattle.record_cache.specs.Offers.{rec_of};
 ghost use Rattle.chunk_writer.specs.declared.phase.Phase.TheVariants as phases;
 ghost use Rattle.chunk_writer.specs.Scribes.{phase_of};
 
@@ -9,8 +10,9 @@ use crate::limits::keep_limit;
 use crate::{Entry, Scribe};
 use mcap_io::{FailingWrite, MemoryLive, Piece};
 use mcap_model::{FileOptions, Stop};
-use mcap_wire::{Memory, Text};
-use rec_data::Rec;
+use mcap_wire::{Memory, PairsRef, Text};
+use rec_data::{Channel, Message, Rec};
+use record_cache::{Cache, RecRef};
 use std::alloc::Global;
 use std::test::Fail;
 
@@ -29,6 +31,60 @@ fn second() -> &'static [u8] {
     b"\x05\x17\0\0\0\0\0\0\0\x01\0\x02\0\0\0\x0b\0\0\0\0\0\0\0\x09\0\0\0\0\0\0\0\xaa"
 }
 
+// The same records, borrowed.
+fn channel_ref() -> RecRef<'static>
+    ensures { IsKept (rec_of result) }
+{
+    RecRef::Channel(Channel {
+        id: 1,
+        schema_id: 0,
+        topic: "/a",
+        message_encoding: "",
+        metadata: PairsRef::of(&[]),
+    })
+}
+
+fn first_ref() -> RecRef<'static>
+    ensures { IsKept (rec_of result) }
+{
+    RecRef::Message(Message {
+        channel_id: 1,
+        sequence: 1,
+        log_time: 10,
+        publish_time: 9,
+        payload: &[0xaa],
+    })
+}
+
+fn second_ref() -> RecRef<'static>
+    ensures { IsKept (rec_of result) }
+{
+    RecRef::Message(Message {
+        channel_id: 1,
+        sequence: 2,
+        log_time: 11,
+        publish_time: 9,
+        payload: &[0xaa],
+    })
+}
+
+// A buffer of the Channel and the first Message, and one of the second.
+fn first_buffer(alloc: Global) -> Result<Cache, Fail> {
+    let mut full = Cache::new(alloc, 1000)?;
+    if full.offer(channel_ref()).is_err() || full.offer(first_ref()).is_err() {
+        return Err(Memory)?;
+    }
+    Ok(full)
+}
+
+fn second_buffer(alloc: Global) -> Result<Cache, Fail> {
+    let mut full = Cache::new(alloc, 1000)?;
+    if full.offer(second_ref()).is_err() {
+        return Err(Memory)?;
+    }
+    Ok(full)
+}
+
 // What a writing left in its store, the entries that it gave, the blocks and bytes, and why it stopped, if so.
 #[derive(Drop)]
 struct Outcome {
@@ -37,6 +93,13 @@ struct Outcome {
     blocks: u64,
     bytes: u64,
     stop: Option<Stop>,
+}
+
+// How the records are handed over.
+#[derive(Clone, Copy)]
+enum By {
+    Records,
+    Buffers,
 }
 
 // Puts a record, and keeps the entry that this gives.
@@ -63,9 +126,63 @@ fn put(
     }
 }
 
+// Takes a buffer, and gives the entries and what the buffer holds then.
+fn take(scribe: &mut Scribe<MemoryLive>, full: Cache) -> (Vec<Entry<Piece>>, u64)
+    requires { phase_of scribe.old ≡ phases.Ended → ⊥ }
+    ensures { phase_of scribe.new ≡ phases.Ended → ⊥ }
+{
+    let taken = scribe.take(full);
+    let held = taken.cache.held();
+    match taken.end {
+        Ok(()) => return (taken.entries, held),
+        Err(_) => return (taken.entries, held),
+    }
+}
+
+// Hands over no record, the Channel and a Message, or these and the second one, and says whether the buffers come back empty.
+fn hand_over(
+    alloc: Global,
+    scribe: &mut Scribe<MemoryLive>,
+    by: By,
+    messages: usize,
+    entries: &mut Vec<Entry<Piece>>,
+) -> Result<bool, Fail>
+    requires { phase_of scribe.old ≡ phases.Ended → ⊥ }
+    ensures { phase_of scribe.new ≡ phases.Ended → ⊥ }
+{
+    match by {
+        By::Records => {
+            if messages > 0 {
+                put(alloc, scribe, channel(), entries)?;
+                put(alloc, scribe, first(), entries)?;
+            }
+            if messages > 1 {
+                put(alloc, scribe, second(), entries)?;
+            }
+            return Ok(true);
+        }
+        By::Buffers => {
+            let (_, held) = take(scribe, Cache::new(alloc, 1000)?);
+            let mut is_empty = held == 0;
+            if messages > 0 {
+                let (mut more, held) = take(scribe, first_buffer(alloc)?);
+                entries.append(&mut more)?;
+                is_empty = is_empty && held == 0;
+            }
+            if messages > 1 {
+                let (mut more, held) = take(scribe, second_buffer(alloc)?);
+                entries.append(&mut more)?;
+                is_empty = is_empty && held == 0;
+            }
+            return Ok(is_empty);
+        }
+    }
+}
+
 // Writes a file of no record, of the Channel and a Message, or of these and the second one.
 fn write(
     alloc: Global,
+    by: By,
     chunk: Option<u64>,
     messages: usize,
     failing: Vec<FailingWrite>,
@@ -89,12 +206,8 @@ fn write(
             });
         }
     };
-    if messages > 0 {
-        put(alloc, &mut scribe, channel(), &mut entries)?;
-        put(alloc, &mut scribe, first(), &mut entries)?;
-    }
-    if messages > 1 {
-        put(alloc, &mut scribe, second(), &mut entries)?;
+    if !hand_over(alloc, &mut scribe, by, messages, &mut entries)? {
+        return Err(Memory)?;
     }
     let finished = scribe.finish();
     let blocks = finished.blocks;
@@ -122,14 +235,17 @@ fn files_are_as_long_as_they_are(rt: HostRuntime) -> Result<(), Fail> {
         (Some(59), 2, 671, 2),
         (Some(60), 2, 524, 1),
         (Some(1), 1, 598, 2),
+        (None, 2, 175, 0),
     ];
     for (chunk, messages, len, blocks) in rows {
-        let file = write(rt.alloc(), chunk, messages, Vec::new(rt.alloc()))?;
-        assert_eq!(rt; file.text.len(), len);
-        assert_eq!(rt; file.bytes, len as u64);
-        assert_eq!(rt; file.blocks, blocks);
-        assert_eq!(rt; file.entries.len() as u64, blocks);
-        assert!(rt; file.stop.is_none());
+        for by in [By::Records, By::Buffers] {
+            let file = write(rt.alloc(), by, chunk, messages, Vec::new(rt.alloc()))?;
+            assert_eq!(rt; file.text.len(), len);
+            assert_eq!(rt; file.bytes, len as u64);
+            assert_eq!(rt; file.blocks, blocks);
+            assert_eq!(rt; file.entries.len() as u64, blocks);
+            assert!(rt; file.stop.is_none());
+        }
     }
     Ok(())
 }
@@ -137,6 +253,7 @@ fn files_are_as_long_as_they_are(rt: HostRuntime) -> Result<(), Fail> {
 // Whether a writing whose append of that number fails, of which so many bytes are taken, leaves a first part of the file.
 fn leaves_a_front(
     alloc: Global,
+    by: By,
     chunk: Option<u64>,
     call: u64,
     taken: u64,
@@ -146,7 +263,7 @@ fn leaves_a_front(
 {
     let mut failing = Vec::new(alloc);
     failing.push(FailingWrite { call, taken })?;
-    let part = write(alloc, chunk, 2, failing)?;
+    let part = write(alloc, by, chunk, 2, failing)?;
     let len = part.text.len();
     let is_front = len <= whole.len() && part.text.as_slice() == &whole[..len];
     if is_front
@@ -162,19 +279,30 @@ fn leaves_a_front(
 #[test]
 fn a_failing_append_leaves_a_front_of_the_file(rt: HostRuntime) -> Result<(), Fail> {
     let alloc = rt.alloc();
-    let plain = write(alloc, None, 2, Vec::new(alloc))?;
-    let chunked = write(alloc, Some(59), 2, Vec::new(alloc))?;
+    let plain = write(alloc, By::Records, None, 2, Vec::new(alloc))?;
+    let chunked = write(alloc, By::Records, Some(59), 2, Vec::new(alloc))?;
     let rows = [(0, 0), (0, 34), (0, 61), (0, 93), (0, 125)];
     for i in 0..rows.len() {
-        for taken in [0, 5] {
-            let left = leaves_a_front(alloc, None, i as u64, taken, plain.text.as_slice())?;
+        for (by, taken) in [
+            (By::Records, 0),
+            (By::Records, 5),
+            (By::Buffers, 0),
+            (By::Buffers, 5),
+        ] {
+            let left = leaves_a_front(alloc, by, None, i as u64, taken, plain.text.as_slice())?;
             assert_eq!(rt; left, Some(rows[i]));
         }
     }
     let rows = [(0, 0), (0, 34), (1, 173), (2, 285)];
     for i in 0..rows.len() {
-        for taken in [0, 5] {
-            let left = leaves_a_front(alloc, Some(59), i as u64, taken, chunked.text.as_slice())?;
+        for (by, taken) in [
+            (By::Records, 0),
+            (By::Records, 5),
+            (By::Buffers, 0),
+            (By::Buffers, 5),
+        ] {
+            let whole = chunked.text.as_slice();
+            let left = leaves_a_front(alloc, by, Some(59), i as u64, taken, whole)?;
             assert_eq!(rt; left, Some(rows[i]));
         }
     }
@@ -183,7 +311,7 @@ fn a_failing_append_leaves_a_front_of_the_file(rt: HostRuntime) -> Result<(), Fa
 
 #[test]
 fn an_entry_tells_of_its_block(rt: HostRuntime) -> Result<(), Fail> {
-    let file = write(rt.alloc(), Some(59), 2, Vec::new(rt.alloc()))?;
+    let file = write(rt.alloc(), By::Buffers, Some(59), 2, Vec::new(rt.alloc()))?;
     let rows = [(34, 173, 108, 10, 1, 1), (173, 285, 81, 11, 1, 0)];
     assert_eq!(rt; file.entries.len(), 2);
     for i in 0..rows.len() {

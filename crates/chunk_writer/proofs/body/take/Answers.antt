@@ -2,6 +2,6 @@
 use Rattle.chunk_writer.proofs.Noting.{took}
 use Rattle.chunk_writer.proofs.body.take.Goals as goal
 
-pub returns-in-Ok-put-clause-ok : goal.returns-in-Ok-put-clause-ok
-returns-in-Ok-put-clause-ok c = λ size at history is.
-    took size at history c.args.r.now c.args.body.now c.put.new.self c.note_record.new.self _ c.in-Ok.ensures.ok c.in-Ok-put.ensures.put is
+pub returns-in-Ok-put_framed-clause-ok : goal.returns-in-Ok-put_framed-clause-ok
+returns-in-Ok-put_framed-clause-ok c = λ r framed size at history is.
+    took size at history r c.args.body.now c.put_framed.new.self c.note_framed.new.self _ (c.in-Ok.ensures.ok r framed) (c.in-Ok-put_framed.ensures.put r framed) is

@@ -1,16 +1,19 @@
 -- The last block was appended, or refused.
 use Rattle.chunk_writer.specs.declared.entry.Entry.{Entry}
+use Rattle.chunk_writer.specs.Scribes.{seen_before}
 use Rattle.chunk_writer.proofs.Stopping.{added_err}
 use Rattle.chunk_writer.proofs.Writing.{adds_last, last_entry, block_last_refused, last_stopped}
 use Rattle.chunk_writer.proofs.scribe.Scribe.append_last.Goals as goal
 
 pub returns-in-Ok-clause-last : goal.returns-in-Ok-clause-last
-returns-in-Ok-clause-last g c = λ options opened history stands. (
-  adds_last options opened.held _ _ history c.args.self.now.plan c.last.new.self c.append_block.new.self.plan _ c.in-Ok-Some.block c.in-Ok-Some.field-0-is c.in-Ok-Some.ensures.ok c.in-Ok.ensures.ok c.requires.going
-      c.in-Ok.ensures.appends.0 stands,
-  last_entry {X = g.row.L-Extent.Denot} (λ e. g.L.Extent.Extent.tells e) (λ e. g.L.Extent.Extent.size e) options opened.held (g.L.LiveStore.state c.args.self.now.store).held history c.args.self.now.plan c.last.new.self _ c.in-Ok-Some.block
-      c.in-Ok.entry _ c.in-Ok-Some.field-0-is c.in-Ok-Some.ensures.ok c.requires.going c.bytes-bytes.ensures.value c.in-Ok.ensures.entry c.in-Ok.ensures.appends.1 c.in-Ok.ensures.appends.2 stands,
-)
+returns-in-Ok-clause-last g c = λ options opened history stands.
+    adds_last options opened.held _ _ history c.args.self.now.plan c.last.new.self c.append_block.new.self.plan _ c.in-Ok-Some.block c.in-Ok-Some.field-0-is c.in-Ok-Some.ensures.ok c.in-Ok.ensures.ok c.requires.going
+    c.in-Ok.ensures.appends.0 stands
+
+pub returns-in-Ok-clause-entry : goal.returns-in-Ok-clause-entry
+returns-in-Ok-clause-entry g c = λ options opened history stands.
+    last_entry {X = g.row.L-Extent.Denot} (seen_before (λ e. g.L.Extent.Extent.tells e) (λ e. g.L.Extent.Extent.size e) (g.L.LiveStore.state c.args.self.now.store)) options opened.held (g.L.LiveStore.state c.args.self.now.store).held history c.args.self.now.plan c.last.new.self _ c.in-Ok-Some.block
+    c.in-Ok.entry _ c.in-Ok-Some.field-0-is c.in-Ok-Some.ensures.ok c.requires.going c.bytes-bytes.ensures.value c.in-Ok.ensures.entry c.in-Ok.ensures.appends.1 c.in-Ok.ensures.appends.2 stands
 
 pub returns-in-Err-append_block-clause-refused : goal.returns-in-Err-append_block-clause-refused
 returns-in-Err-append_block-clause-refused g c = λ options opened history stands.

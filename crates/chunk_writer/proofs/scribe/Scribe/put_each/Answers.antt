@@ -1,0 +1,39 @@
+-- A buffer was put, whole or up to the record that was refused.
+use Rattle.std.proofs.Common.{refl, arith}
+use Rattle.record_cache.proofs.Walking.{next_there}
+use Rattle.chunk_writer.specs.Scribes.{seen_before}
+use Rattle.chunk_writer.proofs.Taking.{step, starts, all_grows, all_front, stopped_grows}
+use Rattle.chunk_writer.proofs.scribe.Scribe.put_each.Goals as goal
+
+pub records-smaller : goal.records-smaller
+records-smaller g c =
+    let (way, held, kept) = c.records.invariant in
+    let next = next_there c.args.full.now.records c.records.at c.record-found.result.next c.record-found.result.framed.now
+    (starts c.args.full.now.records c.records.at way.count way.within way.place (omega (arith, c.records-test.true, held))) c.record-found.ensures in
+    omega (arith, next.1, c.records-test.true)
+
+pub records-preserved : goal.records-preserved
+records-preserved g c =
+    let (way, held, kept) = c.records.invariant in (
+      step g.L.LiveStore.state (seen_before {X = g.row.L-Extent.Denot} (λ e. g.L.Extent.Extent.tells e) (λ e. g.L.Extent.Extent.size e) (g.L.LiveStore.state c.args.self.now.store)) c.args.self.now c.records.self c.put_listed.new.self c.args.full.now.records
+          c.records.at c.record-found.result.next c.record-found.result.framed.now c.records.entries.items c.put_listed.new.entries.items refl kept way (omega (arith, c.records-test.true, held)) c.record-found.ensures
+          c.in-Ok.ensures.grows c.in-Ok.ensures.lists c.in-Ok.ensures.counted c.in-Ok.ensures.keeps c.in-Ok.ensures.goes_on c.in-Ok.ensures.within c.in-Ok.ensures.cause,
+      held,
+      kept,
+    )
+
+pub returns-in-Err-clause-grows : goal.returns-in-Err-clause-grows
+returns-in-Err-clause-grows g c =
+    let (way, held, kept) = c.records.invariant in
+    stopped_grows g.L.LiveStore.state _ c.args.self.now c.records.self c.put_listed.new.self c.args.full.now.records c.records.at c.record-found.result.next c.record-found.result.framed.now _ c.in-Err.stop kept way
+    (omega (arith, c.records-test.true, held)) c.record-found.ensures c.in-Err.ensures.grows c.in-Err.ensures.stopped
+
+pub returns-clause-grows : goal.returns-clause-grows
+returns-clause-grows g c =
+    let (way, held, kept) = c.records.invariant in
+    all_grows g.L.LiveStore.state _ c.args.self.now c.records.self c.args.full.now.records c.records.at _ way (λ less. omega (arith, c.records-test.false, held, less))
+
+pub returns-clause-front : goal.returns-clause-front
+returns-clause-front g c =
+    let (way, held, kept) = c.records.invariant in
+    all_front g.L.LiveStore.state _ c.args.self.now c.records.self c.args.full.now.records c.records.at _ way (λ less. omega (arith, c.records-test.false, held, less))

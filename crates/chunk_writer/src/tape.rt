@@ -1,0 +1,137 @@
+//! What takes the records of a recording, buffer by buffer.
+ghost use Rattle.std.specs.Prelude.{◌≡◌, ◌++◌, ℕ, List, Result, [], Ok, Err, IfErr, OnOk, OnErr};
+ghost use Rattle.rec_data.specs.declared.owned.Rec.{Rec};
+ghost use Rattle.mcap_model.specs.declared.ends.Stop.{Stop};
+ghost use Rattle.chunk_writer.specs.declared.phase.Phase.TheVariants as phases;
+ghost use Rattle.chunk_writer.specs.declared.phase.Phase.{Phase as TapePhase};
+ghost use Rattle.chunk_writer.specs.declared.tape.Written.{Written as Numbers};
+ghost use Rattle.chunk_writer.specs.Limits.{Holds};
+ghost use Rattle.chunk_writer.specs.Stops.{Cause};
+ghost use Rattle.chunk_writer.specs.Scribes.{Grows, EndsFile, grows_none, grows_on, store_of, phase_of, blocks_of, bytes_of};
+
+use crate::entry::Entry;
+use crate::phase::Phase;
+use crate::scribe::Scribe;
+use mcap_io::{Extent, LiveStore};
+use mcap_model::Stop;
+use record_cache::Cache;
+
+/// How many blocks and bytes a tape took in whole appends.
+#[derive(Clone, Copy, Debug, PartialEq, Eq)]
+pub struct Written {
+    pub blocks: u64,
+    pub bytes: u64,
+}
+
+/// What came of a buffer: the same buffer without its records, the entries of the blocks that were appended, and why the tape
+/// stopped, if so.
+#[derive(Drop)]
+pub struct Taken<X> {
+    pub cache: Cache,
+    pub entries: Vec<Entry<X>>,
+    pub end: Result<(), Stop>,
+}
+
+/// How a tape ended: the entry of a block that was appended at its end, and why the end wasn't written, if so.
+#[derive(Drop)]
+pub struct Finished<X> {
+    pub last: Option<Entry<X>>,
+    pub blocks: u64,
+    pub bytes: u64,
+    pub end: Result<(), Stop>,
+}
+
+/// What takes the records of a recording. A tape stands for lists of records; what it wrote of them is said by relations of
+/// its values. Once it was refused it keeps the refusal: it answers that at every call, and writes nothing.
+pub trait Tape {
+    type X: Extent;
+
+    /// The second is the first, later: of whatever list the first stands, the second stands for that list with these records
+    /// behind it.
+    ghost grows: { Self → Self → List Rec → Type 0 };
+
+    /// The second is the first with its end, which came to this with so many blocks and bytes.
+    ghost ends: { Self → Self → Numbers → Result Unit Stop → Type 0 };
+
+    ghost phase: { Self → TapePhase };
+
+    ghost numbers: { Self → Numbers };
+
+    ghost failures: { Self → ℕ };
+
+    /// A tape stands for the same where nothing is called, and over several calls.
+    ghost grows_none: { (t : Self) → grows t t [] };
+
+    ghost grows_on: { (t u v : Self) (before behind : List Rec) → grows t u before → grows u v behind → grows t v (before ++ behind) };
+
+    /// Puts the buffer's records, in their order, each once. Where that is refused the records behind are dropped.
+    fn take(&mut self, full: Cache) -> Taken<Self::X>
+        requires unended { phase self.old ≡ phases.Ended → ⊥ }
+        ensures grows { grows self.old self.new full.records }
+        ensures cleared { result.cache ≡ record { limit = full.limit; records = [] } }
+        ensures goes_on { OnOk result.end ((phase self.old ≡ phases.Going) × (phase self.new ≡ phases.Going)) }
+        ensures stopped { IfErr result.end (λ stop. phase self.new ≡ phases.Stopped stop) }
+        ensures kept { (stop : Stop) → phase self.old ≡ phases.Stopped stop → (result.end ≡ Err stop) × (self.new ≡ self.old) }
+        ensures cause { phase self.old ≡ phases.Going → Cause (failures self.old) (failures self.new) result.end };
+
+    /// Writes what ends the file.
+    fn finish(&mut self) -> Finished<Self::X>
+        requires unended { phase self.old ≡ phases.Ended → ⊥ }
+        ensures ends { ends self.old self.new (record { blocks = result.blocks; bytes = result.bytes }) result.end }
+        ensures numbers { numbers self.new ≡ record { blocks = result.blocks; bytes = result.bytes } }
+        ensures ended { OnOk result.end (phase self.new ≡ phases.Ended) }
+        ensures within { Holds result.blocks result.bytes }
+        ensures stopped { IfErr result.end (λ stop. phase self.new ≡ phases.Stopped stop) }
+        ensures kept { (stop : Stop) → phase self.old ≡ phases.Stopped stop → (result.end ≡ Err stop) × (self.new ≡ self.old) }
+        ensures cause { phase self.old ≡ phases.Going → Cause (failures self.old) (failures self.new) result.end };
+
+    fn written(&self) -> Written
+        ensures { result ≡ numbers self.now };
+
+    fn phase(&self) -> Phase
+        ensures { result ≡ phase self.now };
+
+    fn faults(&self) -> u64
+        ensures { result ≡ failures self.now };
+}
+
+impl<L: LiveStore> Tape for Scribe<L> {
+    type X = L::Extent;
+
+    ghost grows = { λ before after records. Grows L.state before after records };
+
+    ghost ends = { λ before after written end. EndsFile L.state before after written end };
+
+    ghost phase = { λ s. phase_of s };
+
+    ghost numbers = { λ s. record { blocks = blocks_of s; bytes = bytes_of s } };
+
+    ghost failures = { λ s. (L.state (store_of s)).faults };
+
+    ghost grows_none = { λ s. grows_none L.state s };
+
+    ghost grows_on = { λ one two three before behind first second. grows_on L.state one two three before behind first second };
+
+    fn take(&mut self, full: Cache) -> Taken<L::Extent> {
+        Scribe::take(self, full)
+    }
+
+    fn finish(&mut self) -> Finished<L::Extent> {
+        Scribe::finish(self)
+    }
+
+    fn written(&self) -> Written {
+        Written {
+            blocks: self.blocks(),
+            bytes: self.bytes(),
+        }
+    }
+
+    fn phase(&self) -> Phase {
+        Scribe::phase(self)
+    }
+
+    fn faults(&self) -> u64 {
+        Scribe::faults(self)
+    }
+}
