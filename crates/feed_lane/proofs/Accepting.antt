@@ -1,5 +1,5 @@
 -- The message at hand is recorded.
-use Rattle.std.proofs.Common.{ℕ, ◌+◌, ◌<◌, ◌≤◌, List, [], ◌∷◌, ◌++◌, length, refl, sym, ap, subst, inl, inr, arith}
+use Rattle.std.proofs.Common.{◌≡◌, ℕ, ◌+◌, ◌<◌, ◌≤◌, List, [], ◌∷◌, ◌++◌, length, None, refl, sym, ap, subst, inl, inr, arith}
 use Rattle.std.proofs.lemmas.Bool.{cases_lt}
 use Rattle.std.proofs.lemmas.List.{length-append}
 use Rattle.rec_data.specs.declared.owned.Rec.{Rec}
@@ -15,7 +15,7 @@ use Rattle.feed_lane.specs.declared.report.Accepted.{Accepted}
 use Rattle.feed_lane.specs.Pass.{PassState, Finds, message_record, with_message}
 use Rattle.feed_lane.specs.Lanes.{Lists, messages, Accepts, full_in, InTurnWith, IsGiven, IsListed, ListsFit}
 use Rattle.feed_lane.specs.Steps.{Extends, HasId, Stands}
-use Rattle.feed_lane.proofs.Members.{finds_above, seen_later, declares_on, accepts_on, cause_on, full_shown, declared_above, accepted_above}
+use Rattle.feed_lane.proofs.Members.{open_by, finds_above, seen_later, declares_on, accepts_on, cause_on, full_shown, declared_above, accepted_above}
 
 abbrev pub accepted_at : ℕ → ℕ → Accepted
 accepted_at index place = record { index = index; place = place }
@@ -94,6 +94,8 @@ accepted_fits records handled ids lists before found m source t stands finds tak
         | inr last ↦ subst (λ (x : Accepted). (d.index ≤ x.index → d.first + d.count ≤ x.place) × (x.index < d.index → x.place < d.first)) (sym last.1)
             (λ le. declared_above records before d found.count (was.declares j d at_j) (stands.firsts j d at_j) above, λ lt. absurd (let below = was.declared_below j d at_j in omega (arith, lt, below)))
       ];
+      named = was.named;
+      lacks = was.lacks;
       fulls = was.fulls;
       accepted_between = λ j k r a at_j at_k. elim (at_more lists.accepted new k a at_k) [
         | inl old ↦ was.accepted_between j k r a at_j old
@@ -122,8 +124,8 @@ accepted_fits records handled ids lists before found m source t stands finds tak
       ];
     }
 
-pub accepted_stands : (records : List Top) (handled : ℕ) (ids : List ℕ) (lists : Lists) (before : PassState) (found : Found) (m : NewMessage) (source : ℕ) (t : Top) → Stands records handled (handled + 1) ids lists before → Finds before found → IsTaken records handled lists source t m → Stands records (handled + 1) (handled + 1) ids (with_accepted lists (accepted_at handled found.count)) (with_message before found m)
-accepted_stands records handled ids lists before found m source t stands finds taken =
+pub accepted_stands : (records : List Top) (handled : ℕ) (ids : List ℕ) (lists : Lists) (before : PassState) (found : Found) (m : NewMessage) (source : ℕ) (t : Top) → Stands records handled (handled + 1) ids lists before → Finds before found → found.end ≡ None → IsTaken records handled lists source t m → Stands records (handled + 1) (handled + 1) ids (with_accepted lists (accepted_at handled found.count)) (with_message before found m)
+accepted_stands records handled ids lists before found m source t stands finds end taken =
     let extends = message_extends before found m finds in
     record {
       fits = accepted_fits records handled ids lists before found m source t stands finds taken;
@@ -131,4 +133,6 @@ accepted_stands records handled ids lists before found m source t stands finds t
       going = stands.going;
       firsts = λ k d at. extends.seen d.first (stands.firsts k d at);
       tos = λ k full at. extends.seen full.to (stands.tos k full at);
+      is_open = open_by (with_message before found m) found refl end;
+      tried = stands.tried;
     }

@@ -1,5 +1,5 @@
 -- What the calls on a pass come to for the message at hand.
-use Rattle.std.proofs.Common.{◌≡◌, ℕ, ◌+◌, ◌≤◌, List, [], ◌∷◌, ◌++◌, Some, Err, refl, sym, ap, subst, inl, inr, ◌∙◌, arith, Result, Ok}
+use Rattle.std.proofs.Common.{◌≡◌, ℕ, ◌+◌, ◌≤◌, List, [], ◌∷◌, ◌++◌, true, Option, Some, None, Err, refl, sym, ap, subst, inl, inr, ◌∙◌, arith, Result, Ok}
 use Rattle.std.proofs.lemmas.List.{append-nil}
 use Rattle.rec_data.specs.declared.channel.ChannelDef.{ChannelDef}
 use Rattle.mcap_model.specs.Places.{At, Has, Each}
@@ -16,52 +16,76 @@ use Rattle.record_core.specs.declared.answers.PublishRefused.TheVariants as publ
 use Rattle.record_core.specs.declared.answers.DeclareRefused.{DeclareRefused}
 use Rattle.record_core.specs.declared.answers.DeclareRefused.TheVariants as declaring
 use Rattle.record_core.specs.declared.answers.Declared.{Declared}
+use Rattle.feed_lane.specs.declared.report.DeclaredAt.{DeclaredAt}
 use Rattle.feed_lane.specs.declared.report.Cause.{Cause}
 use Rattle.feed_lane.specs.declared.report.Cause.TheVariants as causes
 use Rattle.feed_lane.specs.Pass.{FullAt, PassState, Finds, full_at, with_found, with_full, with_lack, PublishedBy, DeclaredInto, Seen}
-use Rattle.feed_lane.specs.Lanes.{messages, IsChannelOf, EndsWith, CauseFits, full_in}
-use Rattle.feed_lane.specs.Steps.{Above, IsRefusal, publish_cause, declare_cause, full_cause}
-use Rattle.feed_lane.proofs.Members.{finds_above, seen_later}
+use Rattle.feed_lane.specs.Lanes.{messages, IsChannelOf, IsWide, EndsWith, CauseFits, IsTried, full_in, lack_in, IsLacking, InStep}
+use Rattle.feed_lane.specs.Steps.{Above, IsOpen, goes_on, IsRefusal, publish_cause, declare_cause, full_cause}
+use Rattle.feed_lane.proofs.Members.{false_true, open_by, finds_above, seen_later, in_step_none, in_step_one}
 
 -- ---- refusals
+
+-- the cause is neither a full buffer nor that no id was left
+abbrev IsPlain : ℕ → Cause → Type 0
+IsPlain handled cause = (full_in cause ≡ []) × (lack_in handled cause ≡ [])
+
+none_lacking : (records : List Top) (handled : ℕ) (cause : Cause) → lack_in handled cause ≡ [] → InStep (IsLacking records) (lack_in handled cause) []
+none_lacking records handled cause none =
+    subst (λ (l : List (ℕ × DeclareRefused)). InStep (IsLacking records) l []) (sym none) (in_step_none (IsLacking records))
 
 none_in : (P : FullAt → Type 0) (cause : Cause) → full_in cause ≡ [] → Each P (full_in cause)
 none_in P cause none n full at = absurd (at_none n full (subst (λ (l : List FullAt). At l n full) none at))
 
 -- no call was made, or one that left the pass as it was
-pub unchanged : (records : List Top) (handled : ℕ) (pass : PassState) (cause : Cause) → full_in cause ≡ [] → CauseFits records (handled + 1) pass handled cause → IsRefusal records handled pass pass cause
-unchanged records handled pass cause none fits = record {
+pub unchanged : (records : List Top) (handled : ℕ) (pass : PassState) (cause : Cause) → IsPlain handled cause → CauseFits records (handled + 1) pass handled cause → IsRefusal records handled pass pass cause
+unchanged records handled pass cause plain fits = record {
   extends = record { own = λ pair has. has; named = λ pair has. has; fulls = λ full has. has; lacks = λ pair has. has; limit = refl; seen = λ n s. s };
   own = refl;
-  fulls = sym (append-nil pass.fulls) ∙ ap (λ (l : List FullAt). pass.fulls ++ l) (sym none);
+  fulls = sym (append-nil pass.fulls) ∙ ap (λ (l : List FullAt). pass.fulls ++ l) (sym plain.0);
+  named = refl;
+  lacking = [];
+  lacks = sym (append-nil pass.lacks);
+  are = none_lacking records handled cause plain.1;
   fits = fits;
-  above = none_in _ cause none;
-  tos = none_in _ cause none;
+  above = none_in _ cause plain.0;
+  tos = none_in _ cause plain.0;
+  is_open = λ on was. was;
 }
 
 -- the call found the intake, and left the rest as it was
-found_only : (records : List Top) (handled : ℕ) (before : PassState) (found : Found) (cause : Cause) → Finds before found → full_in cause ≡ [] → CauseFits records (handled + 1) (with_found before found) handled cause → IsRefusal records handled before (with_found before found) cause
-found_only records handled before found cause finds none fits = record {
+found_only : (records : List Top) (handled : ℕ) (before : PassState) (found : Found) (cause : Cause) → Finds before found → (goes_on cause ≡ true → found.end ≡ None) → IsPlain handled cause → CauseFits records (handled + 1) (with_found before found) handled cause → IsRefusal records handled before (with_found before found) cause
+found_only records handled before found cause finds end plain fits = record {
   extends = record { own = λ pair has. has; named = λ pair has. has; fulls = λ full has. has; lacks = λ pair has. has; limit = refl; seen = seen_later before (with_found before found) found finds refl };
   own = refl;
-  fulls = sym (append-nil before.fulls) ∙ ap (λ (l : List FullAt). before.fulls ++ l) (sym none);
+  fulls = sym (append-nil before.fulls) ∙ ap (λ (l : List FullAt). before.fulls ++ l) (sym plain.0);
+  named = refl;
+  lacking = [];
+  lacks = sym (append-nil before.lacks);
+  are = none_lacking records handled cause plain.1;
   fits = fits;
-  above = none_in _ cause none;
-  tos = none_in _ cause none;
+  above = none_in _ cause plain.0;
+  tos = none_in _ cause plain.0;
+  is_open = λ on was. open_by (with_found before found) found refl (end on);
 }
 
 -- the buffer was full
-was_full : (records : List Top) (handled : ℕ) (before : PassState) (found : Found) (held : ℕ) → Finds before found → held ≡ found.held → before.limit ≤ held → IsRefusal records handled before (with_full before found) (full_cause held (Some found))
-was_full records handled before found held finds same le =
+was_full : (records : List Top) (handled : ℕ) (before : PassState) (found : Found) (held : ℕ) → Finds before found → found.end ≡ None → held ≡ found.held → before.limit ≤ held → IsRefusal records handled before (with_full before found) (full_cause held (Some found))
+was_full records handled before found held finds end same le =
     let full : FullAt = record { from = found.taken; to = found.count; held = held } in
     let is : full ≡ full_at found = ap (λ (n : ℕ). made n) same in
     record {
       extends = record { own = λ pair has. has; named = λ pair has. has; fulls = λ x has. has_kept before.fulls (full_at found ∷ []) x has; lacks = λ pair has. has; limit = refl; seen = seen_later before (with_full before found) found finds refl };
       own = refl;
       fulls = ap (λ (x : FullAt). before.fulls ++ x ∷ []) (sym is);
+      named = refl;
+      lacking = [];
+      lacks = sym (append-nil before.lacks);
+      are = in_step_none (IsLacking records);
       fits = (subst (Has (before.fulls ++ full_at found ∷ [])) (sym is) (has_last before.fulls (full_at found) []), le, finds.within);
       above = λ n x at. subst (λ (y : FullAt). Above before y.to) (sym (only n x at)) (finds_above before found finds);
       tos = λ n x at. subst (λ (y : FullAt). Seen (with_full before found) y.to) (sym (only n x at)) (record { found = found; shown = refl; within = omega arith });
+      is_open = λ on was. open_by (with_full before found) found refl end;
     }
   where
     made : ℕ → FullAt
@@ -74,63 +98,118 @@ was_full records handled before found held finds same le =
     ]
 
 -- no id was left
-lacked : (records : List Top) (handled : ℕ) (before : PassState) (found : Found) (d : ChannelDef) (refusal : DeclareRefused) (cause : Cause) → Finds before found → full_in cause ≡ [] → CauseFits records (handled + 1) (with_lack before found d refusal) handled cause → IsRefusal records handled before (with_lack before found d refusal) cause
-lacked records handled before found d refusal cause finds none fits = record {
+lacked : (records : List Top) (handled : ℕ) (before : PassState) (found : Found) (d : ChannelDef) (refusal : DeclareRefused) (cause : Cause) → Finds before found → found.end ≡ None → full_in cause ≡ [] → lack_in handled cause ≡ (handled, refusal) ∷ [] → IsChannelOf records handled d → CauseFits records (handled + 1) (with_lack before found d refusal) handled cause → IsRefusal records handled before (with_lack before found d refusal) cause
+lacked records handled before found d refusal cause finds end none lack is fits = record {
   extends = record { own = λ pair has. has; named = λ pair has. has; fulls = λ full has. has; lacks = λ pair has. has_kept before.lacks ((d, refusal) ∷ []) pair has; limit = refl; seen = seen_later before (with_lack before found d refusal) found finds refl };
   own = refl;
   fulls = sym (append-nil before.fulls) ∙ ap (λ (l : List FullAt). before.fulls ++ l) (sym none);
+  named = refl;
+  lacking = (d, refusal) ∷ [];
+  lacks = refl;
+  are = subst (λ (l : List (ℕ × DeclareRefused)). InStep (IsLacking records) l ((d, refusal) ∷ [])) (sym lack) (in_step_one (IsLacking records) (handled, refusal) (d, refusal) (refl, is));
   fits = fits;
   above = none_in _ cause none;
   tos = none_in _ cause none;
+  is_open = λ on was. open_by (with_lack before found d refusal) found refl end;
 }
 
 -- the intake has ended
-ended : (handled : ℕ) (before : PassState) (found : Found) (at : ℕ) (end : End) → found.end ≡ Some end → at ≤ found.count → EndsWith (handled + 1) (with_found before found) handled at end
-ended handled before found at end is within = record { last = refl; found = found; shown = refl; ended = is; within = within }
+ended : (handled : ℕ) (before : PassState) (found : Found) (at : ℕ) (end : End) → found.end ≡ Some end → at ≡ found.count → EndsWith (handled + 1) (with_found before found) handled at end
+ended handled before found at end is same = record { last = refl; found = found; shown = refl; ended = is; at_count = same }
 
 -- the refusal of a message that stands there
 pub publish_refused : (records : List Top) (handled source : ℕ) (t : Top) (before after : PassState) (m : NewMessage) (refusal : PublishRefused) → At (messages records) handled t → IsMessage t source (fields_of_message m) → PublishedBy before after m (Err refusal) → IsRefusal records handled before after (publish_cause refusal after.found)
 publish_refused records handled source t before after m (publishing.TooLarge len) at is (size, over, same) =
     subst (λ (p : PassState). IsRefusal records handled before p (causes.TooLarge len)) (sym same)
-    (unchanged records handled before (causes.TooLarge len) refl (inl (record { source = source; message = fields_of_message m; top = t; at = at; is = is; size = size; over = over })))
-publish_refused records handled source t before after m (publishing.Closed place) at is (found, finds, end, within, same) =
+    (unchanged records handled before (causes.TooLarge len) (refl, refl) (inl (record { source = source; message = fields_of_message m; top = t; at = at; is = is; size = size; over = over })))
+publish_refused records handled source t before after m (publishing.Closed place) at is (found, finds, end, here, same) =
     subst (λ (p : PassState). IsRefusal records handled before p (causes.Closed place)) (sym same)
-    (found_only records handled before found (causes.Closed place) finds refl (ended handled before found place ends.Closed end within))
-publish_refused records handled source t before after m (publishing.Stopped place stop) at is (found, finds, end, within, same) =
+    (found_only records handled before found (causes.Closed place) finds (λ on. absurd (false_true on)) (refl, refl) (ended handled before found place ends.Closed end here))
+publish_refused records handled source t before after m (publishing.Stopped place stop) at is (found, finds, end, here, same) =
     subst (λ (p : PassState). IsRefusal records handled before p (causes.Stopped place stop)) (sym same)
-    (found_only records handled before found (causes.Stopped place stop) finds refl (ended handled before found place (ends.Stopped stop) end within))
+    (found_only records handled before found (causes.Stopped place stop) finds (λ on. absurd (false_true on)) (refl, refl) (ended handled before found place (ends.Stopped stop) end here))
 publish_refused records handled source t before after m publishing.UnknownChannel at is (found, finds, end, unknown, same) =
-    subst (λ (p : PassState). IsRefusal records handled before p causes.Memory) (sym same) (found_only records handled before found causes.Memory finds refl tt)
+    subst (λ (p : PassState). IsRefusal records handled before p causes.Memory) (sym same) (found_only records handled before found causes.Memory finds (λ on. end) (refl, refl) tt)
 publish_refused records handled source t before after m (publishing.TooManyRecords count) at is (found, finds, end, here, many, same) =
-    subst (λ (p : PassState). IsRefusal records handled before p (causes.TooManyRecords count)) (sym same) (found_only records handled before found (causes.TooManyRecords count) finds refl (many, record { found = found; shown = refl; within = omega (arith, here) }))
+    subst (λ (p : PassState). IsRefusal records handled before p (causes.TooManyRecords count)) (sym same) (found_only records handled before found (causes.TooManyRecords count) finds (λ on. end) (refl, refl) (many, record { found = found; shown = refl; within = omega (arith, here) }))
 publish_refused records handled source t before after m (publishing.Full held) at is (found, finds, end, here, le, same) =
-    subst (λ (p : PassState). IsRefusal records handled before p (full_cause held p.found)) (sym same) (was_full records handled before found held finds here le)
+    subst (λ (p : PassState). IsRefusal records handled before p (full_cause held p.found)) (sym same) (was_full records handled before found held finds end here le)
 publish_refused records handled source t before after m publishing.Memory at is (found, finds, end, same) =
-    subst (λ (p : PassState). IsRefusal records handled before p causes.Memory) (sym same) (found_only records handled before found causes.Memory finds refl tt)
+    subst (λ (p : PassState). IsRefusal records handled before p causes.Memory) (sym same) (found_only records handled before found causes.Memory finds (λ on. end) (refl, refl) tt)
 
 -- the refusal of a declaration of the channel of the message at hand
 pub declare_refused : (records : List Top) (handled : ℕ) (before after : PassState) (d : ChannelDef) (refusal : DeclareRefused) → IsChannelOf records handled d → DeclaredInto before after d (Err refusal) → IsRefusal records handled before after (declare_cause refusal after.found)
 declare_refused records handled before after d (declaring.TooLarge len) is (size, over, same) =
     subst (λ (p : PassState). IsRefusal records handled before p (causes.TooLarge len)) (sym same)
-    (unchanged records handled before (causes.TooLarge len) refl (inr (d, is, size, over)))
-declare_refused records handled before after d (declaring.Closed place) is (found, finds, end, within, same) =
+    (unchanged records handled before (causes.TooLarge len) (refl, refl) (inr (d, is, size, over)))
+declare_refused records handled before after d (declaring.Closed place) is (found, finds, end, here, same) =
     subst (λ (p : PassState). IsRefusal records handled before p (causes.Closed place)) (sym same)
-    (found_only records handled before found (causes.Closed place) finds refl (ended handled before found place ends.Closed end within))
-declare_refused records handled before after d (declaring.Stopped place stop) is (found, finds, end, within, same) =
+    (found_only records handled before found (causes.Closed place) finds (λ on. absurd (false_true on)) (refl, refl) (ended handled before found place ends.Closed end here))
+declare_refused records handled before after d (declaring.Stopped place stop) is (found, finds, end, here, same) =
     subst (λ (p : PassState). IsRefusal records handled before p (causes.Stopped place stop)) (sym same)
-    (found_only records handled before found (causes.Stopped place stop) finds refl (ended handled before found place (ends.Stopped stop) end within))
+    (found_only records handled before found (causes.Stopped place stop) finds (λ on. absurd (false_true on)) (refl, refl) (ended handled before found place (ends.Stopped stop) end here))
 declare_refused records handled before after d (declaring.TooManyRecords count) is (found, finds, end, here, many, same) =
-    subst (λ (p : PassState). IsRefusal records handled before p (causes.TooManyRecords count)) (sym same) (found_only records handled before found (causes.TooManyRecords count) finds refl (many, record { found = found; shown = refl; within = omega (arith, here) }))
+    subst (λ (p : PassState). IsRefusal records handled before p (causes.TooManyRecords count)) (sym same) (found_only records handled before found (causes.TooManyRecords count) finds (λ on. end) (refl, refl) (many, record { found = found; shown = refl; within = omega (arith, here) }))
 declare_refused records handled before after d (declaring.Full held) is (found, finds, end, here, le, same) =
-    subst (λ (p : PassState). IsRefusal records handled before p (full_cause held p.found)) (sym same) (was_full records handled before found held finds here le)
+    subst (λ (p : PassState). IsRefusal records handled before p (full_cause held p.found)) (sym same) (was_full records handled before found held finds end here le)
 declare_refused records handled before after d declaring.TooManySchemas is (found, finds, end, many, same) =
     subst (λ (p : PassState). IsRefusal records handled before p causes.TooManySchemas) (sym same)
-    (lacked records handled before found d declaring.TooManySchemas causes.TooManySchemas finds refl (d, is, has_last before.lacks (d, declaring.TooManySchemas) []))
+    (lacked records handled before found d declaring.TooManySchemas causes.TooManySchemas finds end refl refl is (d, is, has_last before.lacks (d, declaring.TooManySchemas) []))
 declare_refused records handled before after d declaring.TooManyChannels is (found, finds, end, many, same) =
     subst (λ (p : PassState). IsRefusal records handled before p causes.TooManyChannels) (sym same)
-    (lacked records handled before found d declaring.TooManyChannels causes.TooManyChannels finds refl (d, is, has_last before.lacks (d, declaring.TooManyChannels) []))
+    (lacked records handled before found d declaring.TooManyChannels causes.TooManyChannels finds end refl refl is (d, is, has_last before.lacks (d, declaring.TooManyChannels) []))
 declare_refused records handled before after d declaring.Memory is (found, finds, end, same) =
-    subst (λ (p : PassState). IsRefusal records handled before p causes.Memory) (sym same) (found_only records handled before found causes.Memory finds refl tt)
+    subst (λ (p : PassState). IsRefusal records handled before p causes.Memory) (sym same) (found_only records handled before found causes.Memory finds (λ on. end) (refl, refl) tt)
+
+-- the cause is that a record is too large only where the refusal is
+large_same : {n len : ℕ} → causes.TooLarge n ≡ causes.TooLarge len → n ≡ len
+large_same e = cc
+
+full_unlarge : (held : ℕ) (found : Option Found) (len : ℕ) → full_cause held found ≡ causes.TooLarge len → ⊥
+full_unlarge held None len e = unlarge e
+  where
+    unlarge : causes.Memory ≡ causes.TooLarge len → ⊥
+    unlarge e = cc
+full_unlarge held (Some found) len e = unlarge e
+  where
+    unlarge : causes.Full held found.taken found.count ≡ causes.TooLarge len → ⊥
+    unlarge e = cc
+
+-- a declaration that is refused as too large is so
+pub declare_tried : (records : List Top) (handled : ℕ) (declared : List DeclaredAt) (before after : PassState) (d : ChannelDef) (refusal : DeclareRefused) → IsChannelOf records handled d → DeclaredInto before after d (Err refusal) → IsTried records declared (record { index = handled; cause = declare_cause refusal after.found })
+declare_tried records handled declared before after d (declaring.TooLarge n) is (size, over, same) = λ len e. inl (subst (IsWide records handled) (large_same e) (d, is, size, over))
+declare_tried records handled declared before after d (declaring.Closed at) is call = λ len e. absurd (unlarge len e)
+  where
+    unlarge : (len : ℕ) → causes.Closed at ≡ causes.TooLarge len → ⊥
+    unlarge len e = cc
+declare_tried records handled declared before after d (declaring.Stopped at stop) is call = λ len e. absurd (unlarge len e)
+  where
+    unlarge : (len : ℕ) → causes.Stopped at stop ≡ causes.TooLarge len → ⊥
+    unlarge len e = cc
+declare_tried records handled declared before after d (declaring.TooManyRecords count) is call = λ len e. absurd (unlarge len e)
+  where
+    unlarge : (len : ℕ) → causes.TooManyRecords count ≡ causes.TooLarge len → ⊥
+    unlarge len e = cc
+declare_tried records handled declared before after d (declaring.Full held) is call = λ len e. absurd (full_unlarge held after.found len e)
+declare_tried records handled declared before after d declaring.TooManySchemas is call = λ len e. absurd (unlarge len e)
+  where
+    unlarge : (len : ℕ) → causes.TooManySchemas ≡ causes.TooLarge len → ⊥
+    unlarge len e = cc
+declare_tried records handled declared before after d declaring.TooManyChannels is call = λ len e. absurd (unlarge len e)
+  where
+    unlarge : (len : ℕ) → causes.TooManyChannels ≡ causes.TooLarge len → ⊥
+    unlarge len e = cc
+declare_tried records handled declared before after d declaring.Memory is call = λ len e. absurd (unlarge len e)
+  where
+    unlarge : (len : ℕ) → causes.Memory ≡ causes.TooLarge len → ⊥
+    unlarge len e = cc
+
+-- want of memory is no such cause
+pub memory_tried : (records : List Top) (declared : List DeclaredAt) (handled : ℕ) → IsTried records declared (record { index = handled; cause = causes.Memory })
+memory_tried records declared handled = λ len e. absurd (unlarge len e)
+  where
+    unlarge : (len : ℕ) → causes.Memory ≡ causes.TooLarge len → ⊥
+    unlarge len e = cc
 
 -- ---- the limit
 

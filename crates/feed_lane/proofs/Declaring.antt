@@ -1,5 +1,5 @@
 -- The channel of the message at hand is declared.
-use Rattle.std.proofs.Common.{◌≡◌, ℕ, ◌+◌, ◌<◌, ◌≤◌, List, [], ◌∷◌, ◌++◌, length, set, refl, sym, ap, subst, inl, inr, ◌∙◌, arith}
+use Rattle.std.proofs.Common.{◌≡◌, ℕ, ◌+◌, ◌<◌, ◌≤◌, List, [], ◌∷◌, ◌++◌, length, set, refl, sym, ap, None, subst, inl, inr, ◌∙◌, arith}
 use Rattle.std.specs.Prelude.{AllPairs}
 use Rattle.rec_data.specs.declared.owned.Rec.{Rec}
 use Rattle.rec_data.specs.declared.channel.ChannelDef.{ChannelDef}
@@ -9,11 +9,12 @@ use Rattle.mcap_model.proofs.Places.{at_within, at_more, at_set, has_kept, has_l
 use Rattle.mcap_model.proofs.Lists.{at_either, at_second, pairs_at, pairs_from}
 use Rattle.record_core.specs.declared.answers.Found.{Found}
 use Rattle.feed_lane.specs.declared.report.DeclaredAt.{DeclaredAt}
+use Rattle.feed_lane.specs.declared.report.Refused.{Refused}
 use Rattle.feed_lane.specs.Pass.{PassState, placed_from, Finds, AreAdded, with_declared}
-use Rattle.feed_lane.specs.Lanes.{Lists, IsOn, Describes, Declares, full_in, InTurnWith, IsGiven, ListsFit}
+use Rattle.feed_lane.specs.Lanes.{Lists, IsOn, Describes, Declares, IsTried, full_in, IsNamed, InTurnWith, IsGiven, ListsFit}
 use Rattle.feed_lane.specs.Steps.{Extends, HasId, IdsStand, Stands}
 use Rattle.feed_lane.proofs.Growing.{on_one}
-use Rattle.feed_lane.proofs.Members.{finds_above, seen_later, declares_on, accepts_on, accepts_listed, has_id_listed, cause_on, full_shown, placed_at, declared_above, accepted_above}
+use Rattle.feed_lane.proofs.Members.{open_by, finds_above, seen_later, in_step_joined, in_step_one, declares_on, accepts_on, accepts_listed, has_id_listed, cause_on, full_shown, placed_at, declared_above, accepted_above}
 
 -- the lists with one more declaration
 abbrev pub with_declaration : Lists → DeclaredAt → Lists
@@ -125,6 +126,9 @@ declared_fits records handled ids lists source before found content d stands fin
           λ lt. let below = accepted_above records lists.declared before a found.count (was.accepts k a at_k) above in omega (arith, below, is.first),
         )
       ];
+      named = in_step_joined (IsNamed records) lists.declared (d ∷ []) before.named ((d.channel, content) ∷ []) was.named
+          (in_step_one (IsNamed records) d (d.channel, content) (refl, record { source = source; on = subst (λ (n : ℕ). IsOn records n source) (sym is.index) is.on; describes = is.describes }));
+      lacks = was.lacks;
       fulls = was.fulls;
       accepted_between = was.accepted_between;
       declared_between = λ j k r e at_j at_k. elim (at_more lists.declared d k e at_k) [
@@ -170,8 +174,14 @@ new_has_id records handled ids lists source found content d is = record {
   is = refl;
 }
 
-pub declared_stands : (records : List Top) (handled : ℕ) (ids : List ℕ) (lists : Lists) (source : ℕ) (before : PassState) (found : Found) (content : ChannelDef) (d : DeclaredAt) → Stands records handled handled ids lists before → Finds before found → (is : IsNew records handled ids source found content d) → Stands records handled (handled + 1) (set ids source d.channel) (with_declaration lists d) (with_declared before found content d.channel is.added)
-declared_stands records handled ids lists source before found content d stands finds is =
+tried_kept : (records : List Top) (declared : List DeclaredAt) (d : DeclaredAt) (r : Refused) → IsTried records declared r → IsTried records (declared ++ d ∷ []) r
+tried_kept records declared d r was = λ len is. elim (was len is) [
+  | inl wide ↦ inl wide
+  | inr one ↦ inr (record { source = one.source; on = one.on; by = one.by; listed = has_kept declared (d ∷ []) one.by one.listed; before = one.before; is_on = one.is_on })
+]
+
+pub declared_stands : (records : List Top) (handled : ℕ) (ids : List ℕ) (lists : Lists) (source : ℕ) (before : PassState) (found : Found) (content : ChannelDef) (d : DeclaredAt) → Stands records handled handled ids lists before → Finds before found → found.end ≡ None → (is : IsNew records handled ids source found content d) → Stands records handled (handled + 1) (set ids source d.channel) (with_declaration lists d) (with_declared before found content d.channel is.added)
+declared_stands records handled ids lists source before found content d stands finds end is =
     let after = with_declared before found content d.channel is.added in
     let extends = declared_extends before found content d.channel is.added finds in
     record {
@@ -183,4 +193,6 @@ declared_stands records handled ids lists source before found content d stands f
         | inr last ↦ record { found = found; shown = refl; within = let same = ap (λ (x : DeclaredAt). x.first) last.1 in omega (arith, same, is.first) }
       ];
       tos = λ k full at. extends.seen full.to (stands.tos k full at);
+      is_open = open_by after found refl end;
+      tried = λ k r at. tried_kept records lists.declared d r (stands.tried k r at);
     }

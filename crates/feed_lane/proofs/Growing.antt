@@ -15,11 +15,13 @@ use Rattle.record_core.specs.declared.answers.DeclareRefused.{DeclareRefused}
 use Rattle.record_core.specs.declared.answers.DeclareRefused.TheVariants as declaring
 use Rattle.feed_lane.specs.declared.report.Accepted.{Accepted}
 use Rattle.feed_lane.specs.declared.report.DeclaredAt.{DeclaredAt}
+use Rattle.feed_lane.specs.declared.report.Refused.{Refused}
 use Rattle.feed_lane.specs.declared.report.Cause.{Cause}
 use Rattle.feed_lane.specs.declared.report.Cause.TheVariants as causes
 use Rattle.feed_lane.specs.Pass.{PassState}
-use Rattle.feed_lane.specs.Lanes.{Lists, messages, IsOn, SchemaShown, Describes, Declares, Accepts, IsLong, IsChannelOf, IsWide, LacksId, CauseFits, ListsFit}
+use Rattle.feed_lane.specs.Lanes.{Lists, messages, IsOn, SchemaShown, Describes, Declares, Accepts, IsLong, IsChannelOf, IsWide, LacksId, CauseFits, IsTried, lacks_of, IsNamed, IsLacking, InStep, ListsFit}
 use Rattle.feed_lane.specs.Steps.{HasId, Stands}
+use Rattle.feed_lane.proofs.Members.{in_step_on}
 
 -- ---- what the records show
 
@@ -124,6 +126,22 @@ channel_more records more index content was = record {
   describes = describes_more records more was.source content was.describes;
 }
 
+wide_more : (records more : List Top) (index len : ℕ) → IsWide records index len → IsWide (records ++ more) index len
+wide_more records more index len wide = (wide.0, channel_more records more index wide.0 wide.1, wide.2, wide.3)
+
+tried_more : (records more : List Top) (declared : List DeclaredAt) (r : Refused) → IsTried records declared r → IsTried (records ++ more) declared r
+tried_more records more declared r was = λ len is. elim (was len is) [
+  | inl wide ↦ inl (wide_more records more r.index len wide)
+  | inr d ↦ inr (record {
+    source = d.source;
+    on = on_more records more r.index d.source d.on;
+    by = d.by;
+    listed = d.listed;
+    before = d.before;
+    is_on = on_more records more d.by.index d.source d.is_on;
+  })
+]
+
 lacks_more : (records more : List Top) (pass : PassState) (index : ℕ) (refusal : DeclareRefused) → LacksId records pass index refusal → LacksId (records ++ more) pass index refusal
 lacks_more records more pass index refusal was = (was.0, channel_more records more index was.0 was.1, was.2)
 
@@ -140,7 +158,7 @@ long_more records more index len was = record {
 
 large_more : (records more : List Top) (index len : ℕ) → IsLong records index len ⊎ IsWide records index len → IsLong (records ++ more) index len ⊎ IsWide (records ++ more) index len
 large_more records more index len (inl long) = inl (long_more records more index len long)
-large_more records more index len (inr wide) = inr (wide.0, channel_more records more index wide.0 wide.1, wide.2, wide.3)
+large_more records more index len (inr wide) = inr (wide_more records more index len wide)
 
 cause_more : (records more : List Top) (handled : ℕ) (pass : PassState) (index : ℕ) (cause : Cause) → CauseFits records handled pass index cause → CauseFits (records ++ more) handled pass index cause
 cause_more records more handled pass index (causes.Full held from to) was = was
@@ -151,6 +169,14 @@ cause_more records more handled pass index causes.TooManySchemas was = lacks_mor
 cause_more records more handled pass index causes.TooManyChannels was = lacks_more records more pass index declaring.TooManyChannels was
 cause_more records more handled pass index (causes.TooManyRecords count) was = was
 cause_more records more handled pass index causes.Memory was = was
+
+named_more : (records more : List Top) (lists : Lists) (pass : PassState) → InStep (IsNamed records) lists.declared pass.named → InStep (IsNamed (records ++ more)) lists.declared pass.named
+named_more records more lists pass was =
+    in_step_on (IsNamed records) (IsNamed (records ++ more)) lists.declared pass.named (λ d pair is. (is.0, channel_more records more d.index pair.1 is.1)) was
+
+lacking_more : (records more : List Top) (lists : Lists) (pass : PassState) → InStep (IsLacking records) (lacks_of lists.refused) pass.lacks → InStep (IsLacking (records ++ more)) (lacks_of lists.refused) pass.lacks
+lacking_more records more lists pass was =
+    in_step_on (IsLacking records) (IsLacking (records ++ more)) (lacks_of lists.refused) pass.lacks (λ lack pair is. (is.0, channel_more records more lack.0 pair.0 is.1)) was
 
 -- ---- the lists
 
@@ -173,6 +199,8 @@ fits_more records more handled bound lists pass was = record {
   declared_rise = was.declared_rise;
   refused_rise = was.refused_rise;
   in_turn = was.in_turn;
+  named = named_more records more lists pass was.named;
+  lacks = lacking_more records more lists pass was.lacks;
   fulls = was.fulls;
   accepted_between = was.accepted_between;
   declared_between = was.declared_between;
@@ -203,6 +231,8 @@ stands_more records more handled bound ids lists pass was = record {
   going = was.going;
   firsts = was.firsts;
   tos = was.tos;
+  is_open = was.is_open;
+  tried = λ k r at. tried_more records more lists.declared r (was.tried k r at);
 }
 
 -- ---- between the steps
@@ -223,6 +253,8 @@ may_declare records handled ids lists pass stands =
         declared_rise = was.declared_rise;
         refused_rise = was.refused_rise;
         in_turn = was.in_turn;
+        named = was.named;
+        lacks = was.lacks;
         fulls = was.fulls;
         accepted_between = was.accepted_between;
         declared_between = was.declared_between;
@@ -238,4 +270,6 @@ may_declare records handled ids lists pass stands =
       going = stands.going;
       firsts = stands.firsts;
       tos = stands.tos;
+      is_open = stands.is_open;
+      tried = stands.tried;
     }

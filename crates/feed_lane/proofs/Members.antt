@@ -1,9 +1,12 @@
 -- What a call on the pass leaves of what was said of the members of the lists.
-use Rattle.std.proofs.Common.{◌≡◌, ℕ, zero, suc, ◌+◌, ◌<◌, ◌≤◌, List, [], ◌∷◌, ◌++◌, length, true, false, Some, refl, sym, ap, subst, arith}
+use Rattle.std.proofs.Common.{◌≡◌, ℕ, zero, suc, ◌+◌, ◌<◌, ◌≤◌, List, [], ◌∷◌, ◌++◌, length, true, false, Some, None, refl, sym, ap, subst, inl, inr, ◌∙◌, arith}
+use Rattle.std.proofs.lemmas.List.{length-append}
 use Rattle.rec_data.specs.declared.owned.Rec.{Rec}
+use Rattle.mcap_model.specs.declared.ends.End.{End}
 use Rattle.mcap_model.specs.Places.{At, Has, Each}
 use Rattle.mcap_model.specs.Tops.{Top}
-use Rattle.mcap_model.proofs.Places.{at_none, has_kept}
+use Rattle.mcap_model.proofs.Places.{at_none, at_within, has_kept}
+use Rattle.mcap_model.proofs.Lists.{at_either}
 use Rattle.record_core.specs.declared.answers.Found.{Found}
 use Rattle.record_core.specs.declared.answers.DeclareRefused.{DeclareRefused}
 use Rattle.record_core.specs.declared.answers.DeclareRefused.TheVariants as declaring
@@ -12,11 +15,30 @@ use Rattle.feed_lane.specs.declared.report.DeclaredAt.{DeclaredAt}
 use Rattle.feed_lane.specs.declared.report.Cause.{Cause}
 use Rattle.feed_lane.specs.declared.report.Cause.TheVariants as causes
 use Rattle.feed_lane.specs.Pass.{FullAt, PassState, placed_from, Finds, Seen}
-use Rattle.feed_lane.specs.Lanes.{Declares, Accepts, LacksId, CauseFits, full_in}
-use Rattle.feed_lane.specs.Steps.{Above, Extends, goes_on, HasId}
+use Rattle.feed_lane.specs.Lanes.{Declares, Accepts, LacksId, CauseFits, full_in, InStep}
+use Rattle.feed_lane.specs.Steps.{Above, Extends, IsOpen, goes_on, HasId}
 
 pub false_true : false ≡ true → ⊥
 false_true e = cc
+
+pub true_false : true ≡ false → ⊥
+true_false e = cc
+
+-- ---- the end that a pass found
+
+found_same : {x y : Found} → Some x ≡ Some y → x ≡ y
+found_same e = cc
+
+none_some : {e : End} → None ≡ Some e → ⊥
+none_some e = cc
+
+-- where the call found no end, the pass found none
+pub open_by : (after : PassState) (found : Found) → after.found ≡ Some found → found.end ≡ None → IsOpen after
+open_by after found shown none = λ other is. subst (λ (f : Found). f.end ≡ None) (found_same (sym shown ∙ is)) none
+
+-- it shows none
+pub unended : (pass : PassState) (found : Found) (end : End) → IsOpen pass → pass.found ≡ Some found → found.end ≡ Some end → ⊥
+unended pass found end none shown is = none_some (sym (none found shown) ∙ is)
 
 -- ---- the numbers that a pass has seen
 
@@ -33,6 +55,39 @@ seen_later before after found finds shown n s = record {
   shown = shown;
   within = let later = (finds.later s.found s.shown).count in omega (arith, s.within, later);
 }
+
+-- ---- lists in step
+
+pub in_step_on : {X Y : Type 0} (R S : X → Y → Type 0) (xs : List X) (ys : List Y) → ((x : X) (y : Y) → R x y → S x y) → InStep R xs ys → InStep S xs ys
+in_step_on R S xs ys more was = (was.0, λ n x y at_x at_y. more x y (was.1 n x y at_x at_y))
+
+pub in_step_joined : {X Y : Type 0} (R : X → Y → Type 0) (xs us : List X) (ys vs : List Y) → InStep R xs ys → InStep R us vs → InStep R (xs ++ us) (ys ++ vs)
+in_step_joined R xs us ys vs was more = (
+  omega (arith, was.0, more.0, length-append xs us, length-append ys vs),
+  λ n x y at_x at_y. elim (at_either xs us n x at_x) [
+    | inl one ↦ elim (at_either ys vs n y at_y) [
+      | inl other ↦ was.1 n x y one other
+      | inr (k, there, other) ↦ absurd (let within = at_within xs n x one in omega (arith, within, there, was.0))
+    ]
+    | inr (j, here, one) ↦ elim (at_either ys vs n y at_y) [
+      | inl other ↦ absurd (let within = at_within ys n y other in omega (arith, within, here, was.0))
+      | inr (k, there, other) ↦ more.1 j x y one (subst (λ (i : ℕ). At vs i y) (omega (arith, here, there, was.0)) other)
+    ]
+  ],
+)
+
+pub in_step_none : {X Y : Type 0} (R : X → Y → Type 0) → InStep R [] []
+in_step_none R = (refl, λ n x y at_x at_y. absurd (at_none n x at_x))
+
+pub in_step_one : {X Y : Type 0} (R : X → Y → Type 0) (x : X) (y : Y) → R x y → InStep R (x ∷ []) (y ∷ [])
+in_step_one R x y holds = (refl, λ n a b at_a at_b. by n a b at_a at_b)
+  where
+    some_same : {T : Type 0} {s t : T} → Some s ≡ Some t → s ≡ t
+    some_same e = cc
+
+    by : (n : ℕ) (a : _) (b : _) → At (x ∷ []) n a → At (y ∷ []) n b → R a b
+    by zero a b at_a at_b = subst (λ (u : _). R u b) (some_same at_a) (subst (R x) (some_same at_b) holds)
+    by (suc n) a b at_a at_b = absurd (at_none n a at_a)
 
 -- ---- members
 

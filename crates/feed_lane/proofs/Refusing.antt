@@ -9,12 +9,14 @@ use Rattle.mcap_model.specs.Places.{At, Has, Each}
 use Rattle.mcap_model.specs.Tops.{Top}
 use Rattle.mcap_model.proofs.Places.{at_kept, at_last, at_more, pairs_more}
 use Rattle.mcap_model.proofs.Lists.{at_either}
+use Rattle.record_core.specs.declared.answers.DeclareRefused.{DeclareRefused}
+use Rattle.feed_lane.specs.declared.report.DeclaredAt.{DeclaredAt}
 use Rattle.feed_lane.specs.declared.report.Refused.{Refused}
 use Rattle.feed_lane.specs.declared.report.Cause.{Cause}
 use Rattle.feed_lane.specs.Pass.{FullAt, PassState}
-use Rattle.feed_lane.specs.Lanes.{Lists, messages, CauseFits, full_in, fulls_of, InTurnWith, ListsFit}
-use Rattle.feed_lane.specs.Steps.{goes_on, IsRefusal, Stands, LastEnds}
-use Rattle.feed_lane.proofs.Members.{declares_on, accepts_on, cause_on, declared_above, accepted_above}
+use Rattle.feed_lane.specs.Lanes.{Lists, messages, CauseFits, IsTried, full_in, fulls_of, lack_in, lacks_of, IsNamed, IsLacking, InStep, InTurnWith, ListsFit}
+use Rattle.feed_lane.specs.Steps.{goes_on, IsRefusal, Stands, LastEnds, ListsTell}
+use Rattle.feed_lane.proofs.Members.{in_step_joined, declares_on, accepts_on, cause_on, declared_above, accepted_above}
 
 abbrev pub refused_at : ℕ → Cause → Refused
 refused_at index cause = record { index = index; cause = cause }
@@ -47,6 +49,11 @@ refused_fits records handled ids lists before after cause stands is some =
       declared_rise = was.declared_rise;
       refused_rise = pairs_more (λ (r s : Refused). r.index < s.index) lists.refused new was.refused_rise (λ k s at. was.refused_below k s at);
       in_turn = was.in_turn;
+      named = subst (InStep (IsNamed records) lists.declared) (sym is.named) was.named;
+      lacks = subst (λ (l : List (ℕ × DeclareRefused)). InStep (IsLacking records) l after.lacks)
+          (sym (flat_map-append (λ (r : Refused). lack_in r.index r.cause) lists.refused (new ∷ []) ∙ ap (λ (l : List (ℕ × DeclareRefused)). lacks_of lists.refused ++ l) (append-nil (lack_in handled cause))))
+          (subst (InStep (IsLacking records) (lacks_of lists.refused ++ lack_in handled cause)) (sym is.lacks)
+          (in_step_joined (IsLacking records) (lacks_of lists.refused) (lack_in handled cause) before.lacks is.lacking was.lacks is.are));
       fulls =
           flat_map-append (λ (r : Refused). full_in r.cause) lists.refused (new ∷ [])
           ∙ ap (λ (l : List FullAt). fulls_of lists.refused ++ l) (append-nil (full_in cause))
@@ -83,9 +90,22 @@ refused_fits records handled ids lists before after cause stands is some =
       ];
     }
 
+tried_more : (records : List Top) (lists : Lists) (new : Refused) → Each (IsTried records lists.declared) lists.refused → IsTried records lists.declared new → Each (IsTried records lists.declared) (lists.refused ++ new ∷ [])
+tried_more records lists new was now = λ k r at. elim (at_more lists.refused new k r at) [
+  | inl old ↦ was k r old
+  | inr last ↦ subst (IsTried records lists.declared) (sym last.1) now
+]
+
+-- what the lists tell with one more refusal
+pub refused_tells : (records : List Top) (handled : ℕ) (ids : List ℕ) (lists : Lists) (before after : PassState) (cause : Cause) → Stands records handled (handled + 1) ids lists before → IsRefusal records handled before after cause → IsTried records lists.declared (refused_at handled cause) → ListsTell records (with_refused lists (refused_at handled cause)) after
+refused_tells records handled ids lists before after cause stands is tried = record {
+  firsts = λ k d at. is.extends.seen d.first (stands.firsts k d at);
+  tried = tried_more records lists (refused_at handled cause) stands.tried tried;
+}
+
 -- the lane goes on
-pub refused_stands : (records : List Top) (handled : ℕ) (ids : List ℕ) (lists : Lists) (before after : PassState) (cause : Cause) → Stands records handled (handled + 1) ids lists before → IsRefusal records handled before after cause → handled < length (messages records) → goes_on cause ≡ true → Stands records (handled + 1) (handled + 1) ids (with_refused lists (refused_at handled cause)) after
-refused_stands records handled ids lists before after cause stands is some on =
+pub refused_stands : (records : List Top) (handled : ℕ) (ids : List ℕ) (lists : Lists) (before after : PassState) (cause : Cause) → Stands records handled (handled + 1) ids lists before → IsRefusal records handled before after cause → handled < length (messages records) → IsTried records lists.declared (refused_at handled cause) → goes_on cause ≡ true → Stands records (handled + 1) (handled + 1) ids (with_refused lists (refused_at handled cause)) after
+refused_stands records handled ids lists before after cause stands is some tried on =
     let new = refused_at handled cause in
     record {
       fits = refused_fits records handled ids lists before after cause stands is some;
@@ -99,6 +119,8 @@ refused_stands records handled ids lists before after cause stands is some on =
         | inl old ↦ is.extends.seen full.to (stands.tos k full old)
         | inr (n, last) ↦ is.tos n full last
       ];
+      is_open = is.is_open on stands.is_open;
+      tried = tried_more records lists new stands.tried tried;
     }
 
 -- the lane is over

@@ -1,6 +1,8 @@
 -- What a lane takes of a feed, record by record, and what its report says at the end.
-use Rattle.std.specs.Prelude.{◌≡◌, ℕ, ◌+◌, ◌^◌, ◌<◌, List, ◌++◌, length, filter, Result, Ok, Err}
+use Rattle.std.specs.Prelude.{◌≡◌, ◌⊎◌, ℕ, ◌+◌, ◌^◌, ◌<◌, ◌≤◌, List, [], ◌∷◌, ◌++◌, length, false, filter, Some, OnOk, Result, Ok, Err}
 use Rattle.mcap_io.specs.Outside.{SourceState}
+use Rattle.mcap_model.specs.declared.ends.End.{End}
+use Rattle.mcap_model.specs.Places.{Has, Each}
 use Rattle.mcap_model.specs.Tops.{Top, flat}
 use Rattle.mcap_model.specs.Rules.{is_unknown}
 use Rattle.mcap_model.specs.Kept.{reading_limits, Good, at_end, grammar, compressed, beyond}
@@ -9,6 +11,7 @@ use Rattle.mcap_scan.specs.declared.answers.ScanRefused.{ScanRefused}
 use Rattle.mcap_scan.specs.declared.answers.ScanRefused.TheVariants as refusals
 use Rattle.mcap_scan.specs.Sources.{ReadTo}
 use Rattle.mcap_scan.specs.Scanning.{HaltsSo, FaultStands, MemoryStands}
+use Rattle.record_core.specs.declared.answers.Found.{Found}
 use Rattle.feed_lane.specs.declared.report.Refused.{Refused}
 use Rattle.feed_lane.specs.declared.report.FeedReport.{FeedReport}
 use Rattle.feed_lane.specs.declared.report.FeedEnd.{FeedEnd}
@@ -16,9 +19,9 @@ use Rattle.feed_lane.specs.declared.report.FeedEnd.TheVariants as feed_ends
 use Rattle.feed_lane.specs.declared.lane.Lane.{Lane}
 use Rattle.feed_lane.specs.declared.lane.Over.{Over}
 use Rattle.feed_lane.specs.declared.lane.Over.TheVariants as overs
-use Rattle.feed_lane.specs.Pass.{PassState}
-use Rattle.feed_lane.specs.Lanes.{Lists, messages, LaneFits}
-use Rattle.feed_lane.specs.Steps.{LaneStands, LaneOver, LastEnds}
+use Rattle.feed_lane.specs.Pass.{PassState, Seen}
+use Rattle.feed_lane.specs.Lanes.{Lists, messages, IsTried, LaneFits}
+use Rattle.feed_lane.specs.Steps.{goes_on, LaneStands, LaneOver}
 
 -- ---- records
 
@@ -28,10 +31,10 @@ pub record Waits (records : List Top) (handled : ℕ) (more : List Top) : Type 0
   pub split : messages records ≡ done ++ messages more
   pub many : length done ≡ handled
 
--- what a record comes to, behind which these still wait
-abbrev pub RecordTaken : Lane → List Top → List Top → PassState → Result Unit Over → Type 0
-RecordTaken lane records more pass (Ok it) = (handled : ℕ) × LaneStands lane records handled pass × Waits records handled more
-RecordTaken lane records more pass (Err over) = (handled : ℕ) × LaneOver lane records handled pass over
+-- what a record comes to, before which so many messages were handled and behind which these still wait
+abbrev pub RecordTaken : Lane → List Top → ℕ → List Top → PassState → Result Unit Over → Type 0
+RecordTaken lane records before more pass (Ok it) = (handled : ℕ) × (before ≤ handled) × LaneStands lane records handled pass × Waits records handled more
+RecordTaken lane records before more pass (Err over) = (handled : ℕ) × (before ≤ handled) × LaneOver lane records handled pass over
 
 -- how many of the records inside a chunk are passed over
 abbrev pub unknown_in : List Top → ℕ
@@ -40,6 +43,10 @@ unknown_in records = length (filter (λ u. is_unknown u.op) records)
 -- so many were counted, where the count doesn't pass the end of its type
 abbrev pub Counts : ℕ → ℕ → ℕ → Type 0
 Counts before now n = before + n < 2 ^ 64 → now ≡ before + n
+
+-- so it is of a record that was taken; where the lane is over within it, at most so many were counted
+abbrev pub Counted : ℕ → ℕ → ℕ → Result Unit Over → Type 0
+Counted before now n result = (before ≤ now) × (now ≤ before + n) × OnOk result (Counts before now n)
 
 -- ---- ends
 
@@ -76,25 +83,47 @@ FeedEnds before now tops feed_ends.Ended = ReadSoFar before now tops
 abbrev pub AllTaken : List Top → ℕ → ℕ → Type 0
 AllTaken tops handled count = (handled ≡ length (messages (flat tops))) × (count ≡ passed tops)
 
--- so it is unless memory lacked, or the intake had ended and refused the last message that was handled
+-- The message of that index is one of the last of the records, and so many records were passed over: those before the last,
+-- and some of its own.
+pub record IsInLast (tops : List Top) (index count : ℕ) : Type 0 where
+  pub earlier : List Top
+  pub last : Top
+  pub are : tops ≡ earlier ++ last ∷ []
+  pub behind : length (messages (flat earlier)) ≤ index
+  pub within : index < length (messages (flat tops))
+  pub passed_before : passed earlier ≤ count
+  pub passed_within : count ≤ passed tops
+
+-- the intake had ended and refused the last message that was handled, which is one of the last record
+abbrev pub EndsInLast : List Top → ℕ → ℕ → List Refused → Type 0
+EndsInLast tops handled count refused = (r : Refused) × Has refused r × (r.index + 1 ≡ handled) × (goes_on r.cause ≡ false) × IsInLast tops r.index count
+
+-- All were taken, unless memory lacked for the next message, which is one of the last record, or the intake had ended.
 abbrev pub Takes : List Top → ℕ → ℕ → List Refused → FeedEnd → Type 0
 Takes tops handled count refused feed_ends.Done = AllTaken tops handled count
 Takes tops handled count refused (feed_ends.Grammar offset) = AllTaken tops handled count
 Takes tops handled count refused (feed_ends.Compressed offset name) = AllTaken tops handled count
 Takes tops handled count refused (feed_ends.Limit offset) = AllTaken tops handled count
 Takes tops handled count refused (feed_ends.Fault faults) = AllTaken tops handled count
-Takes tops handled count refused feed_ends.Memory = Unit {0}
-Takes tops handled count refused feed_ends.Ended = LastEnds handled refused
+Takes tops handled count refused feed_ends.Memory = AllTaken tops handled count ⊎ IsInLast tops handled count
+Takes tops handled count refused feed_ends.Ended = EndsInLast tops handled count refused
 
 -- the lists of a report
 abbrev pub reported : FeedReport → Lists
 reported report = record { accepted = report.accepted.items; declared = report.declared.items; refused = report.refused.items }
 
 -- A report on a feed, of the source as it was before and is now and of the pass as it is now: records that were read, how
--- many of their messages were handled, how it ended, and that the lists fit.
+-- many of their messages were handled, how it ended, and that the lists fit. The feed ends with the intake where a message was
+-- refused for an end of the intake, and where the pass found one.
 pub record Reports (before now : SourceState) (pass : PassState) (report : FeedReport) : Type 0 where
   pub tops : List Top
   pub handled : ℕ
   pub ends : FeedEnds before now tops report.end
   pub takes : Takes tops handled report.passed report.refused.items report.end
   pub fits : LaneFits (flat tops) handled (reported report) pass
+  pub refused_ends : Each (λ r. goes_on r.cause ≡ false → report.end ≡ feed_ends.Ended) report.refused.items
+  pub found_ends : (found : Found) (end : End) → pass.found ≡ Some found → found.end ≡ Some end → report.end ≡ feed_ends.Ended
+  -- no declaration stands behind the records that the pass found
+  pub firsts : Each (λ d. Seen pass d.first) report.declared.items
+  -- the channel of a message that is too large is declared all the same
+  pub tried : Each (IsTried (flat tops) report.declared.items) report.refused.items

@@ -123,7 +123,7 @@ pub record EndsWith (handled : ℕ) (pass : PassState) (index at : ℕ) (end : E
   pub found : Found
   pub shown : pass.found ≡ Some found
   pub ended : found.end ≡ Some end
-  pub within : at ≤ found.count
+  pub at_count : at ≡ found.count
 
 -- what the cause of a refusal says of the message of that index, of its channel and of the pass
 abbrev pub CauseFits : List Top → ℕ → PassState → ℕ → Cause → Type 0
@@ -135,6 +135,19 @@ CauseFits records handled pass index causes.TooManySchemas = LacksId records pas
 CauseFits records handled pass index causes.TooManyChannels = LacksId records pass index declaring.TooManyChannels
 CauseFits records handled pass index (causes.TooManyRecords count) = (2 ^ 48 ≤ count) × Seen pass count
 CauseFits records handled pass index causes.Memory = Unit {0}
+
+-- a declaration for that message's channel was made at the message or an earlier one
+pub record IsDeclared (records : List Top) (declared : List DeclaredAt) (index : ℕ) : Type 0 where
+  pub source : ℕ
+  pub on : IsOn records index source
+  pub by : DeclaredAt
+  pub listed : Has declared by
+  pub before : by.index ≤ index
+  pub is_on : IsOn records by.index source
+
+-- A message that was refused as too large was declared a channel for, unless that is too large itself.
+abbrev pub IsTried : List Top → List DeclaredAt → Refused → Type 0
+IsTried records declared r = (len : ℕ) → r.cause ≡ causes.TooLarge len → IsWide records r.index len ⊎ IsDeclared records declared r.index
 
 -- where the buffer was full, if that is the cause
 abbrev pub full_in : Cause → List FullAt
@@ -150,10 +163,35 @@ full_in causes.Memory = []
 abbrev pub fulls_of : List Refused → List FullAt
 fulls_of refused = flat_map (λ r. full_in r.cause) refused
 
--- Records that a message added, which stand from one place to before another: those of an earlier message stand before
--- the place behind a full buffer, and those of a later one from there on.
+-- the message's index and the reason for which no id was left, if that is the cause
+abbrev pub lack_in : ℕ → Cause → List (ℕ × DeclareRefused)
+lack_in index (causes.Full held from to) = []
+lack_in index (causes.TooLarge len) = []
+lack_in index (causes.Closed at) = []
+lack_in index (causes.Stopped at stop) = []
+lack_in index causes.TooManySchemas = (index, declaring.TooManySchemas) ∷ []
+lack_in index causes.TooManyChannels = (index, declaring.TooManyChannels) ∷ []
+lack_in index (causes.TooManyRecords count) = []
+lack_in index causes.Memory = []
+
+abbrev pub lacks_of : List Refused → List (ℕ × DeclareRefused)
+lacks_of refused = flat_map (λ r. lack_in r.index r.cause) refused
+
+-- what the pass shows of a declaration, and of a refusal for which no id was left
+abbrev pub IsNamed : List Top → DeclaredAt → ℕ × ChannelDef → Type 0
+IsNamed records d pair = (pair.0 ≡ d.channel) × IsChannelOf records d.index pair.1
+
+abbrev pub IsLacking : List Top → ℕ × DeclareRefused → ChannelDef × DeclareRefused → Type 0
+IsLacking records lack pair = (pair.1 ≡ lack.1) × IsChannelOf records lack.0 pair.0
+
+-- the lists have as many members, and it holds of those of each place
+abbrev pub InStep : {X Y : Type 0} → (X → Y → Type 0) → List X → List Y → Type 0
+InStep {X} {Y} R xs ys = (length xs ≡ length ys) × ((n : ℕ) (x : X) (y : Y) → At xs n x → At ys n y → R x y)
+
+-- Records that a message added, which stand from one place to before another: those of the message itself and of an earlier
+-- one stand before the place behind a full buffer, and those of a later one from there on.
 abbrev pub InTurnWith : FullAt → ℕ → ℕ → ℕ → ℕ → Type 0
-InTurnWith full index other first behind = (other < index → behind ≤ full.to) × (index < other → full.to ≤ first)
+InTurnWith full index other first behind = (other ≤ index → behind ≤ full.to) × (index < other → full.to ≤ first)
 
 -- ---- all lists
 
@@ -187,6 +225,10 @@ pub record ListsFit (records : List Top) (handled bound : ℕ) (lists : Lists) (
   -- `first` of one that added none.
   pub in_turn : (j k : ℕ) (d : DeclaredAt) (a : Accepted) → At lists.declared j d → At lists.accepted k a
       → (d.index ≤ a.index → d.first + d.count ≤ a.place) × (a.index < d.index → a.place < d.first)
+  -- the ids that the pass got are those of the declarations, in their order, one each
+  pub named : InStep (IsNamed records) lists.declared pass.named
+  -- so are the declarations that no id was left for those of the refusals for that
+  pub lacks : InStep (IsLacking records) (lacks_of lists.refused) pass.lacks
   -- the refusals for a full buffer are those that the pass shows, in their order, one each, and between the places
   pub fulls : fulls_of lists.refused ≡ pass.fulls
   pub accepted_between : (j k : ℕ) (r : Refused) (a : Accepted) → At lists.refused j r → At lists.accepted k a

@@ -24,7 +24,7 @@ use Rattle.feed_lane.specs.declared.lane.Lane.{Lane}
 use Rattle.feed_lane.specs.declared.lane.Over.{Over}
 use Rattle.feed_lane.specs.declared.lane.Over.TheVariants as overs
 use Rattle.feed_lane.specs.Pass.{FullAt, PassState, Seen}
-use Rattle.feed_lane.specs.Lanes.{Lists, messages, IsOn, CauseFits, full_in, ListsFit, LaneFits}
+use Rattle.feed_lane.specs.Lanes.{Lists, messages, IsOn, CauseFits, IsTried, full_in, lack_in, IsLacking, InStep, ListsFit, LaneFits}
 
 -- ---- what a pass shows, call by call
 
@@ -41,6 +41,10 @@ pub record Extends (before after : PassState) : Type 0 where
   pub lacks : (pair : ChannelDef × DeclareRefused) → Has before.lacks pair → Has after.lacks pair
   pub limit : after.limit ≡ before.limit
   pub seen : (n : ℕ) → Seen before n → Seen after n
+
+-- the pass found no end of the intake
+abbrev pub IsOpen : PassState → Type 0
+IsOpen pass = (found : Found) → pass.found ≡ Some found → found.end ≡ None
 
 -- ---- a lane
 
@@ -76,10 +80,16 @@ pub record Stands (records : List Top) (handled bound : ℕ) (ids : List ℕ) (l
   pub going : Each (λ r. goes_on r.cause ≡ true) lists.refused
   pub firsts : Each (λ d. Seen pass d.first) lists.declared
   pub tos : Each (λ full. Seen pass full.to) pass.fulls
+  pub is_open : IsOpen pass
+  pub tried : Each (IsTried records lists.declared) lists.refused
 
 -- the lane goes on, with so many messages handled
 abbrev pub LaneStands : Lane → List Top → ℕ → PassState → Type 0
 LaneStands lane records handled pass = Stands records handled handled lane.ids (lists_of lane) pass
+
+-- the pass, which showed this before, shows with the same limit what makes that so
+abbrev pub ThenShows : (PassState → Type 0) → PassState → (PassState → Type 0) → Type 0
+ThenShows shows before makes = (after : PassState) × shows after × (after.limit ≡ before.limit) × makes after
 
 -- ---- a message at hand
 
@@ -96,10 +106,15 @@ AtHand records handled content = At (messages records) handled (top 5 content)
 pub record IsRefusal (records : List Top) (handled : ℕ) (before after : PassState) (cause : Cause) : Type 0 where
   pub extends : Extends before after
   pub own : after.own ≡ before.own
+  pub named : after.named ≡ before.named
   pub fulls : after.fulls ≡ before.fulls ++ full_in cause
+  pub lacking : List (ChannelDef × DeclareRefused)
+  pub lacks : after.lacks ≡ before.lacks ++ lacking
+  pub are : InStep (IsLacking records) (lack_in handled cause) lacking
   pub fits : CauseFits records (handled + 1) after handled cause
   pub above : Each (λ full. Above before full.to) (full_in cause)
   pub tos : Each (λ full. Seen after full.to) (full_in cause)
+  pub is_open : goes_on cause ≡ true → IsOpen before → IsOpen after
 
 -- the lane stood before the call, with declarations up to the message at hand
 pub record IsDue (lane : Lane) (records : List Top) (handled : ℕ) (after : PassState) (cause : Cause) : Type 0 where
@@ -107,6 +122,7 @@ pub record IsDue (lane : Lane) (records : List Top) (handled : ℕ) (after : Pas
   pub stands : Stands records handled (handled + 1) lane.ids (lists_of lane) before
   pub refusal : IsRefusal records handled before after cause
   pub some : handled < length (messages records)
+  pub tried : IsTried records lane.declared.items (record { index = handled; cause = cause })
 
 -- what the channel of the message at hand came to: an id, or the message is refused
 abbrev pub ChannelFound : Lane → List Top → ℕ → ℕ → PassState → Result ℕ Cause → Type 0
@@ -117,10 +133,22 @@ ChannelFound lane records handled source pass (Err cause) = IsDue lane records h
 abbrev pub LastEnds : ℕ → List Refused → Type 0
 LastEnds handled refused = (r : Refused) × Has refused r × (r.index + 1 ≡ handled) × (goes_on r.cause ≡ false)
 
+-- what the lists tell of a lane that is over
+pub record ListsTell (records : List Top) (lists : Lists) (pass : PassState) : Type 0 where
+  pub firsts : Each (λ d. Seen pass d.first) lists.declared
+  pub tried : Each (IsTried records lists.declared) lists.refused
+
+-- the intake hadn't ended for the lane
+pub record IsUnended (lists : Lists) (pass : PassState) : Type 0 where
+  pub going : Each (λ r. goes_on r.cause ≡ true) lists.refused
+  pub is_open : IsOpen pass
+
 -- a lane that is over, for want of room or since the intake had ended
 abbrev pub LaneOver : Lane → List Top → ℕ → PassState → Over → Type 0
-LaneOver lane records handled pass overs.Memory = LaneFits records handled (lists_of lane) pass
+LaneOver lane records handled pass overs.Memory = LaneFits records handled (lists_of lane) pass × (handled < length (messages records))
+    × ListsTell records (lists_of lane) pass × IsUnended (lists_of lane) pass
 LaneOver lane records handled pass overs.Ended = LaneFits records (handled + 1) (lists_of lane) pass × LastEnds (handled + 1) lane.refused.items
+    × ListsTell records (lists_of lane) pass
 
 -- what the message at hand came to
 abbrev pub MessageTaken : Lane → List Top → ℕ → PassState → Result Unit Over → Type 0

@@ -1,6 +1,6 @@
 //! The lane of a feed, from its first record to its end.
 ghost use Rattle.std.specs.Prelude.{◌≡◌, ℕ, []};
-ghost use Rattle.feed_lane.specs.Pass.{no_calls};
+ghost use Rattle.feed_lane.specs.Pass.{PassState, no_calls};
 ghost use Rattle.feed_lane.specs.Lanes.{LaneFits};
 ghost use Rattle.feed_lane.specs.Feeds.{refused_end, over_end as end_of_over, reported, Reports};
 
@@ -59,6 +59,7 @@ impl Lane {
 // The report of a lane for which there was no memory.
 fn nothing(alloc: Global) -> FeedReport
     ensures end { result.end ≡ FeedEnd.Memory }
+    ensures passed { result.passed ≡ 0 }
     ensures fits { (limit : ℕ) → LaneFits [] 0 (reported result) (no_calls limit) }
 {
     FeedReport {
@@ -74,10 +75,10 @@ fn nothing(alloc: Global) -> FeedReport
 /// messages over the pass, and reports what became of each. A message that is refused doesn't end the lane, unless the
 /// intake has ended.
 pub fn publish_feed<S: Source, P: Pass>(alloc: Global, source: &mut S, pass: &mut P) -> FeedReport
-    requires { (limit : ℕ) × (P.state pass.old ≡ no_calls limit) }
-    ensures reports { Reports (S.state source.old) (S.state source.new) (P.state pass.new) result }
+    requires { (limit : ℕ) × P.since pass.old pass.old (no_calls limit) }
+    ensures reports { (limit : ℕ) → P.since pass.old pass.old (no_calls limit)
+        → (shown : PassState) × P.since pass.old pass.new shown × (shown.limit ≡ limit) × Reports (S.state source.old) (S.state source.new) shown result }
     ensures stays { S.stays source.old source.new }
-    ensures limit { (P.state pass.new).limit ≡ (P.state pass.old).limit }
 {
     let mut reader = match Reader::new(alloc) {
         Ok(reader) => reader,

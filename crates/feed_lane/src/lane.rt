@@ -5,7 +5,7 @@ ghost use Rattle.mcap_model.specs.Tops.{Top};
 ghost use Rattle.mcap_model.specs.Fields.{IsMessage};
 ghost use Rattle.feed_lane.specs.Pass.{PassState, no_calls};
 ghost use Rattle.feed_lane.specs.Lanes.{messages, IsOn};
-ghost use Rattle.feed_lane.specs.Steps.{lists_of, LaneStands, Stands, Roomy, AreKnown, AtHand, IsDue, HasId, ChannelFound, MessageTaken, goes_on as goes_on_behind, publish_cause as cause_of_publishing, declare_cause as cause_of_declaring, full_cause as cause_of_full, fields_of};
+ghost use Rattle.feed_lane.specs.Steps.{lists_of, LaneStands, Stands, Roomy, AreKnown, AtHand, IsDue, HasId, ThenShows, ChannelFound, MessageTaken, goes_on as goes_on_behind, publish_cause as cause_of_publishing, declare_cause as cause_of_declaring, full_cause as cause_of_full, fields_of};
 
 use crate::definition::definition;
 use crate::ids::Ids;
@@ -168,10 +168,10 @@ impl Lane {
     fn publish<P: Pass>(&mut self, id: u16, m: &Message<'_>, pass: &mut P) -> Result<(), Over>
         requires accepted { vec_len self.old.accepted + 1 ≤ vec_capacity self.old.accepted }
         requires refused { vec_len self.old.refused + 1 ≤ vec_capacity self.old.refused }
-        ensures taken { (records : List Top) (handled source : ℕ) (t : Top) → Stands records handled (handled + 1) self.old.ids (lists_of self.old) (P.state pass.old)
+        ensures taken { (begun : P) (before : PassState) → P.since begun pass.old before → ThenShows (P.since begun pass.new) before (λ after.
+            (records : List Top) (handled source : ℕ) (t : Top) → Stands records handled (handled + 1) self.old.ids (lists_of self.old) before
             → HasId records self.old.declared.items source id → At (messages records) handled t → IsMessage t source (fields_of m.now)
-            → MessageTaken self.new records handled (P.state pass.new) result }
-        ensures limit { (P.state pass.new).limit ≡ (P.state pass.old).limit }
+            → MessageTaken self.new records handled after result) }
         ensures passed { self.new.passed ≡ self.old.passed }
     {
         let message = NewMessage {
@@ -203,9 +203,9 @@ impl Lane {
         pass: &mut P,
     ) -> Result<u16, Cause>
         requires { vec_len self.old.declared + 1 ≤ vec_capacity self.old.declared }
-        ensures found { (records : List Top) (handled : ℕ) → LaneStands self.old records handled (P.state pass.old) → AreKnown records tables.now
-            → IsOn records handled source → At self.old.ids source 0 → ChannelFound self.new records handled source (P.state pass.new) result }
-        ensures limit { (P.state pass.new).limit ≡ (P.state pass.old).limit }
+        ensures found { (begun : P) (before : PassState) → P.since begun pass.old before → ThenShows (P.since begun pass.new) before (λ after.
+            (records : List Top) (handled : ℕ) → LaneStands self.old records handled before → AreKnown records tables.now
+            → IsOn records handled source → At self.old.ids source 0 → ChannelFound self.new records handled source after result) }
         ensures passed { self.new.passed ≡ self.old.passed }
         ensures accepted { self.new.accepted ≡ self.old.accepted }
         ensures refused { self.new.refused ≡ self.old.refused }
@@ -239,9 +239,9 @@ impl Lane {
         pass: &mut P,
     ) -> Result<u16, Cause>
         requires { vec_len self.old.declared + 1 ≤ vec_capacity self.old.declared }
-        ensures found { (records : List Top) (handled : ℕ) → LaneStands self.old records handled (P.state pass.old) → AreKnown records tables.now
-            → IsOn records handled source → ChannelFound self.new records handled source (P.state pass.new) result }
-        ensures limit { (P.state pass.new).limit ≡ (P.state pass.old).limit }
+        ensures found { (begun : P) (before : PassState) → P.since begun pass.old before → ThenShows (P.since begun pass.new) before (λ after.
+            (records : List Top) (handled : ℕ) → LaneStands self.old records handled before → AreKnown records tables.now
+            → IsOn records handled source → ChannelFound self.new records handled source after result) }
         ensures passed { self.new.passed ≡ self.old.passed }
         ensures accepted { self.new.accepted ≡ self.old.accepted }
         ensures refused { self.new.refused ≡ self.old.refused }
@@ -261,9 +261,9 @@ impl Lane {
         content: &[u8],
         pass: &mut P,
     ) -> Result<(), Over>
-        ensures taken { (records : List Top) (handled : ℕ) → LaneStands self.old records handled (P.state pass.old) → AreKnown records tables.now
-            → AtHand records handled content.now → MessageTaken self.new records handled (P.state pass.new) result }
-        ensures limit { (P.state pass.new).limit ≡ (P.state pass.old).limit }
+        ensures taken { (begun : P) (before : PassState) → P.since begun pass.old before → ThenShows (P.since begun pass.new) before (λ after.
+            (records : List Top) (handled : ℕ) → LaneStands self.old records handled before → AreKnown records tables.now
+            → AtHand records handled content.now → MessageTaken self.new records handled after result) }
         ensures passed { self.new.passed ≡ self.old.passed }
     {
         match self.make_room() {

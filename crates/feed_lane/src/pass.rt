@@ -6,21 +6,24 @@ ghost use Rattle.feed_lane.specs.Pass.{PassState, DeclaredInto, PublishedBy};
 use rec_data::ChannelDef;
 use record_core::{DeclareRefused, Declared, Found, NewMessage, PublishRefused};
 
-/// The right to declare and to publish at an intake, for one lane. It shows what its calls added, and how each found the
-/// intake.
+/// The right to declare and to publish at an intake, for one lane. It stands for what its calls showed since it was begun:
+/// what they added, and how each found the intake.
 pub trait Pass {
-    ghost state: { Self → PassState };
+    /// The second is the first, later, and its calls since then showed this.
+    ghost since: { Self → Self → PassState → Type 0 };
 
     /// Declares a channel with its schema.
     fn declare(&mut self, channel: &ChannelDef) -> Result<Declared, DeclareRefused>
         requires { DefFits channel.now }
-        ensures { DeclaredInto (state self.old) (state self.new) channel.now result };
+        ensures { (begun : Self) (before : PassState) → since begun self.old before
+            → (after : PassState) × since begun self.new after × DeclaredInto before after channel.now result };
 
     /// Publishes a message on a channel that was declared.
     fn publish(&mut self, m: &NewMessage<'_>) -> Result<u64, PublishRefused>
-        ensures { PublishedBy (state self.old) (state self.new) m.now result };
+        ensures { (begun : Self) (before : PassState) → since begun self.old before
+            → (after : PassState) × since begun self.new after × PublishedBy before after m.now result };
 
     /// How the last call found the intake, before what it did there.
     fn found(&self) -> Option<Found>
-        ensures { result ≡ (state self.now).found };
+        ensures { (begun : Self) (now : PassState) → since begun self.now now → result ≡ now.found };
 }

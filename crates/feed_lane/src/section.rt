@@ -1,11 +1,12 @@
 //! A lane at a record of the data section, or at one inside a chunk.
-ghost use Rattle.std.specs.Prelude.{◌≡◌, ◌∷◌, [], ℕ, List, OnOk};
+ghost use Rattle.std.specs.Prelude.{◌≡◌, ◌∷◌, [], ℕ, List};
 ghost use Rattle.mcap_model.specs.Tops.{Top, records_in, opened};
 ghost use Rattle.mcap_model.specs.Rules.{V6};
 ghost use Rattle.mcap_model.specs.Made.{top};
 ghost use Rattle.mcap_model.specs.Written.{passed_in};
-ghost use Rattle.feed_lane.specs.Steps.{LaneStands, AreKnown};
-ghost use Rattle.feed_lane.specs.Feeds.{Waits, RecordTaken, unknown_in, Counts};
+ghost use Rattle.feed_lane.specs.Pass.{PassState};
+ghost use Rattle.feed_lane.specs.Steps.{LaneStands, AreKnown, ThenShows};
+ghost use Rattle.feed_lane.specs.Feeds.{Waits, RecordTaken, unknown_in, Counted};
 
 use crate::lane::{Lane, Over};
 use crate::pass::Pass;
@@ -24,10 +25,10 @@ impl Lane {
         content: &[u8],
         pass: &mut P,
     ) -> Result<(), Over>
-        ensures taken { (records more : List Top) (handled : ℕ) → LaneStands self.old records handled (P.state pass.old) → AreKnown records tables.now
-            → Waits records handled (top op content.now ∷ more) → RecordTaken self.new records more (P.state pass.new) result }
-        ensures limit { (P.state pass.new).limit ≡ (P.state pass.old).limit }
-        ensures passed { OnOk result (Counts self.old.passed self.new.passed (unknown_in (top op content.now ∷ []))) }
+        ensures taken { (begun : P) (before : PassState) → P.since begun pass.old before → ThenShows (P.since begun pass.new) before (λ after.
+            (records more : List Top) (handled : ℕ) → LaneStands self.old records handled before → AreKnown records tables.now
+            → Waits records handled (top op content.now ∷ more) → RecordTaken self.new records handled more after result) }
+        ensures passed { Counted self.old.passed self.new.passed (unknown_in (top op content.now ∷ [])) result }
     {
         match op {
             MESSAGE => return self.take_message(alloc, tables, content, pass),
@@ -47,10 +48,10 @@ impl Lane {
         bytes: &[u8],
         pass: &mut P,
     ) -> Result<(), Over>
-        ensures taken { (records : List Top) (handled : ℕ) → LaneStands self.old records handled (P.state pass.old) → AreKnown records tables.now
-            → Waits records handled (records_in bytes.now) → RecordTaken self.new records [] (P.state pass.new) result }
-        ensures limit { (P.state pass.new).limit ≡ (P.state pass.old).limit }
-        ensures passed { OnOk result (Counts self.old.passed self.new.passed (unknown_in (records_in bytes.now))) }
+        ensures taken { (begun : P) (before : PassState) → P.since begun pass.old before → ThenShows (P.since begun pass.new) before (λ after.
+            (records : List Top) (handled : ℕ) → LaneStands self.old records handled before → AreKnown records tables.now
+            → Waits records handled (records_in bytes.now) → RecordTaken self.new records handled [] after result) }
+        ensures passed { Counted self.old.passed self.new.passed (unknown_in (records_in bytes.now)) result }
     {
         let mut walk = InnerWalk::new(bytes);
         'records: while let Some(inner) = walk.next() {
@@ -71,10 +72,10 @@ impl Lane {
         content: &[u8],
         pass: &mut P,
     ) -> Result<(), Over>
-        ensures taken { (records : List Top) (handled : ℕ) → LaneStands self.old records handled (P.state pass.old) → AreKnown records tables.now
-            → V6 (top op content.now) → Waits records handled (opened (top op content.now)) → RecordTaken self.new records [] (P.state pass.new) result }
-        ensures limit { (P.state pass.new).limit ≡ (P.state pass.old).limit }
-        ensures passed { V6 (top op content.now) → OnOk result (Counts self.old.passed self.new.passed (passed_in (top op content.now))) }
+        ensures taken { (begun : P) (before : PassState) → P.since begun pass.old before → ThenShows (P.since begun pass.new) before (λ after.
+            (records : List Top) (handled : ℕ) → LaneStands self.old records handled before → AreKnown records tables.now
+            → V6 (top op content.now) → Waits records handled (opened (top op content.now)) → RecordTaken self.new records handled [] after result) }
+        ensures passed { V6 (top op content.now) → Counted self.old.passed self.new.passed (passed_in (top op content.now)) result }
     {
         match op {
             MESSAGE => return self.take_message(alloc, tables, content, pass),

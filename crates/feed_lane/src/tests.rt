@@ -97,7 +97,7 @@ fn message_rec(alloc: Global, m: &NewMessage<'_>) -> Result<Rec, Memory>
 
 impl Tape {
     fn new(alloc: Global, left: u32, stops: bool) -> Tape
-        ensures { ⟦<Tape as Pass>⟧.state result ≡ no_calls 1 }
+        ensures { ⟦<Tape as Pass>⟧.since result result (no_calls 1) }
     {
         Tape {
             alloc,
@@ -142,10 +142,10 @@ impl Tape {
 }
 
 impl Pass for Tape {
-    ghost use Rattle.std.specs.Prelude.{◌-◌, length};
+    ghost use Rattle.std.specs.Prelude.{◌≡◌, ◌-◌, length};
     ghost use Rattle.feed_lane.specs.Tapes.{found_when, shown};
 
-    ghost state = { λ t. shown t.records.items t.channels.items (found_when t.asked (length t.records.items - t.added) (length t.channels.items - t.defined) t.ended) };
+    ghost since = { λ begun t now. now ≡ shown t.records.items t.channels.items (found_when t.asked (length t.records.items - t.added) (length t.channels.items - t.defined) t.ended) };
 
     fn declare(&mut self, d: &ChannelDef) -> Result<Declared, DeclareRefused> {
         self.asked = true;
@@ -308,6 +308,7 @@ fn a_stop_ends_a_lane(rt: HostRuntime) -> Result<(), Fail> {
             },
         }];
         assert_eq!(rt; report.refused.as_slice(), refused.as_slice());
+        assert_eq!(rt; report.passed, 0);
         assert!(rt; matches!(report.end, FeedEnd::Ended));
     }
     Ok(())

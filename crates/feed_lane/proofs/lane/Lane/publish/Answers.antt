@@ -1,46 +1,55 @@
-use Rattle.std.proofs.Common.{◌≡◌, ◌+◌, ◌∷◌, ◌++◌, [], ℕ, List, sym, ap, subst, ◌∙◌, Ok, Err}
+use Rattle.std.proofs.Common.{◌≡◌, ◌+◌, ◌∷◌, ◌++◌, [], ℕ, List, sym, ap, subst, ◌∙◌, inr, arith, Ok, Err}
 use Rattle.mcap_model.proofs.Places.{at_within}
 use Rattle.record_core.specs.declared.answers.NewMessage.{NewMessage}
 use Rattle.feed_lane.specs.declared.report.Accepted.{Accepted}
 use Rattle.feed_lane.specs.Lanes.{messages}
-use Rattle.feed_lane.specs.Steps.{lists_of, Stands, IsRefusal, publish_cause}
+use Rattle.feed_lane.specs.Steps.{lists_of, Stands, IsRefusal, publish_cause, fields_of}
 use Rattle.feed_lane.proofs.Accepting.{accepted_at, accepted_stands}
 use Rattle.feed_lane.proofs.Calls.{publish_refused, published_limit}
 use Rattle.feed_lane.proofs.lane.Lane.publish.Goals as goal
 
 pub returns-in-Ok-clause-taken : goal.returns-in-Ok-clause-taken
-returns-in-Ok-clause-taken g c = λ records handled source t stands has at is.
+returns-in-Ok-clause-taken g c = λ begun before since.
     let l = c.args.self.now in
-    let before = g.P.Pass.state c.args.pass.now in
-    let call = c.in-Ok.ensures in
+    let shown = c.in-Ok.ensures begun before since in
+    let after = shown.0 in
+    let call = shown.2 in
     let found = call.0 in
-    let m : NewMessage = record { channel = c.args.id; sequence = c.args.m.now.sequence; log_time = c.args.m.now.log_time; publish_time = c.args.m.now.publish_time; payload = c.args.m.now.payload } in
-    let index : c.handled-index.result ≡ handled = c.handled-index.ensures ∙ sym stands.fits.count in
-    let listed : c.add.new.list.items ≡ l.accepted.items ++ accepted_at handled found.count ∷ [] =
-    c.add.ensures ∙ ap (λ (n : ℕ). l.accepted.items ++ accepted_at n c.in-Ok.place ∷ []) index ∙ ap (λ (n : ℕ). l.accepted.items ++ accepted_at handled n ∷ []) call.3 in
-    subst (λ (accepted : List Accepted). Stands records (handled + 1) (handled + 1) l.ids (record { accepted = accepted; declared = l.declared.items; refused = l.refused.items }) (g.P.Pass.state c.publish.new.self)) (sym listed)
-    (subst (Stands records (handled + 1) (handled + 1) l.ids (record { accepted = l.accepted.items ++ accepted_at handled found.count ∷ []; declared = l.declared.items; refused = l.refused.items })) (sym call.4)
-    (accepted_stands records handled l.ids (lists_of l) before found m source t stands call.1.finds (record { id = has; at = at; is = is; small = call.2 })))
+    let m : NewMessage = record { channel = c.args.id; sequence = c.args.m.now.sequence; log_time = c.args.m.now.log_time; publish_time = c.args.m.now.publish_time; payload = c.args.m.now.payload } in (
+      after,
+      shown.1,
+      published_limit before after m (Ok c.in-Ok.place) call,
+      λ records handled source t stands has at is.
+          let index : c.handled-index.result ≡ handled = c.handled-index.ensures ∙ sym stands.fits.count in
+          let listed : c.add.new.list.items ≡ l.accepted.items ++ accepted_at handled found.count ∷ [] =
+          c.add.ensures ∙ ap (λ (n : ℕ). l.accepted.items ++ accepted_at n c.in-Ok.place ∷ []) index ∙ ap (λ (n : ℕ). l.accepted.items ++ accepted_at handled n ∷ []) call.3 in
+          subst (λ (accepted : List Accepted). Stands records (handled + 1) (handled + 1) l.ids (record { accepted = accepted; declared = l.declared.items; refused = l.refused.items }) after) (sym listed)
+          (subst (Stands records (handled + 1) (handled + 1) l.ids (record { accepted = l.accepted.items ++ accepted_at handled found.count ∷ []; declared = l.declared.items; refused = l.refused.items })) (sym call.4)
+          (accepted_stands records handled l.ids (lists_of l) before found m source t stands call.1.finds call.1.unended (record { id = has; at = at; is = is; small = call.2 }))),
+    )
 
 pub returns-in-Err-clause-taken : goal.returns-in-Err-clause-taken
-returns-in-Err-clause-taken g c = λ records handled source t stands has at is.
-    let before = g.P.Pass.state c.args.pass.now in
-    let after = g.P.Pass.state c.publish.new.self in
-    let m : NewMessage = record { channel = c.args.id; sequence = c.args.m.now.sequence; log_time = c.args.m.now.log_time; publish_time = c.args.m.now.publish_time; payload = c.args.m.now.payload } in
-    let cause : c.publish_cause-cause.result ≡ publish_cause c.in-Err.refusal after.found = c.publish_cause-cause.ensures ∙ ap (publish_cause c.in-Err.refusal) c.found.ensures in
-    c.refuse.ensures.taken records handled after (record {
-      before = before;
-      stands = stands;
-      refusal = subst (IsRefusal records handled before after) (sym cause) (publish_refused records handled source t before after m c.in-Err.refusal at is c.in-Err.ensures);
-      some = at_within (messages records) handled t at;
-    })
-
-pub returns-in-Ok-clause-limit : goal.returns-in-Ok-clause-limit
-returns-in-Ok-clause-limit g c =
-    let m : NewMessage = record { channel = c.args.id; sequence = c.args.m.now.sequence; log_time = c.args.m.now.log_time; publish_time = c.args.m.now.publish_time; payload = c.args.m.now.payload } in
-    published_limit (g.P.Pass.state c.args.pass.now) (g.P.Pass.state c.publish.new.self) m (Ok c.in-Ok.place) c.in-Ok.ensures
-
-pub returns-in-Err-clause-limit : goal.returns-in-Err-clause-limit
-returns-in-Err-clause-limit g c =
-    let m : NewMessage = record { channel = c.args.id; sequence = c.args.m.now.sequence; log_time = c.args.m.now.log_time; publish_time = c.args.m.now.publish_time; payload = c.args.m.now.payload } in
-    published_limit (g.P.Pass.state c.args.pass.now) (g.P.Pass.state c.publish.new.self) m (Err c.in-Err.refusal) c.in-Err.ensures
+returns-in-Err-clause-taken g c = λ begun before since.
+    let shown = c.in-Err.ensures begun before since in
+    let after = shown.0 in
+    let m : NewMessage = record { channel = c.args.id; sequence = c.args.m.now.sequence; log_time = c.args.m.now.log_time; publish_time = c.args.m.now.publish_time; payload = c.args.m.now.payload } in (
+      after,
+      shown.1,
+      published_limit before after m (Err c.in-Err.refusal) shown.2,
+      λ records handled source t stands has at is.
+          let cause : c.publish_cause-cause.result ≡ publish_cause c.in-Err.refusal after.found = c.publish_cause-cause.ensures ∙ ap (publish_cause c.in-Err.refusal) (c.found.ensures begun after shown.1) in
+          c.refuse.ensures.taken records handled after (record {
+            before = before;
+            stands = stands;
+            refusal = subst (IsRefusal records handled before after) (sym cause) (publish_refused records handled source t before after m c.in-Err.refusal at is shown.2);
+            some = at_within (messages records) handled t at;
+            tried = λ len e. inr (record {
+              source = source;
+              on = record { top = t; message = fields_of c.args.m.now; at = at; is = is };
+              by = has.by;
+              listed = has.listed;
+              before = let below = stands.fits.declared_below has.listed.0 has.by has.listed.1 in omega (arith, below);
+              is_on = has.on;
+            });
+          }),
+    )

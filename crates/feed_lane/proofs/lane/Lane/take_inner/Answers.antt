@@ -1,12 +1,22 @@
-use Rattle.std.proofs.Common.{ℕ, ◌∷◌, subst}
+use Rattle.std.proofs.Common.{ℕ, ◌∷◌, [], ap, subst}
 use Rattle.mcap_model.specs.Made.{top}
-use Rattle.feed_lane.specs.Feeds.{Waits}
+use Rattle.feed_lane.specs.Feeds.{Waits, unknown_in}
 use Rattle.feed_lane.proofs.Walking.{waits_at}
-use Rattle.feed_lane.proofs.Feeding.{message_record}
+use Rattle.feed_lane.proofs.Feeding.{message_record, counted_none}
 use Rattle.feed_lane.proofs.lane.Lane.take_inner.Goals as goal
 
 pub returns-in-5-clause-taken : goal.returns-in-5-clause-taken
-returns-in-5-clause-taken g c = λ records more handled stands known waits.
-    let here : Waits records handled (top 5 c.args.content.now ∷ more) = subst (λ (n : ℕ). Waits records handled (top n c.args.content.now ∷ more)) c.in-5.is waits in
-    message_record c.take_message.new.self records handled c.args.content.now more (g.P.Pass.state c.take_message.new.pass) c.take_message.result here
-    (c.take_message.ensures.taken records handled stands known (waits_at records handled c.args.content.now more here))
+returns-in-5-clause-taken g c = λ begun before since.
+    let taken = c.take_message.ensures.taken begun before since in (
+      taken.0,
+      taken.1,
+      taken.2,
+      λ records more handled stands known waits.
+          let here : Waits records handled (top 5 c.args.content.now ∷ more) = subst (λ (n : ℕ). Waits records handled (top n c.args.content.now ∷ more)) c.in-5.is waits in
+          message_record c.take_message.new.self records handled c.args.content.now more taken.0 c.take_message.result here
+          (taken.3 records handled stands known (waits_at records handled c.args.content.now more here)),
+    )
+
+pub returns-in-5-clause-passed : goal.returns-in-5-clause-passed
+returns-in-5-clause-passed g c =
+    counted_none c.args.self.now.passed c.take_message.new.self.passed (unknown_in (top c.args.op c.args.content.now ∷ [])) c.take_message.result c.take_message.ensures.passed (ap (λ (n : ℕ). unknown_in (top n c.args.content.now ∷ [])) c.in-5.is)

@@ -1,114 +1,146 @@
-use Rattle.std.proofs.Common.{◌-◌, length, ap, inl, inr, arith}
+use Rattle.std.proofs.Common.{◌-◌, length, refl, ap, inl, inr, arith}
 use Rattle.feed_lane.specs.Tapes.{end_when, found_now, found_when}
 use Rattle.feed_lane.proofs.Tapes.{finds, looked, told}
 use Rattle.feed_lane.proofs.tests.TapePass.publish.Goals as goal
 
 pub returns-then-self : goal.returns-then-self
-returns-then-self c =
+returns-then-self c = λ begun before is.
     let t = c.args.self.now in
     let n = length t.records.items in
     let m = length t.channels.items in
-    let e = c.ends-self.result in (
-      found_now n m e,
-      finds t.records.items t.channels.items t.asked t.ended e t.added t.defined c.ends-self.ensures,
-      ap end_when c.if-self.true,
-      omega (arith, c.len-at.ensures),
-      looked t.records.items t.channels.items (found_when t.asked (n - t.added) (m - t.defined) t.ended) e,
+    let e = c.ends-self.result in rw is (
+      _,
+      refl,
+      (
+        found_now n m e,
+        finds t.records.items t.channels.items t.asked t.ended e t.added t.defined c.ends-self.ensures,
+        ap end_when c.if-self.true,
+        omega (arith, c.len-at.ensures),
+        looked t.records.items t.channels.items (found_when t.asked (n - t.added) (m - t.defined) t.ended) e,
+      ),
     )
 
 pub returns-then-m-eq0 : goal.returns-then-m-eq0
-returns-then-m-eq0 c =
+returns-then-m-eq0 c = λ begun before is.
     let t = c.args.self.now in
     let n = length t.records.items in
     let m = length t.channels.items in
-    let e = c.ends-self.result in (
-      found_now n m e,
-      finds t.records.items t.channels.items t.asked t.ended e t.added t.defined c.ends-self.ensures,
-      ap end_when c.if-self.false,
-      inl c.if-m-eq0.true,
-      looked t.records.items t.channels.items (found_when t.asked (n - t.added) (m - t.defined) t.ended) e,
+    let e = c.ends-self.result in rw is (
+      _,
+      refl,
+      (
+        found_now n m e,
+        finds t.records.items t.channels.items t.asked t.ended e t.added t.defined c.ends-self.ensures,
+        ap end_when c.if-self.false,
+        inl c.if-m-eq0.true,
+        looked t.records.items t.channels.items (found_when t.asked (n - t.added) (m - t.defined) t.ended) e,
+      ),
     )
 
 pub returns-then-m-len : goal.returns-then-m-len
-returns-then-m-len c =
+returns-then-m-len c = λ begun before is.
     let t = c.args.self.now in
     let n = length t.records.items in
     let m = length t.channels.items in
-    let e = c.ends-self.result in (
-      found_now n m e,
-      finds t.records.items t.channels.items t.asked t.ended e t.added t.defined c.ends-self.ensures,
-      ap end_when c.if-self.false,
-      inr (omega (arith, c.if-m-len.true)),
-      looked t.records.items t.channels.items (found_when t.asked (n - t.added) (m - t.defined) t.ended) e,
+    let e = c.ends-self.result in rw is (
+      _,
+      refl,
+      (
+        found_now n m e,
+        finds t.records.items t.channels.items t.asked t.ended e t.added t.defined c.ends-self.ensures,
+        ap end_when c.if-self.false,
+        inr (omega (arith, c.if-m-len.true)),
+        looked t.records.items t.channels.items (found_when t.asked (n - t.added) (m - t.defined) t.ended) e,
+      ),
     )
 
 pub returns-then-self-eq0 : goal.returns-then-self-eq0
-returns-then-self-eq0 c =
+returns-then-self-eq0 c = λ begun before is.
     let t = c.args.self.now in
     let n = length t.records.items in
     let m = length t.channels.items in
-    let e = c.ends-self.result in (
-      found_now n m e,
-      finds t.records.items t.channels.items t.asked t.ended e t.added t.defined c.ends-self.ensures,
-      ap end_when c.if-self.false,
-      looked t.records.items t.channels.items (found_when t.asked (n - t.added) (m - t.defined) t.ended) e,
+    let e = c.ends-self.result in rw is (
+      _,
+      refl,
+      (
+        found_now n m e,
+        finds t.records.items t.channels.items t.asked t.ended e t.added t.defined c.ends-self.ensures,
+        ap end_when c.if-self.false,
+        looked t.records.items t.channels.items (found_when t.asked (n - t.added) (m - t.defined) t.ended) e,
+      ),
     )
 
 pub returns-then-len-ge1000 : goal.returns-then-len-ge1000
-returns-then-len-ge1000 c =
+returns-then-len-ge1000 c = λ begun before is.
     let t = c.args.self.now in
     let n = length t.records.items in
     let m = length t.channels.items in
-    let e = c.ends-self.result in (
-      found_now n m e,
-      finds t.records.items t.channels.items t.asked t.ended e t.added t.defined c.ends-self.ensures,
-      ap end_when c.if-self.false,
-      looked t.records.items t.channels.items (found_when t.asked (n - t.added) (m - t.defined) t.ended) e,
+    let e = c.ends-self.result in rw is (
+      _,
+      refl,
+      (
+        found_now n m e,
+        finds t.records.items t.channels.items t.asked t.ended e t.added t.defined c.ends-self.ensures,
+        ap end_when c.if-self.false,
+        looked t.records.items t.channels.items (found_when t.asked (n - t.added) (m - t.defined) t.ended) e,
+      ),
     )
 
 pub returns-in_default : goal.returns-in_default
-returns-in_default c =
+returns-in_default c = λ begun before is.
     let t = c.args.self.now in
     let n = length t.records.items in
     let m = length t.channels.items in
-    let e = c.ends-self.result in (
-      found_now n m e,
-      finds t.records.items t.channels.items t.asked t.ended e t.added t.defined c.ends-self.ensures,
-      ap end_when c.if-self.false,
-      looked t.records.items t.channels.items (found_when t.asked (n - t.added) (m - t.defined) t.ended) e,
+    let e = c.ends-self.result in rw is (
+      _,
+      refl,
+      (
+        found_now n m e,
+        finds t.records.items t.channels.items t.asked t.ended e t.added t.defined c.ends-self.ensures,
+        ap end_when c.if-self.false,
+        looked t.records.items t.channels.items (found_when t.asked (n - t.added) (m - t.defined) t.ended) e,
+      ),
     )
 
 pub returns-in_default-make_room : goal.returns-in_default-make_room
-returns-in_default-make_room c =
+returns-in_default-make_room c = λ begun before is.
     let t = c.args.self.now in
     let n = length t.records.items in
     let m = length t.channels.items in
     let e = c.ends-self.result in
-    let kept = c.in_default-make_room.ensures in (
-      found_now n m e,
-      finds t.records.items t.channels.items t.asked t.ended e t.added t.defined c.ends-self.ensures,
-      ap end_when c.if-self.false,
-      rw (kept.kept_records, kept.kept_channels, kept.asked, kept.added, kept.defined, kept.ended)
-          (looked t.records.items t.channels.items (found_when t.asked (n - t.added) (m - t.defined) t.ended) e),
+    let kept = c.in_default-make_room.ensures in rw is (
+      _,
+      refl,
+      (
+        found_now n m e,
+        finds t.records.items t.channels.items t.asked t.ended e t.added t.defined c.ends-self.ensures,
+        ap end_when c.if-self.false,
+        rw (kept.kept_records, kept.kept_channels, kept.asked, kept.added, kept.defined, kept.ended)
+            (looked t.records.items t.channels.items (found_when t.asked (n - t.added) (m - t.defined) t.ended) e),
+      ),
     )
 
 pub returns : goal.returns
-returns c =
+returns c = λ begun before is.
     let t = c.args.self.now in
     let n = length t.records.items in
     let m = length t.channels.items in
     let e = c.ends-self.result in
-    let kept = c.make_room.ensures in (
-      found_now n m e,
-      record {
-        finds = finds t.records.items t.channels.items t.asked t.ended e t.added t.defined c.ends-self.ensures;
-        unended = ap end_when c.if-self.false;
-        room = omega arith;
-        few = omega (arith, c.if-len-ge1000.false);
-        known = (omega (arith, c.if-m-eq0.false), omega (arith, c.if-m-len.false));
-      },
-      omega (arith, c.if-len-gt33554432.false),
-      omega (arith, c.len-at.ensures),
-      rw (c.add.ensures, kept.kept_records, kept.kept_channels, kept.asked, kept.defined, kept.ended)
-          (told t.records.items t.channels.items (found_when t.asked (n - t.added) (m - t.defined) t.ended) e c.in-Ok.record c.args.m.now c.in-Ok.ensures),
+    let kept = c.make_room.ensures in rw is (
+      _,
+      refl,
+      (
+        found_now n m e,
+        record {
+          finds = finds t.records.items t.channels.items t.asked t.ended e t.added t.defined c.ends-self.ensures;
+          unended = ap end_when c.if-self.false;
+          room = omega arith;
+          few = omega (arith, c.if-len-ge1000.false);
+          known = (omega (arith, c.if-m-eq0.false), omega (arith, c.if-m-len.false));
+        },
+        omega (arith, c.if-len-gt33554432.false),
+        omega (arith, c.len-at.ensures),
+        rw (c.add.ensures, kept.kept_records, kept.kept_channels, kept.asked, kept.defined, kept.ended)
+            (told t.records.items t.channels.items (found_when t.asked (n - t.added) (m - t.defined) t.ended) e c.in-Ok.record c.args.m.now c.in-Ok.ensures),
+      ),
     )
