@@ -1,18 +1,16 @@
-mod AtHand
-mod ChannelSteps
-mod Declared
-mod Feeds
-pub mod Files
-mod Handled
-mod Heads
-pub mod OneEnd
-mod OneHistory
-mod SchemaSteps
-mod Sections
-mod Shown
-mod Steps
-mod StepsBoth
-mod StepsDeclared
-mod StepsMore
-mod StepsSchemas
-mod StepsTable
+mod Growing
+mod Reasons
+mod Numbers
+mod Publishing
+mod Draining
+mod Rooms
+mod Handing
+mod Ending
+mod Filing
+pub mod ReadBack
+pub mod Validity
+mod NumberedOnce
+mod AgreedFields
+pub mod OneHistory
+mod OneFeed
+pub mod Unfull

@@ -1,18 +1,95 @@
--- What holds of feeds and of histories as they are defined.
-use Rattle.std.specs.Prelude.{◌≡◌, ℕ, List}
+-- Laws of recordings.
+use Rattle.std.specs.Prelude.{◌≡◌, ℕ, ◌≤◌, List, [], length, filter, Some, IsUtf8}
+use Rattle.std.specs.List.{AllZip}
 use Rattle.rec_data.specs.declared.owned.Rec.{Rec}
-use Rattle.recorder.specs.declared.report.Accepted.{Accepted}
-use Rattle.recorder.specs.declared.report.DeclaredAt.{DeclaredAt}
-use Rattle.recorder.specs.declared.report.FeedEnd.{FeedEnd}
-use Rattle.recorder.specs.declared.report.Refused.{Refused}
-use Rattle.mcap_model.specs.Tops.{Top}
-use Rattle.recorder.specs.Feed.{AreGood, ComesTo}
-use Rattle.recorder.specs.Assembled.{Assembled}
+use Rattle.mcap_model.specs.declared.ends.End.{End}
+use Rattle.mcap_model.specs.declared.ends.End.TheVariants as ends
+use Rattle.mcap_model.specs.declared.options.FileOptions.{FileOptions}
+use Rattle.mcap_model.specs.Places.{Each, EachBehind}
+use Rattle.mcap_model.specs.Tops.{Top, flat}
+use Rattle.mcap_model.specs.Rules.{Agrees}
+use Rattle.mcap_model.specs.Kept.{Halts, reading_limits, at_end}
+use Rattle.mcap_model.specs.Scan.{Seen, Scan}
+use Rattle.mcap_model.specs.History.{is_message, flat_history}
+use Rattle.mcap_model.specs.File.{file_of}
+use Rattle.mcap_model.specs.Valid.{IsValid, IsFullyIndexed}
+use Rattle.mcap_model.specs.Laws.{HoldsSeen, CanBeWritten}
+use Rattle.recorder.specs.declared.options.RecordOptions.{RecordOptions}
+use Rattle.recorder.specs.declared.report.Report.{Report}
+use Rattle.recorder.specs.Assembled.{LanePart, Assembled}
+use Rattle.recorder.specs.Recorded.{Sides, Recorded}
 
--- the bytes of a feed decide its records, and where and why its reading ends
-abbrev pub FeedsHaveOneEnd : Type 0
-FeedsHaveOneEnd = (bytes : List ℕ) (tops others : List Top) (a b : FeedEnd) → ComesTo bytes tops a → ComesTo bytes others b → (tops ≡ others) × (a ≡ b)
+-- ---- recordings are read back
 
--- a feed's good records and the lists of its report decide the history, its length too: nothing in it is chosen
+-- The profile is UTF-8, and so short that a reader takes the Header, which has 17 bytes besides; a chunk, where there are
+-- any, is closed at 64 MiB or sooner.
+pub record AreReadable (options : FileOptions) : Type 0 where
+  pub profile : IsUtf8 options.profile
+  pub short : length options.profile ≤ 268435439
+  pub size : (n : ℕ) → options.chunk ≡ Some n → (1 ≤ n) × (n ≤ 67108864)
+
+-- a file is read to its Data End: its flat records are those of a history, and its messages too, in order
+pub record ReadsAs (file : List ℕ) (history : List Rec) : Type 0 where
+  pub tops : List Top
+  pub end : ℕ
+  pub halts : Halts reading_limits file tops (at_end end)
+  pub flat_are : flat tops ≡ flat_history history
+  pub messages_are : (messages : List Seen) → Scan tops messages → AllZip HoldsSeen (filter is_message history) messages
+
+-- The file of a recording that was closed is read back as its history, and so is what a store holds then, where it held
+-- nothing before.
+abbrev pub RecordingsAreReadBack : Type 0
+RecordingsAreReadBack = (options : RecordOptions) (before now : Sides) (r : Report) → AreReadable options.file
+    → (it : Recorded options before now r) → r.writer.end ≡ ends.Closed
+    → ReadsAs (file_of options.file [] it.history) it.history
+    × ((bytes : List ℕ) → before.live.held ≡ Some [] → now.live.held ≡ Some bytes → ReadsAs bytes it.history)
+
+-- ---- recordings are valid
+
+-- a file is valid, and fully indexed where chunks were asked for
+pub record IsSound (options : FileOptions) (file : List ℕ) : Type 0 where
+  pub valid : IsValid file
+  pub indexed : (size : ℕ) → options.chunk ≡ Some size → IsFullyIndexed file
+
+-- A file can be written of the history of a recording that was closed. That file is sound, and so is what a store holds
+-- then, where it held nothing before.
+abbrev pub RecordingsAreValid : Type 0
+RecordingsAreValid = (options : RecordOptions) (before now : Sides) (r : Report) → AreReadable options.file
+    → (it : Recorded options before now r) → r.writer.end ≡ ends.Closed
+    → CanBeWritten options.file [] it.history
+    × IsSound options.file (file_of options.file [] it.history)
+    × ((bytes : List ℕ) → before.live.held ≡ Some [] → now.live.held ≡ Some bytes → IsSound options.file bytes)
+
+-- ---- histories are given
+
+-- lanes, and a history that they make up
+pub record Assembly : Type 0 where
+  pub limit : ℕ
+  pub lanes : List LanePart
+  pub history : List Rec
+  pub end : End
+  pub is : Assembled limit lanes history end
+
+-- two lanes read the same records and report the same lists
+pub record SameLists (one other : LanePart) : Type 0 where
+  pub records : one.records ≡ other.records
+  pub lists : one.lists ≡ other.lists
+
+-- The records that lanes read, which agree as the flat records of a good list do, and the lists of their reports decide the
+-- history.
 abbrev pub HistoriesAreGiven : Type 0
-HistoriesAreGiven = (tops : List Top) (handled : ℕ) (accepted : List Accepted) (declared : List DeclaredAt) (refused : List Refused) (one other : List Rec) → AreGood tops → Assembled tops handled accepted declared refused one → Assembled tops handled accepted declared refused other → one ≡ other
+HistoriesAreGiven = (one other : Assembly) → Each (λ lane. EachBehind Agrees lane.records) one.lanes
+    → AllZip SameLists one.lanes other.lanes → one.history ≡ other.history
+
+-- a recording of one feed: how it was to be made, what was seen of its source and its store, and its report
+pub record Account : Type 0 where
+  pub options : RecordOptions
+  pub before : Sides
+  pub now : Sides
+  pub report : Report
+  pub is : Recorded options before now report
+
+-- The bytes of a feed and the report on it decide the history, whatever the options and the store.
+abbrev pub RecordingsAreGiven : Type 0
+RecordingsAreGiven = (bytes : List ℕ) (one other : Account) → one.before.source.left ≡ Some bytes → other.before.source.left ≡ Some bytes
+    → one.report.feeds.items ≡ other.report.feeds.items → one.is.history ≡ other.is.history

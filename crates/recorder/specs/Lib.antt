@@ -1,10 +1,8 @@
+pub mod Shown
 pub mod Assembled
-pub mod Channels
-pub mod Feed
-pub mod File
-pub mod Handling
-pub mod Lane
-pub mod Laws
-pub mod Next
 pub mod Recorded
-pub mod Tape
+pub mod Lone
+pub mod Writing
+pub mod Intakes
+pub mod Onto
+pub mod Laws

@@ -1,12 +1,22 @@
-//! What holds of feeds, each law as the contract of a function that does nothing.
-ghost use Rattle.recorder.specs.Laws.{FeedsHaveOneEnd, HistoriesAreGiven};
+//! Laws of recordings, each as the contract of a function that does nothing.
+ghost use Rattle.recorder.specs.Laws.{RecordingsAreReadBack, RecordingsAreValid, HistoriesAreGiven, RecordingsAreGiven};
 
-/// The bytes of a feed decide its records, and where its reading ends.
-pub fn feeds_have_one_end()
-    ensures { FeedsHaveOneEnd }
+/// The file of a recording that was closed is read back as its history.
+pub fn recordings_are_read_back()
+    ensures { RecordingsAreReadBack }
 {}
 
-/// A feed's records and the lists of its report decide the history.
+/// The file of a recording that was closed is valid, and fully indexed where chunks were asked for.
+pub fn recordings_are_valid()
+    ensures { RecordingsAreValid }
+{}
+
+/// What the lanes read and the lists of their reports decide the history.
 pub fn histories_are_given()
     ensures { HistoriesAreGiven }
+{}
+
+/// The bytes of a feed and the report on it decide the history.
+pub fn recordings_are_given()
+    ensures { RecordingsAreGiven }
 {}

@@ -1,18 +1,19 @@
-//! Recording a feed into a file: what is read, which messages are recorded and where, what is written, and the report.
+//! Recording a feed into a file: a lane reads it and publishes into the intake, the intake's records go to a tape, and the
+//! report says what became of each message.
 #![tactic(auto)]
 
-mod channels;
-mod feed;
-mod lane;
+mod intake;
 pub mod laws;
+mod lone;
+mod options;
 mod recording;
 mod report;
-mod schemas;
-mod section;
-mod tape;
+mod writer;
 
+pub use feed_lane::{Accepted, Cause, DeclaredAt, FeedEnd, FeedReport, Refused};
+pub use options::RecordOptions;
 pub use recording::{Recording, record};
-pub use report::{Accepted, Cause, DeclaredAt, FeedEnd, FeedReport, Refused, Report, WriterReport};
+pub use report::{Report, WriterReport};
 
 #[cfg(test)]
 mod tests;

@@ -1,0 +1,76 @@
+-- What a recording did to its store.
+use Rattle.std.proofs.Common.{◌≡◌, ℕ, List, [], Some, refl, sym, subst, arith}
+use Rattle.rec_data.specs.declared.owned.Rec.{Rec}
+use Rattle.mcap_io.specs.Outside.{SourceState, LiveState}
+use Rattle.mcap_model.specs.declared.ends.End.TheVariants as ends
+use Rattle.mcap_model.specs.declared.ends.Stop.{Stop}
+use Rattle.mcap_model.proofs.Places.{at_none}
+use Rattle.chunk_writer.specs.declared.scribe.Scribe.{Scribe}
+use Rattle.chunk_writer.specs.Stops.{StopsAt, StopCause, Cause}
+use Rattle.chunk_writer.specs.Scribes.{Writes, Grows, EndsFile, store_of}
+use Rattle.recorder.specs.declared.options.RecordOptions.{RecordOptions}
+use Rattle.recorder.specs.declared.report.Report.{Report}
+use Rattle.recorder.specs.declared.report.WriterReport.{WriterReport}
+use Rattle.recorder.specs.Recorded.{answer_of, Sides, sides, WriterRecorded, Recorded}
+use Rattle.recorder.specs.Onto.{IsWritten, IsAll, IsReported}
+
+same_report : {a b : Report} → Some a ≡ Some b → a ≡ b
+same_report e = cc
+
+recorded_so : (options : RecordOptions) (before now : Sides) (history : List Rec) (r : Report) → IsReported options.limit before.source now.source history r
+    → WriterRecorded options.file before.live now.live history r.writer → IsAll history r.writer → Recorded options before now r
+recorded_so options before now history r reported writer all = record {
+  history = history;
+  feed = reported.feed;
+  only = reported.only;
+  pass = reported.pass;
+  reports = reported.reports;
+  unfull = reported.unfull;
+  assembled = reported.assembled;
+  kept = all.kept;
+  writer = writer;
+}
+
+module _ {L : Type 0} (state : L → LiveState) (options : RecordOptions) (source now : SourceState) where
+  -- onto a scribe
+  pub onto_scribe : (live : LiveState) (first last : Scribe L) (store : L) (limit : ℕ) (history : List Rec) (report r : Report) → Some report ≡ Some r → limit ≡ options.limit → store ≡ store_of last
+      → Writes state options.file live [] first → (state (store_of first)).faults ≡ live.faults → IsReported limit source now history report
+      → IsWritten (λ before after records. Grows state before after records) (λ before after written end. EndsFile state before after written end) (λ s. (state (store_of s)).faults) first last history report.writer
+      → IsAll history report.writer → Recorded options (sides source live) (sides now (state store)) r
+  onto_scribe live first last store limit history report r is limited stored stands still reported written all =
+      let before = sides source live in
+      let w = report.writer in
+      let writer : WriterRecorded options.file live (state (store_of last)) history w = record {
+        records = all.records;
+        wrote = written.ended options.file live history (written.grown options.file live [] stands);
+        within = all.within;
+        cause = subst (λ (n : ℕ). Cause {X = Unit {0}} n (state (store_of last)).faults (answer_of w.end)) still written.cause;
+      } in
+      subst (Recorded options before (sides now (state store))) (same_report is)
+      (subst (λ (l : L). Recorded options before (sides now (state l)) report) (sym stored)
+      (recorded_so options before (sides now (state (store_of last))) history report
+      (subst (λ (n : ℕ). IsReported n source now history report) limited reported) writer all))
+
+  -- nothing was begun
+  pub onto_nothing : (live : LiveState) (store : L) (limit : ℕ) (stop : Stop) (report r : Report) → Some report ≡ Some r → limit ≡ options.limit
+      → IsReported limit source now [] report → report.writer ≡ record { records = 0; blocks = 0; bytes = 0; end = ends.Stopped stop }
+      → StopsAt options.file [] live.held (state store).held stop 0 0 → StopCause live.faults (state store).faults stop
+      → Recorded options (sides source live) (sides now (state store)) r
+  onto_nothing live store limit stop report r is limited reported written stops cause =
+      let none : WriterReport = record { records = 0; blocks = 0; bytes = 0; end = ends.Stopped stop } in
+      let writer : WriterRecorded options.file live (state store) [] none = record {
+        records = refl;
+        wrote = stops;
+        within = record { few = omega arith; small = omega arith };
+        cause = cause;
+      } in
+      let all : IsAll [] none = record {
+        records = refl;
+        within = record { few = omega arith; small = omega arith };
+        kept = λ n x at. absurd (at_none n x at);
+      } in
+      subst (Recorded options (sides source live) (sides now (state store))) (same_report is)
+      (recorded_so options (sides source live) (sides now (state store)) [] report
+      (subst (λ (n : ℕ). IsReported n source now [] report) limited reported)
+      (subst (WriterRecorded options.file live (state store) []) (sym written) writer)
+      (subst (IsAll []) (sym written) all))

@@ -1,0 +1,461 @@
+-- A lane alone at a desk, behind each of its calls.
+use Rattle.std.proofs.Common.{◌≡◌, ◌⊎◌, ℕ, ◌+◌, ◌-◌, ◌<◌, ◌≤◌, List, [], ◌∷◌, ◌++◌, length, take, drop, Option, Some, None, Result, Ok, Err, refl, sym, ap, subst, inl, inr, ◌∙◌, length-append, arith}
+use Rattle.std.specs.Prelude.{nat_lt, nat_le, Bool, true, false, ◌&&◌}
+use Rattle.std.proofs.lemmas.List.{length-drop, take-append-le, take_all}
+use Rattle.std.proofs.lemmas.Bool.{and_parts, ltb-true, leb-true}
+use Rattle.rec_data.specs.declared.owned.Rec.{Rec}
+use Rattle.rec_data.specs.declared.channel.ChannelDef.{ChannelDef}
+use Rattle.mcap_model.specs.declared.ends.End.{End}
+use Rattle.mcap_model.specs.declared.ends.End.TheVariants as ends
+use Rattle.mcap_model.specs.declared.options.FileOptions.{FileOptions}
+use Rattle.mcap_model.specs.Places.{At, Each}
+use Rattle.mcap_model.specs.Fields.{MessageFields}
+use Rattle.mcap_model.specs.History.{message_of, history_bytes}
+use Rattle.mcap_model.proofs.Places.{at_none}
+use Rattle.mcap_model.proofs.Lists.{each_cons, each_joined}
+use Rattle.record_core.specs.Ids.{Ids, schemas_in, channels_in, is_known, ids_of, with_ids, channel_id, new_records}
+use Rattle.record_core.specs.Tables.{IsTable}
+use Rattle.record_core.specs.Desk.{DeskView, accepted, added, first_of, end_of, found_of, EndIsLast, fields_of_message, publish_refusal, declare_refusal, Published, DeclaredBy}
+use Rattle.record_core.specs.Machine.{State, desk_of, publish, declare, accept, unless}
+use Rattle.record_core.specs.Stands.{StandsFor, Steps, PublishSteps, DeclareSteps}
+use Rattle.record_core.specs.declared.answers.Declared.{Declared}
+use Rattle.record_core.specs.declared.answers.Found.{Found}
+use Rattle.record_core.specs.declared.answers.NewMessage.{NewMessage}
+use Rattle.record_core.specs.declared.answers.PublishRefused.{PublishRefused}
+use Rattle.record_core.specs.declared.answers.PublishRefused.TheVariants as publishing
+use Rattle.record_core.specs.declared.answers.DeclareRefused.{DeclareRefused}
+use Rattle.record_core.specs.declared.answers.DeclareRefused.TheVariants as declaring
+use Rattle.record_core.proofs.Numbering.{HasContents}
+use Rattle.record_core.proofs.Searches.{channels_more}
+use Rattle.feed_lane.specs.Pass.{FullAt, PassState, placed_from, Finds, full_at, with_found, with_full, with_lack, with_declared, message_record, AreAdded}
+use Rattle.recorder.specs.declared.lone.LoneDesk.{LoneDesk}
+use Rattle.recorder.specs.Shown.{ChannelStands, Lacks, HeldThere}
+use Rattle.recorder.specs.Lone.{FoundBefore, Showing, IsAlone, GoesOn, looked, looked_in, PublishesAlone, DeclaresAlone}
+use Rattle.recorder.proofs.Growing.{placed_at, placed_more, Spares, channel_stands_on, lacks_on, held_there_on}
+use Rattle.recorder.proofs.Reasons.{publish_reason, declare_reason}
+use Rattle.recorder.proofs.Numbers.{message_spares, declared_spares, declared_stands, declared_id, are_added, lacking_schemas, lacks_schema, lacks_channel}
+
+-- ---- a desk and its state
+
+-- the fields of a desk that stands for a state
+pub record Parts (d : DeskView) (s : State) : Type 0 where
+  pub taken : d.taken ≡ s.taken
+  pub primary : d.primary ≡ drop s.taken s.history
+  pub end : d.end ≡ s.end
+  pub ids : d.ids ≡ ids_of s.history
+  pub contents : HasContents d.ids s.history
+  pub count : accepted d ≡ length s.history
+  pub held : d.taken ≤ accepted d
+
+pub parts : (d : DeskView) (s : State) → StandsFor d s → Parts d s
+parts d s stands =
+    let same : d ≡ desk_of d.limit s = sym stands.desk in
+    let taken : d.taken ≡ s.taken = ap (λ (x : DeskView). x.taken) same in
+    let primary : d.primary ≡ drop s.taken s.history = ap (λ (x : DeskView). x.primary) same in
+    let size : length d.primary ≡ length (drop s.taken s.history) = ap length primary in
+    record {
+      taken = taken;
+      primary = primary;
+      end = ap (λ (x : DeskView). x.end) same;
+      ids = ap (λ (x : DeskView). x.ids) same;
+      contents = record { schemas = ap (λ (x : DeskView). x.ids.schemas) same; channels = ap (λ (x : DeskView). x.ids.channels) same };
+      count = omega (arith, taken, size, length-drop s.taken s.history, stands.within);
+      held = omega arith;
+    }
+
+pub finds : (lone : LoneDesk) (s : State) (before : PassState) → IsAlone lone s before → Finds before (found_of lone.desk)
+finds lone s before alone =
+    let p = parts lone.desk s alone.stands in
+    record {
+      places = λ k pair at.
+          let there = placed_at 0 s.history k pair (subst (λ (l : List (ℕ × Rec)). At l k pair) alone.shows.own at) in
+          omega (arith, there.0, there.2, p.count);
+      ids = λ k pair at.
+          let there = alone.shows.ids k pair at in
+          (there.0, omega (arith, there.1, ap length p.contents.channels));
+      later = λ last is. (alone.shows.found last is).later;
+      within = p.held;
+    }
+
+some_found : {x y : Found} → Some x ≡ Some y → x ≡ y
+some_found e = cc
+
+none_some : {x : End} → None ≡ Some x → ⊥
+none_some e = cc
+
+-- ---- a call that added nothing
+
+goes_on_same : (s : State) → GoesOn s s
+goes_on_same s = record { taken = refl; front = refl }
+
+found_self : (d : DeskView) → (end_of d ≡ Some ends.Closed → ⊥) → FoundBefore d (found_of d)
+found_self d unclosed = record {
+  later = record { taken = omega arith; count = omega arith; schemas = omega arith; channels = omega arith; end = λ e is. is };
+  all = λ e is. refl;
+  unclosed = unclosed;
+}
+
+-- what a call that was refused showed beside how it found the desk
+record Shown (history : List Rec) (fulls : List FullAt) (lacks : List (ChannelDef × DeclareRefused)) : Type 0 where
+  pub fulls_are : Each (HeldThere history) fulls
+  pub lacks_are : Each (λ pair. Lacks history pair.0 pair.1) lacks
+
+abbrev showing : PassState → Found → List FullAt → List (ChannelDef × DeclareRefused) → PassState
+showing before found fulls lacks = record before { fulls = fulls; lacks = lacks; found = Some found }
+
+refused : (old new : LoneDesk) (s : State) (before : PassState) (fulls : List FullAt) (lacks : List (ChannelDef × DeclareRefused)) → IsAlone old s before
+    → new.desk ≡ old.desk → new.found ≡ Some (found_of old.desk) → Shown s.history fulls lacks → IsAlone new s (showing before (found_of old.desk) fulls lacks)
+refused old new s before fulls lacks alone same looked shown = record {
+  stands = subst (λ (d : DeskView). StandsFor d s) (sym same) alone.stands;
+  shows = record {
+    own = alone.shows.own;
+    named = alone.shows.named;
+    ids = alone.shows.ids;
+    fulls = shown.fulls_are;
+    lacks = shown.lacks_are;
+    found = λ f is. subst (FoundBefore new.desk) (some_found is) (subst (λ (d : DeskView). FoundBefore d (found_of old.desk)) (sym same) (found_self old.desk alone.unclosed));
+    limit = alone.shows.limit ∙ ap (λ (d : DeskView). d.limit) (sym same);
+  };
+  found = sym looked;
+  unclosed = subst (λ (d : DeskView). end_of d ≡ Some ends.Closed → ⊥) (sym same) alone.unclosed;
+}
+
+same_shown : (lone : LoneDesk) (s : State) (before : PassState) → IsAlone lone s before → Shown s.history before.fulls before.lacks
+same_shown lone s before alone = record { fulls_are = alone.shows.fulls; lacks_are = alone.shows.lacks }
+
+-- nothing was looked at
+unseen : (old new : LoneDesk) (s : State) (before : PassState) → IsAlone old s before → new.desk ≡ old.desk → new.found ≡ old.found → IsAlone new s before
+unseen old new s before alone same looked = record {
+  stands = subst (λ (d : DeskView). StandsFor d s) (sym same) alone.stands;
+  shows = subst (λ (d : DeskView). Showing d s.history before) (sym same) alone.shows;
+  found = alone.found ∙ sym looked;
+  unclosed = subst (λ (d : DeskView). end_of d ≡ Some ends.Closed → ⊥) (sym same) alone.unclosed;
+}
+
+one_more : {X : Type 0} (P : X → Type 0) (xs : List X) (x : X) → Each P xs → P x → Each P (xs ++ x ∷ [])
+one_more P xs x each it = each_joined P xs (x ∷ []) each (each_cons P x [] it (λ n y at. absurd (at_none n y at)))
+
+full_there : (d : DeskView) (s : State) → StandsFor d s → HeldThere s.history (full_at (found_of d))
+full_there d s stands =
+    let p = parts d s stands in
+    let n = accepted d - d.taken in
+    let rest : drop d.taken s.history ≡ d.primary = ap (λ (k : ℕ). drop k s.history) p.taken ∙ sym p.primary in
+    let same : take n (drop d.taken s.history) ≡ d.primary = ap (take n) rest ∙ take_all n d.primary (omega arith) in
+    record {
+      order = p.held;
+      within = omega (arith, p.count);
+      held = ap (λ (l : List Rec). length (history_bytes l)) (sym same);
+    }
+
+with_a_full : (lone : LoneDesk) (s : State) (before : PassState) → IsAlone lone s before → Shown s.history (before.fulls ++ full_at (found_of lone.desk) ∷ []) before.lacks
+with_a_full lone s before alone = record {
+  fulls_are = one_more (HeldThere s.history) before.fulls (full_at (found_of lone.desk)) alone.shows.fulls (full_there lone.desk s alone.stands);
+  lacks_are = alone.shows.lacks;
+}
+
+abbrev lack : ChannelDef → DeclareRefused → ChannelDef × DeclareRefused
+lack c refusal = (c, refusal)
+
+with_a_lack : (lone : LoneDesk) (s : State) (before : PassState) (c : ChannelDef) (refusal : DeclareRefused) → IsAlone lone s before → Lacks s.history c refusal
+    → Shown s.history before.fulls (before.lacks ++ lack c refusal ∷ [])
+with_a_lack lone s before c refusal alone lacks = record {
+  fulls_are = alone.shows.fulls;
+  lacks_are = one_more (λ pair. Lacks s.history pair.0 pair.1) before.lacks (lack c refusal) alone.shows.lacks lacks;
+}
+
+-- ---- a call that added records
+
+found_grown : (d : DeskView) (records : List Rec) → d.end ≡ None → FoundBefore (added d records) (found_of d)
+found_grown d records unended =
+    let none : end_of d ≡ None = ap first_of unended in
+    record {
+      later = record {
+        taken = omega arith;
+        count = omega (arith, length-append d.primary records);
+        schemas = omega (arith, length-append d.ids.schemas (schemas_in records));
+        channels = omega (arith, length-append d.ids.channels (channels_in records));
+        end = λ e is. is;
+      };
+      all = λ e is. absurd (none_some (sym none ∙ is));
+      unclosed = λ is. none_some (sym none ∙ is);
+    }
+
+-- the ids that stood, and the one more, where a channel was declared
+record Named (history : List Rec) (named : List (ℕ × ChannelDef)) : Type 0 where
+  pub stand : Each (λ pair. ChannelStands history pair.0 pair.1) named
+  pub ids : Each (λ pair. (1 ≤ pair.0) × (pair.0 ≤ length (channels_in history))) named
+
+named_on : (history records : List Rec) (named : List (ℕ × ChannelDef)) → Named history named → Named (history ++ records) named
+named_on history records named are = record {
+  stand = λ k pair at. channel_stands_on history records pair.0 pair.1 (are.stand k pair at);
+  ids = λ k pair at.
+      let there = are.ids k pair at in
+      (there.0, omega (arith, there.1, ap length (channels_more history records), length-append (channels_in history) (channels_in records)));
+}
+
+were_named : (lone : LoneDesk) (s : State) (before : PassState) → IsAlone lone s before → Named s.history before.named
+were_named lone s before alone = record { stand = alone.shows.named; ids = alone.shows.ids }
+
+abbrev grown : PassState → Found → List Rec → List (ℕ × ChannelDef) → PassState
+grown before found records named = record before { own = before.own ++ placed_from found.count records; named = named; found = Some found }
+
+adds : (old new : LoneDesk) (s : State) (before : PassState) (records : List Rec) (named : List (ℕ × ChannelDef)) → IsAlone old s before → StandsFor new.desk (accept 0 records s)
+    → new.desk ≡ added old.desk records → old.desk.end ≡ None → new.found ≡ Some (found_of old.desk) → Spares s.history records → Named (s.history ++ records) named
+    → IsAlone new (accept 0 records s) (grown before (found_of old.desk) records named)
+adds old new s before records named alone stands is unended looked spares are =
+    let p = parts old.desk s alone.stands in
+    let size : accepted old.desk ≡ 0 + length s.history = omega (arith, p.count) in
+    let unclosed : end_of new.desk ≡ None = ap end_of is ∙ ap first_of unended in
+    record {
+      stands = stands;
+      shows = record {
+        own = ap (λ (l : List (ℕ × Rec)). l ++ placed_from (accepted old.desk) records) alone.shows.own
+            ∙ ap (λ (n : ℕ). placed_from 0 s.history ++ placed_from n records) size
+            ∙ sym (placed_more 0 s.history records);
+        named = are.stand;
+        ids = are.ids;
+        fulls = λ k full at. held_there_on s.history records full (alone.shows.fulls k full at);
+        lacks = λ k pair at. lacks_on s.history records pair.0 pair.1 spares (alone.shows.lacks k pair at);
+        found = λ f same. subst (FoundBefore new.desk) (some_found same) (subst (λ (d : DeskView). FoundBefore d (found_of old.desk)) (sym is) (found_grown old.desk records unended));
+        limit = alone.shows.limit ∙ ap (λ (d : DeskView). d.limit) (sym is);
+      };
+      found = sym looked;
+      unclosed = λ closed. none_some (sym unclosed ∙ closed);
+    }
+
+goes_on : (d : DeskView) (s : State) (records : List Rec) → StandsFor d s → GoesOn s (accept 0 records s)
+goes_on d s records stands = record { taken = refl; front = take-append-le s.taken s.history records stands.within }
+
+some_options : FileOptions
+some_options = record { profile = []; chunk = None }
+
+-- ---- messages
+
+published_state : (d after : DeskView) (s : State) (channel : ℕ) (m : MessageFields) → publish_refusal d channel (length m.payload) ≡ None → Steps d (publish 0 channel m) after → StandsFor d s
+    → StandsFor after (accept 0 (message_of channel m ∷ []) s)
+published_state d after s channel m none steps stands =
+    let open_there : publish_refusal (desk_of d.limit s) channel (length m.payload) ≡ None = ap (λ (x : DeskView). publish_refusal x channel (length m.payload)) stands.desk ∙ none in
+    subst (λ (r : Option PublishRefused). StandsFor after (unless r 0 (message_of channel m ∷ []) s)) open_there (steps some_options s stands)
+
+known_id : (ids : Ids) (channel : ℕ) → is_known ids channel ≡ true → (1 ≤ channel) × (channel ≤ length ids.channels)
+known_id ids channel known =
+    let both = and_parts (nat_lt 0 channel) (nat_le channel (length ids.channels)) known in
+    (let some = ltb-true 0 channel both.0 in omega (arith, some), leb-true channel (length ids.channels) both.1)
+
+unknown_by : (ids : Ids) (channel : ℕ) (some known : Bool) → nat_lt 0 channel ≡ some → nat_le channel (length ids.channels) ≡ known → (some && known) ≡ false → (channel ≡ 0) ⊎ (length ids.channels < channel)
+unknown_by ids channel false known is all no_more = let le : channel ≤ 0 = grind arith in inl (omega (arith, le))
+unknown_by ids channel true false is all no_more = inr (grind arith)
+unknown_by ids channel true true is all no_more = cc
+
+unknown_id : (ids : Ids) (channel : ℕ) → is_known ids channel ≡ false → (channel ≡ 0) ⊎ (length ids.channels < channel)
+unknown_id ids channel unknown = unknown_by ids channel (nat_lt 0 channel) (nat_le channel (length ids.channels)) refl refl unknown
+
+pub published : (old new : LoneDesk) (m : NewMessage) (result : Result ℕ PublishRefused) → EndIsLast old.desk
+    → Published old.desk m.channel (fields_of_message m) result new.desk → PublishSteps old.desk m.channel (fields_of_message m) result new.desk
+    → new.found ≡ looked (found_of old.desk) old.found result → PublishesAlone old new m result
+published old new m (Ok place) last is steps looked s before alone =
+    let (open_end, known, few, room, small) = publish_reason old.desk m.channel (length m.payload.now) None is.0 in
+    let found = found_of old.desk in
+    let records = message_record m ∷ [] in
+    let stands = published_state old.desk new.desk s m.channel (fields_of_message m) is.0 (steps 0) alone.stands in
+    let named = named_on s.history records before.named (were_named old s before alone) in (
+      accept 0 records s,
+      grown before found records before.named,
+      adds old new s before records before.named alone stands is.2 open_end looked (message_spares s.history m.channel (fields_of_message m)) named,
+      goes_on old.desk s records alone.stands,
+      (
+        found,
+        record {
+          finds = finds old s before alone;
+          unended = ap first_of open_end;
+          room = omega (arith, room, alone.shows.limit);
+          few = few;
+          known = known_id old.desk.ids m.channel known;
+        },
+        small,
+        is.1,
+        refl,
+      ),
+    )
+published old new m (Err (publishing.TooLarge len)) last is steps looked s before alone =
+    let why = publish_reason old.desk m.channel (length m.payload.now) (Some (publishing.TooLarge len)) is.0 in
+    (s, before, unseen old new s before alone is.1 looked, goes_on_same s, (why.0, why.1, refl))
+published old new m (Err (publishing.Closed at)) last is steps looked s before alone =
+    let why = publish_reason old.desk m.channel (length m.payload.now) (Some (publishing.Closed at)) is.0 in
+    let found = found_of old.desk in (
+      s,
+      with_found before found,
+      refused old new s before before.fulls before.lacks alone is.1 looked (same_shown old s before alone),
+      goes_on_same s,
+      (found, finds old s before alone, ap first_of why, last ends.Closed at why, refl),
+    )
+published old new m (Err (publishing.Stopped at stop)) last is steps looked s before alone =
+    let why = publish_reason old.desk m.channel (length m.payload.now) (Some (publishing.Stopped at stop)) is.0 in
+    let found = found_of old.desk in (
+      s,
+      with_found before found,
+      refused old new s before before.fulls before.lacks alone is.1 looked (same_shown old s before alone),
+      goes_on_same s,
+      (found, finds old s before alone, ap first_of why, last (ends.Stopped stop) at why, refl),
+    )
+published old new m (Err publishing.UnknownChannel) last is steps looked s before alone =
+    let why = publish_reason old.desk m.channel (length m.payload.now) (Some publishing.UnknownChannel) is.0 in
+    let found = found_of old.desk in (
+      s,
+      with_found before found,
+      refused old new s before before.fulls before.lacks alone is.1 looked (same_shown old s before alone),
+      goes_on_same s,
+      (found, finds old s before alone, ap first_of why.0, unknown_id old.desk.ids m.channel why.1, refl),
+    )
+published old new m (Err (publishing.TooManyRecords count)) last is steps looked s before alone =
+    let why = publish_reason old.desk m.channel (length m.payload.now) (Some (publishing.TooManyRecords count)) is.0 in
+    let found = found_of old.desk in (
+      s,
+      with_found before found,
+      refused old new s before before.fulls before.lacks alone is.1 looked (same_shown old s before alone),
+      goes_on_same s,
+      (found, finds old s before alone, ap first_of why.0, why.1, why.2, refl),
+    )
+published old new m (Err (publishing.Full h)) last is steps looked s before alone =
+    let why = publish_reason old.desk m.channel (length m.payload.now) (Some (publishing.Full h)) is.0 in
+    let found = found_of old.desk in (
+      s,
+      with_full before found,
+      refused old new s before (before.fulls ++ full_at found ∷ []) before.lacks alone is.1 looked (with_a_full old s before alone),
+      goes_on_same s,
+      (found, finds old s before alone, ap first_of why.0, why.1, omega (arith, why.2, alone.shows.limit), refl),
+    )
+published old new m (Err publishing.Memory) last is steps looked s before alone =
+    let why = publish_reason old.desk m.channel (length m.payload.now) None is.0 in
+    let found = found_of old.desk in (
+      s,
+      with_found before found,
+      refused old new s before before.fulls before.lacks alone is.1 looked (same_shown old s before alone),
+      goes_on_same s,
+      (found, finds old s before alone, ap first_of why.0, refl),
+    )
+
+-- ---- declarations
+
+declared_state : (d after : DeskView) (s : State) (c : ChannelDef) → declare_refusal d c ≡ None → Steps d (declare 0 c) after → StandsFor d s
+    → StandsFor after (accept 0 (new_records d.ids c) s)
+declared_state d after s c none steps stands =
+    let open_there : declare_refusal (desk_of d.limit s) c ≡ None = ap (λ (x : DeskView). declare_refusal x c) stands.desk ∙ none in
+    let there = subst (λ (r : Option DeclareRefused). StandsFor after (unless r 0 (new_records (ids_of s.history) c) s)) open_there (steps some_options s stands) in
+    subst (λ (ids : Ids). StandsFor after (accept 0 (new_records ids c) s)) (sym (parts d s stands).ids) there
+
+abbrev naming : ℕ → ChannelDef → ℕ × ChannelDef
+naming channel c = (channel, c)
+
+named_more : (history records : List Rec) (named : List (ℕ × ChannelDef)) (channel : ℕ) (c : ChannelDef) → Named (history ++ records) named
+    → ChannelStands (history ++ records) channel c → (1 ≤ channel) × (channel ≤ length (channels_in (history ++ records))) → Named (history ++ records) (named ++ naming channel c ∷ [])
+named_more history records named channel c are stands id = record {
+  stand = one_more (λ pair. ChannelStands (history ++ records) pair.0 pair.1) named (naming channel c) are.stand stands;
+  ids = one_more (λ pair. (1 ≤ pair.0) × (pair.0 ≤ length (channels_in (history ++ records)))) named (naming channel c) are.ids id;
+}
+
+pub declared : (old new : LoneDesk) (c : ChannelDef) (result : Result Declared DeclareRefused) → EndIsLast old.desk → IsTable new.desk.ids
+    → DeclaredBy old.desk c result new.desk → DeclareSteps old.desk c result new.desk
+    → new.found ≡ looked_in (found_of old.desk) old.found result → DeclaresAlone old new c result
+declared old new c (Ok given) last few is steps looked s before alone =
+    let open_end : old.desk.end ≡ None = declare_reason old.desk c None is.0 in
+    let found = found_of old.desk in
+    let ids = old.desk.ids in
+    let records = new_records ids c in
+    let p = parts old.desk s alone.stands in
+    let stands = declared_state old.desk new.desk s c is.0 (steps 0) alone.stands in
+    let same : new.desk.ids ≡ with_ids ids records = ap (λ (d : DeskView). d.ids) is.4 in
+    let spares = declared_spares ids s.history c p.contents (subst (λ (i : Ids). length i.schemas ≤ 65535) same few.few_schemas) (subst (λ (i : Ids). length i.channels ≤ 65535) same few.few_channels) in
+    let channel : given.channel ≡ channel_id ids c = is.1 in
+    let there = subst (λ (k : ℕ). ChannelStands (s.history ++ records) k c) (sym channel) (declared_stands ids s.history c p.contents alone.stands.numbered) in
+    let id = declared_id ids s.history c p.contents in
+    let old_named = named_on s.history records before.named (were_named old s before alone) in
+    let named = named_more s.history records before.named given.channel c old_named there (omega (arith, id.0, channel), omega (arith, id.1, channel)) in (
+      accept 0 records s,
+      with_declared before found c given.channel records,
+      adds old new s before records (before.named ++ naming given.channel c ∷ []) alone stands is.4 open_end looked spares named,
+      goes_on old.desk s records alone.stands,
+      (
+        found,
+        records,
+        finds old s before alone,
+        ap first_of open_end,
+        is.2,
+        omega (arith, id.0, channel),
+        is.3,
+        subst (λ (k : ℕ). AreAdded c k records) (sym channel) (are_added ids c),
+        refl,
+      ),
+    )
+declared old new c (Err (declaring.TooLarge len)) last few is steps looked s before alone =
+    let why = declare_reason old.desk c (Some (declaring.TooLarge len)) is.0 in
+    (s, before, unseen old new s before alone is.1 looked, goes_on_same s, (why.0, why.1, refl))
+declared old new c (Err (declaring.Closed at)) last few is steps looked s before alone =
+    let why = declare_reason old.desk c (Some (declaring.Closed at)) is.0 in
+    let found = found_of old.desk in (
+      s,
+      with_found before found,
+      refused old new s before before.fulls before.lacks alone is.1 looked (same_shown old s before alone),
+      goes_on_same s,
+      (found, finds old s before alone, ap first_of why, last ends.Closed at why, refl),
+    )
+declared old new c (Err (declaring.Stopped at stop)) last few is steps looked s before alone =
+    let why = declare_reason old.desk c (Some (declaring.Stopped at stop)) is.0 in
+    let found = found_of old.desk in (
+      s,
+      with_found before found,
+      refused old new s before before.fulls before.lacks alone is.1 looked (same_shown old s before alone),
+      goes_on_same s,
+      (found, finds old s before alone, ap first_of why, last (ends.Stopped stop) at why, refl),
+    )
+declared old new c (Err (declaring.TooManyRecords count)) last few is steps looked s before alone =
+    let why = declare_reason old.desk c (Some (declaring.TooManyRecords count)) is.0 in
+    let found = found_of old.desk in (
+      s,
+      with_found before found,
+      refused old new s before before.fulls before.lacks alone is.1 looked (same_shown old s before alone),
+      goes_on_same s,
+      (found, finds old s before alone, ap first_of why.0, why.1, why.2, refl),
+    )
+declared old new c (Err (declaring.Full h)) last few is steps looked s before alone =
+    let why = declare_reason old.desk c (Some (declaring.Full h)) is.0 in
+    let found = found_of old.desk in (
+      s,
+      with_full before found,
+      refused old new s before (before.fulls ++ full_at found ∷ []) before.lacks alone is.1 looked (with_a_full old s before alone),
+      goes_on_same s,
+      (found, finds old s before alone, ap first_of why.0, why.1, omega (arith, why.2, alone.shows.limit), refl),
+    )
+declared old new c (Err declaring.TooManySchemas) last few is steps looked s before alone =
+    let why = declare_reason old.desk c (Some declaring.TooManySchemas) is.0 in
+    let found = found_of old.desk in
+    let p = parts old.desk s alone.stands in
+    let at_most : length old.desk.ids.schemas ≤ 65535 = subst (λ (d : DeskView). length d.ids.schemas ≤ 65535) is.1 few.few_schemas in
+    let lacks = lacks_schema old.desk.ids s.history c.schema p.contents at_most why.1 in (
+      s,
+      with_lack before found c declaring.TooManySchemas,
+      refused old new s before before.fulls (before.lacks ++ lack c declaring.TooManySchemas ∷ []) alone is.1 looked (with_a_lack old s before c declaring.TooManySchemas alone lacks),
+      goes_on_same s,
+      (found, finds old s before alone, ap first_of why.0, omega (arith, at_most, lacking_schemas old.desk.ids c why.1), refl),
+    )
+declared old new c (Err declaring.TooManyChannels) last few is steps looked s before alone =
+    let why = declare_reason old.desk c (Some declaring.TooManyChannels) is.0 in
+    let found = found_of old.desk in
+    let p = parts old.desk s alone.stands in
+    let at_most : length old.desk.ids.channels ≤ 65535 = subst (λ (d : DeskView). length d.ids.channels ≤ 65535) is.1 few.few_channels in
+    let lacks = lacks_channel old.desk.ids s.history c p.contents alone.stands.numbered at_most why.2 why.1 in (
+      s,
+      with_lack before found c declaring.TooManyChannels,
+      refused old new s before before.fulls (before.lacks ++ lack c declaring.TooManyChannels ∷ []) alone is.1 looked (with_a_lack old s before c declaring.TooManyChannels alone lacks),
+      goes_on_same s,
+      (found, finds old s before alone, ap first_of why.0, omega (arith, at_most, why.2), refl),
+    )
+declared old new c (Err declaring.Memory) last few is steps looked s before alone =
+    let why = declare_reason old.desk c None is.0 in
+    let found = found_of old.desk in (
+      s,
+      with_found before found,
+      refused old new s before before.fulls before.lacks alone is.1 looked (same_shown old s before alone),
+      goes_on_same s,
+      (found, finds old s before alone, ap first_of why, refl),
+    )

@@ -1,0 +1,110 @@
+-- Why a desk refuses what it refuses.
+use Rattle.std.proofs.Common.{◌≡◌, ℕ, ◌^◌, ◌<◌, ◌≤◌, Bool, true, false, length, Option, Some, None, refl, subst, arith}
+use Rattle.std.specs.Prelude.{nat_lt, nat_le, if◌then◌else◌}
+use Rattle.std.proofs.lemmas.Bool.{ltb-true, leb-true}
+use Rattle.rec_data.specs.declared.channel.ChannelDef.{ChannelDef}
+use Rattle.mcap_model.specs.declared.ends.End.{End}
+use Rattle.mcap_model.specs.declared.ends.End.TheVariants.{Closed, Stopped}
+use Rattle.record_core.specs.Ids.{is_known, channel_place}
+use Rattle.record_core.specs.Tables.{schemas_lack, ids_lack}
+use Rattle.record_core.specs.Desk.{DeskView, accepted, held, publish_ended, publish_refusal, declared_size, declare_at, declare_ended, declare_refusal}
+use Rattle.record_core.specs.declared.answers.PublishRefused.{PublishRefused}
+use Rattle.record_core.specs.declared.answers.PublishRefused.TheVariants as publishing
+use Rattle.record_core.specs.declared.answers.DeclareRefused.{DeclareRefused}
+use Rattle.record_core.specs.declared.answers.DeclareRefused.TheVariants as declaring
+
+-- ---- tests
+
+lt_false : (a b : ℕ) → nat_lt a b ≡ false → b ≤ a
+lt_false a b e = grind arith
+
+le_false : (a b : ℕ) → nat_le a b ≡ false → b < a
+le_false a b e = grind arith
+
+-- ---- messages
+
+abbrev pub PublishReason : DeskView → ℕ → ℕ → Option PublishRefused → Type 0
+PublishReason d channel len None = (d.end ≡ None) × (is_known d.ids channel ≡ true) × (accepted d < 2 ^ 48) × (held d < d.limit) × (len ≤ 33554432)
+PublishReason d channel len (Some (publishing.TooLarge l)) = (l ≡ len) × (33554432 < l)
+PublishReason d channel len (Some (publishing.Closed at)) = d.end ≡ Some (Closed, at)
+PublishReason d channel len (Some (publishing.Stopped at stop)) = d.end ≡ Some (Stopped stop, at)
+PublishReason d channel len (Some publishing.UnknownChannel) = (d.end ≡ None) × (is_known d.ids channel ≡ false)
+PublishReason d channel len (Some (publishing.TooManyRecords count)) = (d.end ≡ None) × (count ≡ accepted d) × (2 ^ 48 ≤ count)
+PublishReason d channel len (Some (publishing.Full h)) = (d.end ≡ None) × (h ≡ held d) × (d.limit ≤ h)
+PublishReason d channel len (Some publishing.Memory) = ⊥
+
+open_full : (d : DeskView) (channel len : ℕ) (b : Bool) → nat_le d.limit (held d) ≡ b → d.end ≡ None → is_known d.ids channel ≡ true → accepted d < 2 ^ 48 → len ≤ 33554432
+    → PublishReason d channel len (if b then Some (publishing.Full (held d)) else None)
+open_full d channel len true is unended known few small = (unended, refl, leb-true d.limit (held d) is)
+open_full d channel len false is unended known few small = (unended, known, few, le_false d.limit (held d) is, small)
+
+open_many : (d : DeskView) (channel len : ℕ) (b : Bool) → nat_le (2 ^ 48) (accepted d) ≡ b → d.end ≡ None → is_known d.ids channel ≡ true → len ≤ 33554432
+    → PublishReason d channel len (if b then Some (publishing.TooManyRecords (accepted d)) else (if nat_le d.limit (held d) then Some (publishing.Full (held d)) else None))
+open_many d channel len true is unended known small = (unended, refl, leb-true (2 ^ 48) (accepted d) is)
+open_many d channel len false is unended known small = open_full d channel len (nat_le d.limit (held d)) refl unended known (le_false (2 ^ 48) (accepted d) is) small
+
+open_known : (d : DeskView) (channel len : ℕ) (b : Bool) → is_known d.ids channel ≡ b → d.end ≡ None → len ≤ 33554432
+    → PublishReason d channel len (if b then (if nat_le (2 ^ 48) (accepted d) then Some (publishing.TooManyRecords (accepted d)) else (if nat_le d.limit (held d) then Some (publishing.Full (held d)) else None)) else Some publishing.UnknownChannel)
+open_known d channel len true is unended small = open_many d channel len (nat_le (2 ^ 48) (accepted d)) refl unended is small
+open_known d channel len false is unended small = (unended, is)
+
+ended_reason : (d : DeskView) (channel len : ℕ) (end : Option (End × ℕ)) → d.end ≡ end → len ≤ 33554432 → PublishReason d channel len (publish_ended end d channel)
+ended_reason d channel len None is small = open_known d channel len (is_known d.ids channel) refl is small
+ended_reason d channel len (Some (Closed, at)) is small = is
+ended_reason d channel len (Some (Stopped stop, at)) is small = is
+
+size_reason : (d : DeskView) (channel len : ℕ) (b : Bool) → nat_lt 33554432 len ≡ b → PublishReason d channel len (if b then Some (publishing.TooLarge len) else publish_ended d.end d channel)
+size_reason d channel len true is = (refl, ltb-true 33554432 len is)
+size_reason d channel len false is = ended_reason d channel len d.end refl (lt_false 33554432 len is)
+
+pub publish_reason : (d : DeskView) (channel len : ℕ) (refusal : Option PublishRefused) → publish_refusal d channel len ≡ refusal → PublishReason d channel len refusal
+publish_reason d channel len refusal is = subst (PublishReason d channel len) is (size_reason d channel len (nat_lt 33554432 len) refl)
+
+-- ---- declarations
+
+abbrev pub DeclareReason : DeskView → ChannelDef → Option DeclareRefused → Type 0
+DeclareReason d c None = d.end ≡ None
+DeclareReason d c (Some (declaring.TooLarge l)) = (l ≡ declared_size c) × (1048576 < l)
+DeclareReason d c (Some (declaring.Closed at)) = d.end ≡ Some (Closed, at)
+DeclareReason d c (Some (declaring.Stopped at stop)) = d.end ≡ Some (Stopped stop, at)
+DeclareReason d c (Some (declaring.TooManyRecords count)) = (d.end ≡ None) × (count ≡ accepted d) × (2 ^ 48 ≤ count)
+DeclareReason d c (Some (declaring.Full h)) = (d.end ≡ None) × (h ≡ held d) × (d.limit ≤ h)
+DeclareReason d c (Some declaring.TooManySchemas) = (d.end ≡ None) × (schemas_lack d.ids c.schema ≡ true)
+DeclareReason d c (Some declaring.TooManyChannels) = (d.end ≡ None) × (channel_place d.ids c ≡ None) × (65535 ≤ length d.ids.channels)
+DeclareReason d c (Some declaring.Memory) = ⊥
+
+channels_reason : (d : DeskView) (c : ChannelDef) (b : Bool) → nat_le 65535 (length d.ids.channels) ≡ b → d.end ≡ None → channel_place d.ids c ≡ None
+    → DeclareReason d c (if b then Some declaring.TooManyChannels else None)
+channels_reason d c true is unended new = (unended, new, leb-true 65535 (length d.ids.channels) is)
+channels_reason d c false is unended new = unended
+
+ids_reason : (d : DeskView) (c : ChannelDef) (b : Bool) → schemas_lack d.ids c.schema ≡ b → d.end ≡ None → channel_place d.ids c ≡ None
+    → DeclareReason d c (if b then Some declaring.TooManySchemas else (if nat_le 65535 (length d.ids.channels) then Some declaring.TooManyChannels else None))
+ids_reason d c true is unended new = (unended, is)
+ids_reason d c false is unended new = channels_reason d c (nat_le 65535 (length d.ids.channels)) refl unended new
+
+full_reason : (d : DeskView) (c : ChannelDef) (b : Bool) → nat_le d.limit (held d) ≡ b → d.end ≡ None → channel_place d.ids c ≡ None
+    → DeclareReason d c (if b then Some (declaring.Full (held d)) else ids_lack d.ids c)
+full_reason d c true is unended new = (unended, refl, leb-true d.limit (held d) is)
+full_reason d c false is unended new = ids_reason d c (schemas_lack d.ids c.schema) refl unended new
+
+many_reason : (d : DeskView) (c : ChannelDef) (b : Bool) → nat_le (2 ^ 48) (accepted d) ≡ b → d.end ≡ None → channel_place d.ids c ≡ None
+    → DeclareReason d c (if b then Some (declaring.TooManyRecords (accepted d)) else (if nat_le d.limit (held d) then Some (declaring.Full (held d)) else ids_lack d.ids c))
+many_reason d c true is unended new = (unended, refl, leb-true (2 ^ 48) (accepted d) is)
+many_reason d c false is unended new = full_reason d c (nat_le d.limit (held d)) refl unended new
+
+place_reason : (d : DeskView) (c : ChannelDef) (place : Option ℕ) → channel_place d.ids c ≡ place → d.end ≡ None → DeclareReason d c (declare_at place d c)
+place_reason d c (Some place) is unended = unended
+place_reason d c None is unended = many_reason d c (nat_le (2 ^ 48) (accepted d)) refl unended is
+
+declare_ended_reason : (d : DeskView) (c : ChannelDef) (end : Option (End × ℕ)) → d.end ≡ end → DeclareReason d c (declare_ended end d c)
+declare_ended_reason d c None is = place_reason d c (channel_place d.ids c) refl is
+declare_ended_reason d c (Some (Closed, at)) is = is
+declare_ended_reason d c (Some (Stopped stop, at)) is = is
+
+declare_size_reason : (d : DeskView) (c : ChannelDef) (b : Bool) → nat_lt 1048576 (declared_size c) ≡ b → DeclareReason d c (if b then Some (declaring.TooLarge (declared_size c)) else declare_ended d.end d c)
+declare_size_reason d c true is = (refl, ltb-true 1048576 (declared_size c) is)
+declare_size_reason d c false is = declare_ended_reason d c d.end refl
+
+pub declare_reason : (d : DeskView) (c : ChannelDef) (refusal : Option DeclareRefused) → declare_refusal d c ≡ refusal → DeclareReason d c refusal
+declare_reason d c refusal is = subst (DeclareReason d c) is (declare_size_reason d c (nat_lt 1048576 (declared_size c)) refl)

@@ -1,0 +1,71 @@
+-- That what a pass showed is so of the history of a recording.
+use Rattle.std.specs.Prelude.{◌≡◌, ℕ, ◌-◌, ◌≤◌, List, length, take, drop, Option, Some, None}
+use Rattle.rec_data.specs.declared.owned.Rec.{Rec}
+use Rattle.rec_data.specs.declared.schema.SchemaDef.{SchemaDef}
+use Rattle.rec_data.specs.declared.channel.ChannelDef.{ChannelDef}
+use Rattle.mcap_model.specs.declared.ends.End.{End}
+use Rattle.mcap_model.specs.declared.ends.End.TheVariants as ends
+use Rattle.mcap_model.specs.Places.{At, Has, Each}
+use Rattle.mcap_model.specs.History.{schema_of, channel_of, schema_count, channel_count, history_bytes}
+use Rattle.record_core.specs.Ids.{fields_of_schema, fields_with}
+use Rattle.record_core.specs.declared.answers.DeclareRefused.{DeclareRefused}
+use Rattle.record_core.specs.declared.answers.DeclareRefused.TheVariants as declaring
+use Rattle.record_core.specs.declared.answers.Found.{Found}
+use Rattle.feed_lane.specs.Pass.{FullAt, PassState}
+
+-- ---- channels
+
+-- the history has the declaration's schema under that id, which is 0 where there is none
+abbrev pub SchemaStands : List Rec → ℕ → Option SchemaDef → Type 0
+SchemaStands history id None = id ≡ 0
+SchemaStands history id (Some s) = Has history (schema_of id (fields_of_schema s))
+
+-- the history has a Channel of that id with the declaration's content
+pub record ChannelStands (history : List Rec) (id : ℕ) (d : ChannelDef) : Type 0 where
+  pub schema : ℕ
+  pub has : Has history (channel_of id (fields_with d schema))
+  pub schema_stands : SchemaStands history schema d.schema
+
+-- all ids of schemas were given, and none to this schema
+abbrev pub LacksSchema : List Rec → Option SchemaDef → Type 0
+LacksSchema history None = ⊥
+LacksSchema history (Some s) = (schema_count history ≡ 65535) × ((id : ℕ) → Has history (schema_of id (fields_of_schema s)) → ⊥)
+
+-- all ids of channels were given, and none to this content
+abbrev pub LacksChannel : List Rec → ChannelDef → Type 0
+LacksChannel history d = (channel_count history ≡ 65535) × ((id : ℕ) → ChannelStands history id d → ⊥)
+
+-- why a declaration got no id
+abbrev pub Lacks : List Rec → ChannelDef → DeclareRefused → Type 0
+Lacks history d (declaring.TooLarge len) = ⊥
+Lacks history d (declaring.Closed at) = ⊥
+Lacks history d (declaring.Stopped at stop) = ⊥
+Lacks history d (declaring.TooManyRecords count) = ⊥
+Lacks history d (declaring.Full held) = ⊥
+Lacks history d declaring.TooManySchemas = LacksSchema history d.schema
+Lacks history d declaring.TooManyChannels = LacksChannel history d
+Lacks history d declaring.Memory = ⊥
+
+-- ---- a pass
+
+-- a full buffer held the records of the history at its places
+pub record HeldThere (history : List Rec) (full : FullAt) : Type 0 where
+  pub order : full.from ≤ full.to
+  pub within : full.to ≤ length history
+  pub held : full.held ≡ length (history_bytes (take (full.to - full.from) (drop full.from history)))
+
+-- The intake was found with no more records than the history has. An end that was found is the recording's, which isn't that
+-- it was closed, and behind it nothing was accepted.
+pub record FoundIn (history : List Rec) (end : End) (found : Found) : Type 0 where
+  pub within : found.count ≤ length history
+  pub all : (e : End) → found.end ≡ Some e → found.count ≡ length history
+  pub same : (e : End) → found.end ≡ Some e → e ≡ end
+  pub unclosed : found.end ≡ Some ends.Closed → ⊥
+
+-- What a pass showed is so of a history whose recording came to this end.
+pub record ShownBy (history : List Rec) (end : End) (pass : PassState) : Type 0 where
+  pub own : Each (λ pair. At history pair.0 pair.1) pass.own
+  pub named : Each (λ pair. ChannelStands history pair.0 pair.1) pass.named
+  pub fulls : Each (HeldThere history) pass.fulls
+  pub lacks : Each (λ pair. Lacks history pair.0 pair.1) pass.lacks
+  pub found : (found : Found) → pass.found ≡ Some found → FoundIn history end found
