@@ -1,0 +1,158 @@
+-- What stands behind a chunk.
+use Rattle.std.proofs.Common.{◌≡◌, ℕ, suc, false, List, [], ◌∷◌, ◌++◌, length, drop, refl, sym, ap, subst, inl, inr, ◌∙◌, append_assoc, arith}
+use Rattle.std.specs.Prelude.{take_while}
+use Rattle.std.proofs.lemmas.Bool.{ne_eqb, eq-eqb}
+use Rattle.std.proofs.lemmas.List.{append-nil}
+use Rattle.std.proofs.lemmas.Option.{same_Some}
+use Rattle.mcap_wire.proofs.Contents.{shows_decided}
+use Rattle.rec_index.specs.Records.{message_index_kinds, message_index_values, ShowsMessageIndex}
+use Rattle.mcap_model.specs.Places.{At, Has, Each}
+use Rattle.mcap_model.specs.Tops.{Top, inner_tops, records_in}
+use Rattle.mcap_model.specs.Fields.{IsMessage, IsMessageIndex}
+use Rattle.mcap_model.specs.Whole.{is_index, indexes_behind, AreEntries, IndexIsRight, BelongsTo, IsIndexed}
+use Rattle.mcap_model.specs.Made.{top}
+use Rattle.mcap_model.specs.Walk.{inner_top, StepsOver}
+use Rattle.mcap_model.specs.declared.inner.Inner.{Inner}
+use Rattle.mcap_model.proofs.Places.{at_none, at_last, at_more, last_apart}
+use Rattle.mcap_model.proofs.Lists.{take_while_front}
+use Rattle.mcap_model.proofs.Cutting.{last_of}
+use Rattle.index_check.specs.Behind.{IsOpen, IsOn, AreOn}
+
+-- ---- a Message Index
+
+pub index_once : (t : Top) (a b : ℕ) (e f : List (ℕ × ℕ)) → IsMessageIndex t a e → IsMessageIndex t b f → (a ≡ b) × (e ≡ f)
+index_once t a b e f one other =
+    let same = shows_decided message_index_kinds t.content (message_index_values a e) (message_index_values b f) one.layout other.layout in
+    (cc same, cc same)
+
+pub as_index : (content : List ℕ) (channel : ℕ) (entries : List (ℕ × ℕ)) → ShowsMessageIndex content channel entries → IsMessageIndex (top 7 content) channel entries
+as_index content channel entries shows = record { kind = refl; layout = shows }
+
+pub index_belongs : (before : List Top) (records channels content : List ℕ) (channel : ℕ) (entries : List (ℕ × ℕ)) → IsOpen before records channels → ShowsMessageIndex content channel entries
+    → AreEntries (records_in records) channel entries → (Has channels channel → ⊥) → BelongsTo before (top 7 content)
+index_belongs before records channels content channel entries o shows are fresh = by o.earlier refl
+  where
+    right : (others : List Top) (chunk : Top) (earlier : List Top) → before ≡ others ++ chunk ∷ earlier → chunk.op ≡ 6 → Each (λ u. u.op ≡ 7) earlier → IndexIsRight chunk earlier (top 7 content)
+    right others chunk earlier joined kind indexes =
+        let same = last_apart (λ (u : Top). u.op ≡ 7) o.others others o.chunk chunk o.earlier earlier (sym o.joined ∙ joined) (let six = o.kind in λ e. omega (arith, six, e)) (λ e. omega (arith, kind, e)) o.indexes indexes in
+        record {
+          entries = λ own list is.
+              let once = index_once (top 7 content) channel own entries list (as_index content channel entries shows) is in
+              subst (λ (l : List (ℕ × ℕ)). AreEntries (inner_tops chunk) own l) once.1
+              (subst (λ (n : ℕ). AreEntries (inner_tops chunk) n entries) once.0
+              (subst (λ (l : List Top). AreEntries l channel entries) (sym o.holds ∙ ap inner_tops same.0) are));
+          only = λ own u list others_list has is own_is.
+              let once = index_once (top 7 content) channel own entries list (as_index content channel entries shows) own_is in
+              let there = o.shown has.0 u (subst (λ (l : List Top). At l has.0 u) (sym same.1) has.1) in
+              let again = index_once u there.0 own there.1 others_list there.2 is in
+              fresh (subst (Has channels) (again.0 ∙ sym once.0) there.3);
+        }
+
+    by : (earlier : List Top) → o.earlier ≡ earlier → BelongsTo before (top 7 content)
+    by [] is = record { front = o.others; neighbour = o.chunk; follows = o.joined ∙ ap (λ (l : List Top). o.others ++ o.chunk ∷ l) is; is = inl o.kind; right = right }
+    by (u ∷ us) is =
+        let (front, last, split) = last_of u us in
+        let there : o.earlier ≡ front ++ last ∷ [] = is ∙ split in
+        record {
+          front = o.others ++ o.chunk ∷ front;
+          neighbour = last;
+          follows = o.joined ∙ ap (λ (l : List Top). o.others ++ o.chunk ∷ l) there ∙ sym (append_assoc o.others (o.chunk ∷ front) (last ∷ []));
+          is = inr (o.indexes (length front) last (subst (λ (l : List Top). At l (length front) last) (sym there) (at_last front last [])));
+          right = right;
+        }
+
+pub belongs_index : (before : List Top) (records channels content : List ℕ) (channel : ℕ) (entries : List (ℕ × ℕ)) → IsOpen before records channels → ShowsMessageIndex content channel entries
+    → BelongsTo before (top 7 content) → AreEntries (records_in records) channel entries × (Has channels channel → ⊥)
+belongs_index before records channels content channel entries o shows belongs =
+    let right = belongs.right o.others o.chunk o.earlier o.joined o.kind o.indexes in
+    let own = as_index content channel entries shows in (
+      subst (λ (l : List Top). AreEntries l channel entries) o.holds (right.entries channel entries own),
+      λ has. let there = o.named channel has in right.only channel there.0 entries there.1 there.2 there.3 own,
+    )
+
+-- ---- the chunk
+
+pub drop_seam : {X : Type 0} (xs : List X) (x : X) (ys : List X) → drop (suc (length xs)) (xs ++ x ∷ ys) ≡ ys
+drop_seam [] x ys = refl
+drop_seam (z ∷ xs) x ys = drop_seam xs x ys
+
+-- the Message Indexes behind a chunk, where another record follows them
+pub indexes_are : (others : List Top) (chunk : Top) (earlier : List Top) (t : Top) (after : List Top) → Each (λ u. u.op ≡ 7) earlier → (t.op ≡ 7 → ⊥)
+    → indexes_behind ((others ++ chunk ∷ earlier) ++ t ∷ after) (length others) ≡ earlier
+indexes_are others chunk earlier t after indexes other =
+    ap (λ (l : List Top). take_while is_index (drop (suc (length others)) l)) (append_assoc others (chunk ∷ earlier) (t ∷ after))
+    ∙ ap (take_while is_index) (drop_seam others chunk (earlier ++ t ∷ after))
+    ∙ take_while_front is_index earlier (t ∷ after) (λ n u at. eq-eqb u.op 7 (indexes n u at)) first
+  where
+    first : (x : Top) → At (t ∷ after) 0 x → is_index x ≡ false
+    first x at = ap is_index (sym (same_Some t x at)) ∙ ne_eqb t.op 7 other
+
+pub behind_open : (before after : List Top) (t : Top) (records channels : List ℕ) (o : IsOpen before records channels) → (t.op ≡ 7 → ⊥) → indexes_behind (before ++ t ∷ after) (length o.others) ≡ o.earlier
+behind_open before after t records channels o other =
+    ap (λ (l : List Top). indexes_behind (l ++ t ∷ after) (length o.others)) o.joined ∙ indexes_are o.others o.chunk o.earlier t after o.indexes other
+
+pub indexed_none : (before after : List Top) (t : Top) (records channels : List ℕ) (o : IsOpen before records channels) → (t.op ≡ 7 → ⊥) → channels ≡ [] → IsIndexed (before ++ t ∷ after) (length o.others) o.chunk
+indexed_none before after t records channels o other none = inl (behind_open before after t records channels o other ∙ empty o.earlier refl)
+  where
+    empty : (earlier : List Top) → o.earlier ≡ earlier → earlier ≡ []
+    empty [] is = refl
+    empty (u ∷ us) is =
+        let there = o.shown 0 u (subst (λ (l : List Top). At l 0 u) (sym is) refl) in
+        let has = subst (λ (l : List ℕ). Has l there.0) none there.3 in
+        absurd (at_none has.0 there.0 has.1)
+
+pub indexed_all : (before after : List Top) (t : Top) (records channels : List ℕ) (o : IsOpen before records channels) → (t.op ≡ 7 → ⊥) → AreOn (records_in records) channels → IsIndexed (before ++ t ∷ after) (length o.others) o.chunk
+indexed_all before after t records channels o other on = inr (λ j channel u m at is.
+    let there = o.named channel (on j channel u m (subst (λ (l : List Top). At l j u) o.holds at) is) in
+    let has = there.2 in
+    (has.0, there.0, there.1, subst (λ (l : List Top). At l has.0 there.0) (sym (behind_open before after t records channels o other)) has.1, there.3))
+
+pub on_indexed : (before after : List Top) (t : Top) (records channels : List ℕ) (o : IsOpen before records channels) → (t.op ≡ 7 → ⊥) → (channels ≡ [] → ⊥) → IsIndexed (before ++ t ∷ after) (length o.others) o.chunk → AreOn (records_in records) channels
+on_indexed before after t records channels o other some indexed = elim indexed [
+  | inl none ↦ absurd (some (no_channel (none_behind none) channels refl))
+  | inr each ↦ λ j channel u m at is.
+      let (k, i, entries, there, shows) = each j channel u m (subst (λ (l : List Top). At l j u) (sym o.holds) at) is in
+      let seen = o.shown k i (subst (λ (l : List Top). At l k i) (behind_open before after t records channels o other) there) in
+      let once = index_once i seen.0 channel seen.1 entries seen.2 shows in
+      subst (Has channels) once.0 seen.3
+]
+  where
+    none_behind : indexes_behind (before ++ t ∷ after) (length o.others) ≡ [] → o.earlier ≡ []
+    none_behind none = sym (behind_open before after t records channels o other) ∙ none
+
+    no_channel : o.earlier ≡ [] → (list : List ℕ) → channels ≡ list → channels ≡ []
+    no_channel none [] is = is
+    no_channel none (c ∷ cs) is =
+        let there = o.named c (0, subst (λ (l : List ℕ). At l 0 c) (sym is) refl) in
+        let has = there.2 in
+        absurd (at_none has.0 there.0 (subst (λ (l : List Top). At l has.0 there.0) none has.1))
+
+-- ---- the walk over the records of the chunk
+
+pub record OnSoFar (records rest channels : List ℕ) : Type 0 where
+  pub done : List Top
+  pub split : records_in records ≡ done ++ records_in rest
+  pub on : AreOn done channels
+
+pub on_none : (records rest channels : List ℕ) → rest ≡ records → OnSoFar records rest channels
+on_none records rest channels all = record { done = []; split = ap records_in (sym all); on = λ j channel u m at is. absurd (at_none j u at) }
+
+pub on_step : (records rest rest_new channels : List ℕ) (at at_new : ℕ) (inner : Inner) → OnSoFar records rest channels → StepsOver at rest at_new rest_new inner → IsOn (inner_top inner) channels → OnSoFar records rest_new channels
+on_step records rest rest_new channels at at_new inner was steps on = record {
+  done = was.done ++ inner_top inner ∷ [];
+  split = was.split ∙ ap (λ (l : List Top). was.done ++ l) steps.first ∙ sym (append_assoc was.done (inner_top inner ∷ []) (records_in rest_new));
+  on = λ j channel u m there is. elim (at_more was.done (inner_top inner) j u there) [
+    | inl old ↦ was.on j channel u m old is
+    | inr (_, same) ↦ on channel m (subst (λ (x : Top). IsMessage x channel m) same is)
+  ];
+}
+
+pub on_here : (records rest rest_new channels : List ℕ) (at at_new : ℕ) (inner : Inner) → OnSoFar records rest channels → StepsOver at rest at_new rest_new inner → AreOn (records_in records) channels → IsOn (inner_top inner) channels
+on_here records rest rest_new channels at at_new inner was steps on = λ channel m is.
+    let there : records_in records ≡ was.done ++ inner_top inner ∷ records_in rest_new = was.split ∙ ap (λ (l : List Top). was.done ++ l) steps.first in
+    on (length was.done) channel (inner_top inner) m (subst (λ (l : List Top). At l (length was.done) (inner_top inner)) (sym there) (at_last was.done (inner_top inner) (records_in rest_new))) is
+
+pub on_all : (records rest channels : List ℕ) → OnSoFar records rest channels → records_in rest ≡ [] → AreOn (records_in records) channels
+on_all records rest channels was none =
+    let all : was.done ≡ records_in records = sym (was.split ∙ ap (λ (l : List Top). was.done ++ l) none ∙ append-nil was.done) in
+    subst (λ (l : List Top). AreOn l channels) all was.on

@@ -1,0 +1,14 @@
+pub mod Walked
+pub mod Apart
+pub mod SortedEntries
+pub mod Followers
+pub mod Marks
+pub mod Answering
+pub mod Spotted
+pub mod Indexed
+pub mod Numbered
+pub mod InPlace
+pub mod Covered
+pub mod Tracked
+pub mod Counted
+pub mod Ends

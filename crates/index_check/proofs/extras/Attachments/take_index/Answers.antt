@@ -1,0 +1,21 @@
+use Rattle.std.proofs.Common.{List, refl, sym, subst}
+use Rattle.rec_index.specs.Parsed.{attachment_index_fields}
+use Rattle.index_check.specs.declared.extras.AttachmentNote.{AttachmentNote}
+use Rattle.index_check.specs.Spots.{FitsNamed}
+use Rattle.index_check.specs.Extras.{IsOfAttachment}
+use Rattle.index_check.proofs.Indexed.{attachment_right, right_attachment, attachments_kept, attachments_named}
+use Rattle.index_check.proofs.extras.Attachments.take_index.Goals as goal
+
+pub returns-clause-right : goal.returns-clause-right
+returns-clause-right c = λ tops n are named.
+    let same = c.deref.ensures.value in
+    let fits = λ (l : List AttachmentNote). FitsNamed (λ note. IsOfAttachment note (attachment_index_fields c.args.index.now)) l c.name-naming.result in (
+      λ e. attachment_right tops n c.args.self.now c.name-naming.new.self (attachment_index_fields c.args.index.now) c.name-naming.result are named c.name-naming.ensures (subst fits same (c.fits_attachment.ensures.0 e)),
+      λ right. c.fits_attachment.ensures.1 (subst fits (sym same) (right_attachment tops n c.args.self.now c.name-naming.new.self (attachment_index_fields c.args.index.now) c.name-naming.result are named c.name-naming.ensures right)),
+    )
+
+pub returns-clause-kept : goal.returns-clause-kept
+returns-clause-kept c = λ tops are. attachments_kept tops c.args.self.now (record { spots = c.name-naming.new.self; notes = c.args.self.now.notes }) c.args.index.now.offset c.name-naming.result are c.name-naming.ensures refl
+
+pub returns-clause-named : goal.returns-clause-named
+returns-clause-named c = λ tops n t named at is. attachments_named tops n t c.args.self.now.spots c.name-naming.new.self (attachment_index_fields c.args.index.now) c.name-naming.result named at is c.name-naming.ensures

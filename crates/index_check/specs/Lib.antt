@@ -1,0 +1,9 @@
+pub mod Entries
+pub mod Ids
+pub mod Behind
+pub mod Spots
+pub mod Extras
+pub mod Chunks
+pub mod Order
+pub mod Tally
+pub mod SummaryPlaces

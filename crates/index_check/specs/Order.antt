@@ -1,0 +1,15 @@
+-- The opcodes of the known records of a summary.
+use Rattle.std.specs.Prelude.{◌≡◌, ◌≢◌, ℕ, List, ◌++◌, ◌∷◌, []}
+use Rattle.mcap_model.specs.Places.{Has, Each}
+use Rattle.mcap_model.specs.Tops.{Top}
+use Rattle.index_check.specs.declared.order.Order.{Order}
+
+-- these are the opcodes of the records, and that of the last one
+pub record OrderOf (before : List Top) (kept : Order) : Type 0 where
+  pub there : Each (λ u. Has kept.ops u.op) before
+  pub are : (op : ℕ) → Has kept.ops op → (u : Top) × Has before u × (u.op ≡ op)
+  pub last : (front : List Top) (u : Top) → before ≡ front ++ u ∷ [] → u.op ≡ kept.last
+
+-- behind a Summary Offset stand such alone
+abbrev pub OffsetsLast : List ℕ → ℕ → Type 0
+OffsetsLast ops op = op ≢ 14 → Has ops 14 → ⊥

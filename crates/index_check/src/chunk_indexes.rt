@@ -1,0 +1,257 @@
+//! Chunk Indexes.
+ghost use Rattle.std.specs.Prelude.{◌≡◌, ◌↔◌, ◌<◌, ◌+◌, ◌^◌, ◌++◌, ◌∷◌, [], ℕ, suc, false, List, length as size, IsTrue, OnOk};
+ghost use Rattle.rec_index.specs.Parsed.{chunk_fields, chunk_index_fields};
+ghost use Rattle.rec_index.specs.Records.{ShowsChunk, ShowsMessageIndex};
+ghost use Rattle.mcap_model.specs.Places.{At, Has, Each};
+ghost use Rattle.mcap_model.specs.Tops.{Top, top_bytes, offset_behind};
+ghost use Rattle.mcap_model.specs.Fields.{IsChunkIndex};
+ghost use Rattle.mcap_model.specs.Whole.{ChunkIndexIsRight};
+ghost use Rattle.mcap_model.specs.Made.{top};
+ghost use Rattle.index_check.specs.Spots.{FitsNamed, spot};
+ghost use Rattle.index_check.specs.Chunks.{IsNoteAt, IsNotedAt, AreNoted, IsNamedOrEmpty, AreNamed, NamesNoted, HasNumbers, IsOfChunk, ChunksOf, ChunksNamed, AddsIndex, EndsWithChunk};
+
+use crate::spots::{Naming, Spots};
+use mcap_wire::{CountsRef, Memory};
+use rec_index::{Chunk, ChunkIndex, MessageIndex};
+use std::alloc::Global;
+
+/// What is kept of a Message Index: its channel, where it stands in bytes from the file's front, and its number of entries.
+#[derive(Clone, Copy, Debug, PartialEq, Eq)]
+pub struct IndexNote {
+    pub channel: u16,
+    pub offset: u64,
+    pub entries: u64,
+}
+
+/// What is kept of a chunk: the length of the whole record, its times in nanoseconds and the size of its records, which
+/// aren't compressed; and the Message Indexes behind it, with their length together. Lengths are in bytes.
+#[derive(Drop)]
+pub struct ChunkNote {
+    pub length: u64,
+    pub start: u64,
+    pub end: u64,
+    pub size: u64,
+    pub indexes: Vec<IndexNote>,
+    pub indexes_length: u64,
+}
+
+/// The chunks of a file, in its order, and which of them have an index so far.
+#[derive(Drop)]
+pub struct Chunks {
+    pub spots: Spots,
+    pub notes: Vec<ChunkNote>,
+}
+
+// Whether a Message Index is of that channel and stands at that offset.
+fn is_note_at(note: &IndexNote, channel: u16, offset: u64) -> bool
+    ensures { IsTrue result ↔ IsNoteAt note.now channel offset }
+{
+    note.channel == channel && note.offset == offset
+}
+
+// Whether one of the Message Indexes is.
+fn is_noted(notes: &[IndexNote], channel: u16, offset: u64) -> bool
+    ensures { IsTrue result ↔ IsNotedAt notes.now channel offset }
+{
+    'notes: for i in 0..notes.len() {
+        if is_note_at(&notes[i], channel, offset) {
+            return true;
+        }
+    }
+    return false;
+}
+
+// Whether a map gives that channel the offset.
+fn is_named(map: &CountsRef<'_>, channel: u16, offset: u64) -> bool
+    ensures { IsTrue result ↔ Has map.now (channel, offset) }
+{
+    'names: for i in 0..map.count() {
+        let (key, value) = map.item(i);
+        if key == channel && value == offset {
+            return true;
+        }
+    }
+    return false;
+}
+
+// Whether a map names none but these Message Indexes.
+fn are_noted(map: &CountsRef<'_>, notes: &[IndexNote]) -> bool
+    ensures { IsTrue result ↔ AreNoted map.now notes.now }
+{
+    'names: for i in 0..map.count() {
+        let (channel, offset) = map.item(i);
+        if !is_noted(notes, channel, offset) {
+            return false;
+        }
+    }
+    return true;
+}
+
+// Whether a Message Index has no entries, or is named by a map.
+fn is_named_or_empty(map: &CountsRef<'_>, note: &IndexNote) -> bool
+    ensures { IsTrue result ↔ IsNamedOrEmpty map.now note.now }
+{
+    if note.entries == 0 {
+        return true;
+    }
+    return is_named(map, note.channel, note.offset);
+}
+
+// Whether a map names each of these Message Indexes that has an entry.
+fn are_named(map: &CountsRef<'_>, notes: &[IndexNote]) -> bool
+    ensures { IsTrue result ↔ AreNamed map.now notes.now }
+{
+    'notes: for i in 0..notes.len() {
+        if !is_named_or_empty(map, &notes[i]) {
+            return false;
+        }
+    }
+    return true;
+}
+
+// Whether the map of an index is empty, or names the Message Indexes that were noted and gives their length.
+fn names_indexes(note: &ChunkNote, index: &ChunkIndex<'_>) -> bool
+    ensures { IsTrue result ↔ NamesNoted note.now (chunk_index_fields index.now) }
+{
+    let map = &index.message_index_offsets;
+    if map.count() == 0 {
+        return true;
+    }
+    if index.message_index_length != note.indexes_length {
+        return false;
+    }
+    if !are_noted(map, &note.indexes) {
+        return false;
+    }
+    return are_named(map, &note.indexes);
+}
+
+// Whether an index repeats the numbers that were noted.
+fn has_numbers(note: &ChunkNote, index: &ChunkIndex<'_>) -> bool
+    ensures { IsTrue result ↔ HasNumbers note.now (chunk_index_fields index.now) }
+{
+    index.chunk_length == note.length
+        && index.message_start_time == note.start
+        && index.message_end_time == note.end
+        && index.compression == ""
+        && index.compressed_size == note.size
+        && index.uncompressed_size == note.size
+}
+
+// Whether an index is of the chunk that was noted.
+fn is_of_chunk(note: &ChunkNote, index: &ChunkIndex<'_>) -> bool
+    ensures { IsTrue result ↔ IsOfChunk note.now (chunk_index_fields index.now) }
+{
+    has_numbers(note, index) && names_indexes(note, index)
+}
+
+// Whether a chunk that was named first is that of the index.
+fn fits_chunk(naming: Naming, notes: &[ChunkNote], index: &ChunkIndex<'_>) -> bool
+    ensures { IsTrue result ↔ FitsNamed (λ note. IsOfChunk note (chunk_index_fields index.now)) notes.now naming }
+{
+    match naming {
+        Naming::First { place } => {
+            if place >= notes.len() {
+                return false;
+            }
+            return is_of_chunk(&notes[place], index);
+        }
+        Naming::Absent => return false,
+        Naming::Again => return false,
+    }
+}
+
+impl ChunkNote {
+    // Adds a Message Index behind the others.
+    fn add(&mut self, offset: u64, length: u64, index: &MessageIndex<'_>) -> Result<(), Memory>
+        ensures { OnOk result (AddsIndex self.old self.new (record { channel = index.now.channel_id; offset = offset; entries = size index.now.entries }) length) }
+    {
+        match self.indexes.push(IndexNote {
+            channel: index.channel_id,
+            offset,
+            entries: index.entries.count() as u64,
+        }) {
+            Ok(()) => {}
+            Err(_) => return Err(Memory),
+        }
+        self.indexes_length = self.indexes_length.saturating_add(length);
+        return Ok(());
+    }
+}
+
+impl Chunks {
+    pub fn new(alloc: Global) -> Chunks
+        ensures none { ChunksOf [] result }
+        ensures empty { result.spots ≡ [] }
+    {
+        Chunks {
+            spots: Spots::new(alloc),
+            notes: Vec::new(alloc),
+        }
+    }
+
+    /// Adds the chunk that stands at that offset, behind the others, in a record of that length. It names no compression,
+    /// and has the size of its records. After a want of memory what is kept is of no use.
+    pub fn add(
+        &mut self,
+        alloc: Global,
+        offset: u64,
+        length: u64,
+        chunk: &Chunk<'_>,
+    ) -> Result<(), Memory>
+        requires { Each (λ s. s.offset < offset) self.old.spots }
+        ensures kept { OnOk result ((tops : List Top) (content : List ℕ) → ChunksOf tops self.old → offset ≡ offset_behind tops → length ≡ size (top_bytes (top 6 content)) → ShowsChunk content (chunk_fields chunk.now)
+            → chunk.now.compression.now ≡ [] → chunk.now.uncompressed_size ≡ size chunk.now.records.now → ChunksOf (tops ++ top 6 content ∷ []) self.new) }
+        ensures unnamed { OnOk result (self.new.spots ≡ self.old.spots ++ spot offset false ∷ []) }
+    {
+        match self.spots.add(offset) {
+            Ok(()) => {}
+            Err(memory) => return Err(memory),
+        }
+        match self.notes.push(ChunkNote {
+            length,
+            start: chunk.message_start_time,
+            end: chunk.message_end_time,
+            size: chunk.uncompressed_size,
+            indexes: Vec::new(alloc),
+            indexes_length: 0,
+        }) {
+            Ok(()) => return Ok(()),
+            Err(_) => return Err(Memory),
+        }
+    }
+
+    /// Adds the Message Index that stands at that offset, behind the last chunk and its other Message Indexes, in a record
+    /// of that length. After a want of memory what is kept is of no use.
+    pub fn add_index(
+        &mut self,
+        offset: u64,
+        length: u64,
+        index: &MessageIndex<'_>,
+    ) -> Result<(), Memory>
+        ensures kept { OnOk result ((tops : List Top) (content : List ℕ) → ChunksOf tops self.old → EndsWithChunk tops → offset ≡ offset_behind tops → offset + length < 2 ^ 64 → length ≡ size (top_bytes (top 7 content))
+            → ShowsMessageIndex content index.now.channel_id index.now.entries → ChunksOf (tops ++ top 7 content ∷ []) self.new) }
+        ensures spots { self.new.spots ≡ self.old.spots }
+    {
+        let count = self.notes.len();
+        if count == 0 {
+            return Ok(());
+        }
+        match self.notes[count - 1].add(offset, length, index) {
+            Ok(()) => return Ok(()),
+            Err(memory) => return Err(memory),
+        }
+    }
+
+    /// Whether a Chunk Index, behind others, has the offset of a chunk that none of them has, and repeats its length, times
+    /// and sizes; and whether its map is empty, or names the Message Indexes behind the chunk: none else, all that have
+    /// entries, and their length together. It counts as an index of that chunk from then on.
+    pub fn take_index(&mut self, index: &ChunkIndex<'_>) -> bool
+        ensures right { (tops : List Top) (n : ℕ) → ChunksOf tops self.old → ChunksNamed tops n self.old → IsTrue result ↔ ChunkIndexIsRight tops n (chunk_index_fields index.now) }
+        ensures kept { (tops : List Top) → ChunksOf tops self.old → ChunksOf tops self.new }
+        ensures named { (tops : List Top) (n : ℕ) (t : Top) → ChunksNamed tops n self.old → At tops n t → IsChunkIndex t (chunk_index_fields index.now) → ChunksNamed tops (suc n) self.new }
+    {
+        let naming = self.spots.name(index.chunk_start_offset);
+        fits_chunk(naming, &self.notes, index)
+    }
+}
