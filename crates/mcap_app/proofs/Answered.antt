@@ -1,111 +1,41 @@
 -- From the parts of a recording to what the program promises of it.
-use Rattle.std.proofs.Common.{◌≡◌, ◌⊎◌, ℕ, ◌-◌, ◌^◌, ◌<◌, not, Bool, true, false, cond, ◌||◌, List, [], ◌∷◌, Option, Some, None, refl, sym, ap, subst, inl, inr, ◌∙◌, arith}
-use Rattle.std.proofs.lemmas.Bool.{both_ways, ne_eqb}
-use Rattle.mcap_io.specs.Outside.{Rose, added, Told, Opening, Keeping, SinkState, WorldState}
+use Rattle.std.proofs.Common.{◌≡◌, ◌⊎◌, ℕ, ◌-◌, ◌^◌, ◌<◌, Bool, true, false, cond, List, [], ◌∷◌, ◌++◌, Option, Some, None, refl, sym, ap, subst, inl, inr, ◌∙◌, arith}
+use Rattle.std.specs.Prelude.{◌↔◌}
+use Rattle.mcap_io.specs.Outside.{Rose, SinkState, Opening, WorldState}
 use Rattle.recorder.specs.declared.report.Report.{Report}
-use Rattle.recorder.specs.declared.report.FeedReport.{FeedReport}
-use Rattle.recorder.specs.declared.report.FeedEnd.{FeedEnd}
-use Rattle.recorder.specs.declared.report.FeedEnd.TheVariants as feed_ends
+use Rattle.feed_lane.specs.declared.report.FeedReport.{FeedReport}
+use Rattle.mcap_model.specs.Places.{Each}
+use Rattle.recorder.specs.declared.options.RecordOptions.{RecordOptions}
+use Rattle.recorder.specs.Recorded.{IsOnlyFeed}
 use Rattle.mcap_app.specs.declared.faults.Counts.{Counts}
-use Rattle.mcap_app.specs.declared.words.Command.{Command}
-use Rattle.mcap_app.specs.declared.words.Command.TheVariants.{Record, Cat}
-use Rattle.mcap_app.specs.Words.{AreBad, Derives}
 use Rattle.mcap_app.specs.declared.answering.Failures.{Failures}
 use Rattle.mcap_app.specs.declared.answering.Outcome.{Outcome}
-use Rattle.rec_data.specs.declared.owned.Rec.{Rec}
-use Rattle.mcap_model.specs.Tops.{Top}
-use Rattle.recorder.specs.Feed.{FeedRead, ComesTo}
-use Rattle.recorder.specs.Recorded.{IsOnlyFeed}
-use Rattle.mcap_app.specs.Texts.{Trouble, no_memory, status_of}
-use Rattle.mcap_app.specs.Answer.{Failed, FaultsShow, Answers}
-use Rattle.recorder.proofs.OneEnd.{good_read}
-use Rattle.mcap_app.proofs.Lacks.{lacks_with, lacks_without}
-use Rattle.mcap_app.proofs.Whole.{whole}
-use Rattle.mcap_app.specs.Run.{Scene, counts_in, AnyRose, Causes, EndOf, EndsWith, Entries, CountsOn, Blames, kept_faults, faults_of, failed_so, kept_failed, has_failed, Says, Records, Reported, NamesRecorded, PrintsReport, troubles_of, end_status}
+use Rattle.mcap_app.specs.Printing.{Tells, Takes}
+use Rattle.mcap_app.specs.Texts.{file_line, printed, feed_lines, no_memory}
+use Rattle.mcap_app.specs.Answer.{Failed, LacksMemory, FaultsShow, Answers}
+use Rattle.mcap_app.specs.Ran.{Scene, counts_in, AnyRose, WorldRose, CountsOn, IsCaused, Blames, named_when, troubles_of}
+use Rattle.mcap_app.specs.Record.{files_of, report_text, findings_of, names_of, end_status, Lacks, Causes, EndsWith, limit_passed, Records, NamesRecorded}
+use Rattle.mcap_app.proofs.Statuses.{any, first_number, number_of, five_or, some_failed, none_failed, five_where_lacked, two_is_none}
+use Rattle.mcap_app.proofs.Blamed.{each_two, some_two}
+use Rattle.mcap_app.proofs.Whole.{decided, whole}
 
-abbrev parts : Bool → Bool → Bool → Failures
-parts feed out printing = record { feed = feed; out = out; printing = printing }
+-- ---- what is printed
 
-abbrev any : Bool → Bool → Bool → Bool
-any f o p = f || (o || p)
+not_empty : (xs ys : List ℕ) (y : ℕ) → xs ++ y ∷ ys ≡ [] → ⊥
+not_empty [] ys y e = absurd cc
+not_empty (x ∷ xs) ys y e = absurd cc
 
--- what holds of each three answers
-every : (P : Bool → Bool → Bool → Type 0) → P true true true → P true true false → P true false true → P true false false
-    → P false true true → P false true false → P false false true → P false false false → (a b c : Bool) → P a b c
-every P ttt ttf tft tff ftt ftf fft fff true true true = ttt
-every P ttt ttf tft tff ftt ftf fft fff true true false = ttf
-every P ttt ttf tft tff ftt ftf fft fff true false true = tft
-every P ttt ttf tft tff ftt ftf fft fff true false false = tff
-every P ttt ttf tft tff ftt ftf fft fff false true true = ftt
-every P ttt ttf tft tff ftt ftf fft fff false true false = ftf
-every P ttt ttf tft tff ftt ftf fft fff false false true = fft
-every P ttt ttf tft tff ftt ftf fft fff false false false = fff
+-- a report has a text
+report_is_said : (r : Report) → printed r ≡ [] → ⊥
+unfolding file_line
+report_is_said r e = not_empty (feed_lines 1 r.feeds.items) _ _ e
 
--- the status of the parts that failed, of a want of memory, and of the feed's end
-abbrev status_is : List ℕ → List ℕ → Option FeedEnd → ℕ → Bool → Bool → Bool → Bool → Type 0
-status_is out feed end number lacked f o p = status_of (troubles_of out feed end (parts f o p) lacked) ≡ cond lacked 5 (cond (any f o p) 3 number)
+-- the text of a report that is there
+pub takes_report : (before now : SinkState) (report : Option Report) (r : Report) → report ≡ Some r → Tells before now (printed r) → Takes before now (report_text report)
+takes_report before now report r is tells =
+    subst (λ (x : Option Report). Takes before now (report_text x)) (sym is) (record { tells = tells; silent = λ none. absurd (report_is_said r none) })
 
--- the status where the end of the feed is no trouble
-silent_status : (out feed : List ℕ) (lacked f o p : Bool) → status_is out feed None 0 lacked f o p
-silent_status out feed true = every (status_is out feed None 0 true) refl refl refl refl refl refl refl refl
-silent_status out feed false = every (status_is out feed None 0 false) refl refl refl refl refl refl refl refl
-
--- where it breaks a rule
-grammar_status : (out feed : List ℕ) (n : ℕ) (lacked f o p : Bool) → status_is out feed (Some (feed_ends.Grammar n)) 1 lacked f o p
-grammar_status out feed n true = every (status_is out feed (Some (feed_ends.Grammar n)) 1 true) refl refl refl refl refl refl refl refl
-grammar_status out feed n false = every (status_is out feed (Some (feed_ends.Grammar n)) 1 false) refl refl refl refl refl refl refl refl
-
--- where it holds what isn't recorded yet
-not_built_status : (out feed : List ℕ) (n : ℕ) (lacked f o p : Bool) → status_is out feed (Some (feed_ends.NotBuilt n)) 1 lacked f o p
-not_built_status out feed n true = every (status_is out feed (Some (feed_ends.NotBuilt n)) 1 true) refl refl refl refl refl refl refl refl
-not_built_status out feed n false = every (status_is out feed (Some (feed_ends.NotBuilt n)) 1 false) refl refl refl refl refl refl refl refl
-
-abbrev number_of : Option FeedEnd → ℕ
-number_of None = 0
-number_of (Some end) = end_status end
-
-status_of_parts : (out feed : List ℕ) (end : Option FeedEnd) (lacked f o p : Bool) → status_is out feed end (number_of end) lacked f o p
-status_of_parts out feed None lacked f o p = silent_status out feed lacked f o p
-status_of_parts out feed (Some feed_ends.Done) lacked f o p = silent_status out feed lacked f o p
-status_of_parts out feed (Some (feed_ends.Grammar n)) lacked f o p = grammar_status out feed n lacked f o p
-status_of_parts out feed (Some (feed_ends.NotBuilt n)) lacked f o p = not_built_status out feed n lacked f o p
-status_of_parts out feed (Some (feed_ends.Fault faults)) lacked f o p = silent_status out feed lacked f o p
-status_of_parts out feed (Some feed_ends.Memory) lacked f o p = silent_status out feed lacked f o p
-status_of_parts out feed (Some feed_ends.Ended) lacked f o p = silent_status out feed lacked f o p
-
--- none of them is 2
-two_is_none : (b : Bool) (end : Option FeedEnd) → cond b 3 (number_of end) ≡ 2 → ⊥
-two_is_none true end e = omega arith
-two_is_none false None e = omega arith
-two_is_none false (Some feed_ends.Done) e = omega arith
-two_is_none false (Some (feed_ends.Grammar n)) e = omega arith
-two_is_none false (Some (feed_ends.NotBuilt n)) e = omega arith
-two_is_none false (Some (feed_ends.Fault faults)) e = omega arith
-two_is_none false (Some feed_ends.Memory) e = omega arith
-two_is_none false (Some feed_ends.Ended) e = omega arith
-
--- some part failed: 3
-some_failed : (f o p : Bool) → Failed (parts f o p) → any f o p ≡ true
-some_failed true o p some = refl
-some_failed false true p some = refl
-some_failed false false true some = refl
-some_failed false false false some = elim some [ inl e ↦ cc | inr others ↦ elim others [ inl e ↦ cc | inr e ↦ cc ] ]
-
-none_failed : (f o p : Bool) → (Failed (parts f o p) → ⊥) → any f o p ≡ false
-none_failed true o p none = absurd (none (inl refl))
-none_failed false true p none = absurd (none (inr (inl refl)))
-none_failed false false true none = absurd (none (inr (inr refl)))
-none_failed false false false none = refl
-
--- the status is 5, or no memory lacked and it is that of the parts that failed and of the feed's end
-five_or : (out feed : List ℕ) (end : Option FeedEnd) (failed : Failures) (lacked : Bool) (troubles : List Trouble) (answer : ℕ)
-    → (troubles ≡ troubles_of out feed end failed lacked) ⊎ (troubles ≡ no_memory ∷ []) → status_of troubles ≡ answer
-    → (answer ≡ 5) ⊎ ((lacked ≡ false) × (answer ≡ cond (any failed.feed failed.out failed.printing) 3 (number_of end)))
-five_or out feed end failed true troubles answer (inl is) status =
-    inl (sym status ∙ ap status_of is ∙ status_of_parts out feed end true failed.feed failed.out failed.printing)
-five_or out feed end failed false troubles answer (inl is) status =
-    inr (refl, sym status ∙ ap status_of is ∙ status_of_parts out feed end false failed.feed failed.out failed.printing)
-five_or out feed end failed lacked troubles answer (inr alone) status = inl (sym status ∙ ap status_of alone)
+-- ---- what failed
 
 -- where no count rose, no part failed
 nothing_failed : (before now : Counts) (failed : Failures) → Causes before now failed → (AnyRose before now → ⊥) → Failed failed → ⊥
@@ -117,166 +47,109 @@ nothing_failed before now failed causes quiet some = elim some [
   ]
 ]
 
--- the end that the troubles speak of is that of the one feed
-only_end : (report : Option Report) (end : Option FeedEnd) (r : Report) (f : FeedReport) → EndOf report end → report ≡ Some r → IsOnlyFeed r f → end ≡ Some f.end
-only_end report end r f is here one =
-    let P : Option Report → Type 0 = λ x. EndOf x end in
-    subst P here is f one
+lacks : (before now : Counts) (outcome : Outcome) (report : Option Report) (failed : Failures) (lacked : Bool) → FaultsShow before now outcome failed → LacksMemory report failed lacked → Lacks before now report lacked
+lacks before now outcome None failed lacked shows lacking =
+    (λ quiet. lacking.0 (nothing_failed before now failed shows.causes quiet), λ is risen. lacking.1 is (shows.any risen))
+lacks before now outcome (Some r) failed lacked shows lacking = lacking
 
-answered : (out feed : List ℕ) (report : Option Report) (failed : Failures) (err err_now : SinkState) (answer : ℕ)
-    → (a : Answers out feed report failed err err_now answer)
-    → (answer ≡ 5) ⊎ ((a.lacked ≡ false) × (answer ≡ cond (any failed.feed failed.out failed.printing) 3 (number_of a.end)))
-answered out feed report failed err err_now answer a = five_or out feed a.end failed a.lacked a.told.troubles answer a.told.are a.told.answer_is
+-- ---- which names are blamed
 
--- a want of memory is answered by 5
-five_where_lacked : (answer other : ℕ) (lacked : Bool) → (answer ≡ 5) ⊎ ((lacked ≡ false) × (answer ≡ other)) → lacked ≡ true → answer ≡ 5
-five_where_lacked answer other lacked (inl five) is = five
-five_where_lacked answer other lacked (inr calm) is = absurd (both_ways lacked calm.0 is)
+blames : (options : RecordOptions) (out feed : List ℕ) (old new : Scene) (outcome : Outcome) (failed : Failures) → (made : NamesRecorded options out feed old.world new.world outcome) → FaultsShow (counts_in old) (counts_in new) outcome failed
+    → Blames (files_of out feed) old.world new.world made.entries (names_of out feed failed)
+blames options out feed old new outcome failed made shows = record {
+  exact = λ on.
+      let first : failed.feed ≡ outcome.feed_failed = shows.feed (made.inputs_told on.inputs) in
+      let second : failed.out ≡ outcome.out_failed = shows.out (made.outputs_told on.outputs) (made.world_told on.world) in
+      ap (λ (b : Bool). named_when b feed ++ (named_when failed.out out ++ [])) first
+      ∙ ap (λ (b : Bool). named_when outcome.feed_failed feed ++ (named_when b out ++ [])) second
+      ∙ sym made.failed;
+  caused = each_two (IsCaused (files_of out feed) old.world new.world) failed.feed failed.out feed out
+      (λ is. elim (shows.causes.feed is) [ inl world ↦ inl world | inr inputs ↦ inr (inl ((0, refl), inputs)) ])
+      (λ is. elim (shows.causes.out is) [ inl world ↦ inl world | inr outputs ↦ inr (inr ((0, refl), outputs)) ]);
+  told = λ on risen none. some_two failed.feed failed.out feed out (elim risen [
+    | inl world ↦ shows.causes.world_told world
+    | inr (inl inputs) ↦ inl (shows.causes.inputs_told inputs)
+    | inr (inr outputs) ↦ inr (shows.causes.outputs_told outputs)
+  ]) none;
+}
 
-pub ended : (out feed : List ℕ) (before now : Counts) (report : Option Report) (failed : Failures) (err err_now : SinkState) (answer : ℕ)
-    → Answers out feed report failed err err_now answer → Causes before now failed → (AnyRose before now → Failed failed) → EndsWith before now report answer
-ended out feed before now report failed err err_now answer a causes any_failed =
-    let number = number_of a.end in
-    let status = answered out feed report failed err err_now answer a in
+-- ---- the status
+
+-- the number of the one feed's end
+only_number : (report : Option Report) (r : Report) (f : FeedReport) → report ≡ Some r → IsOnlyFeed r f → number_of report ≡ end_status f.end
+only_number report r f here one = ap number_of here ∙ ap first_number one
+
+ended : (out feed : List ℕ) (before now : Counts) (outcome : Outcome) (report : Option Report) (failed : Failures) (err err_now : SinkState) (answer : ℕ)
+    → Answers out feed report failed err err_now answer → FaultsShow before now outcome failed → EndsWith before now report answer
+ended out feed before now outcome report failed err err_now answer a shows =
+    let rest = cond (limit_passed report) 4 (number_of report) in
+    let status = five_or out feed report failed a.lacked a.told.troubles answer a.told.are a.told.status_is in
+    let quiet_is : (AnyRose before now → ⊥) → any failed.feed failed.out failed.printing ≡ false = λ quiet. none_failed failed.feed failed.out failed.printing (nothing_failed before now failed shows.causes quiet) in
+    let lacking = lacks before now outcome report failed a.lacked shows a.lacks in
     record {
       rose = λ risen. elim status [
         | inl five ↦ inr five
-        | inr calm ↦ inl (calm.1 ∙ ap (λ (b : Bool). cond b 3 number) (some_failed failed.feed failed.out failed.printing (any_failed risen)))
+        | inr calm ↦ inl (calm.1 ∙ ap (λ (b : Bool). cond b 3 rest) (some_failed failed.feed failed.out failed.printing (shows.any risen)))
       ];
       calm = λ quiet r f here one. elim status [
         | inl five ↦ inr five
         | inr calm ↦ inl (calm.1
-            ∙ ap (λ (b : Bool). cond b 3 number) (none_failed failed.feed failed.out failed.printing (nothing_failed before now failed causes quiet))
-            ∙ ap number_of (only_end report a.end r f a.end_is here one))
+            ∙ ap (λ (b : Bool). cond b 3 rest) (quiet_is quiet)
+            ∙ ap (λ (n : ℕ). cond (limit_passed report) 4 n) (only_number report r f here one)
+            ∙ ap (λ (x : Option Report). cond (limit_passed x) 4 (end_status f.end)) here)
       ];
-      no_report = λ quiet none. five_where_lacked answer _ a.lacked status ((lacks_without report failed a.lacked a.lacks none).0 (nothing_failed before now failed causes quiet));
-      memory = λ r f here one names. five_where_lacked answer _ a.lacked status ((lacks_with report failed a.lacked a.lacks r f here one).0 names);
+      no_report = λ quiet none. five_where_lacked answer _ a.lacked status ((subst (λ (x : Option Report). Lacks before now x a.lacked) none lacking).0 quiet);
+      memory = λ r here names. five_where_lacked answer _ a.lacked status (subst (λ (x : Option Report). Lacks before now x a.lacked) here lacking ∙ names);
     }
-
-pub told : (out feed : List ℕ) (old new : Scene) (report : Option Report) (failed : Failures) (made : Entries) (answer : ℕ)
-    → Answers out feed report failed old.err new.err answer → Causes (counts_in old) (counts_in new) failed → (AnyRose (counts_in old) (counts_in new) → Failed failed) → (CountsOn old.world → Blames failed made)
-    → Says out feed old new report made answer
-told out feed old new report failed made answer a causes any_failed blames = record {
-  end = a.end;
-  end_is = a.end_is;
-  failed = failed;
-  causes = causes;
-  blames = blames;
-  lacked = a.lacked;
-  named = lacks_with report failed a.lacked a.lacks;
-  no_report = λ none. let lacks = lacks_without report failed a.lacked a.lacks none in (
-    λ quiet. lacks.0 (nothing_failed (counts_in old) (counts_in new) failed causes quiet),
-    λ is risen. lacks.1 is (any_failed risen),
-  );
-  troubles = a.told.troubles;
-  are = a.told.are;
-  answer_is = a.told.answer_is;
-  text = a.told.text;
-}
-
--- ---- which names are blamed
-
--- a count that goes on and rose had something added
-added_more : (before now faults : ℕ) → before < 2 ^ 64 - 1 → now ≡ added before faults → Rose before now → faults ≡ 0 → ⊥
-added_more before now faults on is rose none = omega arith
-
-failed_often : (well : Bool) (faults : ℕ) → (faults ≡ 0 → ⊥) → failed_so well faults ≡ true
-failed_often false faults some = refl
-failed_often true faults some = ap not (ne_eqb faults 0 some)
-
--- an object that failed is one of an entry that has failed
-object_failed : (given : Bool) (kept : Option Keeping) → (kept_faults kept ≡ 0 → ⊥) → not given || kept_failed kept ≡ true
-object_failed false kept some = refl
-object_failed true None some = absurd (some refl)
-object_failed true (Some keeping) some = failed_often keeping.well keeping.faults some
-
-pub entry_failed : (entry : Option Opening) → (faults_of entry ≡ 0 → ⊥) → has_failed entry ≡ true
-entry_failed None some = absurd (some refl)
-entry_failed (Some entry) some = object_failed entry.given entry.kept some
-
--- where the world failed, one of the entries has
-one_failed : (a b : Bool) (before now : ℕ) → (a ≡ false → b ≡ false → now ≡ before) → before < 2 ^ 64 - 1 → Rose before now → (a ≡ true) ⊎ (b ≡ true)
-one_failed true b before now calm on rose = inl refl
-one_failed false true before now calm on rose = inr refl
-one_failed false false before now calm on rose = absurd (omega (arith, calm refl refl, on, rose))
-
-blamed : (out feed : List ℕ) (old new : Scene) (outcome : Outcome) (failed : Failures) → (made : NamesRecorded out feed old.world new.world outcome) → FaultsShow (counts_in old) (counts_in new) outcome failed → CountsOn old.world → Blames failed made.made
-blamed out feed old new outcome failed made shows on =
-    let source : Rose old.world.input_faults new.world.input_faults → outcome.feed_failed ≡ true = λ rose.
-    made.feed_failed ∙ entry_failed made.made.source (added_more old.world.input_faults new.world.input_faults (faults_of made.made.source) on.inputs made.counts.inputs rose) in
-    let live : Rose old.world.output_faults new.world.output_faults → outcome.out_failed ≡ true = λ rose.
-    made.out_failed ∙ entry_failed made.made.live (added_more old.world.output_faults new.world.output_faults (faults_of made.made.live) on.outputs made.counts.outputs rose) in
-    let either : Rose old.world.faults new.world.faults → (outcome.feed_failed ≡ true) ⊎ (outcome.out_failed ≡ true) = λ rose.
-    elim (one_failed (has_failed made.made.source) (has_failed made.made.live) old.world.faults new.world.faults made.calm on.world rose) [
-      | inl is ↦ inl (made.feed_failed ∙ is)
-      | inr is ↦ inr (made.out_failed ∙ is)
-    ] in
-    record {
-      feed = shows.feed source ∙ made.feed_failed;
-      out = shows.out live either ∙ made.out_failed;
-    }
-
--- the end of a good feed's reading gives no status of its own
-good_status : (bytes : List ℕ) (tops others : List Top) (left : Option (List ℕ)) (end : FeedEnd) → ComesTo bytes tops feed_ends.Done → FeedRead bytes others left end → end_status end ≡ 0
-good_status bytes tops others left end good read = elim (good_read bytes tops others left end good read) [
-  | inl done ↦ ap end_status done
-  | inr (inl memory) ↦ ap end_status memory
-  | inr (inr (inl ended)) ↦ ap end_status ended
-  | inr (inr (inr fault)) ↦ ap end_status fault.1
-]
-
--- a good feed is recorded
-complete : (feed : List ℕ) (world : WorldState) (before now : Counts) (report : Option Report) (made : Entries) (history : List Rec) (answer : ℕ)
-    → ((r : Report) → report ≡ Some r → Reported feed world made history r) → EndsWith before now report answer
-    → (told : Told) (bytes : List ℕ) (tops : List Top) → world.told ≡ Some told → told.names feed ≡ Some bytes → ComesTo bytes tops feed_ends.Done → (AnyRose before now → ⊥) → (answer ≡ 0) ⊎ (answer ≡ 5)
-complete feed world before now None made history answer reported ends told bytes tops here there good quiet = inr (ends.no_report quiet refl)
-complete feed world before now (Some r) made history answer reported ends told bytes tops here there good quiet =
-    let is = reported r refl in
-    let read = is.read told bytes here there in
-    elim (ends.calm quiet r is.only refl is.one_feed) [
-      | inl status ↦ inl (status ∙ good_status bytes tops is.tops is.keeping.left is.only.end good read)
-      | inr five ↦ inr five
-    ]
 
 -- all that the program promises of a recording
-pub recorded : (out feed : List ℕ) (old new : Scene) (outcome : Outcome) (failed : Failures) (answer : ℕ)
-    → old.world.input_faults < 2 ^ 64 → old.world.output_faults < 2 ^ 64 → NamesRecorded out feed old.world new.world outcome → PrintsReport old.out new.out outcome.report
-    → Answers out feed outcome.report failed old.err new.err answer → FaultsShow (counts_in old) (counts_in new) outcome failed → Records out feed old new outcome.report answer
-recorded out feed old new outcome failed answer inputs_fit outputs_fit made prints a shows =
+pub recorded : (options : RecordOptions) (out feed : List ℕ) (old new : Scene) (outcome : Outcome) (failed : Failures) (answer : ℕ)
+    → old.world.input_faults < 2 ^ 64 → old.world.output_faults < 2 ^ 64 → NamesRecorded options out feed old.world new.world outcome → Takes old.out new.out (report_text outcome.report)
+    → Answers out feed outcome.report failed old.err new.err answer → FaultsShow (counts_in old) (counts_in new) outcome failed → Records options out feed old new outcome.report answer
+recorded options out feed old new outcome failed answer inputs_fit outputs_fit made prints a shows =
     let before = counts_in old in
     let now = counts_in new in
-    let ends = ended out feed before now outcome.report failed old.err new.err answer a shows.causes shows.any in
+    let ends = ended out feed before now outcome outcome.report failed old.err new.err answer a shows in
     record {
-      history = made.history;
-      made = made.made;
-      are = made.are;
-      names = made.names;
+      entries = made.entries;
       reported = made.reported;
-      untouched = made.untouched;
+      unreported = made.unreported;
       spares = made.spares;
-      counts = made.counts;
-      printed = prints;
-      said = told out feed old new outcome.report failed made.made answer a shows.causes shows.any (blamed out feed old new outcome failed made shows);
+      lacked = a.lacked;
+      lacks = lacks before now outcome outcome.report failed a.lacked shows a.lacks;
+      ran = record {
+        opened = made.opened;
+        leaves = made.leaves;
+        counts = made.counts;
+        printed = prints;
+        failed = names_of out feed failed;
+        blames = blames options out feed old new outcome failed made shows;
+        printing = failed.printing;
+        blames_output = record { caused = shows.causes.printing; told = λ on risen. shows.causes.printing_told risen };
+        said = a.told;
+      };
+      failed = failed;
+      causes = shows.causes;
+      names_are = refl;
+      printing_is = refl;
       ended = ends;
-      complete = complete feed old.world before now outcome.report made.made made.history answer made.reported ends;
-      whole = whole feed old.world new.world old.out new.out outcome.report made.made made.history answer inputs_fit outputs_fit made.counts made.reported ends;
+      decided = decided options out feed old new outcome.report made.entries answer inputs_fit outputs_fit made.counts made.reported ends;
+      whole = whole options out feed old new outcome.report made.entries answer inputs_fit outputs_fit made.counts made.reported ends;
     }
 
 -- the status of a recording is not that of bad words
-pub not_two : (out feed : List ℕ) (old new : Scene) (report : Option Report) (answer : ℕ) → Records out feed old new report answer → answer ≡ 2 → ⊥
-not_two out feed old new report answer all two =
-    let says = all.said in
-    elim (five_or out feed says.end says.failed says.lacked says.troubles answer says.are says.answer_is) [
+pub not_two : (options : RecordOptions) (out feed : List ℕ) (old new : Scene) (report : Option Report) (answer : ℕ) → Records options out feed old new report answer → answer ≡ 2 → ⊥
+not_two options out feed old new report answer all two =
+    let failed = all.failed in
+    let due = sym (ap (λ (l : List (List ℕ)). troubles_of (findings_of out feed report all.lacked) l failed.printing) all.names_are) in
+    let same = ap (λ (b : Bool). troubles_of (findings_of out feed report all.lacked) all.ran.failed b) all.printing_is in
+    let are : (all.ran.said.troubles ≡ troubles_of (findings_of out feed report all.lacked) (names_of out feed failed) failed.printing) ⊎ (all.ran.said.troubles ≡ no_memory ∷ []) = elim all.ran.said.are [ inl is ↦ inl (is ∙ same ∙ sym due) | inr alone ↦ inr alone ] in
+    elim (five_or out feed report failed all.lacked all.ran.said.troubles answer are all.ran.said.status_is) [
       | inl five ↦ omega (arith, five, two)
-      | inr calm ↦ two_is_none (any says.failed.feed says.failed.out says.failed.printing) says.end (sym calm.1 ∙ two)
+      | inr calm ↦ two_is_none (any failed.feed failed.out failed.printing) (limit_passed report) report (sym calm.1 ∙ two)
     ]
 
 -- what holds of counts holds of equal ones
 pub shows_in : (b before n now : Counts) (outcome : Outcome) (failed : Failures) → b ≡ before → n ≡ now → FaultsShow b n outcome failed → FaultsShow before now outcome failed
 shows_in b before n now outcome failed same same_now shows =
     subst (λ (x : Counts). FaultsShow before x outcome failed) same_now (subst (λ (x : Counts). FaultsShow x n outcome failed) same shows)
-
--- the words of a command aren't bad
-pub derived : (words : List (List ℕ)) (c : Command) → Derives words c → AreBad words → ⊥
-derived words (Record out feed) is bad = bad.no_record out.now feed.now is
-derived words (Cat file) is bad = bad.no_cat file.now is

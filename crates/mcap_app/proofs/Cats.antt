@@ -1,12 +1,8 @@
--- What the calls of a printing come to, and what its troubles say of it.
-use Rattle.std.proofs.Common.{◌≡◌, ◌⊎◌, ℕ, ◌^◌, ◌<◌, Bool, true, false, cond, ◌||◌, List, [], Option, Some, None, Result, Err, refl, sym, ap, subst, inl, inr, ◌∙◌, arith}
-use Rattle.std.specs.Option.{option_map}
-use Rattle.std.proofs.lemmas.Bool.{both_ways}
-use Rattle.mcap_io.specs.Outside.{Rose, RisesOnce, HasCause, Opens, OpenCause, CountsStand, added, Opening, Keeping, Told, with_opening, went_well, SourceState, SinkState, WorldState, TellsName, KeepsSource}
-use Rattle.mcap_io.specs.declared.outside.Failed.{Failed}
+-- What the troubles of a printing say of it, and of its file.
+use Rattle.std.proofs.Common.{◌≡◌, ◌⊎◌, ℕ, ◌^◌, ◌-◌, ◌<◌, not, Bool, true, false, cond, ◌||◌, ◌==◌, List, [], ◌∷◌, ◌++◌, Some, refl, sym, ap, subst, inl, inr, ◌∙◌, arith}
+use Rattle.std.proofs.lemmas.Bool.{both_ways, ne_eqb}
+use Rattle.mcap_io.specs.Outside.{Rose, Opening, Keeping, Told, SourceState, SinkState, WorldState}
 use Rattle.mcap_io.specs.declared.outside.ObjectKind.TheVariants as kinds
-use Rattle.mcap_io.specs.declared.outside.OpenRefused.{OpenRefused}
-use Rattle.mcap_io.specs.declared.outside.OpenRefused.TheVariants as open_refusals
 use Rattle.mcap_model.specs.Tops.{Top}
 use Rattle.mcap_model.specs.Kept.{Halt, reading_limits, at_end, grammar as breaks, compressed as names, beyond, Halts, SameHalt}
 use Rattle.mcap_model.proofs.Halting.{readings_halt_once}
@@ -15,67 +11,15 @@ use Rattle.mcap_scan.specs.declared.answers.ScanRefused.TheVariants as refusals
 use Rattle.mcap_app.specs.declared.cat.Reading.{Reading}
 use Rattle.mcap_app.specs.declared.cat.Reading.TheVariants as readings
 use Rattle.mcap_app.specs.declared.cat.Played.{Played}
-use Rattle.mcap_app.specs.Printing.{TellsAll}
-use Rattle.mcap_app.specs.Texts.{status_of}
-use Rattle.mcap_app.specs.Answer.{Complains}
-use Rattle.mcap_app.specs.Run.{Scene, counts_in, AnyRose, failed_so, has_failed, kept_source}
-use Rattle.mcap_app.specs.Cat.{ComesTo, IsReading, ReadUnder, NamePlayed, PrintsLines, lacks_memory, cat_troubles, halt_status, Cats}
-use Rattle.mcap_app.proofs.Runs.{added_none, kept_well, still_where, blamed, tells_more, source_keeping, feed_noted, none_last, given_feed, refused_feed}
-use Rattle.mcap_app.proofs.Answered.{entry_failed}
+use Rattle.mcap_app.specs.Printing.{TellsAll, Takes}
+use Rattle.mcap_app.specs.Texts.{Trouble, halt_status, status_of}
+use Rattle.mcap_app.specs.Ran.{Scene, counts_in, AnyRose, WorldRose, IsCaused, Blames, BlamesOutput, kept, has_failed, named_when, failed_names, troubles_of, Complains}
+use Rattle.mcap_app.specs.Cat.{files_of, ComesTo, IsReading, ReadUnder, NamePlayed, PrintsLines, lines_of, lacks_memory, findings_of, Cats}
+use Rattle.mcap_app.proofs.Counting.{not_risen}
+use Rattle.mcap_app.proofs.Blamed.{each_one, some_one}
 
--- ---- the name
-
--- the opening failed
-opening_failed : (file : List ℕ) (old new : WorldState) → new.told ≡ option_map (λ (t : Told). with_opening t (refused_feed file)) old.told → CountsStand old new → RisesOnce old.faults new.faults
-    → old.input_faults < 2 ^ 64 → NamePlayed file old new (record { reading = readings.Unopened; failed = true })
-opening_failed file old new opens stand rises fits = record {
-  source = Some (refused_feed file);
-  reading = inl (refl, refl);
-  names = λ told here. (with_opening told (refused_feed file), tells_more old.told new.told (refused_feed file) told opens here, refl, refl);
-  inputs = added_none old.input_faults new.input_faults fits stand.inputs;
-  outputs = stand.outputs;
-  failed = refl;
-  cause = λ is. inl (omega (arith, rises.once));
-  calm = λ is. absurd cc;
-}
-
-pub unopened : (file : List ℕ) (old new : WorldState) (why : OpenRefused) → why ≡ open_refusals.Failed → Opens {T = Unit} old new kinds.Source file (Err why) → CountsStand old new → OpenCause {T = Unit} old.faults new.faults (Err why)
-    → old.input_faults < 2 ^ 64 → NamePlayed file old new (record { reading = readings.Unopened; failed = true })
-unopened file old new open_refusals.Failed is opens stand cause fits = opening_failed file old new opens stand cause fits
-unopened file old new open_refusals.Memory is opens stand cause fits = absurd cc
-
--- what was seen of the world at each of the calls: the source was opened, read, and taken back
-pub record IsGiven (file : List ℕ) (w0 w1 w2 : WorldState) (source source_now : SourceState) (reading : Reading) (result : Result Unit Failed) : Type 0 where
-  pub opens : w1.told ≡ option_map (λ (t : Told). with_opening t (given_feed file)) w0.told
-  pub stands : CountsStand w0 w1
-  pub still : w1.faults ≡ w0.faults
-  pub tells : TellsName w0 file source
-  pub unused : source.faults ≡ 0
-  pub comes : ComesTo source source_now reading
-  pub keeps : KeepsSource w1 w2 file source_now result
-  pub inputs : w2.input_faults ≡ added w1.input_faults source_now.faults
-  pub outputs : w2.output_faults ≡ w1.output_faults
-  pub cause : HasCause w1.faults w2.faults result
-  pub fits : w0.input_faults < 2 ^ 64
-
-pub given : (file : List ℕ) (w0 w1 w2 : WorldState) (source source_now : SourceState) (reading : Reading) (result : Result Unit Failed) → IsGiven file w0 w1 w2 source source_now reading result
-    → NamePlayed file w0 w2 (record { reading = reading; failed = failed_so (went_well result) source_now.faults })
-given file w0 w1 w2 source source_now reading result a =
-    let keeping : Keeping = source_keeping source_now result in
-    let inputs_are : w2.input_faults ≡ added w0.input_faults source_now.faults = a.inputs ∙ ap (λ (n : ℕ). added n source_now.faults) a.stands.inputs in
-    record {
-      source = Some (kept_source file keeping);
-      reading = inr (keeping, refl, record { source = source; tells = a.tells; unused = a.unused; comes = a.comes });
-      names = λ told here.
-          let first = with_opening told (given_feed file) in
-          let kept = a.keeps first (tells_more w0.told w1.told (given_feed file) told a.opens here) in
-          (kept.0, kept.1, kept.2, feed_noted file told.log kept.0.log [] keeping (none_last file) kept.3);
-      inputs = inputs_are;
-      outputs = a.outputs ∙ a.stands.outputs;
-      failed = refl;
-      cause = blamed w0.faults w1.faults w2.faults w2.faults w0.input_faults w2.input_faults source_now.faults result (omega (arith, a.still)) a.cause (omega arith) a.fits inputs_are;
-      calm = λ is. still_where w1.faults w2.faults result a.cause (kept_well (went_well result) source_now.faults is) ∙ a.still;
-    }
+abbrev cat_troubles : List ℕ → Reading → Bool → Bool → List Trouble
+cat_troubles file reading failed printing = troubles_of (findings_of file reading) (named_when failed file ++ []) printing
 
 -- ---- the status
 
@@ -118,8 +62,8 @@ status_is file (readings.Refused refusals.Memory) = each_two (IsStatus file (rea
 answered : (file : List ℕ) (reading : Reading) (failed printing : Bool) (before now : SinkState) (answer : ℕ) → Complains (cat_troubles file reading failed printing) before now answer
     → (answer ≡ 5) ⊎ (answer ≡ number_of reading failed printing)
 answered file reading failed printing before now answer a = elim a.are [
-  | inl due ↦ inr (sym a.answer_is ∙ ap status_of due ∙ status_is file reading failed printing)
-  | inr alone ↦ inl (sym a.answer_is ∙ ap status_of alone)
+  | inl due ↦ inr (sym a.status_is ∙ ap status_of due ∙ status_is file reading failed printing)
+  | inr alone ↦ inl (sym a.status_is ∙ ap status_of alone)
 ]
 
 own_not_two : (reading : Reading) → own_status reading ≡ 2 → ⊥
@@ -138,10 +82,15 @@ number_not_two false false n other e = other e
 
 -- the status of a printing is not that of bad words
 pub not_two : (file : List ℕ) (old new : Scene) (answer : ℕ) → Cats file old new answer → answer ≡ 2 → ⊥
-not_two file old new answer all two = elim (answered file all.reading all.failed all.printing old.err new.err answer all.said) [
-  | inl five ↦ omega (arith, five, two)
-  | inr is ↦ number_not_two (lacks_memory all.reading) (all.failed || all.printing) (own_status all.reading) (own_not_two all.reading) (sym is ∙ two)
-]
+not_two file old new answer all two =
+    let due : troubles_of (findings_of file all.reading) all.ran.failed all.ran.printing ≡ cat_troubles file all.reading all.failed all.ran.printing =
+    ap (λ (l : List (List ℕ)). troubles_of (findings_of file all.reading) l all.ran.printing) (all.blame ∙ all.names_are) in
+    let told : Complains (cat_troubles file all.reading all.failed all.ran.printing) old.err new.err answer =
+    subst (λ (l : List Trouble). Complains l old.err new.err answer) due all.ran.said in
+    elim (answered file all.reading all.failed all.ran.printing old.err new.err answer told) [
+      | inl five ↦ omega (arith, five, two)
+      | inr is ↦ number_not_two (lacks_memory all.reading) (all.failed || all.ran.printing) (own_status all.reading) (own_not_two all.reading) (sym is ∙ two)
+    ]
 
 -- ---- the status 0
 
@@ -155,23 +104,38 @@ IsWhole (readings.Refused (refusals.Compressed n name)) = Unit {0}
 IsWhole (readings.Refused (refusals.Limit n)) = Unit {0}
 IsWhole (readings.Refused refusals.Memory) = Unit {0}
 
-under_whole : (file : List ℕ) (world : WorldState) (keeping : Keeping) (reading : Reading) → ReadUnder file world keeping reading → has_failed (Some (kept_source file keeping)) ≡ false → IsWhole reading
+-- an object that failed is blamed
+often : (well : Bool) (faults : ℕ) → (faults ≡ 0 → ⊥) → (not well || not (faults == 0)) ≡ true
+often false faults some = refl
+often true faults some = ap not (ne_eqb faults 0 some)
+
+-- where no name is blamed the first entry has not failed
+first_calm : (b : Bool) (name : List ℕ) (more : List (List ℕ)) → named_when b name ++ more ≡ [] → b ≡ false
+first_calm true name more none = absurd cc
+first_calm false name more none = refl
+
+under_whole : (file : List ℕ) (world : WorldState) (keeping : Keeping) (reading : Reading) → ReadUnder file world keeping reading → has_failed (kept kinds.Source file keeping) ≡ false → IsWhole reading
 under_whole file world keeping readings.Unopened under calm = under.comes
 under_whole file world keeping (readings.Lines text) under calm = tt
 under_whole file world keeping (readings.Refused (refusals.Fault faults)) under calm =
     let rises = under.comes.1.rises in
     let some : keeping.faults ≡ 0 → ⊥ = λ none. omega (arith, rises.once, none, under.unused) in
-    both_ways (has_failed (Some (kept_source file keeping))) calm (entry_failed (Some (kept_source file keeping)) some)
+    both_ways (has_failed (kept kinds.Source file keeping)) calm (often keeping.well keeping.faults some)
 under_whole file world keeping (readings.Refused (refusals.Grammar n rule)) under calm = tt
 under_whole file world keeping (readings.Refused (refusals.Compressed n name)) under calm = tt
 under_whole file world keeping (readings.Refused (refusals.Limit n)) under calm = tt
 under_whole file world keeping (readings.Refused refusals.Memory) under calm = tt
 
-reads_whole : (file : List ℕ) (world : WorldState) (source : Option Opening) (reading : Reading) → IsReading file world source reading → has_failed source ≡ false → IsWhole reading
-reads_whole file world None reading is calm = subst IsWhole (sym is) tt
-reads_whole file world (Some entry) reading (inl refused) calm = absurd (both_ways (has_failed (Some entry)) calm (ap (λ (e : Opening). has_failed (Some e)) refused.0))
-reads_whole file world (Some entry) reading (inr (keeping, is, under)) calm =
-    under_whole file world keeping reading under (sym (ap (λ (e : Opening). has_failed (Some e)) is) ∙ calm)
+reads_whole : (file : List ℕ) (world : WorldState) (entries : List Opening) (reading : Reading) → IsReading file world entries reading → failed_names entries ≡ [] → IsWhole reading
+reads_whole file world [] reading is calm = subst IsWhole (sym is) tt
+reads_whole file world (entry ∷ more) reading (inl refused) calm =
+    absurd (both_ways (has_failed entry) (first_calm (has_failed entry) entry.name (failed_names more) calm) (ap (λ (e : Opening). has_failed e) refused.0))
+reads_whole file world (entry ∷ more) reading (inr (keeping, is, under)) calm =
+    under_whole file world keeping reading under (sym (ap (λ (e : Opening). has_failed e) is) ∙ first_calm (has_failed entry) entry.name (failed_names more) calm)
+
+-- a file that isn't blamed has no name among the failed
+none_named : (failed : Bool) (file : List ℕ) (blamed : List (List ℕ)) → blamed ≡ named_when failed file ++ [] → failed ≡ false → blamed ≡ []
+none_named failed file blamed is calm = is ∙ ap (λ (b : Bool). named_when b file ++ []) calm
 
 some_number : (lacked : Bool) (n : ℕ) → cond lacked 5 (cond true 3 n) ≡ 0 → ⊥
 some_number true n e = omega (arith, e)
@@ -201,7 +165,7 @@ whole file old new out out_now err err_now played printing answer name prints a 
       | inl five ↦ absurd (omega (arith, five, zero_is))
       | inr is ↦ sym is ∙ zero_is
     ] in
-    let all = all_read played.reading played.failed printing number (λ calm. reads_whole file old name.source played.reading name.reading (sym name.failed ∙ calm)) in
+    let all = all_read played.reading played.failed printing number (λ calm. reads_whole file old name.entries played.reading name.reading (none_named played.failed file (failed_names name.entries) name.failed calm)) in
     (all.0, all.1, all_taken out out_now played.reading printing all.0 prints all.1 all.2)
 
 -- ---- the bytes decide
@@ -238,13 +202,14 @@ module _ (bytes : List ℕ) (tops : List Top) (halt : Halt) (halts : Halts readi
   halted_so source now (readings.Refused (refusals.Limit n)) here comes whole = inl (one_status comes.0 (beyond n) (comes.1.halts bytes here))
   halted_so source now (readings.Refused refusals.Memory) here comes whole = inr refl
 
-  name_halted : (file : List ℕ) (world : WorldState) (told : Told) (source : Option Opening) (reading : Reading) → IsReading file world source reading → world.told ≡ Some told → told.names file ≡ Some bytes
-      → has_failed source ≡ false → (own_status reading ≡ halt_status halt) ⊎ (lacks_memory reading ≡ true)
-  name_halted file world told None reading is here there calm = inr (ap lacks_memory is)
-  name_halted file world told (Some entry) reading (inl refused) here there calm = absurd (both_ways (has_failed (Some entry)) calm (ap (λ (e : Opening). has_failed (Some e)) refused.0))
-  name_halted file world told (Some entry) reading (inr (keeping, is, under)) here there calm =
+  name_halted : (file : List ℕ) (world : WorldState) (told : Told) (entries : List Opening) (reading : Reading) → IsReading file world entries reading → world.told ≡ Some told → told.names file ≡ Some bytes
+      → failed_names entries ≡ [] → (own_status reading ≡ halt_status halt) ⊎ (lacks_memory reading ≡ true)
+  name_halted file world told [] reading is here there calm = inr (ap lacks_memory is)
+  name_halted file world told (entry ∷ more) reading (inl refused) here there calm =
+      absurd (both_ways (has_failed entry) (first_calm (has_failed entry) entry.name (failed_names more) calm) (ap (λ (e : Opening). has_failed e) refused.0))
+  name_halted file world told (entry ∷ more) reading (inr (keeping, is, under)) here there calm =
       halted_so under.source (record { left = keeping.left; faults = keeping.faults }) reading ((under.tells told here).0 ∙ there) under.comes
-      (under_whole file world keeping reading under (sym (ap (λ (e : Opening). has_failed (Some e)) is) ∙ calm))
+      (under_whole file world keeping reading under (sym (ap (λ (e : Opening). has_failed e) is) ∙ first_calm (has_failed entry) entry.name (failed_names more) calm))
 
 is_false : (b : Bool) → (b ≡ true → ⊥) → b ≡ false
 is_false true none = absurd (none refl)
@@ -277,26 +242,50 @@ decided file old new played printing answer name prints a told bytes tops halt h
     elim (answered file played.reading played.failed printing old.err new.err answer a) [
       | inl five ↦ inr five
       | inr is ↦ settled (lacks_memory played.reading) (played.failed || printing) (own_status played.reading) (halt_status halt) answer is (neither played.failed printing calm still)
-          (name_halted bytes tops halt halts file old.world told name.source played.reading name.reading here there (sym name.failed ∙ calm))
+          (name_halted bytes tops halt halts file old.world told name.entries played.reading name.reading here there (none_named played.failed file (failed_names name.entries) name.failed calm))
     ]
 
+blames : (file : List ℕ) (old new : WorldState) (played : Played) → (name : NamePlayed file old new played) → Blames (files_of file) old new name.entries (named_when played.failed file ++ [])
+blames file old new played name = record {
+  exact = λ on. sym name.failed;
+  caused = each_one (IsCaused (files_of file) old new) played.failed file (λ is. elim (name.cause is) [ inl world ↦ inl world | inr inputs ↦ inr (inl ((0, refl), inputs)) ]);
+  told = λ on risen none.
+      let calm : played.failed ≡ false = is_false played.failed (λ is. some_one played.failed file is none) in
+      elim risen [
+        | inl world ↦ not_risen ⊥ old.faults new.faults on.world (name.world_told calm) world
+        | inr (inl inputs) ↦ both_ways played.failed calm (name.inputs_told on.inputs inputs)
+        | inr (inr outputs) ↦ not_risen ⊥ old.output_faults new.output_faults on.outputs name.outputs outputs
+      ];
+}
+
+blames_output : (before now : SinkState) (reading : Reading) (printing : Bool) → PrintsLines before now reading printing → BlamesOutput before now printing
+blames_output before now readings.Unopened printing prints = record { caused = λ is. absurd (both_ways printing prints.0 is); told = λ on rose. not_risen _ before.faults now.faults on (ap (λ (s : SinkState). s.faults) prints.1) rose }
+blames_output before now (readings.Lines text) printing (inl all) = record { caused = λ is. absurd (both_ways printing all.0 is); told = λ on rose. not_risen _ before.faults now.faults on all.1.still rose }
+blames_output before now (readings.Lines text) printing (inr part) = record { caused = λ is. omega (arith, part.1.rises.once); told = λ on rose. part.0 }
+blames_output before now (readings.Refused why) printing prints = record { caused = λ is. absurd (both_ways printing prints.0 is); told = λ on rose. not_risen _ before.faults now.faults on (ap (λ (s : SinkState). s.faults) prints.1) rose }
+
 -- all that the program promises of a printing
-pub printed : (file : List ℕ) (old new : Scene) (played : Played) (printing : Bool) (answer : ℕ) → NamePlayed file old.world new.world played → PrintsLines old.out new.out played.reading printing
+pub printed : (file : List ℕ) (old new : Scene) (played : Played) (printing : Bool) (answer : ℕ) → NamePlayed file old.world new.world played → PrintsLines old.out new.out played.reading printing → Takes old.out new.out (lines_of played.reading)
     → Complains (cat_troubles file played.reading played.failed printing) old.err new.err answer → Cats file old new answer
-printed file old new played printing answer name prints a = record {
-  source = name.source;
+printed file old new played printing answer name prints takes a = record {
+  entries = name.entries;
   reading = played.reading;
   read = name.reading;
-  names = name.names;
-  inputs = name.inputs;
-  outputs = name.outputs;
   failed = played.failed;
-  blame = name.failed;
-  cause = name.cause;
-  calm = name.calm;
-  printing = printing;
+  ran = record {
+    opened = name.opened;
+    leaves = name.leaves;
+    counts = name.counts;
+    printed = takes;
+    failed = named_when played.failed file ++ [];
+    blames = blames file old.world new.world played name;
+    printing = printing;
+    blames_output = blames_output old.out new.out played.reading printing prints;
+    said = a;
+  };
+  blame = sym name.failed;
+  names_are = name.failed;
   printed = prints;
-  said = a;
   decided = decided file old new played printing answer name prints a;
   whole = whole file old.world new.world old.out new.out old.err new.err played printing answer name prints a;
 }

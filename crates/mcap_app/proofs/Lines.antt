@@ -4,8 +4,8 @@ use Rattle.std.proofs.lemmas.List.{append-nil, take-append-le, take_more, length
 use Rattle.mcap_io.specs.Outside.{SinkState, RisesOnce, Adds, AddsPart}
 use Rattle.mcap_io.proofs.Calls.{adds-adds, adds-part}
 use Rattle.mcap_io.specs.declared.outside.Failed.{Failed}
-use Rattle.mcap_app.specs.Printing.{TellsAll, Prints, Tells}
-use Rattle.recorder.specs.declared.report.FeedReport.{FeedReport}
+use Rattle.mcap_app.specs.Printing.{TellsAll, Prints, Takes}
+use Rattle.feed_lane.specs.declared.report.FeedReport.{FeedReport}
 use Rattle.mcap_app.specs.Texts.{feed_line, feed_lines}
 
 -- a count that stood still and then rose by one rose by one
@@ -67,8 +67,8 @@ prints-behind old mid new xs ys (Err why) first prints = record {
   adds = let whole = adds-part old.took mid.took new.took xs ys 0 first.adds prints.adds in λ before told. let p = whole before told in (p.0, omega arith, p.2, p.3);
 }
 
--- what tells of a text tells of an equal one
-pub tells_same : (old new : SinkState) (xs ys : List ℕ) → xs ≡ ys → Tells old new xs → Tells old new ys
-tells_same old new xs ys same tells =
-    let P : List ℕ → Type 0 = λ l. Tells old new l in
-    subst P same tells
+-- what takes a text takes an equal one
+pub takes_same : (old new : SinkState) (xs ys : List ℕ) → xs ≡ ys → Takes old new xs → Takes old new ys
+takes_same old new xs ys same takes =
+    let P : List ℕ → Type 0 = λ l. Takes old new l in
+    subst P same takes

@@ -1,16 +1,12 @@
--- The parts of an answer.
-use Rattle.std.specs.Prelude.{◌≡◌, ◌⊎◌, ◌↔◌, ℕ, List, [], ◌∷◌, Bool, true, Option, Some, None}
+-- The parts of an answer to a recording.
+use Rattle.std.specs.Prelude.{◌≡◌, ◌⊎◌, ◌↔◌, ℕ, List, Bool, true, Option, Some, None}
 use Rattle.mcap_app.specs.declared.answering.Failures.{Failures}
 use Rattle.mcap_app.specs.declared.answering.Outcome.{Outcome}
 use Rattle.mcap_app.specs.declared.faults.Counts.{Counts}
 use Rattle.recorder.specs.declared.report.Report.{Report}
-use Rattle.recorder.specs.declared.report.FeedReport.{FeedReport}
-use Rattle.recorder.specs.declared.report.FeedEnd.{FeedEnd}
-use Rattle.recorder.specs.Recorded.{IsOnlyFeed}
 use Rattle.mcap_io.specs.Outside.{Rose, SinkState}
-use Rattle.mcap_app.specs.Printing.{Tells}
-use Rattle.mcap_app.specs.Texts.{Trouble, no_memory, said, status_of}
-use Rattle.mcap_app.specs.Run.{AnyRose, Causes, EndOf, NamesMemory, troubles_of}
+use Rattle.mcap_app.specs.Ran.{AnyRose, troubles_of, Complains}
+use Rattle.mcap_app.specs.Record.{Causes, names_of, findings_of, lacks_memory}
 
 -- some part failed
 abbrev pub Failed : Failures → Type 0
@@ -28,20 +24,10 @@ pub record FaultsShow (before now : Counts) (outcome : Outcome) (failed : Failur
 -- memory lacked exactly where the report names that, or where there is no report though no part failed
 abbrev pub LacksMemory : Option Report → Failures → Bool → Type 0
 LacksMemory None failed lacked = (Failed failed → ⊥) ↔ (lacked ≡ true)
-LacksMemory (Some r) failed lacked = (f : FeedReport) → IsOnlyFeed r f → NamesMemory f r.writer.end ↔ (lacked ≡ true)
-
--- What standard error is told of these troubles: their lines, or that memory lacked alone, where it lacked for saying
--- more; all of them were taken, or a first part where this output failed. They give the status.
-pub record Complains (due : List Trouble) (before now : SinkState) (answer : ℕ) : Type 0 where
-  pub troubles : List Trouble
-  pub are : (troubles ≡ due) ⊎ (troubles ≡ no_memory ∷ [])
-  pub answer_is : status_of troubles ≡ answer
-  pub text : Tells before now (said troubles)
+LacksMemory (Some r) failed lacked = lacked ≡ lacks_memory r
 
 -- what standard error is told of a recording, and the status
-pub record Answers (out feed : List ℕ) (report : Option Report) (failed : Failures) (before now : SinkState) (answer : ℕ) : Type 0 where
-  pub end : Option FeedEnd
-  pub end_is : EndOf report end
+pub record Answers (out feed : List ℕ) (report : Option Report) (failed : Failures) (before now : SinkState) (status : ℕ) : Type 0 where
   pub lacked : Bool
   pub lacks : LacksMemory report failed lacked
-  pub told : Complains (troubles_of out feed end failed lacked) before now answer
+  pub told : Complains (troubles_of (findings_of out feed report lacked) (names_of out feed failed) failed.printing) before now status

@@ -1,6 +1,6 @@
 -- What the printing of a file did: to the names of the world, to both outputs, and how it ended.
-use Rattle.std.specs.Prelude.{◌≡◌, ◌⊎◌, ℕ, List, [], ◌∷◌, ◌++◌, Bool, true, false, Option, Some, None}
-use Rattle.mcap_io.specs.Outside.{Rose, added, SourceState, SinkState, WorldState, Told, Keeping, Opening, opened, TellsName}
+use Rattle.std.specs.Prelude.{◌≡◌, ◌⊎◌, ◌<◌, ◌-◌, ◌^◌, ℕ, List, [], ◌∷◌, ◌++◌, Bool, true, false, Some, None}
+use Rattle.mcap_io.specs.Outside.{Rose, SourceState, SinkState, WorldState, Told, Keeping, Opening, TellsName}
 use Rattle.mcap_io.specs.declared.outside.ObjectKind.TheVariants as kinds
 use Rattle.mcap_model.specs.declared.replay.Range.{Range}
 use Rattle.mcap_model.specs.Tops.{Top}
@@ -14,11 +14,14 @@ use Rattle.mcap_app.specs.declared.cat.Reading.{Reading}
 use Rattle.mcap_app.specs.declared.cat.Reading.TheVariants as readings
 use Rattle.mcap_app.specs.declared.cat.Played.{Played}
 use Rattle.mcap_app.specs.Printing.{TellsAll, TellsPart}
-use Rattle.mcap_app.specs.Answer.{Complains}
-use Rattle.mcap_app.specs.Texts.{Trouble, fault, output_fault, grammar, compressed, limit, no_memory}
-use Rattle.mcap_app.specs.Run.{Scene, counts_in, AnyRose, when, kept_source, listed, faults_of, has_failed}
+use Rattle.mcap_app.specs.Texts.{Trouble, grammar, compressed, limit, halt_status}
+use Rattle.mcap_app.specs.Ran.{Scene, counts_in, AnyRose, Files, wanted, kept, refused, AreOpened, Leaves, CountsKept, named_when, failed_names, Findings, Ran}
 
 -- ---- the file
+
+-- the name of a printing
+abbrev pub files_of : List ℕ → Files
+files_of file = record { inputs = file ∷ []; outputs = [] }
 
 abbrev pub all_times : Range
 all_times = record { start = 0; end = None }
@@ -57,25 +60,23 @@ pub record ReadUnder (file : List ℕ) (world : WorldState) (keeping : Keeping) 
   pub comes : ComesTo source (record { left = keeping.left; faults = keeping.faults }) reading
 
 -- no entry, where memory lacked for the opening; or it was refused; or a source was given, read, and taken back
-abbrev pub IsReading : List ℕ → WorldState → Option Opening → Reading → Type 0
-IsReading file world None reading = reading ≡ readings.Refused refusals.Memory
-IsReading file world (Some entry) reading = ((entry ≡ opened kinds.Source file false) × (reading ≡ readings.Unopened))
-    ⊎ ((keeping : Keeping) × (entry ≡ kept_source file keeping) × ReadUnder file world keeping reading)
-
--- where the world tells, it goes on telling: all names hold what they held, and the opening stands behind those before
-abbrev pub Spares : WorldState → WorldState → Option Opening → Type 0
-Spares old new source = (told : Told) → old.told ≡ Some told → (now : Told) × (new.told ≡ Some now) × (now.names ≡ told.names) × (now.log ≡ told.log ++ listed source)
+abbrev pub IsReading : List ℕ → WorldState → List Opening → Reading → Type 0
+IsReading file world [] reading = reading ≡ readings.Refused refusals.Memory
+IsReading file world (entry ∷ more) reading = ((entry ≡ refused kinds.Source file) × (reading ≡ readings.Unopened))
+    ⊎ ((keeping : Keeping) × (entry ≡ kept kinds.Source file keeping) × ReadUnder file world keeping reading)
 
 -- what became of a file's name
 pub record NamePlayed (file : List ℕ) (old new : WorldState) (played : Played) : Type 0 where
-  pub source : Option Opening
-  pub reading : IsReading file old source played.reading
-  pub names : Spares old new source
-  pub inputs : new.input_faults ≡ added old.input_faults (faults_of source)
-  pub outputs : new.output_faults ≡ old.output_faults
-  pub failed : played.failed ≡ has_failed source
+  pub entries : List Opening
+  pub opened : AreOpened (wanted (files_of file)) entries
+  pub reading : IsReading file old entries played.reading
+  pub leaves : Leaves old new entries
+  pub counts : CountsKept old new entries
+  pub failed : failed_names entries ≡ named_when played.failed file ++ []
   pub cause : played.failed ≡ true → Rose old.faults new.faults ⊎ Rose old.input_faults new.input_faults
-  pub calm : played.failed ≡ false → new.faults ≡ old.faults
+  pub world_told : played.failed ≡ false → new.faults ≡ old.faults
+  pub inputs_told : old.input_faults < 2 ^ 64 - 1 → Rose old.input_faults new.input_faults → played.failed ≡ true
+  pub outputs : new.output_faults ≡ old.output_faults
 
 -- ---- standard output
 
@@ -84,6 +85,12 @@ abbrev pub PrintsLines : SinkState → SinkState → Reading → Bool → Type 0
 PrintsLines before now readings.Unopened failed = (failed ≡ false) × (now ≡ before)
 PrintsLines before now (readings.Lines text) failed = ((failed ≡ false) × TellsAll before now text) ⊎ ((failed ≡ true) × TellsPart before now text)
 PrintsLines before now (readings.Refused why) failed = (failed ≡ false) × (now ≡ before)
+
+-- the text for it
+abbrev pub lines_of : Reading → List ℕ
+lines_of readings.Unopened = []
+lines_of (readings.Lines text) = text
+lines_of (readings.Refused why) = []
 
 -- ---- standard error
 
@@ -113,43 +120,27 @@ lacks_memory readings.Unopened = false
 lacks_memory (readings.Lines text) = false
 lacks_memory (readings.Refused why) = is_memory_refused why
 
--- the troubles of a printing, in their order: of the file's bytes, of its name, of standard output, of memory
-abbrev pub cat_troubles : List ℕ → Reading → Bool → Bool → List Trouble
-cat_troubles file reading failed printing = reading_troubles file reading ++ (when failed (fault file)
-    ++ (when printing output_fault ++ when (lacks_memory reading) no_memory))
+-- what there is to tell of besides faults
+abbrev pub findings_of : List ℕ → Reading → Findings
+findings_of file reading = record { halts = reading_troubles file reading; limits = []; lacked = lacks_memory reading }
 
 -- ---- the command
 
--- the status of where a reading halts
-abbrev pub halt_status : Halt → ℕ
-halt_status (at_end n) = 0
-halt_status (breaks n rule) = 1
-halt_status (names n name) = 1
-halt_status (beyond n) = 4
-
 -- what `cat` does
-pub record Cats (file : List ℕ) (old new : Scene) (answer : ℕ) : Type 0 where
+pub record Cats (file : List ℕ) (old new : Scene) (status : ℕ) : Type 0 where
   -- the file is opened, and nothing else; this is what its reading came to
-  pub source : Option Opening
+  pub entries : List Opening
   pub reading : Reading
-  pub read : IsReading file old.world source reading
-  -- all names hold what they held
-  pub names : Spares old.world new.world source
-  -- the faults of the source are counted
-  pub inputs : new.world.input_faults ≡ added old.world.input_faults (faults_of source)
-  pub outputs : new.world.output_faults ≡ old.world.output_faults
-  -- the file is blamed exactly where its opening, its keeping or its source failed, and each failure shows in a count
+  pub read : IsReading file old.world entries reading
+  -- standard output takes the lines of the messages, and standard error the troubles
+  pub ran : Ran (files_of file) old new entries (lines_of reading) (findings_of file reading) status
+  -- the file is blamed exactly where its opening, its keeping or its source failed, and standard output where it failed
   pub failed : Bool
-  pub blame : failed ≡ has_failed source
-  pub cause : failed ≡ true → Rose old.world.faults new.world.faults ⊎ Rose old.world.input_faults new.world.input_faults
-  pub calm : failed ≡ false → new.world.faults ≡ old.world.faults
-  -- standard output took the lines of the messages
-  pub printing : Bool
-  pub printed : PrintsLines old.out new.out reading printing
-  -- standard error is told of the troubles, and they give the status
-  pub said : Complains (cat_troubles file reading failed printing) old.err new.err answer
+  pub blame : ran.failed ≡ failed_names entries
+  pub names_are : failed_names entries ≡ named_when failed file ++ []
+  pub printed : PrintsLines old.out new.out reading ran.printing
   -- where the world tells, the bytes under the name decide the status, unless a count rises or memory lacks
   pub decided : (told : Told) (bytes : List ℕ) (tops : List Top) (halt : Halt) → old.world.told ≡ Some told → told.names file ≡ Some bytes → Halts reading_limits bytes tops halt
-      → (AnyRose (counts_in old) (counts_in new) → ⊥) → (answer ≡ halt_status halt) ⊎ (answer ≡ 5)
+      → (AnyRose (counts_in old) (counts_in new) → ⊥) → (status ≡ halt_status halt) ⊎ (status ≡ 5)
   -- the status 0 says that all of the file was read, and all of its lines were taken
-  pub whole : answer ≡ 0 → (text : List ℕ) × (reading ≡ readings.Lines text) × TellsAll old.out new.out text
+  pub whole : status ≡ 0 → (text : List ℕ) × (reading ≡ readings.Lines text) × TellsAll old.out new.out text

@@ -1,5 +1,5 @@
 -- What printing a text leaves of it in a sink.
-use Rattle.std.specs.Prelude.{◌≡◌, ◌⊎◌, ℕ, List, Result, Ok, Err}
+use Rattle.std.specs.Prelude.{◌≡◌, ◌⊎◌, ℕ, List, [], Result, Ok, Err}
 use Rattle.mcap_io.specs.Outside.{SinkState, RisesOnce, Adds, AddsPart}
 use Rattle.mcap_io.specs.declared.outside.Failed.{Failed}
 
@@ -15,6 +15,11 @@ pub record TellsPart (before now : SinkState) (text : List ℕ) : Type 0 where
 
 abbrev pub Tells : SinkState → SinkState → List ℕ → Type 0
 Tells before now text = TellsAll before now text ⊎ TellsPart before now text
+
+-- the same, where of the empty text nothing is written
+pub record Takes (before now : SinkState) (text : List ℕ) : Type 0 where
+  pub tells : Tells before now text
+  pub silent : text ≡ [] → now ≡ before
 
 -- the same of a printing that says which of the two it was
 abbrev pub Prints : SinkState → SinkState → List ℕ → Result Unit Failed → Type 0

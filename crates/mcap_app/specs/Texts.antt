@@ -6,20 +6,22 @@ use Rattle.json.specs.Print.{quoted}
 use Rattle.mcap_app.specs.declared.complaint.Complaint.{Complaint}
 use Rattle.mcap_app.specs.declared.complaint.Complaint.TheVariants as complaints
 use Rattle.recorder.specs.declared.report.Report.{Report}
-use Rattle.recorder.specs.declared.report.FeedReport.{FeedReport}
 use Rattle.recorder.specs.declared.report.WriterReport.{WriterReport}
-use Rattle.recorder.specs.declared.report.FeedEnd.{FeedEnd}
-use Rattle.recorder.specs.declared.report.FeedEnd.TheVariants as feed_ends
+use Rattle.feed_lane.specs.declared.report.FeedReport.{FeedReport}
+use Rattle.feed_lane.specs.declared.report.FeedEnd.{FeedEnd}
+use Rattle.feed_lane.specs.declared.report.FeedEnd.TheVariants as feed_ends
 use Rattle.mcap_model.specs.declared.ends.End.{End}
 use Rattle.mcap_model.specs.declared.ends.End.TheVariants as ends
 use Rattle.mcap_model.specs.declared.ends.Stop.TheVariants as stops
+use Rattle.mcap_model.specs.Kept.{Halt, at_end, grammar as breaks, compressed as names, beyond}
 
 -- ---- standard output
 
 abbrev pub feed_end_text : FeedEnd → List ℕ
 feed_end_text feed_ends.Done = codes "end"
 feed_end_text (feed_ends.Grammar n) = codes "grammar " ++ decimal n
-feed_end_text (feed_ends.NotBuilt n) = codes "not-built " ++ decimal n
+feed_end_text (feed_ends.Compressed n name) = codes "compressed " ++ decimal n
+feed_end_text (feed_ends.Limit n) = codes "limit " ++ decimal n
 feed_end_text (feed_ends.Fault faults) = codes "fault"
 feed_end_text feed_ends.Memory = codes "memory"
 feed_end_text feed_ends.Ended = codes "ended"
@@ -57,9 +59,10 @@ pub data Trouble : Type 0 where
   fault : List ℕ → Trouble
   output_fault : Trouble
   grammar : List ℕ → ℕ → Trouble
-  not_built : List ℕ → ℕ → Trouble
   compressed : List ℕ → List ℕ → ℕ → Trouble
   limit : List ℕ → ℕ → Trouble
+  -- what was to be written under that name passes a limit
+  output_limit : List ℕ → Trouble
   no_memory : Trouble
 
 -- the trouble of a complaint
@@ -68,9 +71,9 @@ trouble_of complaints.BadWords = bad_words
 trouble_of (complaints.Fault name) = fault name.now
 trouble_of complaints.OutputFault = output_fault
 trouble_of (complaints.Grammar name n) = grammar name.now n
-trouble_of (complaints.NotBuilt name n) = not_built name.now n
 trouble_of (complaints.Compressed name compression n) = compressed name.now compression.now n
 trouble_of (complaints.Limit name n) = limit name.now n
+trouble_of (complaints.OutputLimit name) = output_limit name.now
 trouble_of complaints.NoMemory = no_memory
 
 -- that of a complaint that there may be
@@ -79,17 +82,17 @@ complained None = []
 complained (Some complaint) = trouble_of complaint ∷ []
 
 abbrev pub usage : List ℕ
-usage = codes "usage: mcaprec\n  record --plain OUT FEED\n  cat FILE\n"
+usage = codes "usage: mcaprec\n  record [--plain] [--chunk N] OUT FEED\n  cat FILE\n"
 
 unfoldable pub line_of : Trouble → List ℕ
 line_of bad_words = codes "mcaprec: bad words\n" ++ usage
 line_of (fault name) = codes "mcaprec: " ++ (quoted name ++ codes ": fault\n")
 line_of output_fault = codes "mcaprec: output: fault\n"
 line_of (grammar name n) = codes "mcaprec: " ++ (quoted name ++ (codes ": grammar at " ++ (decimal n ++ codes "\n")))
-line_of (not_built name n) = codes "mcaprec: " ++ (quoted name ++ (codes ": not built at " ++ (decimal n ++ codes "\n")))
 line_of (compressed name compression n) = codes "mcaprec: " ++ (quoted name ++ (codes ": compressed " ++ (quoted compression
     ++ (codes " at " ++ (decimal n ++ codes "\n")))))
 line_of (limit name n) = codes "mcaprec: " ++ (quoted name ++ (codes ": limit at " ++ (decimal n ++ codes "\n")))
+line_of (output_limit name) = codes "mcaprec: " ++ (quoted name ++ codes ": limit\n")
 line_of no_memory = codes "mcaprec: no memory\n"
 
 abbrev pub said : List Trouble → List ℕ
@@ -103,9 +106,9 @@ asked_status bad_words = 2
 asked_status (fault name) = 3
 asked_status output_fault = 3
 asked_status (grammar name n) = 1
-asked_status (not_built name n) = 1
 asked_status (compressed name compression n) = 1
 asked_status (limit name n) = 4
+asked_status (output_limit name) = 4
 asked_status no_memory = 5
 
 -- one of the troubles asks for the status
@@ -115,3 +118,10 @@ is_asked troubles status = list_any (λ t. asked_status t == status) troubles
 -- the first of 2, 5, 3, 4 and 1 that is asked for, or 0
 abbrev pub status_of : List Trouble → ℕ
 status_of troubles = unwrap_or (find (is_asked troubles) (2 ∷ 5 ∷ 3 ∷ 4 ∷ 1 ∷ [])) 0
+
+-- that of where the reading of a file halts
+abbrev pub halt_status : Halt → ℕ
+halt_status (at_end n) = 0
+halt_status (breaks n rule) = 1
+halt_status (names n name) = 1
+halt_status (beyond n) = 4

@@ -1,11 +1,12 @@
 //! The answer to a recording: what standard error is told, and the status.
 ghost use Rattle.std.specs.List.{list_any};
-ghost use Rattle.std.specs.Prelude.{◌≡◌, ◌⊎◌, ◌↔◌, ◌++◌, List, true, map, IfOk, OnOk};
+ghost use Rattle.std.specs.Prelude.{◌≡◌, ◌⊎◌, ◌↔◌, ◌||◌, [], ◌∷◌, ◌++◌, List, true, map, IfOk, OnOk};
 ghost use Rattle.mcap_io.specs.Outside.{Rose};
-ghost use Rattle.mcap_app.specs.Texts.{Trouble, trouble_of};
-ghost use Rattle.mcap_app.specs.Printing.{Tells};
-ghost use Rattle.mcap_app.specs.Answer.{Answers, Complains, LacksMemory, FaultsShow};
-ghost use Rattle.mcap_app.specs.Run.{EndOf, NamesMemory, Refuses, is_memory, when, troubles_of};
+ghost use Rattle.mcap_app.specs.Texts.{Trouble, trouble_of, complained, bad_words, said};
+ghost use Rattle.mcap_app.specs.Printing.{Takes};
+ghost use Rattle.mcap_app.specs.Answer.{Answers, LacksMemory, FaultsShow};
+ghost use Rattle.mcap_app.specs.Ran.{when, troubles_of, Complains};
+ghost use Rattle.mcap_app.specs.Record.{end_troubles, first_end, is_over, is_limit, passes_limit, is_memory, is_memory_stop, is_memory_end, is_memory_writer, lacks_memory as report_lacks, limit_passed, ends_in, findings_of, names_of};
 
 use crate::complaint::{BAD_WORDS, Complaint, NO_MEMORY, say, status};
 use crate::faults::{Counts, rose};
@@ -47,19 +48,6 @@ pub fn failed_parts(before: &Counts, now: &Counts, outcome: &Outcome) -> Failure
     }
 }
 
-// The end of the feed, where there is a report.
-fn end_of(report: &Option<Report>) -> Option<FeedEnd>
-    ensures { EndOf report.now result }
-{
-    match report {
-        Some(report) => match report.feeds.as_slice() {
-            [feed, ..] => return Some(feed.end),
-            [] => return None,
-        },
-        None => return None,
-    }
-}
-
 /// Adds a complaint where it is due.
 pub(crate) fn push_when<'a>(
     all: &mut Vec<Complaint<'a>>,
@@ -77,32 +65,113 @@ pub(crate) fn push_when<'a>(
     Ok(())
 }
 
-// The complaints of a recording, in their order.
-fn complaints_of<'a>(
-    alloc: Global,
-    out: &'a str,
-    feed: &'a str,
-    end: Option<FeedEnd>,
-    failed: Failures,
-    lacked: bool,
-) -> Result<Vec<Complaint<'a>>, Memory>
-    ensures { IfOk result (λ all. map trouble_of all.items ≡ troubles_of out.now feed.now end failed lacked) }
+/// Adds the complaint, if there is one.
+pub(crate) fn push_some<'a>(
+    all: &mut Vec<Complaint<'a>>,
+    complaint: Option<Complaint<'a>>,
+) -> Result<(), Memory>
+    ensures { OnOk result (map trouble_of all.new.items ≡ map trouble_of all.old.items ++ complained complaint.entry) }
 {
-    let mut all = Vec::new(alloc);
-    match end {
-        Some(FeedEnd::Grammar { offset }) => {
-            push_when(&mut all, true, Complaint::Grammar { name: feed, offset })?;
-        }
-        Some(FeedEnd::NotBuilt { offset }) => {
-            push_when(&mut all, true, Complaint::NotBuilt { name: feed, offset })?;
-        }
-        _ => {}
+    match complaint {
+        Some(complaint) => return push_when(all, true, complaint),
+        None => return Ok(()),
     }
-    push_when(&mut all, failed.feed, Complaint::Fault { name: feed })?;
-    push_when(&mut all, failed.out, Complaint::Fault { name: out })?;
-    push_when(&mut all, failed.printing, Complaint::OutputFault)?;
-    push_when(&mut all, lacked, Complaint::NoMemory)?;
-    Ok(all)
+}
+
+// The complaint of how the reading of a feed ended.
+fn feed_complaint<'a>(feed: &'a str, end: &'a FeedEnd) -> Option<Complaint<'a>>
+    ensures { complained result ≡ end_troubles feed.now end.now }
+{
+    match end {
+        FeedEnd::Grammar { offset } => Some(Complaint::Grammar {
+            name: feed,
+            offset: *offset,
+        }),
+        FeedEnd::Compressed { offset, name } => Some(Complaint::Compressed {
+            name: feed,
+            compression: name.as_str(),
+            offset: *offset,
+        }),
+        FeedEnd::Limit { offset } => Some(Complaint::Limit {
+            name: feed,
+            offset: *offset,
+        }),
+        FeedEnd::Done | FeedEnd::Fault { .. } | FeedEnd::Memory | FeedEnd::Ended => None,
+    }
+}
+
+// That of the one feed, where there is a report.
+fn end_complaint<'a>(feed: &'a str, report: &'a Option<Report>) -> Option<Complaint<'a>>
+    ensures { complained result ≡ ends_in feed.now report.now }
+{
+    match report {
+        Some(report) => match report.feeds.as_slice() {
+            [first, ..] => return feed_complaint(feed, &first.end),
+            [] => return None,
+        },
+        None => return None,
+    }
+}
+
+// Whether the message was refused for a limit.
+fn is_too_much(refused: &Refused) -> bool
+    ensures { result ≡ is_over refused.now.cause }
+{
+    match refused.cause {
+        Cause::TooLarge { .. }
+        | Cause::TooManySchemas
+        | Cause::TooManyChannels
+        | Cause::TooManyRecords { .. } => true,
+        Cause::Full { .. } | Cause::Closed { .. } | Cause::Stopped { .. } | Cause::Memory => false,
+    }
+}
+
+// Whether one of the feed's messages was.
+fn has_too_much(feed: &FeedReport) -> bool
+    ensures { result ≡ list_any (λ x. is_over x.cause) feed.now.refused.items }
+{
+    feed.refused.iter().any(|x| is_too_much(x))
+}
+
+// Whether the writer stopped at a limit.
+fn is_at_limit(end: End) -> bool
+    ensures { result ≡ is_limit end }
+{
+    match end {
+        End::Stopped {
+            stop: Stop::Limit { .. },
+        } => true,
+        End::Closed | End::Stopped { .. } => false,
+    }
+}
+
+// Whether one of the messages of all feeds was.
+fn have_too_much(feeds: &[FeedReport]) -> bool
+    ensures { result ≡ list_any (λ f. list_any (λ x. is_over x.cause) f.refused.items) feeds.now }
+{
+    feeds.iter().any(|feed| has_too_much(feed))
+}
+
+// Whether the file or a message would have passed a limit.
+fn has_limit(report: &Option<Report>) -> bool
+    ensures { result ≡ limit_passed report.now }
+{
+    match report {
+        Some(report) => {
+            return is_at_limit(report.writer.end) || have_too_much(&report.feeds);
+        }
+        None => return false,
+    }
+}
+
+// Whether the writer stopped for want of memory.
+fn is_out_of_memory(stop: Stop) -> bool
+    ensures { result ≡ is_memory_stop stop }
+{
+    match stop {
+        Stop::Memory => true,
+        Stop::Fault { .. } | Stop::Limit { .. } => false,
+    }
 }
 
 // Whether the message was refused for want of memory.
@@ -111,27 +180,67 @@ fn is_for_memory(refused: &Refused) -> bool
 {
     match refused.cause {
         Cause::Memory => true,
-        Cause::Stopped { .. } => false,
+        Cause::Stopped { stop, .. } => is_out_of_memory(stop),
+        Cause::Full { .. }
+        | Cause::TooLarge { .. }
+        | Cause::Closed { .. }
+        | Cause::TooManySchemas
+        | Cause::TooManyChannels
+        | Cause::TooManyRecords { .. } => false,
     }
 }
 
 // Whether a message was refused for want of memory.
-fn has_lacked(refused: &[Refused]) -> bool
+fn have_lacked(refused: &[Refused]) -> bool
     ensures { result ≡ list_any (λ x. is_memory x.cause) refused.now }
 {
     refused.iter().any(|x| is_for_memory(x))
 }
 
-// Whether the feed's report or the end of the file names a want of memory.
-fn names_memory(feed: &FeedReport, end: End) -> bool
-    ensures { NamesMemory feed.now end ↔ (result ≡ true) }
+// Whether the reading of the feed ended for want of memory.
+fn is_end_for_memory(end: &FeedEnd) -> bool
+    ensures { result ≡ is_memory_end end.now }
 {
-    let lacked = has_lacked(&feed.refused);
-    match (feed.end, end) {
-        (FeedEnd::Memory, _) => return true,
-        (_, End::Stopped { stop: Stop::Memory }) => return true,
-        _ => return lacked,
+    match end {
+        FeedEnd::Memory => true,
+        FeedEnd::Done
+        | FeedEnd::Grammar { .. }
+        | FeedEnd::Compressed { .. }
+        | FeedEnd::Limit { .. }
+        | FeedEnd::Fault { .. }
+        | FeedEnd::Ended => false,
     }
+}
+
+// Whether memory lacked for the feed, or for one of its messages.
+fn has_lacked(feed: &FeedReport) -> bool
+    ensures { result ≡ (is_memory_end feed.now.end || list_any (λ x. is_memory x.cause) feed.now.refused.items) }
+{
+    is_end_for_memory(&feed.end) || have_lacked(&feed.refused)
+}
+
+// Whether memory lacked for one of the feeds.
+fn feeds_lacked(feeds: &[FeedReport]) -> bool
+    ensures { result ≡ list_any (λ f. is_memory_end f.end || list_any (λ x. is_memory x.cause) f.refused.items) feeds.now }
+{
+    feeds.iter().any(|feed| has_lacked(feed))
+}
+
+// Whether memory lacked for the file.
+fn writer_lacked(end: End) -> bool
+    ensures { result ≡ is_memory_writer end }
+{
+    match end {
+        End::Stopped { stop } => is_out_of_memory(stop),
+        End::Closed => false,
+    }
+}
+
+// Whether the report names a want of memory.
+fn names_memory(report: &Report) -> bool
+    ensures { result ≡ report_lacks report.now }
+{
+    writer_lacked(report.writer.end) || feeds_lacked(&report.feeds)
 }
 
 // Whether memory lacked: the report names it, or there is no report though nothing failed.
@@ -139,18 +248,40 @@ fn lacks_memory(report: &Option<Report>, failed: Failures) -> bool
     ensures { LacksMemory report.now failed result }
 {
     match report {
-        Some(report) => match report.feeds.as_slice() {
-            [feed, ..] => return names_memory(feed, report.writer.end),
-            [] => return true,
-        },
+        Some(report) => return names_memory(report),
         None => return !failed.feed && !failed.out && !failed.printing,
     }
 }
 
-// Writes the text to standard error. That it fails changes nothing.
-fn tell<E: Sink>(err: &mut E, text: &[u8])
-    ensures { Tells (E.state err.old) (E.state err.new) text.now }
+// The complaints of a recording, in their order.
+fn complaints_of<'a>(
+    alloc: Global,
+    out: &'a str,
+    feed: &'a str,
+    report: &'a Option<Report>,
+    failed: Failures,
+    lacked: bool,
+) -> Result<Vec<Complaint<'a>>, Memory>
+    ensures { IfOk result (λ all. map trouble_of all.items ≡ troubles_of (findings_of out.now feed.now report.now lacked) (names_of out.now feed.now failed) failed.printing) }
 {
+    let mut all = Vec::new(alloc);
+    push_some(&mut all, end_complaint(feed, report))?;
+    push_when(&mut all, failed.feed, Complaint::Fault { name: feed })?;
+    push_when(&mut all, failed.out, Complaint::Fault { name: out })?;
+    let is_limited = has_limit(report);
+    push_when(&mut all, is_limited, Complaint::OutputLimit { name: out })?;
+    push_when(&mut all, failed.printing, Complaint::OutputFault)?;
+    push_when(&mut all, lacked, Complaint::NoMemory)?;
+    Ok(all)
+}
+
+// Writes the text to standard error, if there is any. That it fails changes nothing.
+fn tell<E: Sink>(err: &mut E, text: &[u8])
+    ensures { Takes (E.state err.old) (E.state err.new) text.now }
+{
+    if text.is_empty() {
+        return;
+    }
     match write_all_of(err, text) {
         Ok(()) => {}
         Err(_) => {}
@@ -195,7 +326,7 @@ pub(crate) fn complain_of<E: Sink>(
 
 /// Complains of words that are no command. It takes no memory.
 pub fn refuse_words<E: Sink>(err: &mut E)
-    ensures { Refuses (E.state err.old) (E.state err.new) }
+    ensures { Takes (E.state err.old) (E.state err.new) (said (bad_words ∷ [])) }
 {
     tell(err, BAD_WORDS.as_bytes());
 }
@@ -211,12 +342,11 @@ pub fn answer<E: Sink>(
 ) -> u8
     ensures { Answers out.now feed.now report.now failed (E.state err.old) (E.state err.new) result }
 {
-    let end = end_of(report);
     let lacked = lacks_memory(report, failed);
     complain_of(
         alloc,
         err,
-        complaints_of(alloc, out, feed, end, failed, lacked),
+        complaints_of(alloc, out, feed, report, failed, lacked),
     )
 }
 
@@ -240,23 +370,96 @@ mod tests {
         printing: false,
     };
 
-    // A report of a feed that ended for want of memory.
-    fn lacking(alloc: Global) -> Result<Report, AllocError> {
+    // A report of a feed that ended so, of which these messages were refused, and of a file that ended so.
+    fn report_of(
+        alloc: Global,
+        feed_end: FeedEnd,
+        refused: &[Refused],
+        end: End,
+    ) -> Result<Report, AllocError> {
         let feed = FeedReport {
             accepted: Vec::new(alloc),
             declared: Vec::new(alloc),
-            refused: Vec::new(alloc),
+            refused: Vec::from_slice(alloc, refused)?,
             passed: 0,
-            end: FeedEnd::Memory,
+            end: feed_end,
         };
         let writer = WriterReport {
             records: 0,
             blocks: 0,
             bytes: 84,
-            end: End::Closed,
+            end,
         };
         let feeds = vec![in alloc; feed]?;
         Ok(Report { feeds, writer })
+    }
+
+    // A limit is told once, however often it was met.
+    #[test]
+    fn what_messages_were_refused_for_is_told(rt: HostRuntime) -> Result<(), Fail> {
+        let limit = Stop::Limit {
+            blocks: 1,
+            bytes: 173,
+        };
+        let memory = Stop::Memory;
+        let full = Cause::Full {
+            held: 59,
+            from: 0,
+            to: 2,
+        };
+        let table = [
+            (full, End::Closed, 0, ""),
+            (
+                Cause::TooLarge { len: 33_554_433 },
+                End::Closed,
+                4,
+                "mcaprec: \"OUT\": limit\n",
+            ),
+            (
+                Cause::TooManySchemas,
+                End::Closed,
+                4,
+                "mcaprec: \"OUT\": limit\n",
+            ),
+            (
+                Cause::TooManyChannels,
+                End::Closed,
+                4,
+                "mcaprec: \"OUT\": limit\n",
+            ),
+            (
+                Cause::TooManyRecords { count: 7 },
+                End::Closed,
+                4,
+                "mcaprec: \"OUT\": limit\n",
+            ),
+            (
+                Cause::Stopped { at: 2, stop: limit },
+                End::Stopped { stop: limit },
+                4,
+                "mcaprec: \"OUT\": limit\n",
+            ),
+            (Cause::Memory, End::Closed, 5, "mcaprec: no memory\n"),
+            (
+                Cause::Stopped {
+                    at: 2,
+                    stop: memory,
+                },
+                End::Stopped { stop: memory },
+                5,
+                "mcaprec: no memory\n",
+            ),
+        ];
+        for (row, (cause, end, want, text)) in table.into_iter().enumerate() {
+            let alloc = rt.alloc();
+            let refused = [Refused { index: 0, cause }, Refused { index: 1, cause }];
+            let report = Some(report_of(alloc, FeedEnd::Done, &refused, end)?);
+            let mut err = MemorySink::new(alloc, Vec::new(alloc));
+            let status = answer(alloc, &mut err, "OUT", "F", &report, NO_FAILURE);
+            assert_eq!(rt; status, want, "row {row}");
+            assert_eq!(rt; err.bytes(), text.as_bytes(), "row {row}");
+        }
+        Ok(())
     }
 
     // The line of the feed's fault has 20 bytes.
@@ -284,7 +487,7 @@ mod tests {
         ];
         for (row, (failed, failing, want)) in table.into_iter().enumerate() {
             let alloc = rt.alloc();
-            let report = Some(lacking(alloc)?);
+            let report = Some(report_of(alloc, FeedEnd::Memory, &[], End::Closed)?);
             let mut err = MemorySink::new(alloc, Vec::from_slice(alloc, failing)?);
             let status = answer(alloc, &mut err, "OUT", "F", &report, failed);
             assert_eq!(rt; status, 5, "row {row}");

@@ -1,11 +1,11 @@
 //! Printing the messages of a file in the order of their log times.
-ghost use Rattle.std.specs.Prelude.{◌≡◌, ◌<◌, ◌^◌, ◌++◌, map, IfOk, OnOk};
+ghost use Rattle.std.specs.Prelude.{◌≡◌, ◌<◌, ◌^◌, ◌++◌, [], map, IfOk};
 ghost use Rattle.mcap_app.specs.Texts.{trouble_of, complained};
-ghost use Rattle.mcap_app.specs.Run.{scene};
-ghost use Rattle.mcap_app.specs.Cat.{ComesTo, NamePlayed, PrintsLines, reading_troubles, halt_troubles, lacks_memory, is_memory_refused, cat_troubles, Cats};
-ghost use Rattle.mcap_app.specs.Answer.{Complains};
+ghost use Rattle.mcap_app.specs.Printing.{Takes};
+ghost use Rattle.mcap_app.specs.Ran.{scene, named_when, troubles_of, Complains};
+ghost use Rattle.mcap_app.specs.Cat.{ComesTo, NamePlayed, PrintsLines, lines_of, reading_troubles, halt_troubles, lacks_memory, is_memory_refused, findings_of, Cats};
 
-use crate::answering::{complain_of, push_when};
+use crate::answering::{complain_of, push_some, push_when};
 use crate::complaint::Complaint;
 use crate::faults::{Counts, has_failed};
 use mcap_io::{OpenRefused, Sink, Source, World, write_all_of};
@@ -57,7 +57,9 @@ fn read_lines<S: Source>(alloc: Global, source: &mut S) -> Reading
 
 // Opens the name, reads it, and keeps it.
 fn play_name<W: World>(alloc: Global, file: &str, world: &mut W) -> Played
+    requires world_fits { (W.state world.old).faults < 2 ^ 64 }
     requires inputs_fit { (W.state world.old).input_faults < 2 ^ 64 }
+    requires outputs_fit { (W.state world.old).output_faults < 2 ^ 64 }
     ensures { NamePlayed file.now (W.state world.old) (W.state world.new) result }
 {
     let mut source = match world.source(file) {
@@ -88,13 +90,19 @@ fn play_name<W: World>(alloc: Global, file: &str, world: &mut W) -> Played
 
 // Prints the lines if all of the file was read, and says whether the output failed.
 fn print_lines<O: Sink>(out: &mut O, reading: &Reading) -> bool
-    ensures { PrintsLines (O.state out.old) (O.state out.new) reading.now result }
+    ensures prints { PrintsLines (O.state out.old) (O.state out.new) reading.now result }
+    ensures takes { Takes (O.state out.old) (O.state out.new) (lines_of reading.now) }
 {
     match reading {
-        Reading::Lines { text } => match write_all_of(out, text.as_slice()) {
-            Ok(()) => return false,
-            Err(_) => return true,
-        },
+        Reading::Lines { text } => {
+            if text.as_slice().is_empty() {
+                return false;
+            }
+            match write_all_of(out, text.as_slice()) {
+                Ok(()) => return false,
+                Err(_) => return true,
+            }
+        }
         Reading::Unopened => return false,
         Reading::Refused { .. } => return false,
     }
@@ -157,19 +165,6 @@ fn has_lacked(reading: &Reading) -> bool
     }
 }
 
-// Adds the complaint, if there is one.
-fn push_some<'a>(
-    all: &mut Vec<Complaint<'a>>,
-    complaint: Option<Complaint<'a>>,
-) -> Result<(), Memory>
-    ensures { OnOk result (map trouble_of all.new.items ≡ map trouble_of all.old.items ++ complained complaint.entry) }
-{
-    match complaint {
-        Some(complaint) => return push_when(all, true, complaint),
-        None => return Ok(()),
-    }
-}
-
 // The complaints of a printing, in their order.
 fn complaints_of<'a>(
     alloc: Global,
@@ -177,7 +172,7 @@ fn complaints_of<'a>(
     played: &'a Played,
     printing: bool,
 ) -> Result<Vec<Complaint<'a>>, Memory>
-    ensures { IfOk result (λ all. map trouble_of all.items ≡ cat_troubles file.now played.now.reading played.now.failed printing) }
+    ensures { IfOk result (λ all. map trouble_of all.items ≡ troubles_of (findings_of file.now played.now.reading) (named_when played.now.failed file.now ++ []) printing) }
 {
     let mut all = Vec::new(alloc);
     push_some(&mut all, reading_complaint(file, &played.reading))?;
@@ -189,7 +184,7 @@ fn complaints_of<'a>(
 
 // Complains of what went wrong in a printing, and answers the status.
 fn answer<E: Sink>(alloc: Global, err: &mut E, file: &str, played: &Played, printing: bool) -> u8
-    ensures { Complains (cat_troubles file.now played.now.reading played.now.failed printing) (E.state err.old) (E.state err.new) result }
+    ensures { Complains (troubles_of (findings_of file.now played.now.reading) (named_when played.now.failed file.now ++ []) printing) (E.state err.old) (E.state err.new) result }
 {
     complain_of(alloc, err, complaints_of(alloc, file, played, printing))
 }

@@ -10,7 +10,7 @@ use std::alloc::{AllocError, Global};
 
 /// What standard error is told of words that are no command, with the usage.
 pub(crate) const BAD_WORDS: &str =
-    "mcaprec: bad words\nusage: mcaprec\n  record --plain OUT FEED\n  cat FILE\n";
+    "mcaprec: bad words\nusage: mcaprec\n  record [--plain] [--chunk N] OUT FEED\n  cat FILE\n";
 
 /// What standard error is told of a want of memory.
 pub(crate) const NO_MEMORY: &str = "mcaprec: no memory\n";
@@ -31,11 +31,6 @@ pub enum Complaint<'a> {
         name: &'a str,
         offset: u64,
     },
-    /// The record at the offset isn't recorded yet.
-    NotBuilt {
-        name: &'a str,
-        offset: u64,
-    },
     /// The Chunk at the offset names that compression, and is not read.
     Compressed {
         name: &'a str,
@@ -46,6 +41,10 @@ pub enum Complaint<'a> {
     Limit {
         name: &'a str,
         offset: u64,
+    },
+    /// What was to be written to the file passes a limit on writing.
+    OutputLimit {
+        name: &'a str,
     },
     /// Memory lacked.
     NoMemory,
@@ -75,10 +74,6 @@ fn complaint_line(alloc: Global, complaint: &Complaint<'_>) -> Result<String, Al
             let name = quoted_name(alloc, name)?;
             format!(in alloc; "mcaprec: {name}: grammar at {offset}\n")
         }
-        Complaint::NotBuilt { name, offset } => {
-            let name = quoted_name(alloc, name)?;
-            format!(in alloc; "mcaprec: {name}: not built at {offset}\n")
-        }
         Complaint::Compressed {
             name,
             compression,
@@ -91,6 +86,10 @@ fn complaint_line(alloc: Global, complaint: &Complaint<'_>) -> Result<String, Al
         Complaint::Limit { name, offset } => {
             let name = quoted_name(alloc, name)?;
             format!(in alloc; "mcaprec: {name}: limit at {offset}\n")
+        }
+        Complaint::OutputLimit { name } => {
+            let name = quoted_name(alloc, name)?;
+            format!(in alloc; "mcaprec: {name}: limit\n")
         }
         Complaint::NoMemory => String::from_str(alloc, NO_MEMORY),
     }
@@ -121,8 +120,8 @@ fn own_status(complaint: &Complaint<'_>) -> u8
         Complaint::BadWords => 2,
         Complaint::NoMemory => 5,
         Complaint::Fault { .. } | Complaint::OutputFault => 3,
-        Complaint::Limit { .. } => 4,
-        Complaint::Grammar { .. } | Complaint::NotBuilt { .. } | Complaint::Compressed { .. } => 1,
+        Complaint::Limit { .. } | Complaint::OutputLimit { .. } => 4,
+        Complaint::Grammar { .. } | Complaint::Compressed { .. } => 1,
     }
 }
 
@@ -169,11 +168,6 @@ mod tests {
         offset: 34,
     };
 
-    const NOT_BUILT: Complaint<'static> = Complaint::NotBuilt {
-        name: "F",
-        offset: 34,
-    };
-
     const COMPRESSED: Complaint<'static> = Complaint::Compressed {
         name: "F",
         compression: "z\"td",
@@ -185,13 +179,15 @@ mod tests {
         offset: 34,
     };
 
+    const OUTPUT_LIMIT: Complaint<'static> = Complaint::OutputLimit { name: "OUT" };
+
     #[test]
     fn complaints_are_said_in_their_order(rt: HostRuntime) -> Result<(), Fail> {
         let table: [(&[Complaint<'static>], &str); 10] = [
             (&[], ""),
             (
                 &[Complaint::BadWords],
-                "mcaprec: bad words\nusage: mcaprec\n  record --plain OUT FEED\n  cat FILE\n",
+                "mcaprec: bad words\nusage: mcaprec\n  record [--plain] [--chunk N] OUT FEED\n  cat FILE\n",
             ),
             (
                 &[COMPRESSED],
@@ -201,7 +197,7 @@ mod tests {
             (&[FAULT], "mcaprec: \"missing\": fault\n"),
             (&[ESCAPED], "mcaprec: \"a\\\"b\\\\c\\nd\": fault\n"),
             (&[GRAMMAR], "mcaprec: \"F\": grammar at 34\n"),
-            (&[NOT_BUILT], "mcaprec: \"F\": not built at 34\n"),
+            (&[OUTPUT_LIMIT], "mcaprec: \"OUT\": limit\n"),
             (&[Complaint::OutputFault], "mcaprec: output: fault\n"),
             (
                 &[Complaint::NoMemory, FAULT],
@@ -224,7 +220,7 @@ mod tests {
             (&[LIMIT, FAULT], 3),
             (&[], 0),
             (&[GRAMMAR], 1),
-            (&[NOT_BUILT], 1),
+            (&[GRAMMAR, OUTPUT_LIMIT], 4),
             (&[FAULT], 3),
             (&[Complaint::OutputFault], 3),
             (&[GRAMMAR, FAULT], 3),

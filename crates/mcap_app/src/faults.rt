@@ -1,7 +1,7 @@
 //! The counts of faults that decide whether the outside failed.
 ghost use Rattle.std.specs.Prelude.{◌≡◌, ◌<◌, ◌^◌, ◌↔◌, IsTrue};
 ghost use Rattle.mcap_io.specs.Outside.{Rose, went_well};
-ghost use Rattle.mcap_app.specs.Run.{counts, failed_so};
+ghost use Rattle.mcap_app.specs.Ran.{counts, failed_so};
 
 use mcap_io::{Failed, Sink, World};
 
@@ -18,6 +18,7 @@ impl Counts {
     /// The counts as they stand.
     pub fn of<W: World, O: Sink>(world: &W, out: &O) -> Counts
         ensures are { result ≡ counts (W.state world.now) (O.state out.now) }
+        ensures world_fits { (W.state world.now).faults < 2 ^ 64 }
         ensures inputs_fit { (W.state world.now).input_faults < 2 ^ 64 }
         ensures outputs_fit { (W.state world.now).output_faults < 2 ^ 64 }
     {

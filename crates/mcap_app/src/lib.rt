@@ -5,6 +5,7 @@ mod answering;
 mod cat;
 mod complaint;
 mod faults;
+pub mod laws;
 mod line;
 mod print;
 mod program;

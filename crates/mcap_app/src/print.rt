@@ -9,20 +9,24 @@ use mcap_model::{End, Stop};
 use recorder::{FeedEnd, FeedReport, Report, WriterReport};
 
 // Puts the end of a feed behind the line.
-fn push_feed_end(line: &mut Line, end: FeedEnd)
-    requires { length line.old + 30 ≤ LINE_ROOM }
-    ensures text { line.new ≡ line.old ++ feed_end_text end }
-    ensures len { length line.new ≤ length line.old + 30 }
+fn push_feed_end(line: &mut Line, end: &FeedEnd)
+    requires { length line.old + 31 ≤ LINE_ROOM }
+    ensures text { line.new ≡ line.old ++ feed_end_text end.now }
+    ensures len { length line.new ≤ length line.old + 31 }
 {
     match end {
         FeedEnd::Done => line.push_text("end"),
         FeedEnd::Grammar { offset } => {
             line.push_text("grammar ");
-            line.push_number(offset);
+            line.push_number(*offset);
         }
-        FeedEnd::NotBuilt { offset } => {
-            line.push_text("not-built ");
-            line.push_number(offset);
+        FeedEnd::Compressed { offset, .. } => {
+            line.push_text("compressed ");
+            line.push_number(*offset);
+        }
+        FeedEnd::Limit { offset } => {
+            line.push_text("limit ");
+            line.push_number(*offset);
         }
         FeedEnd::Fault { .. } => line.push_text("fault"),
         FeedEnd::Memory => line.push_text("memory"),
@@ -45,7 +49,7 @@ fn line_of_feed(number: u64, feed: &FeedReport) -> Line
     line.push_text(" passed=");
     line.push_number(feed.passed);
     line.push_text(" ");
-    push_feed_end(&mut line, feed.end);
+    push_feed_end(&mut line, &feed.end);
     line.push_text("\n");
     line
 }
@@ -116,6 +120,7 @@ pub fn print_report<K: Sink>(out: &mut K, report: &Report) -> Result<(), Failed>
 mod tests {
     use super::*;
     use mcap_io::{FailingWrite, MemorySink};
+    use mcap_wire::Text;
     use recorder::{Accepted, Cause, Refused};
     use std::alloc::{AllocError, Global};
     use std::test::Fail;
@@ -157,14 +162,16 @@ mod tests {
 
     #[test]
     fn feeds_are_numbered_and_the_file_comes_last(rt: HostRuntime) -> Result<(), Fail> {
-        let ends = [
+        let name = Text::copied(rt.alloc(), "zstd")?;
+        let ends = vec![in rt.alloc();
             FeedEnd::Done,
             FeedEnd::Grammar { offset: 34 },
-            FeedEnd::NotBuilt { offset: 34 },
+            FeedEnd::Compressed { offset: 34, name },
+            FeedEnd::Limit { offset: 34 },
             FeedEnd::Fault { faults: 7 },
             FeedEnd::Memory,
             FeedEnd::Ended,
-        ];
+        ]?;
         let mut feeds = vec![in rt.alloc(); feed(rt.alloc(), 2, 1, 3, FeedEnd::Done)?]?;
         for end in ends {
             feeds.push(feed(rt.alloc(), 0, 0, 0, end)?)?;
@@ -178,10 +185,11 @@ mod tests {
         let want = "feed 1 accepted=2 refused=1 passed=3 end\n\
             feed 2 accepted=0 refused=0 passed=0 end\n\
             feed 3 accepted=0 refused=0 passed=0 grammar 34\n\
-            feed 4 accepted=0 refused=0 passed=0 not-built 34\n\
-            feed 5 accepted=0 refused=0 passed=0 fault\n\
-            feed 6 accepted=0 refused=0 passed=0 memory\n\
-            feed 7 accepted=0 refused=0 passed=0 ended\n\
+            feed 4 accepted=0 refused=0 passed=0 compressed 34\n\
+            feed 5 accepted=0 refused=0 passed=0 limit 34\n\
+            feed 6 accepted=0 refused=0 passed=0 fault\n\
+            feed 7 accepted=0 refused=0 passed=0 memory\n\
+            feed 8 accepted=0 refused=0 passed=0 ended\n\
             file records=0 blocks=0 bytes=84 closed\n";
         assert_eq!(rt; sink.bytes(), want.as_bytes());
         Ok(())

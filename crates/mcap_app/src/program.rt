@@ -1,7 +1,10 @@
 //! The program: what each command does to the world and to both outputs.
-ghost use Rattle.std.specs.Prelude.{◌≡◌, ◌<◌, ◌^◌, ◌↔◌, ℕ, List, None, true, false};
+ghost use Rattle.std.specs.Prelude.{◌≡◌, ◌≤◌, ◌<◌, ◌^◌, ◌↔◌, ℕ, List, [], ◌∷◌, length, Option, None, Some, true, false};
 ghost use Rattle.mcap_app.specs.Words.{AreBad, IsRecord, IsCat};
-ghost use Rattle.mcap_app.specs.Run.{scene, NamesRecorded, PrintsReport, Records, Refuses};
+ghost use Rattle.mcap_app.specs.Texts.{bad_words, said};
+ghost use Rattle.mcap_app.specs.Printing.{Takes};
+ghost use Rattle.mcap_app.specs.Ran.{scene};
+ghost use Rattle.mcap_app.specs.Record.{options_of, report_text, NamesRecorded, Records};
 ghost use Rattle.mcap_app.specs.Cat.{Cats};
 
 use crate::answering::{Outcome, answer, failed_parts, refuse_words};
@@ -10,13 +13,17 @@ use crate::faults::{Counts, has_failed};
 use crate::print::print_report;
 use crate::words::{Command, parse_words};
 use mcap_io::{LiveStore, OpenRefused, Sink, Source, World};
+use mcap_model::FileOptions;
 use mcap_wire::Text;
-use recorder::{Recording, Report, record};
+use recorder::{RecordOptions, Recording, Report, record};
 use std::alloc::Global;
 
+/// From how many bytes on the buffer between a feed and the file is full: 100 MiB.
+const BUFFER_LIMIT: u64 = 104_857_600;
+
 /// How the program ended: its status, and the report of a recording. The status is 0 where all was done, 1 where
-/// the feed or the file breaks a rule or holds what isn't recorded or read yet, 2 for bad words, 3 where the outside
-/// failed, 4 where a limit was passed and 5 where memory lacked.
+/// the feed or the file breaks a rule or is compressed, 2 for bad words, 3 where the outside failed, 4 where a limit
+/// would be passed and 5 where memory lacked.
 pub struct Ended {
     pub status: u8,
     pub report: Option<Report>,
@@ -44,10 +51,21 @@ fn is_failed(why: OpenRefused) -> bool
 }
 
 // Opens both names, records the one into the other, and keeps both.
-fn record_names<W: World>(alloc: Global, out: &str, feed: &str, world: &mut W) -> Outcome
+fn record_names<W: World>(
+    alloc: Global,
+    options: &RecordOptions,
+    out: &str,
+    feed: &str,
+    world: &mut W,
+) -> Outcome
+    requires some { 1 ≤ options.now.limit }
+    requires small { options.now.limit ≤ 1073741824 }
+    requires size { (n : ℕ) → options.now.file.chunk ≡ Some n → (1 ≤ n) × (n ≤ 67108864) }
+    requires profile { length options.now.file.profile ≤ 268435456 }
+    requires world_fits { (W.state world.old).faults < 2 ^ 64 }
     requires inputs_fit { (W.state world.old).input_faults < 2 ^ 64 }
     requires outputs_fit { (W.state world.old).output_faults < 2 ^ 64 }
-    ensures { NamesRecorded out.now feed.now (W.state world.old) (W.state world.new) result }
+    ensures { NamesRecorded options.now out.now feed.now (W.state world.old) (W.state world.new) result }
 {
     let source = match world.source(feed) {
         Ok(source) => source,
@@ -65,7 +83,7 @@ fn record_names<W: World>(alloc: Global, out: &str, feed: &str, world: &mut W) -
         report,
         feed: source,
         live,
-    } = record(alloc, source, live);
+    } = record(alloc, options, source, live);
     let (source_faults, live_faults) = (source.faults(), live.faults());
     let source_kept = world.keep_source(feed, source);
     let live_kept = world.keep_live(out, live);
@@ -78,7 +96,7 @@ fn record_names<W: World>(alloc: Global, out: &str, feed: &str, world: &mut W) -
 
 // Prints the report, if there is one.
 fn print_outcome<O: Sink>(out: &mut O, report: &Option<Report>)
-    ensures { PrintsReport (O.state out.old) (O.state out.new) report.now }
+    ensures { Takes (O.state out.old) (O.state out.new) (report_text report.now) }
 {
     match report {
         Some(report) => match print_report(out, report) {
@@ -89,22 +107,36 @@ fn print_outcome<O: Sink>(out: &mut O, report: &Option<Report>)
     }
 }
 
+// How a recording is made, with chunks of so many bytes, or plain.
+fn options_for(alloc: Global, chunk: Option<u64>) -> RecordOptions
+    ensures { result ≡ options_of chunk }
+{
+    let profile = Text::new(String::new(alloc));
+    RecordOptions {
+        file: FileOptions { profile, chunk },
+        limit: BUFFER_LIMIT,
+    }
+}
+
 // Records the feed under one name into the file under another.
 fn record_command<W: World, O: Sink, E: Sink>(
     alloc: Global,
+    chunk: Option<u64>,
     out_name: &str,
     feed_name: &str,
     world: &mut W,
     out: &mut O,
     err: &mut E,
 ) -> Ended
-    ensures { Records out_name.now feed_name.now
+    requires size { (n : ℕ) → chunk ≡ Some n → (1 ≤ n) × (n ≤ 67108864) }
+    ensures { Records (options_of chunk) out_name.now feed_name.now
         (scene (W.state world.old) (O.state out.old) (E.state err.old))
         (scene (W.state world.new) (O.state out.new) (E.state err.new))
         result.report result.status }
 {
     let before = Counts::of(world, out);
-    let outcome = record_names(alloc, out_name, feed_name, world);
+    let options = options_for(alloc, chunk);
+    let outcome = record_names(alloc, &options, out_name, feed_name, world);
     print_outcome(out, &outcome.report);
     let now = Counts::of(world, out);
     let failed = failed_parts(&before, &now, &outcome);
@@ -131,10 +163,11 @@ pub fn run<R: AllocGlobal, W: World, O: Sink, E: Sink>(
     ensures world { AreBad words.now → world.new ≡ world.old }
     ensures out { AreBad words.now → out.new ≡ out.old }
     ensures report { AreBad words.now → result.report ≡ None }
-    ensures err { AreBad words.now → Refuses (E.state err.old) (E.state err.new) }
+    ensures err { AreBad words.now → Takes (E.state err.old) (E.state err.new) (said (bad_words ∷ [])) }
 
     // The words of a recording record.
-    ensures records { (out_name feed_name : List ℕ) → IsRecord words.now out_name feed_name → Records out_name feed_name
+    ensures records { (chunk : Option ℕ) (out_name feed_name : List ℕ) → IsRecord words.now chunk out_name feed_name
+        → Records (options_of chunk) out_name feed_name
         (scene (W.state world.old) (O.state out.old) (E.state err.old))
         (scene (W.state world.new) (O.state out.new) (E.state err.new))
         result.report result.status }
@@ -146,8 +179,15 @@ pub fn run<R: AllocGlobal, W: World, O: Sink, E: Sink>(
         result.status × (result.report ≡ None) }
 {
     match parse_words(words) {
-        Ok(Command::Record { out: name, feed }) => {
-            return record_command(rt.alloc(), name.as_str(), feed.as_str(), world, out, err);
+        Ok(
+            Command::Record {
+                out: name,
+                feed,
+                chunk,
+            },
+        ) => {
+            let (name, feed) = (name.as_str(), feed.as_str());
+            return record_command(rt.alloc(), chunk, name, feed, world, out, err);
         }
         Ok(Command::Cat { file }) => {
             let status = cat_command(rt.alloc(), file.as_str(), world, out, err);

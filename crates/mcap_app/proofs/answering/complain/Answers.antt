@@ -1,11 +1,11 @@
 use Rattle.std.proofs.Common.{refl, inl, sym, ◌∙◌}
-use Rattle.mcap_app.proofs.Lines.{tells_same}
+use Rattle.mcap_app.proofs.Lines.{takes_same}
 use Rattle.mcap_app.proofs.answering.complain.Goals as goal
 
 pub returns-in-Ok : goal.returns-in-Ok
 returns-in-Ok g c = record {
   troubles = _;
   are = inl refl;
-  answer_is = sym c.status.ensures;
-  text = tells_same _ _ _ _ (c.deref.ensures.value ∙ c.in-Ok.ensures) c.tell.ensures;
+  status_is = sym c.status.ensures;
+  text = takes_same _ _ _ _ (c.deref.ensures.value ∙ c.in-Ok.ensures) c.tell.ensures;
 }

@@ -1,6 +1,6 @@
 use Rattle.std.proofs.Common.{◌∷◌, [], refl, inr}
 use Rattle.mcap_app.specs.Texts.{no_memory, line_of}
-use Rattle.mcap_app.proofs.Lines.{tells_same}
+use Rattle.mcap_app.proofs.Lines.{takes_same}
 use Rattle.mcap_app.proofs.answering.lack_memory.Goals as goal
 
 pub returns : goal.returns
@@ -8,6 +8,6 @@ unfolding line_of
 returns g c = λ due. record {
   troubles = no_memory ∷ [];
   are = inr refl;
-  answer_is = refl;
-  text = tells_same _ _ _ _ c.as_bytes.ensures.value c.tell.ensures;
+  status_is = refl;
+  text = takes_same _ _ _ _ c.as_bytes.ensures.value c.tell.ensures;
 }

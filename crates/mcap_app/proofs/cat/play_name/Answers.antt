@@ -1,14 +1,18 @@
 -- The opening, the reading and the keeping come to what a printing does to the world.
 use Rattle.std.proofs.Common.{◌≡◌, Bool, sym, ap, subst, ◌∙◌}
 use Rattle.mcap_io.specs.Outside.{went_well}
-use Rattle.mcap_app.specs.Run.{failed_so}
+use Rattle.mcap_app.specs.Ran.{failed_so}
 use Rattle.mcap_app.specs.Cat.{NamePlayed}
-use Rattle.mcap_app.proofs.Cats.{unopened, given}
+use Rattle.mcap_app.proofs.Played.{played, unopened, lacked, read_back}
 use Rattle.mcap_app.proofs.cat.play_name.Goals as goal
 
 pub returns-in-Err-Failed : goal.returns-in-Err-Failed
 returns-in-Err-Failed g c =
-    unopened c.args.file.now (g.W.World.state c.args.world.now) (g.W.World.state c.source.new.self) c.in-Err-Failed.field-0 c.in-Err-Failed.field-0-is c.in-Err-Failed.ensures.opens c.in-Err-Failed.ensures.counts c.in-Err-Failed.ensures.cause c.requires.inputs_fit
+    unopened c.args.file.now (g.W.World.state c.args.world.now) (g.W.World.state c.source.new.self) c.in-Err-Failed.field-0 c.in-Err-Failed.field-0-is c.in-Err-Failed.ensures.opens c.in-Err-Failed.ensures.counts c.in-Err-Failed.ensures.cause c.requires.inputs_fit c.requires.outputs_fit
+
+pub returns-in-Err-Memory : goal.returns-in-Err-Memory
+returns-in-Err-Memory g c =
+    lacked c.args.file.now (g.W.World.state c.args.world.now) (g.W.World.state c.source.new.self) c.in-Err-Memory.field-0 c.in-Err-Memory.field-0-is c.in-Err-Memory.ensures.opens c.in-Err-Memory.ensures.counts c.in-Err-Memory.ensures.cause c.requires.world_fits c.requires.inputs_fit c.requires.outputs_fit
 
 pub returns : goal.returns
 returns g c =
@@ -17,8 +21,8 @@ returns g c =
     let kept = c.keep_source-kept.result in
     let reading = c.read_lines-reading.result in
     let failed : failed_so (went_well kept) source_now.faults ≡ c.has_failed.result = sym (c.has_failed.ensures ∙ ap (failed_so (went_well kept)) c.faults-faults.ensures) in
-    subst (λ (f : Bool). NamePlayed c.args.file.now (g.W.World.state c.args.world.now) (g.W.World.state c.keep_source-kept.new.self) (record { reading = reading; failed = f })) failed
-    (given c.args.file.now (g.W.World.state c.args.world.now) (g.W.World.state c.source.new.self) (g.W.World.state c.keep_source-kept.new.self) source source_now reading kept (record {
+    subst (λ (f : Bool). NamePlayed c.args.file.now (g.W.World.state c.args.world.now) (g.W.World.state c.keep_source-kept.new.self) (played reading f)) failed
+    (read_back c.args.file.now (g.W.World.state c.args.world.now) (g.W.World.state c.source.new.self) (g.W.World.state c.keep_source-kept.new.self) source source_now reading kept (record {
       opens = c.in-Ok.ensures.opens;
       stands = c.in-Ok.ensures.counts;
       still = c.in-Ok.ensures.cause;
@@ -29,5 +33,7 @@ returns g c =
       inputs = c.keep_source-kept.ensures.input_faults;
       outputs = c.keep_source-kept.ensures.output_faults;
       cause = c.keep_source-kept.ensures.cause;
-      fits = c.requires.inputs_fit;
+      world_fits = c.requires.world_fits;
+      inputs_fit = c.requires.inputs_fit;
+      outputs_fit = c.requires.outputs_fit;
     }))

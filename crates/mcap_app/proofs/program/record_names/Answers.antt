@@ -2,14 +2,15 @@
 use Rattle.std.proofs.Common.{◌≡◌, sym, ap, subst, ◌∙◌}
 use Rattle.mcap_io.specs.Outside.{went_well}
 use Rattle.mcap_app.specs.declared.answering.Outcome.{Outcome}
-use Rattle.mcap_app.specs.Run.{failed_so, NamesRecorded}
+use Rattle.mcap_app.specs.Ran.{failed_so}
+use Rattle.mcap_app.specs.Record.{NamesRecorded}
 use Rattle.mcap_app.proofs.Runs.{unmade, no_feed, alone, both}
 use Rattle.mcap_app.proofs.program.record_names.Goals as goal
 
 pub returns-in-Err : goal.returns-in-Err
 returns-in-Err g c =
-    subst (λ (o : Outcome). NamesRecorded c.args.out.now c.args.feed.now (g.W.World.state c.args.world.now) (g.W.World.state c.source.new.self) o) (sym c.unrecorded.ensures)
-    (no_feed _ _ _ _ c.in-Err.why c.is_failed.result c.in-Err.ensures.opens c.in-Err.ensures.counts c.in-Err.ensures.cause c.is_failed.ensures.failed c.is_failed.ensures.memory c.requires.inputs_fit c.requires.outputs_fit)
+    subst (λ (o : Outcome). NamesRecorded c.args.options.now c.args.out.now c.args.feed.now (g.W.World.state c.args.world.now) (g.W.World.state c.source.new.self) o) (sym c.unrecorded.ensures)
+    (no_feed c.args.options.now c.args.out.now c.args.feed.now (g.W.World.state c.args.world.now) (g.W.World.state c.source.new.self) c.in-Err.why c.is_failed.result c.in-Err.ensures.opens c.in-Err.ensures.counts c.in-Err.ensures.cause c.is_failed.ensures.failed c.is_failed.ensures.memory c.requires.world_fits c.requires.inputs_fit c.requires.outputs_fit)
 
 pub returns-in-Err-live : goal.returns-in-Err-live
 returns-in-Err-live g c =
@@ -19,8 +20,8 @@ returns-in-Err-live g c =
     let failed : c.has_failed.result ≡ failed_so (went_well c.keep_source-kept.result) source.faults = c.has_failed.ensures ∙ ap (failed_so (went_well c.keep_source-kept.result)) c.faults-faults.ensures in
     let is : unmade (failed_so (went_well c.keep_source-kept.result) source.faults) c.is_failed-in-Err-live.result ≡ c.unrecorded-in-Err-live.result =
     sym (c.unrecorded-in-Err-live.ensures ∙ ap (λ f. unmade f c.is_failed-in-Err-live.result) failed) in
-    subst (λ (o : Outcome). NamesRecorded out feed (g.W.World.state c.args.world.now) (g.W.World.state c.keep_source-kept.new.self) o) is
-    (alone out feed _ _ _ _ source c.in-Err-live.why c.keep_source-kept.result c.is_failed-in-Err-live.result (record {
+    subst (λ (o : Outcome). NamesRecorded c.args.options.now out feed (g.W.World.state c.args.world.now) (g.W.World.state c.keep_source-kept.new.self) o) is
+    (alone c.args.options.now out feed (g.W.World.state c.args.world.now) (g.W.World.state c.source.new.self) (g.W.World.state c.live.new.self) (g.W.World.state c.keep_source-kept.new.self) source c.in-Err-live.why c.keep_source-kept.result c.is_failed-in-Err-live.result (record {
       opens = c.in-Ok.ensures.opens;
       stands = c.in-Ok.ensures.counts;
       still = c.in-Ok.ensures.cause;
@@ -33,6 +34,7 @@ returns-in-Err-live g c =
       inputs = c.keep_source-kept.ensures.input_faults;
       outputs = c.keep_source-kept.ensures.output_faults;
       cause = c.keep_source-kept.ensures.cause;
+      world_fits = c.requires.world_fits;
       inputs_fit = c.requires.inputs_fit;
       outputs_fit = c.requires.outputs_fit;
     }) c.is_failed-in-Err-live.ensures.failed c.is_failed-in-Err-live.ensures.memory)
@@ -48,9 +50,9 @@ returns g c =
     sym (c.has_failed-2.ensures ∙ ap (failed_so (went_well c.keep_source-source_kept.result)) c.faults-source_faults.ensures) in
     let out_failed : failed_so (went_well c.keep_live-live_kept.result) live_now.faults ≡ c.has_failed-3.result =
     sym (c.has_failed-3.ensures ∙ ap (failed_so (went_well c.keep_live-live_kept.result)) c.faults-live_faults.ensures) in
-    subst (λ f. NamesRecorded out feed (g.W.World.state c.args.world.now) (g.W.World.state c.keep_live-live_kept.new.self) (record { report = report; feed_failed = c.has_failed-2.result; out_failed = f })) out_failed
-    (subst (λ f. NamesRecorded out feed (g.W.World.state c.args.world.now) (g.W.World.state c.keep_live-live_kept.new.self) (record { report = report; feed_failed = f; out_failed = failed_so (went_well c.keep_live-live_kept.result) live_now.faults })) feed_failed
-    (both out feed _ _ _ _ _ (g.W.Source.Source.state c.in-Ok.source) source_now (g.W.Live.LiveStore.state c.in-Ok-live.live) live_now c.keep_source-source_kept.result c.keep_live-live_kept.result (record {
+    subst (λ f. NamesRecorded c.args.options.now out feed (g.W.World.state c.args.world.now) (g.W.World.state c.keep_live-live_kept.new.self) (record { report = report; feed_failed = c.has_failed-2.result; out_failed = f })) out_failed
+    (subst (λ f. NamesRecorded c.args.options.now out feed (g.W.World.state c.args.world.now) (g.W.World.state c.keep_live-live_kept.new.self) (record { report = report; feed_failed = f; out_failed = failed_so (went_well c.keep_live-live_kept.result) live_now.faults })) feed_failed
+    (both c.args.options.now out feed (g.W.World.state c.args.world.now) (g.W.World.state c.source.new.self) (g.W.World.state c.live.new.self) (g.W.World.state c.keep_source-source_kept.new.self) (g.W.World.state c.keep_live-live_kept.new.self) (g.W.Source.Source.state c.in-Ok.source) source_now (g.W.Live.LiveStore.state c.in-Ok-live.live) live_now c.keep_source-source_kept.result c.keep_live-live_kept.result (record {
       opens = c.in-Ok.ensures.opens;
       stands = c.in-Ok.ensures.counts;
       still = c.in-Ok.ensures.cause;
@@ -69,6 +71,7 @@ returns g c =
       inputs_now = c.keep_live-live_kept.ensures.input_faults;
       outputs_now = c.keep_live-live_kept.ensures.output_faults;
       cause_out = c.keep_live-live_kept.ensures.cause;
+      world_fits = c.requires.world_fits;
       inputs_fit = c.requires.inputs_fit;
       outputs_fit = c.requires.outputs_fit;
     }) report (λ none. let same = c.record-report.ensures.refused none in (ap (g.W.Source.Source.state) same.0, ap (g.W.Live.LiveStore.state) same.1)) c.record-report.ensures.recorded))

@@ -1,0 +1,94 @@
+-- What is recorded is printed.
+use Rattle.std.proofs.Common.{◌≡◌, ◌⊎◌, ℕ, ◌+◌, ◌-◌, ◌^◌, ◌<◌, ◌≤◌, Bool, true, false, if◌then◌else◌, List, [], ◌∷◌, filter, Option, Some, None, refl, sym, ap, subst, inl, inr, ◌∙◌, arith}
+use Rattle.std.specs.List.{AllZip}
+use Rattle.std.proofs.lemmas.Str.{IsUtf8-nil}
+use Rattle.rec_data.specs.declared.owned.Rec.{Rec}
+use Rattle.mcap_io.specs.Outside.{Rose, added, Names, SourceState, WorldState, Told, Opening}
+use Rattle.mcap_model.specs.declared.ends.End.TheVariants as ends
+use Rattle.mcap_model.specs.Tops.{Top}
+use Rattle.mcap_model.specs.Kept.{Halts, reading_limits, at_end}
+use Rattle.mcap_model.specs.Scan.{Seen, Scan, Replay}
+use Rattle.mcap_model.specs.Text.{cat_text}
+use Rattle.mcap_model.specs.History.{is_message}
+use Rattle.mcap_model.specs.File.{file_of}
+use Rattle.mcap_model.specs.Laws.{HoldsSeen}
+use Rattle.mcap_model.proofs.Halting.{readings_halt_once}
+use Rattle.recorder.specs.declared.report.Report.{Report}
+use Rattle.recorder.specs.Laws.{AreReadable, ReadsAs}
+use Rattle.recorder.proofs.ReadBack.{recordings_are_read_back}
+use Rattle.mcap_app.specs.declared.cat.Reading.{Reading}
+use Rattle.mcap_app.specs.declared.cat.Reading.TheVariants as readings
+use Rattle.mcap_app.specs.Ran.{Scene, counts_in, AnyRose, CountsKept, world_faults}
+use Rattle.mcap_app.specs.Record.{options_of, Reported, EndsWith, Records}
+use Rattle.mcap_app.specs.Printing.{TellsAll}
+use Rattle.mcap_app.specs.Cat.{all_times, ComesTo, IsReading, IsPrinted, Cats}
+use Rattle.mcap_app.specs.Laws.{IsAllowed, PrintsHistory, RecordingsArePrinted}
+
+-- ---- the recording
+
+-- with the status 0 no count rose
+calm : (old new : Scene) (report : Option Report) → EndsWith (counts_in old) (counts_in new) report 0 → AnyRose (counts_in old) (counts_in new) → ⊥
+calm old new report came risen = elim (came.rose risen) [ inl three ↦ omega (arith, three) | inr five ↦ omega (arith, five) ]
+
+-- a keeping went well where the world's count stood still
+kept_well : (before now : ℕ) (source live : Bool) → now ≡ added before ((if source then 0 else 1) + (if live then 0 else 1)) → (Rose before now → ⊥) → live ≡ true
+kept_well before now source true is quiet = refl
+kept_well before now true false is quiet = absurd (quiet (omega (arith, is)))
+kept_well before now false false is quiet = absurd (quiet (omega (arith, is)))
+
+-- ---- the printing
+
+-- lines that were read of a file in which a history stands are those of its messages
+lines_of : (file : List ℕ) (history : List Rec) (before now : SourceState) (text : List ℕ) → before.left ≡ Some file → IsPrinted before now text → (reads : ReadsAs file history)
+    → (messages : List Seen) × (shown : List Seen) × AllZip HoldsSeen (filter is_message history) messages × Replay all_times None messages shown × (text ≡ cat_text shown) × Scan reads.tops messages
+lines_of file history before now text here printed reads =
+    let same : printed.tops ≡ reads.tops = (readings_halt_once file printed.tops reads.tops (at_end printed.end) (at_end reads.end) (printed.halts.halts file here) reads.halts).0 in
+    let scan : Scan reads.tops printed.messages = subst (λ (ts : List Top). Scan ts printed.messages) same printed.scan in
+    (printed.messages, printed.shown, reads.messages_are printed.messages scan, printed.replay, printed.text_is, scan)
+
+-- what a reading that gave lines was of
+read_of : (name file : List ℕ) (world : WorldState) (told : Told) (entries : List Opening) (reading : Reading) (text : List ℕ) → world.told ≡ Some told → told.names name ≡ Some file → IsReading name world entries reading → reading ≡ readings.Lines text
+    → (before : SourceState) × (now : SourceState) × (before.left ≡ Some file) × IsPrinted before now text
+read_of name file world told [] reading text here there is lines = absurd (let apart = sym lines ∙ is in cc)
+read_of name file world told (entry ∷ more) reading text here there (inl refused) lines = absurd (let apart = sym lines ∙ refused.1 in cc)
+read_of name file world told (entry ∷ more) reading text here there (inr (keeping, is, under)) lines =
+    let now : SourceState = record { left = keeping.left; faults = keeping.faults } in
+    (under.source, now, (under.tells told here).0 ∙ there, subst (λ (x : Reading). ComesTo under.source now x) lines under.comes)
+
+pub recordings_are_printed : RecordingsArePrinted
+recordings_are_printed chunk out feed old new later last r answer told allowed it here same cats quiet =
+    let is = it.reported r refl in
+    let all = it.whole refl in
+    let closed : r.writer.end ≡ ends.Closed = subst (λ (x : Report). x.writer.end ≡ ends.Closed) (same_report all.0 r (sym all.1)) all.2.closed in
+    let risen = calm old new (Some r) it.ended in
+    let counts = it.ran.counts.world ∙ ap (λ (es : List Opening). added old.world.faults (world_faults es)) is.kept_are in
+    let well : is.live_kept ≡ true = kept_well old.world.faults new.world.faults is.source_kept is.live_kept (omega (arith, counts)) (λ rose. risen (inl rose)) in
+    let left = it.ran.leaves told here in
+    let file = file_of (options_of chunk).file [] is.recorded.history in
+    let held : left.0.names out ≡ Some file = (is.file told left.0 here left.1).whole closed well in
+    let readable : AreReadable (options_of chunk).file = record { profile = IsUtf8-nil; short = omega arith; size = allowed } in
+    let reads : ReadsAs file is.recorded.history = (recordings_are_read_back (options_of chunk) is.given is.back r readable is.recorded closed).0 in
+    let tells : later.world.told ≡ Some left.0 = ap (λ (w : WorldState). w.told) same ∙ left.1 in
+    elim (cats.decided left.0 file reads.tops (at_end reads.end) tells held reads.halts quiet) [
+      | inr five ↦ inr five
+      | inl zero_is ↦
+          let printed = cats.whole zero_is in
+          let source = read_of out file later.world left.0 cats.entries cats.reading printed.0 tells held cats.read printed.1 in
+          let lines = lines_of file is.recorded.history source.0 source.1 printed.0 source.2 source.3 reads in
+          inl (
+            zero_is,
+            record {
+              tops = reads.tops;
+              flat_are = reads.flat_are;
+              messages = lines.0;
+              scan = lines.5;
+              shown = lines.1;
+              are = lines.2;
+              replay = lines.3;
+              lines = subst (λ (t : List ℕ). TellsAll later.out last.out t) lines.4 printed.2;
+            },
+          )
+    ]
+  where
+    same_report : (a b : Report) → Some a ≡ Some b → a ≡ b
+    same_report a b e = cc

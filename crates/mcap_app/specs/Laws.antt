@@ -1,0 +1,39 @@
+-- A law of the commands: what is recorded is printed.
+use Rattle.std.specs.Prelude.{◌≡◌, ◌⊎◌, ℕ, ◌≤◌, List, filter, refl, Option, Some, None}
+use Rattle.std.specs.List.{AllZip}
+use Rattle.mcap_io.specs.Outside.{SinkState, Told}
+use Rattle.rec_data.specs.declared.owned.Rec.{Rec}
+use Rattle.mcap_model.specs.Tops.{Top, flat}
+use Rattle.mcap_model.specs.History.{is_message, flat_history}
+use Rattle.mcap_model.specs.Scan.{Seen, Scan, Replay}
+use Rattle.mcap_model.specs.Text.{cat_text}
+use Rattle.mcap_model.specs.Laws.{HoldsSeen}
+use Rattle.recorder.specs.declared.report.Report.{Report}
+use Rattle.mcap_app.specs.Printing.{TellsAll}
+use Rattle.mcap_app.specs.Ran.{Scene, counts_in, AnyRose}
+use Rattle.mcap_app.specs.Record.{options_of, Records}
+use Rattle.mcap_app.specs.Cat.{all_times, Cats}
+
+-- An output took the lines of the messages of a history, in the order of log time and place: these are the messages of a
+-- file's records, which are those of the history, in chunks or not. So their topics and their order are the history's.
+pub record PrintsHistory (history : List Rec) (before now : SinkState) : Type 0 where
+  pub tops : List Top
+  pub flat_are : flat tops ≡ flat_history history
+  pub messages : List Seen
+  pub scan : Scan tops messages
+  pub shown : List Seen
+  pub are : AllZip HoldsSeen (filter is_message history) messages
+  pub replay : Replay all_times None messages shown
+  pub lines : TellsAll before now (cat_text shown)
+
+-- a chunk size that the words may give
+abbrev pub IsAllowed : Option ℕ → Type 0
+IsAllowed chunk = (n : ℕ) → chunk ≡ Some n → (1 ≤ n) × (n ≤ 67108864)
+
+-- A recording with the status 0 in a world that tells, and then a printing of its output there, in which no count rises: it
+-- prints the messages of the recording's history, or memory lacked for that.
+abbrev pub RecordingsArePrinted : Type 0
+RecordingsArePrinted = (chunk : Option ℕ) (out feed : List ℕ) (old new later last : Scene) (r : Report) (answer : ℕ) (told : Told) → IsAllowed chunk
+    → (it : Records (options_of chunk) out feed old new (Some r) 0) → old.world.told ≡ Some told
+    → later.world ≡ new.world → Cats out later last answer → (AnyRose (counts_in later) (counts_in last) → ⊥)
+    → ((answer ≡ 0) × PrintsHistory (it.reported r refl).recorded.history later.out last.out) ⊎ (answer ≡ 5)
