@@ -1,6 +1,7 @@
 #!/usr/bin/env bash
-# Times `mcaprec record --plain OUT FEED` beside `cp FEED OUT` on feeds of so many MiB (64), best of five each, in one
-# run: messages of 1,000 and of 64 bytes of data, on one channel and on forty.
+# Times `mcaprec record OUT FEED`, plain and in chunks, and `mcaprec cat` of the result beside `cp FEED OUT` on feeds of so
+# many MiB (64), best of five each, in one run: messages of 1,000 and of 64 bytes of data, on one channel and on forty. The
+# kind `chunks` is a plain feed recorded in chunks, `again` is the file of that recorded once more, from its chunks.
 # MCAPREC names another program to time in place of the launcher.
 set -e
 export LC_ALL=C
@@ -18,7 +19,10 @@ fi
 work="$(mktemp -d)"
 trap 'rm -rf "$work"' EXIT
 feed="$work/feed.mcap"
+chunked="$work/chunked.mcap"
 out="$work/out.mcap"
+# Where the printed text goes.
+sink="$work/printed"
 
 # Writes a feed of whole messages of so many bytes of data, taking turns on so many channels, and says how many.
 make_feed() {
@@ -52,7 +56,7 @@ time_best() {
     for _ in 1 2 3 4 5; do
         rm -f "$out"
         start=${EPOCHREALTIME/./}
-        "$@" >"$work/printed"
+        "$@" >"$sink"
         took=$((${EPOCHREALTIME/./} - start))
         if [ -z "$best" ] || [ "$took" -lt "$best" ]; then best=$took; fi
     done
@@ -69,25 +73,41 @@ peak_of() {
     fi
 }
 
+# Times a command of that kind beside `cp`, whose time is `copied`.
+row() {
+    local kind=$1 wanted=$2
+    shift 2
+    time_best "$@"
+    if [ -n "$wanted" ] && ! grep -qx "$wanted" "$work/printed"; then
+        cat "$work/printed"
+        echo "bench/record.sh: not all of $count messages were recorded" >&2
+        exit 1
+    fi
+    local took=$best
+    awk -v s="$size" -v c="$channels" -v g="$kind" -v n="$count" -v r="$took" -v k="$copied" -v p="$(peak_of "$@")" 'BEGIN {
+        printf "%8d %8d %7s %9d %8.3f s %8.3f s %6.2f %12.0f %9s\n", s, c, g, n, r / 1e6, k / 1e6, k / r, n * 1e6 / r, p }'
+}
+
 # The first run of the launcher may build the program.
-"$program" record --plain "$out" "$here/../samples/empty.mcap" >/dev/null
+"$program" record "$out" "$here/../samples/empty.mcap" >/dev/null
 [ -x /usr/bin/time ] || echo "peak memory: skipped, /usr/bin/time is not there (Debian: time)"
-printf '%8s %8s %9s %10s %10s %6s %12s %9s\n' data channels messages record cp ratio messages/s 'peak KiB'
+printf '%8s %8s %7s %9s %10s %10s %6s %12s %9s\n' data channels kind messages mcaprec cp speed messages/s 'peak KiB'
 for size in 1000 64; do
     for channels in 1 40; do
         count="$(make_feed "$size" "$channels")"
         time_best cp "$feed" "$out"
         copied=$best
-        time_best "$program" record --plain "$out" "$feed"
-        if ! grep -qx "feed 1 accepted=$count refused=0 passed=0 end" "$work/printed"; then
-            cat "$work/printed"
-            echo "bench/record.sh: not all of $count messages were recorded" >&2
-            exit 1
+        all="feed 1 accepted=$count refused=0 passed=0 end"
+        row plain "$all" "$program" record --plain "$out" "$feed"
+        row chunks "$all" "$program" record "$out" "$feed"
+        "$program" record "$chunked" "$feed" >/dev/null
+        row again "$all" "$program" record "$out" "$chunked"
+        if [ "$channels" -eq 1 ]; then
+            sink=/dev/null
+            row cat '' "$program" cat "$chunked"
+            sink="$work/printed"
         fi
-        peak="$(peak_of "$program" record --plain "$out" "$feed")"
-        awk -v s="$size" -v c="$channels" -v n="$count" -v r="$best" -v k="$copied" -v p="$peak" 'BEGIN {
-            printf "%8d %8d %9d %8.3f s %8.3f s %6.2f %12.0f %9s\n", s, c, n, r / 1e6, k / 1e6, r / k, n * 1e6 / r, p }'
     done
 done
-time_best "$program" record --plain "$out" "$here/../samples/empty.mcap"
-awk -v b="$best" 'BEGIN { printf "of each record time, on a feed without messages: %.3f s\n", b / 1e6 }'
+time_best "$program" record "$out" "$here/../samples/empty.mcap"
+awk -v b="$best" 'BEGIN { printf "of each time, on a feed without messages: %.3f s\n", b / 1e6 }'

@@ -5,6 +5,7 @@ set -u
 
 root=$(CDPATH='' cd -P -- "$(dirname -- "$0")/.." && pwd)
 sample=$root/samples/empty.mcap
+one=$root/samples/one.mcap
 session=$root/samples/session.mcap
 room=$(mktemp -d) || exit 1
 disk=$room/disk
@@ -103,7 +104,7 @@ session_lines='feed 1 accepted=5 refused=0 passed=0 end
 file records=8 blocks=0 bytes=411 closed'
 usage='mcaprec: bad words
 usage: mcaprec
-  record --plain OUT FEED
+  record [--plain] [--chunk N] OUT FEED
   cat FILE'
 
 "$root/mcaprec" >/dev/null </dev/null
@@ -117,7 +118,8 @@ PATH=$root:$PATH
 # ---- files
 
 expect 2 '' "$usage" mcaprec
-expect 2 '' "$usage" mcaprec record --plain same.mcap same.mcap
+expect 2 '' "$usage" mcaprec record same.mcap same.mcap
+expect 2 '' "$usage" mcaprec record --chunk 67108865 out.mcap "$sample"
 expect 2 '' "$usage" mcaprec record --plain not-text.mcap "$(printf '\377')"
 expect 0 "$both_lines" '' mcaprec record --plain out.mcap "$sample"
 expect_empty_file out.mcap
@@ -150,10 +152,10 @@ file records=6 blocks=0 bytes=345 closed' 'mcaprec: "cut-session.mcap": grammar 
     mcaprec record --plain cut-session-out.mcap cut-session.mcap
 expect_records cut-session-out.mcap "$imu_first$log$log_1$imu_2"
 
-# Behind the first message, which ends at 216: a Chunk, and the Schema of id 3 with other fields.
+# Behind the first message, which ends at 216: a Chunk without content, and the Schema of id 3 with other fields.
 { head -c 216 -- "$session" && printf '\006\0\0\0\0\0\0\0\0'; } >chunk.mcap
-expect 1 'feed 1 accepted=1 refused=0 passed=0 not-built 216
-file records=3 blocks=0 bytes=210 closed' 'mcaprec: "chunk.mcap": not built at 216' \
+expect 1 'feed 1 accepted=1 refused=0 passed=0 grammar 216
+file records=3 blocks=0 bytes=210 closed' 'mcaprec: "chunk.mcap": grammar at 216' \
     mcaprec record --plain chunk-out.mcap chunk.mcap
 expect_records chunk-out.mcap "$imu_first"
 
@@ -174,6 +176,33 @@ expect 0 'feed 1 accepted=8192 refused=0 passed=0 end
 file records=8194 blocks=0 bytes=327850 closed' '' mcaprec record --plain many-out.mcap many.mcap
 compare 'the length of many-out.mcap' 327850 "$(($(wc -c <many-out.mcap)))"
 
+# ---- chunks
+
+# That the file has so many bytes.
+expect_size() {
+    compare "the size of $1" "$2" "$(($(wc -c <"$1")))"
+}
+
+expect 0 "$feed_line end
+file records=0 blocks=0 bytes=165 closed" '' mcaprec record indexed.mcap "$sample"
+expect_size indexed.mcap 165
+expect 0 'feed 1 accepted=1 refused=0 passed=0 end
+file records=2 blocks=1 bytes=476 closed' '' mcaprec record one-out.mcap "$one"
+expect_records_of() {
+    compare "$1" "$(digits_of "$2")" "$(digits_of "$1")"
+}
+expect_records_of one-out.mcap "$one"
+expect 0 'feed 1 accepted=1 refused=0 passed=0 end
+file records=2 blocks=0 bytes=143 closed' '' mcaprec record --plain one-plain.mcap one-out.mcap
+expect 0 'feed 1 accepted=1 refused=0 passed=0 end
+file records=2 blocks=2 bytes=598 closed' '' mcaprec record --chunk 1 one-small.mcap one-plain.mcap
+expect_size one-small.mcap 598
+
+head -c 173 -- "$one" >one-cut.mcap
+expect 1 'feed 1 accepted=1 refused=0 passed=0 grammar 173
+file records=2 blocks=1 bytes=476 closed' 'mcaprec: "one-cut.mcap": grammar at 173' mcaprec record one-again.mcap one-cut.mcap
+expect_records_of one-again.mcap "$one"
+
 # ---- a pipe that is filled slowly
 
 mkfifo pipe
@@ -192,8 +221,12 @@ session_messages='1000 990 1 1 "/imu" 7b227a223a392e387d
 1020 1010 1 3 "/imu" -
 1030 1030 2 2 "/log" 73746f70'
 expect 2 '' "$usage" mcaprec cat
-expect 0 '10 9 1 1 "/a" aa' '' mcaprec cat "$root/samples/one.mcap"
+expect 0 '10 9 1 1 "/a" aa' '' mcaprec cat "$one"
+expect 0 '10 9 1 1 "/a" aa' '' mcaprec cat one-small.mcap
 expect 0 "$session_messages" '' mcaprec cat session-out.mcap
+expect 0 'feed 1 accepted=5 refused=0 passed=0 end
+file records=8 blocks=1 bytes=987 closed' '' mcaprec record session-chunks.mcap "$session"
+expect 0 "$session_messages" '' mcaprec cat session-chunks.mcap
 expect 0 '' '' mcaprec cat out.mcap
 cat -- session-out.mcap >pipe &
 expect 0 "$session_messages" '' mcaprec cat pipe
@@ -201,6 +234,14 @@ wait
 expect 1 '' 'mcaprec: "cut.mcap": grammar at 25' mcaprec cat cut.mcap
 { head -c 25 -- "$sample" && printf '\005\0\0\0\0\0\0\0\200'; } >long.mcap
 expect 4 '' 'mcaprec: "long.mcap": limit at 25' mcaprec cat long.mcap
+expect 4 "$feed_line limit 25
+$file_line" 'mcaprec: "long.mcap": limit at 25' mcaprec record --plain long-out.mcap long.mcap
+: >none.mcap
+expect 1 '' 'mcaprec: "none.mcap": grammar at 0' mcaprec cat none.mcap
+mkdir folder
+expect 3 '' 'mcaprec: "folder": fault' mcaprec cat folder
+expect 3 '' 'mcaprec: "folder": fault' mcaprec record --plain folder-out.mcap folder
+expect_absent folder-out.mcap
 expect 3 '' 'mcaprec: "missing.mcap": fault' mcaprec cat missing.mcap
 # shellcheck disable=SC2016  # the inner shell is to expand it
 expect 3 '' 'mcaprec: output: fault' sh -c 'mcaprec cat "$1" >/dev/full' sh session-out.mcap
@@ -239,10 +280,10 @@ expect 3 "$feed_line end
 $unwritten" 'mcaprec: "/dev/full": fault' mcaprec record --plain /dev/full "$sample"
 expect 3 "feed 1 accepted=0 refused=1 passed=0 ended
 $unwritten" 'mcaprec: "/dev/full": fault' mcaprec record --plain /dev/full "$session"
-stopped='feed N accepted=N refused=N passed=N ended
-file records=N blocks=N bytes=N stopped fault'
+stopped='file records=N blocks=N bytes=N stopped fault'
 filter='sed s/[0-9][0-9]*/N/g'
-expect 3 "$stopped" 'mcaprec: "/dev/full": fault' mcaprec record --plain /dev/full many.mcap
+expect 3 "feed N accepted=N refused=N passed=N ended
+$stopped" 'mcaprec: "/dev/full": fault' mcaprec record --plain /dev/full many.mcap
 filter='cat'
 
 # A channel and a message of 3,955 bytes.
@@ -264,7 +305,8 @@ $unwritten" "mcaprec: \"$disk/out.mcap\": fault" mcaprec record --plain "$disk/o
     expect_first_part "$disk/out.mcap" out.mcap 0
     dd if=/dev/zero of="$disk/filling" bs=4096 count=224 2>/dev/null
     filter='sed s/[0-9][0-9]*/N/g'
-    expect 3 "$stopped" "mcaprec: \"$disk/out.mcap\": fault" mcaprec record --plain "$disk/out.mcap" many.mcap
+    expect 3 "feed N accepted=N refused=N passed=N end
+$stopped" "mcaprec: \"$disk/out.mcap\": fault" mcaprec record --plain "$disk/out.mcap" many.mcap
     filter='cat'
     expect_first_part "$disk/out.mcap" many-out.mcap 131072
     [ -s "$disk/out.mcap" ] || say_wrong "$disk/out.mcap is empty"
@@ -290,6 +332,48 @@ $unwritten" "mcaprec: \"$disk/out.mcap\": fault" mcaprec record --plain "$disk/o
 else
     skip 'a full file system and one that may only be read, since mounting is not allowed'
 fi
+
+# ---- much data, through a pipe, and an end that comes at any time
+
+# The channel /a of id 1, which stands in the sample from 186 to 213, and 24,576 messages of 3,986 bytes on it: 98 MB. A
+# message of last.mcap, on the channel 7, stands from 52 on.
+{
+    printf '\005\211\017\0\0\0\0\0\0\001\0\001\0\0\0\012\0\0\0\0\0\0\0\011\0\0\0\0\0\0\0' && head -c 3955 /dev/zero
+} >messages
+cat messages messages messages >doubled
+mv doubled messages
+for _ in 1 2 3 4 5 6 7 8 9 10 11 12 13; do
+    cat messages messages >doubled
+    mv doubled messages
+done
+{ head -c 34 -- "$one" && tail -c +187 -- "$one" | head -c 27 && cat messages && tail -c 13 -- "$session"; } >large.mcap
+rm -f messages
+cat large.mcap >pipe &
+filter='sed s/bytes=[0-9]*/bytes=N/'
+expect 0 'feed 1 accepted=24576 refused=0 passed=0 end
+file records=24577 blocks=125 bytes=N closed' '' mcaprec record large-out.mcap pipe
+filter='cat'
+wait
+compare 'what was recorded of large.mcap' "$(mcaprec cat large.mcap | cksum)" "$(mcaprec cat large-out.mcap | cksum)"
+
+# Half of it, and then nothing for a while: the program is ended meanwhile. It has written what came before.
+{ head -c 50000000 large.mcap && exec sleep 30; } >pipe &
+feeder=$!
+mcaprec record killed.mcap pipe >/dev/null 2>&1 &
+program=$!
+for _ in 1 2 3 4 5 6 7 8 9 10 11 12 13 14 15 16 17 18 19 20; do
+    if [ -e killed.mcap ] && [ "$(($(wc -c <killed.mcap)))" -gt 10000000 ]; then break; fi
+    sleep 0.5
+done
+kill -9 "$program"
+kill "$feeder"
+wait
+[ "$(($(wc -c <killed.mcap)))" -gt 10000000 ] || say_wrong 'killed.mcap holds too little'
+head -c "$(($(wc -c <killed.mcap)))" large-out.mcap | cmp -s -- - killed.mcap || say_wrong 'killed.mcap is no first part'
+mcaprec cat killed.mcap >"$room/stdout" 2>"$room/stderr"
+compare 'the status of an ended recording' 1 $?
+compare 'what cat says of it' 'mcaprec: "killed.mcap": grammar at N' "$(sed 's/at [0-9]*/at N/' "$room/stderr")"
+rm -f large.mcap large-out.mcap killed.mcap
 
 # shellcheck disable=SC2016  # the inner shell is to expand them
 expect 3 '' 'mcaprec: output: fault' sh -c 'mcaprec record --plain "$1" "$2" >/dev/full' sh printed.mcap "$sample"
