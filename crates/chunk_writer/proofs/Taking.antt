@@ -23,7 +23,7 @@ use Rattle.chunk_writer.specs.declared.scribe.Scribe.{Scribe}
 use Rattle.chunk_writer.specs.Limits.{Holds}
 use Rattle.chunk_writer.specs.Planning.{Planning}
 use Rattle.chunk_writer.specs.Plans.{StoppedBefore}
-use Rattle.chunk_writer.specs.Stops.{StopsAt}
+use Rattle.chunk_writer.specs.Stops.{StopsBehind}
 use Rattle.chunk_writer.specs.Scribes.{Stands, Grows, OfEach, KeepsOn, Seen, ListsEntry, GivesEntries, PutsFront, grows_on}
 use Rattle.chunk_writer.proofs.Entries.{seen_later, no_entries, entries_more}
 use Rattle.chunk_writer.proofs.Writing.{going_apart, add_refused}
@@ -45,7 +45,7 @@ memory_lacks options opened held history r p after going before stands = add_ref
 pub stopped_on : (options : FileOptions) (opened now : Option (List ℕ)) (history more : List Rec) (p : Planning) (stop : Stop) → p.phase ≡ phases.Stopped stop → Stands options opened now history p → Stands options opened now (history ++ more) p
 stopped_on options opened now history more p stop is stands = record {
   going = λ going. absurd (going_apart p.phase stop is going);
-  stopped = λ other e behind. subst (λ (l : List Rec). StopsAt options l opened now other p.blocks p.bytes) (sym (append_assoc history more behind)) (stands.stopped other e (more ++ behind));
+  stopped = λ other e behind. subst (λ (l : List Rec). StopsBehind options l opened now other p.blocks p.bytes) (sym (append_assoc history more behind)) (stands.stopped other e (more ++ behind));
   unended = stands.unended;
 }
 

@@ -1,5 +1,5 @@
 -- What a scribe stands for after a put, and how its file ends.
-use Rattle.std.proofs.Common.{◌≡◌, ℕ, ◌+◌, List, [], ◌∷◌, ◌++◌, length, Option, Some, None, Result, Ok, Err, refl, sym, ap, subst, ◌∙◌, append_assoc, append-nil, length-append, arith}
+use Rattle.std.proofs.Common.{◌≡◌, ℕ, ◌+◌, ◌≤◌, List, [], ◌∷◌, ◌++◌, length, Option, Some, None, Result, Ok, Err, OnErr, refl, sym, ap, subst, ◌∙◌, append_assoc, append-nil, length-append, arith}
 use Rattle.rec_data.specs.declared.owned.Rec.{Rec}
 use Rattle.rec_data.specs.Owned.{rec_bytes}
 use Rattle.mcap_io.specs.Outside.{Adds}
@@ -20,7 +20,7 @@ use Rattle.chunk_writer.specs.Limits.{Holds}
 use Rattle.chunk_writer.specs.Bodies.{Closes}
 use Rattle.chunk_writer.specs.Planning.{Planning}
 use Rattle.chunk_writer.specs.Plans.{Plans, IsPlanned, IsNext, PutStopped, HoldsBlock, HoldsNext, StoppedBefore, IsWhole, IsLast, LastStopped, BackStopped}
-use Rattle.chunk_writer.specs.Stops.{StopsAt, Added}
+use Rattle.chunk_writer.specs.Stops.{StopsAt, StopsBehind, Added}
 use Rattle.chunk_writer.specs.Scribes.{Stands, Seen, IsEntryOf, IsEntryWith, AddsLast, Ends, GivesEntry, GivesLast}
 use Rattle.chunk_writer.proofs.Cuts.{bytes_behind}
 use Rattle.chunk_writer.proofs.Planned.{whole_none, whole_some}
@@ -63,14 +63,21 @@ stands_going options opened now history p going plans adds = record {
   unended = λ e. end_apart p.phase going e;
 }
 
+-- the pieces that are sure have the front's bytes
+plans_begun : (options : FileOptions) (history : List Rec) (p : Planning) → Plans options history p → length (front options.profile) ≤ p.bytes
+plans_begun options history p plans = omega (arith, plans.bytes, length-append (front options.profile) (pieces_bytes (cuts options.chunk history).pieces))
+
 stands_stopped : (options : FileOptions) (opened now : Option (List ℕ)) (history : List Rec) (p : Planning) (stop : Stop) (blocks bytes : ℕ) → StoppedBefore blocks bytes stop p
-    → ((behind : List Rec) → StopsAt options (history ++ behind) opened now stop blocks bytes) → Stands options opened now history p
-stands_stopped options opened now history p stop blocks bytes before stops = record {
+    → length (front options.profile) ≤ bytes → ((behind : List Rec) → StopsAt options (history ++ behind) opened now stop blocks bytes) → Stands options opened now history p
+stands_stopped options opened now history p stop blocks bytes before begun stops = record {
   going = λ e. absurd (going_apart p.phase stop before.phase e);
-  stopped = λ other e behind.
-      subst (λ (s : Stop). StopsAt options (history ++ behind) opened now s p.blocks p.bytes) (same_stop p.phase stop other before.phase e)
-      (subst (λ (n : ℕ). StopsAt options (history ++ behind) opened now stop n p.bytes) (sym before.blocks_are)
-      (subst (λ (n : ℕ). StopsAt options (history ++ behind) opened now stop blocks n) (sym before.bytes_are) (stops behind)));
+  stopped = λ other e behind. record {
+    stops =
+        subst (λ (s : Stop). StopsAt options (history ++ behind) opened now s p.blocks p.bytes) (same_stop p.phase stop other before.phase e)
+        (subst (λ (n : ℕ). StopsAt options (history ++ behind) opened now stop n p.bytes) (sym before.blocks_are)
+        (subst (λ (n : ℕ). StopsAt options (history ++ behind) opened now stop blocks n) (sym before.bytes_are) (stops behind)));
+    begun = omega (arith, begun, before.bytes_are);
+  };
   unended = λ e. ended_apart p.phase stop before.phase e;
 }
 
@@ -108,7 +115,7 @@ block_refused options opened held now history r p mid after next framed blk stop
     let holds : Holds (p.blocks + 1) (p.bytes + length blk.bytes) = subst (λ (n : Next). HoldsNext p.blocks p.bytes framed n) is room in
     let fits : Holds (p.blocks + 1) (p.bytes + length (block_bytes records)) = subst (λ (l : List ℕ). Holds (p.blocks + 1) (p.bytes + length l)) built.spelled holds in
     let stopped : StoppedBefore p.blocks p.bytes stop after = record { phase = before.phase; blocks_are = before.blocks_are ∙ same_b; bytes_are = before.bytes_are ∙ same_n } in
-    stands_stopped options opened now (history ++ r ∷ []) after stop p.blocks p.bytes stopped
+    stands_stopped options opened now (history ++ r ∷ []) after stop p.blocks p.bytes stopped (plans_begun options history p (stands.going going).0)
     (λ behind. append_refused options opened held now history r (block records) stop p.blocks p.bytes behind (holding options opened held history p going stands) closes fits piece)
 
 pub record_refused : (options : FileOptions) (opened held now : Option (List ℕ)) (history : List Rec) (r : Rec) (p mid after : Planning) (next : Next) (piece : List ℕ) (stop : Stop) (blocks bytes : ℕ) → next ≡ nexts.Record → piece ≡ rec_bytes r → Planned p r next mid
@@ -125,14 +132,14 @@ record_refused options opened held now history r p mid after next piece stop blo
     let small = holds.small in
     let fits : Holds (p.blocks + 0) (p.bytes + length (rec_bytes r)) = record { few = omega (arith, few); small = omega (arith, small, long) } in
     let stopped : StoppedBefore p.blocks p.bytes stop after = record { phase = before.phase; blocks_are = before.blocks_are ∙ same_b; bytes_are = before.bytes_are ∙ same_n } in
-    stands_stopped options opened now (history ++ r ∷ []) after stop p.blocks p.bytes stopped
+    stands_stopped options opened now (history ++ r ∷ []) after stop p.blocks p.bytes stopped (plans_begun options history p (stands.going going).0)
     (λ behind. append_refused options opened held now history r (alone r) stop p.blocks p.bytes behind (holding options opened held history p going stands) closes fits left)
 
 pub add_refused : (options : FileOptions) (opened held : Option (List ℕ)) (history : List Rec) (r : Rec) (p after : Planning) (stop : Stop) → p.phase ≡ phases.Going
     → ((o : FileOptions) (h : List Rec) → Plans o h p → PutStopped o.chunk h r p.blocks p.bytes stop) → StoppedBefore p.blocks p.bytes stop after → Stands options opened held history p
     → Stands options opened held (history ++ r ∷ []) after
 add_refused options opened held history r p after stop going refused before stands =
-    stands_stopped options opened held (history ++ r ∷ []) after stop p.blocks p.bytes before
+    stands_stopped options opened held (history ++ r ∷ []) after stop p.blocks p.bytes before (plans_begun options history p (stands.going going).0)
     (λ behind. put_refused options opened held history r stop p.blocks p.bytes behind (holding options opened held history p going stands) (refused options history (stands.going going).0))
 
 -- ---- entries
@@ -279,5 +286,25 @@ ends_so options opened now history blocks bytes blocks' bytes' end end' same_end
 
 -- a history ends where the scribe had stopped
 pub stopped_ends : (options : FileOptions) (opened now : Option (List ℕ)) (history : List Rec) (p : Planning) (stop : Stop) → p.phase ≡ phases.Stopped stop → Stands options opened now history p
-    → StopsAt options history opened now stop p.blocks p.bytes
-stopped_ends options opened now history p stop is stands = subst (λ (l : List Rec). StopsAt options l opened now stop p.blocks p.bytes) (append-nil history) (stands.stopped stop is [])
+    → StopsBehind options history opened now stop p.blocks p.bytes
+stopped_ends options opened now history p stop is stands = subst (λ (l : List Rec). StopsBehind options l opened now stop p.blocks p.bytes) (append-nil history) (stands.stopped stop is [])
+
+-- it had not, and stopped at its last block
+pub last_begun : (options : FileOptions) (opened now : Option (List ℕ)) (history : List Rec) (p : Planning) → p.phase ≡ phases.Going → Stands options opened now history p → length (front options.profile) ≤ p.bytes
+last_begun options opened now history p going stands = plans_begun options history p (stands.going going).0
+
+-- ---- the front
+
+-- the bytes of a whole file have those of its front
+whole_begun : (options : FileOptions) (history : List Rec) → length (front options.profile) ≤ length (file_of options [] history)
+whole_begun options history =
+    let all = ap (λ (l : List ℕ). length l) (file_whole options history) in
+    let pieces = length-append (front options.profile) (pieces_bytes (pieces_of options.chunk history)) in
+    omega (arith, all, pieces, length-append (front options.profile ++ pieces_bytes (pieces_of options.chunk history)) (back_of options [] history))
+
+-- behind the last piece no bytes are lost
+pub back_begun : (options : FileOptions) (opened now : Option (List ℕ)) (history : List Rec) (p : Planning) (blocks bytes : ℕ) (end : Result Unit Stop) → IsWhole options history p
+    → Ends options opened now history blocks bytes end → OnErr end ((blocks ≡ p.blocks) × (bytes ≡ p.bytes)) → length (front options.profile) ≤ bytes
+back_begun options opened now history p blocks bytes (Ok it) whole ends same = omega (arith, whole_begun options history, ends.2)
+back_begun options opened now history p blocks bytes (Err stop) whole ends same =
+    omega (arith, whole.bytes, same.1, length-append (front options.profile) (pieces_bytes (pieces_of options.chunk history)))

@@ -1,5 +1,5 @@
 -- The histories for which a scribe stands, its entries, and how its file ends.
-use Rattle.std.specs.Prelude.{◌≡◌, ℕ, ◌+◌, ◌<◌, List, [], ◌∷◌, ◌++◌, length, take, Option, Some, None, Result, Ok, Err, OnOk, OnErr}
+use Rattle.std.specs.Prelude.{◌≡◌, ℕ, ◌+◌, ◌<◌, ◌≤◌, List, [], ◌∷◌, ◌++◌, length, take, Option, Some, None, Result, Ok, Err, OnOk, OnErr}
 use Rattle.std.specs.List.{AllZip}
 use Rattle.std.proofs.Common.{sym, subst, append-nil, append_assoc}
 use Rattle.rec_data.specs.declared.owned.Rec.{Rec}
@@ -19,14 +19,14 @@ use Rattle.chunk_writer.specs.declared.tape.Written.{Written}
 use Rattle.chunk_writer.specs.Planning.{Planning}
 use Rattle.chunk_writer.specs.Bodies.{Closes}
 use Rattle.chunk_writer.specs.Plans.{Plans, IsWhole}
-use Rattle.chunk_writer.specs.Stops.{StopsAt}
+use Rattle.chunk_writer.specs.Stops.{StopsAt, StopsBehind}
 
 -- The plan of a scribe, whose store held the first bytes when it was opened and holds the second now, stands for a history.
 -- While it goes on, all pieces that are sure stand behind the first bytes. Where it stopped, it stopped at a piece of each
--- history that goes on from this one.
+-- history that goes on from this one, behind its front.
 pub record Stands (options : FileOptions) (opened now : Option (List ℕ)) (history : List Rec) (p : Planning) : Type 0 where
   pub going : p.phase ≡ phases.Going → Plans options history p × Adds opened now (written_of options history)
-  pub stopped : (stop : Stop) → p.phase ≡ phases.Stopped stop → (behind : List Rec) → StopsAt options (history ++ behind) opened now stop p.blocks p.bytes
+  pub stopped : (stop : Stop) → p.phase ≡ phases.Stopped stop → (behind : List Rec) → StopsBehind options (history ++ behind) opened now stop p.blocks p.bytes
   pub unended : p.phase ≡ phases.Ended → ⊥
 
 -- A scribe stands for a history of a file of these options; its store was in this state when it was opened. What is seen of
@@ -146,10 +146,10 @@ Ends options opened now history blocks bytes (Ok it) = Adds opened now (file_of 
     × (blocks ≡ length (blocks_in (pieces_of options.chunk history))) × (bytes ≡ length (file_of options [] history))
 Ends options opened now history blocks bytes (Err stop) = StopsAt options history opened now stop blocks bytes
 
--- the second scribe is the first with its end, which came to this with so many blocks and bytes
+-- the second scribe is the first with its end, which came to this with so many blocks and bytes, those of the front among them
 abbrev pub EndsFile : {L : Type 0} → (L → LiveState) → Scribe L → Scribe L → Written → Result Unit Stop → Type 0
 EndsFile seen before after written end = (options : FileOptions) (opened : LiveState) (history : List Rec) → Writes seen options opened history before
-    → Ends options opened.held (seen after.store).held history written.blocks written.bytes end
+    → Ends options opened.held (seen after.store).held history written.blocks written.bytes end × (length (front options.profile) ≤ written.bytes)
 
 -- there is an entry for each block that was appended, at most one
 abbrev pub CountsLast : {X : Type 0} → ℕ → ℕ → Option (Entry X) → Type 0

@@ -1,5 +1,5 @@
 -- Where a writer stopped, and what its store holds then.
-use Rattle.std.specs.Prelude.{◌≡◌, ℕ, ◌+◌, ◌-◌, List, [], ◌++◌, length, take, Option, Some, Result, Ok, Err}
+use Rattle.std.specs.Prelude.{◌≡◌, ℕ, ◌+◌, ◌-◌, ◌≤◌, List, [], ◌++◌, length, take, Option, Some, Result, Ok, Err}
 use Rattle.rec_data.specs.declared.owned.Rec.{Rec}
 use Rattle.mcap_io.specs.declared.outside.AppendRefused.{AppendRefused}
 use Rattle.mcap_io.specs.declared.outside.AppendRefused.TheVariants as append_refusals
@@ -9,6 +9,7 @@ use Rattle.mcap_model.specs.declared.ends.Stop.{Stop}
 use Rattle.mcap_model.specs.declared.ends.Stop.TheVariants as stops
 use Rattle.mcap_model.specs.Places.{At}
 use Rattle.mcap_model.specs.Blocks.{pieces_of, blocks_in}
+use Rattle.mcap_model.specs.File.{front}
 use Rattle.mcap_model.specs.Pieces.{file_pieces, pieces_before, StoppedAt}
 use Rattle.chunk_writer.specs.Limits.{StopWhy}
 
@@ -27,6 +28,11 @@ pub record StopsAt (options : FileOptions) (history : List Rec) (opened now : Op
   pub why : StopWhy stop blocks bytes (blocks_among options history (place + 1)) (bytes + length next)
   pub took : (start : List ℕ) → opened ≡ Some start
       → (text : List ℕ) × (now ≡ Some (start ++ text)) × StoppedAt (file_pieces options [] history) place stop text bytes
+
+-- the same behind the front, whose bytes are among those that stand
+pub record StopsBehind (options : FileOptions) (history : List Rec) (opened now : Option (List ℕ)) (stop : Stop) (blocks bytes : ℕ) : Type 0 where
+  pub stops : StopsAt options history opened now stop blocks bytes
+  pub begun : length (front options.profile) ≤ bytes
 
 -- the count of a store rises by one where the writer stopped at a fault, which carries it, and stands still otherwise
 abbrev pub StopCause : ℕ → ℕ → Stop → Type 0
