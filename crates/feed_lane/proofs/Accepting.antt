@@ -96,6 +96,7 @@ accepted_fits records handled ids lists before found m source t stands finds tak
       ];
       named = was.named;
       lacks = was.lacks;
+      reasons = was.reasons;
       fulls = was.fulls;
       accepted_between = λ j k r a at_j at_k. elim (at_more lists.accepted new k a at_k) [
         | inl old ↦ was.accepted_between j k r a at_j old

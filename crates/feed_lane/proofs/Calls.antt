@@ -1,6 +1,7 @@
 -- What the calls on a pass come to for the message at hand.
-use Rattle.std.proofs.Common.{◌≡◌, ℕ, ◌+◌, ◌≤◌, List, [], ◌∷◌, ◌++◌, true, Option, Some, None, Err, refl, sym, ap, subst, inl, inr, ◌∙◌, arith, Result, Ok}
+use Rattle.std.proofs.Common.{◌≡◌, ◌⊎◌, ℕ, ◌+◌, ◌≤◌, List, [], ◌∷◌, ◌++◌, true, Option, Some, None, Err, refl, sym, ap, subst, inl, inr, ◌∙◌, arith, Result, Ok}
 use Rattle.std.proofs.lemmas.List.{append-nil}
+use Rattle.rec_data.specs.declared.owned.Rec.{Rec}
 use Rattle.rec_data.specs.declared.channel.ChannelDef.{ChannelDef}
 use Rattle.mcap_model.specs.Places.{At, Has, Each}
 use Rattle.mcap_model.specs.declared.ends.End.{End}
@@ -19,9 +20,9 @@ use Rattle.record_core.specs.declared.answers.Declared.{Declared}
 use Rattle.feed_lane.specs.declared.report.DeclaredAt.{DeclaredAt}
 use Rattle.feed_lane.specs.declared.report.Cause.{Cause}
 use Rattle.feed_lane.specs.declared.report.Cause.TheVariants as causes
-use Rattle.feed_lane.specs.Pass.{FullAt, PassState, Finds, full_at, with_found, with_full, with_lack, PublishedBy, DeclaredInto, Seen}
-use Rattle.feed_lane.specs.Lanes.{messages, IsChannelOf, IsWide, EndsWith, CauseFits, IsTried, full_in, lack_in, IsLacking, InStep}
-use Rattle.feed_lane.specs.Steps.{Above, IsOpen, goes_on, IsRefusal, publish_cause, declare_cause, full_cause}
+use Rattle.feed_lane.specs.Pass.{FullAt, Reason, for_size, for_room, for_id, PassState, Finds, full_at, with_found, with_reason, with_full, with_lack, GetsId, PublishedBy, DeclaredInto, Seen}
+use Rattle.feed_lane.specs.Lanes.{Lists, messages, IsLong, IsChannelOf, IsWide, EndsWith, CauseFits, IsTried, full_in, lack_in, reason_in, IsLacking, InStep, ListsFit}
+use Rattle.feed_lane.specs.Steps.{Above, IsOpen, goes_on, HasId, IsRefusal, publish_cause, declare_cause, full_cause}
 use Rattle.feed_lane.proofs.Members.{false_true, open_by, finds_above, seen_later, in_step_none, in_step_one}
 
 -- ---- refusals
@@ -37,37 +38,68 @@ none_lacking records handled cause none =
 none_in : (P : FullAt → Type 0) (cause : Cause) → full_in cause ≡ [] → Each P (full_in cause)
 none_in P cause none n full at = absurd (at_none n full (subst (λ (l : List FullAt). At l n full) none at))
 
--- no call was made, or one that left the pass as it was
-pub unchanged : (records : List Top) (handled : ℕ) (pass : PassState) (cause : Cause) → IsPlain handled cause → CauseFits records (handled + 1) pass handled cause → IsRefusal records handled pass pass cause
-unchanged records handled pass cause plain fits = record {
+-- no call was made, for want of memory
+pub unchanged : (records : List Top) (handled : ℕ) (pass : PassState) → IsRefusal records handled pass pass causes.Memory
+unchanged records handled pass = record {
   extends = record { own = λ pair has. has; named = λ pair has. has; fulls = λ full has. has; lacks = λ pair has. has; limit = refl; seen = λ n s. s };
   own = refl;
-  fulls = sym (append-nil pass.fulls) ∙ ap (λ (l : List FullAt). pass.fulls ++ l) (sym plain.0);
+  fulls = sym (append-nil pass.fulls);
   named = refl;
   lacking = [];
   lacks = sym (append-nil pass.lacks);
-  are = none_lacking records handled cause plain.1;
-  fits = fits;
-  above = none_in _ cause plain.0;
-  tos = none_in _ cause plain.0;
+  are = none_lacking records handled causes.Memory refl;
+  reasons = sym (append-nil pass.reasons);
+  fits = tt;
+  above = none_in _ causes.Memory refl;
+  tos = none_in _ causes.Memory refl;
   is_open = λ on was. was;
 }
 
+-- the call found something too large without a look at the intake
+too_large : (records : List Top) (handled : ℕ) (pass : PassState) (len : ℕ) → IsLong records handled len ⊎ IsWide records handled len → IsRefusal records handled pass (with_reason pass (for_size len)) (causes.TooLarge len)
+too_large records handled pass len large = record {
+  extends = record { own = λ pair has. has; named = λ pair has. has; fulls = λ full has. has; lacks = λ pair has. has; limit = refl; seen = λ n s. record { found = s.found; shown = s.shown; within = s.within } };
+  own = refl;
+  fulls = sym (append-nil pass.fulls);
+  named = refl;
+  lacking = [];
+  lacks = sym (append-nil pass.lacks);
+  are = none_lacking records handled (causes.TooLarge len) refl;
+  reasons = refl;
+  fits = large;
+  above = none_in _ (causes.TooLarge len) refl;
+  tos = none_in _ (causes.TooLarge len) refl;
+  is_open = λ on was. was;
+}
+
+-- the pass shows the same, but for how it found the intake and why it refused the call
+abbrev with_reasons : PassState → Found → List Reason → PassState
+with_reasons before found more = record before { reasons = before.reasons ++ more; found = Some found }
+
 -- the call found the intake, and left the rest as it was
-found_only : (records : List Top) (handled : ℕ) (before : PassState) (found : Found) (cause : Cause) → Finds before found → (goes_on cause ≡ true → found.end ≡ None) → IsPlain handled cause → CauseFits records (handled + 1) (with_found before found) handled cause → IsRefusal records handled before (with_found before found) cause
+found_only : (records : List Top) (handled : ℕ) (before : PassState) (found : Found) (cause : Cause) → Finds before found → (goes_on cause ≡ true → found.end ≡ None) → IsPlain handled cause → CauseFits records (handled + 1) (with_reasons before found (reason_in cause)) handled cause → IsRefusal records handled before (with_reasons before found (reason_in cause)) cause
 found_only records handled before found cause finds end plain fits = record {
-  extends = record { own = λ pair has. has; named = λ pair has. has; fulls = λ full has. has; lacks = λ pair has. has; limit = refl; seen = seen_later before (with_found before found) found finds refl };
+  extends = record { own = λ pair has. has; named = λ pair has. has; fulls = λ full has. has; lacks = λ pair has. has; limit = refl; seen = seen_later before (with_reasons before found (reason_in cause)) found finds refl };
   own = refl;
   fulls = sym (append-nil before.fulls) ∙ ap (λ (l : List FullAt). before.fulls ++ l) (sym plain.0);
   named = refl;
   lacking = [];
   lacks = sym (append-nil before.lacks);
   are = none_lacking records handled cause plain.1;
+  reasons = refl;
   fits = fits;
   above = none_in _ cause plain.0;
   tos = none_in _ cause plain.0;
-  is_open = λ on was. open_by (with_found before found) found refl (end on);
+  is_open = λ on was. open_by (with_reasons before found (reason_in cause)) found refl (end on);
 }
+
+-- memory lacked for the call
+lacked_memory : (records : List Top) (handled : ℕ) (before : PassState) (found : Found) → Finds before found → found.end ≡ None → IsRefusal records handled before (with_found before found) causes.Memory
+lacked_memory records handled before found finds end =
+    subst (λ (l : List Reason). IsRefusal records handled before (made l) causes.Memory) (append-nil before.reasons) (found_only records handled before found causes.Memory finds (λ on. end) (refl, refl) tt)
+  where
+    made : List Reason → PassState
+    made l = record before { reasons = l; found = Some found }
 
 -- the buffer was full
 was_full : (records : List Top) (handled : ℕ) (before : PassState) (found : Found) (held : ℕ) → Finds before found → found.end ≡ None → held ≡ found.held → before.limit ≤ held → IsRefusal records handled before (with_full before found) (full_cause held (Some found))
@@ -82,6 +114,7 @@ was_full records handled before found held finds end same le =
       lacking = [];
       lacks = sym (append-nil before.lacks);
       are = in_step_none (IsLacking records);
+      reasons = ap (λ (x : FullAt). before.reasons ++ for_room x ∷ []) (sym is);
       fits = (subst (Has (before.fulls ++ full_at found ∷ [])) (sym is) (has_last before.fulls (full_at found) []), le, finds.within);
       above = λ n x at. subst (λ (y : FullAt). Above before y.to) (sym (only n x at)) (finds_above before found finds);
       tos = λ n x at. subst (λ (y : FullAt). Seen (with_full before found) y.to) (sym (only n x at)) (record { found = found; shown = refl; within = omega arith });
@@ -98,8 +131,8 @@ was_full records handled before found held finds end same le =
     ]
 
 -- no id was left
-lacked : (records : List Top) (handled : ℕ) (before : PassState) (found : Found) (d : ChannelDef) (refusal : DeclareRefused) (cause : Cause) → Finds before found → found.end ≡ None → full_in cause ≡ [] → lack_in handled cause ≡ (handled, refusal) ∷ [] → IsChannelOf records handled d → CauseFits records (handled + 1) (with_lack before found d refusal) handled cause → IsRefusal records handled before (with_lack before found d refusal) cause
-lacked records handled before found d refusal cause finds end none lack is fits = record {
+lacked : (records : List Top) (handled : ℕ) (before : PassState) (found : Found) (d : ChannelDef) (refusal : DeclareRefused) (cause : Cause) → Finds before found → found.end ≡ None → full_in cause ≡ [] → lack_in handled cause ≡ (handled, refusal) ∷ [] → reason_in cause ≡ for_id refusal ∷ [] → IsChannelOf records handled d → CauseFits records (handled + 1) (with_lack before found d refusal) handled cause → IsRefusal records handled before (with_lack before found d refusal) cause
+lacked records handled before found d refusal cause finds end none lack why is fits = record {
   extends = record { own = λ pair has. has; named = λ pair has. has; fulls = λ full has. has; lacks = λ pair has. has_kept before.lacks ((d, refusal) ∷ []) pair has; limit = refl; seen = seen_later before (with_lack before found d refusal) found finds refl };
   own = refl;
   fulls = sym (append-nil before.fulls) ∙ ap (λ (l : List FullAt). before.fulls ++ l) (sym none);
@@ -107,6 +140,7 @@ lacked records handled before found d refusal cause finds end none lack is fits 
   lacking = (d, refusal) ∷ [];
   lacks = refl;
   are = subst (λ (l : List (ℕ × DeclareRefused)). InStep (IsLacking records) l ((d, refusal) ∷ [])) (sym lack) (in_step_one (IsLacking records) (handled, refusal) (d, refusal) (refl, is));
+  reasons = ap (λ (l : List Reason). before.reasons ++ l) (sym why);
   fits = fits;
   above = none_in _ cause none;
   tos = none_in _ cause none;
@@ -114,52 +148,60 @@ lacked records handled before found d refusal cause finds end none lack is fits 
 }
 
 -- the intake has ended
-ended : (handled : ℕ) (before : PassState) (found : Found) (at : ℕ) (end : End) → found.end ≡ Some end → at ≡ found.count → EndsWith (handled + 1) (with_found before found) handled at end
-ended handled before found at end is same = record { last = refl; found = found; shown = refl; ended = is; at_count = same }
+ended : (handled : ℕ) (before : PassState) (found : Found) (at : ℕ) (end : End) → found.end ≡ Some end → at ≡ found.count → (more : List Reason) → EndsWith (handled + 1) (with_reasons before found more) handled at end
+ended handled before found at end is same more = record { last = refl; found = found; shown = refl; ended = is; at_count = same }
 
--- the refusal of a message that stands there
-pub publish_refused : (records : List Top) (handled source : ℕ) (t : Top) (before after : PassState) (m : NewMessage) (refusal : PublishRefused) → At (messages records) handled t → IsMessage t source (fields_of_message m) → PublishedBy before after m (Err refusal) → IsRefusal records handled before after (publish_cause refusal after.found)
-publish_refused records handled source t before after m (publishing.TooLarge len) at is (size, over, same) =
+-- the intake knows the id that a channel of the feed got
+pub named_there : (records : List Top) (handled bound : ℕ) (lists : Lists) (before : PassState) (source id : ℕ) (found : Found) → ListsFit records handled bound lists before → HasId records lists.declared source id → Finds before found → (1 ≤ id) × (id ≤ found.channels)
+named_there records handled bound lists before source id found fits has finds =
+    let named = (fits.declares has.listed.0 has.by has.listed.1).named in
+    let there = finds.ids named.0 _ named.1 in
+    (omega (arith, there.0, has.is), omega (arith, there.1, has.is))
+
+-- the refusal of a message that stands there, on a channel to which the pass gave an id
+pub publish_refused : (records : List Top) (handled source : ℕ) (t : Top) (before after : PassState) (m : NewMessage) (refusal : PublishRefused) → At (messages records) handled t → IsMessage t source (fields_of_message m)
+    → ((found : Found) → Finds before found → (1 ≤ m.channel) × (m.channel ≤ found.channels)) → PublishedBy before after m (Err refusal) → IsRefusal records handled before after (publish_cause refusal after.found)
+publish_refused records handled source t before after m (publishing.TooLarge len) at is known (size, over, same) =
     subst (λ (p : PassState). IsRefusal records handled before p (causes.TooLarge len)) (sym same)
-    (unchanged records handled before (causes.TooLarge len) (refl, refl) (inl (record { source = source; message = fields_of_message m; top = t; at = at; is = is; size = size; over = over })))
-publish_refused records handled source t before after m (publishing.Closed place) at is (found, finds, end, here, same) =
+    (too_large records handled before len (inl (record { source = source; message = fields_of_message m; top = t; at = at; is = is; size = size; over = over })))
+publish_refused records handled source t before after m (publishing.Closed place) at is known (found, short, finds, end, here, same) =
     subst (λ (p : PassState). IsRefusal records handled before p (causes.Closed place)) (sym same)
-    (found_only records handled before found (causes.Closed place) finds (λ on. absurd (false_true on)) (refl, refl) (ended handled before found place ends.Closed end here))
-publish_refused records handled source t before after m (publishing.Stopped place stop) at is (found, finds, end, here, same) =
+    (found_only records handled before found (causes.Closed place) finds (λ on. absurd (false_true on)) (refl, refl) (ended handled before found place ends.Closed end here _))
+publish_refused records handled source t before after m (publishing.Stopped place stop) at is known (found, short, finds, end, here, same) =
     subst (λ (p : PassState). IsRefusal records handled before p (causes.Stopped place stop)) (sym same)
-    (found_only records handled before found (causes.Stopped place stop) finds (λ on. absurd (false_true on)) (refl, refl) (ended handled before found place (ends.Stopped stop) end here))
-publish_refused records handled source t before after m publishing.UnknownChannel at is (found, finds, end, unknown, same) =
-    subst (λ (p : PassState). IsRefusal records handled before p causes.Memory) (sym same) (found_only records handled before found causes.Memory finds (λ on. end) (refl, refl) tt)
-publish_refused records handled source t before after m (publishing.TooManyRecords count) at is (found, finds, end, here, many, same) =
+    (found_only records handled before found (causes.Stopped place stop) finds (λ on. absurd (false_true on)) (refl, refl) (ended handled before found place (ends.Stopped stop) end here _))
+publish_refused records handled source t before after m publishing.UnknownChannel at is known (found, short, finds, end, unknown, same) =
+    absurd (elim unknown [ inl none ↦ omega (arith, (known found finds).0, none) | inr above ↦ omega (arith, (known found finds).1, above) ])
+publish_refused records handled source t before after m (publishing.TooManyRecords count) at is known (found, short, finds, end, there, here, many, same) =
     subst (λ (p : PassState). IsRefusal records handled before p (causes.TooManyRecords count)) (sym same) (found_only records handled before found (causes.TooManyRecords count) finds (λ on. end) (refl, refl) (many, record { found = found; shown = refl; within = omega (arith, here) }))
-publish_refused records handled source t before after m (publishing.Full held) at is (found, finds, end, here, le, same) =
+publish_refused records handled source t before after m (publishing.Full held) at is known (found, short, finds, end, there, few, here, le, same) =
     subst (λ (p : PassState). IsRefusal records handled before p (full_cause held p.found)) (sym same) (was_full records handled before found held finds end here le)
-publish_refused records handled source t before after m publishing.Memory at is (found, finds, end, same) =
-    subst (λ (p : PassState). IsRefusal records handled before p causes.Memory) (sym same) (found_only records handled before found causes.Memory finds (λ on. end) (refl, refl) tt)
+publish_refused records handled source t before after m publishing.Memory at is known (found, short, may, same) =
+    subst (λ (p : PassState). IsRefusal records handled before p causes.Memory) (sym same) (lacked_memory records handled before found may.finds may.unended)
 
 -- the refusal of a declaration of the channel of the message at hand
 pub declare_refused : (records : List Top) (handled : ℕ) (before after : PassState) (d : ChannelDef) (refusal : DeclareRefused) → IsChannelOf records handled d → DeclaredInto before after d (Err refusal) → IsRefusal records handled before after (declare_cause refusal after.found)
 declare_refused records handled before after d (declaring.TooLarge len) is (size, over, same) =
     subst (λ (p : PassState). IsRefusal records handled before p (causes.TooLarge len)) (sym same)
-    (unchanged records handled before (causes.TooLarge len) (refl, refl) (inr (d, is, size, over)))
-declare_refused records handled before after d (declaring.Closed place) is (found, finds, end, here, same) =
+    (too_large records handled before len (inr (d, is, size, over)))
+declare_refused records handled before after d (declaring.Closed place) is (found, narrow, finds, end, here, same) =
     subst (λ (p : PassState). IsRefusal records handled before p (causes.Closed place)) (sym same)
-    (found_only records handled before found (causes.Closed place) finds (λ on. absurd (false_true on)) (refl, refl) (ended handled before found place ends.Closed end here))
-declare_refused records handled before after d (declaring.Stopped place stop) is (found, finds, end, here, same) =
+    (found_only records handled before found (causes.Closed place) finds (λ on. absurd (false_true on)) (refl, refl) (ended handled before found place ends.Closed end here _))
+declare_refused records handled before after d (declaring.Stopped place stop) is (found, narrow, finds, end, here, same) =
     subst (λ (p : PassState). IsRefusal records handled before p (causes.Stopped place stop)) (sym same)
-    (found_only records handled before found (causes.Stopped place stop) finds (λ on. absurd (false_true on)) (refl, refl) (ended handled before found place (ends.Stopped stop) end here))
-declare_refused records handled before after d (declaring.TooManyRecords count) is (found, finds, end, here, many, same) =
+    (found_only records handled before found (causes.Stopped place stop) finds (λ on. absurd (false_true on)) (refl, refl) (ended handled before found place (ends.Stopped stop) end here _))
+declare_refused records handled before after d (declaring.TooManyRecords count) is (found, narrow, finds, end, unnamed, here, many, same) =
     subst (λ (p : PassState). IsRefusal records handled before p (causes.TooManyRecords count)) (sym same) (found_only records handled before found (causes.TooManyRecords count) finds (λ on. end) (refl, refl) (many, record { found = found; shown = refl; within = omega (arith, here) }))
-declare_refused records handled before after d (declaring.Full held) is (found, finds, end, here, le, same) =
+declare_refused records handled before after d (declaring.Full held) is (found, narrow, finds, end, unnamed, few, here, le, same) =
     subst (λ (p : PassState). IsRefusal records handled before p (full_cause held p.found)) (sym same) (was_full records handled before found held finds end here le)
-declare_refused records handled before after d declaring.TooManySchemas is (found, finds, end, many, same) =
+declare_refused records handled before after d declaring.TooManySchemas is (found, narrow, finds, end, unnamed, place, many, same) =
     subst (λ (p : PassState). IsRefusal records handled before p causes.TooManySchemas) (sym same)
-    (lacked records handled before found d declaring.TooManySchemas causes.TooManySchemas finds end refl refl is (d, is, has_last before.lacks (d, declaring.TooManySchemas) []))
-declare_refused records handled before after d declaring.TooManyChannels is (found, finds, end, many, same) =
+    (lacked records handled before found d declaring.TooManySchemas causes.TooManySchemas finds end refl refl refl is (d, is, has_last before.lacks (d, declaring.TooManySchemas) []))
+declare_refused records handled before after d declaring.TooManyChannels is (found, narrow, finds, end, unnamed, place, many, same) =
     subst (λ (p : PassState). IsRefusal records handled before p causes.TooManyChannels) (sym same)
-    (lacked records handled before found d declaring.TooManyChannels causes.TooManyChannels finds end refl refl is (d, is, has_last before.lacks (d, declaring.TooManyChannels) []))
-declare_refused records handled before after d declaring.Memory is (found, finds, end, same) =
-    subst (λ (p : PassState). IsRefusal records handled before p causes.Memory) (sym same) (found_only records handled before found causes.Memory finds (λ on. end) (refl, refl) tt)
+    (lacked records handled before found d declaring.TooManyChannels causes.TooManyChannels finds end refl refl refl is (d, is, has_last before.lacks (d, declaring.TooManyChannels) []))
+declare_refused records handled before after d declaring.Memory is (found, narrow, finds, end, same) =
+    subst (λ (p : PassState). IsRefusal records handled before p causes.Memory) (sym same) (lacked_memory records handled before found finds end)
 
 -- the cause is that a record is too large only where the refusal is
 large_same : {n len : ℕ} → causes.TooLarge n ≡ causes.TooLarge len → n ≡ len
@@ -211,26 +253,31 @@ memory_tried records declared handled = λ len e. absurd (unlarge len e)
     unlarge : (len : ℕ) → causes.Memory ≡ causes.TooLarge len → ⊥
     unlarge len e = cc
 
+-- an id that a channel gets is one
+pub some_id : (before : PassState) (found : Found) (channel : ℕ) (records : List Rec) → GetsId before found channel records → 1 ≤ channel
+some_id before found channel records (inl had) = had.1.0
+some_id before found channel records (inr new) = omega (arith, new.next)
+
 -- ---- the limit
 
 -- a call leaves the limit as it was
 pub published_limit : (before after : PassState) (m : NewMessage) (result : Result ℕ PublishRefused) → PublishedBy before after m result → after.limit ≡ before.limit
 published_limit before after m (Ok place) call = ap (λ (p : PassState). p.limit) call.4
 published_limit before after m (Err (publishing.TooLarge len)) call = ap (λ (p : PassState). p.limit) call.2
-published_limit before after m (Err (publishing.Closed at)) call = ap (λ (p : PassState). p.limit) call.4
-published_limit before after m (Err (publishing.Stopped at stop)) call = ap (λ (p : PassState). p.limit) call.4
-published_limit before after m (Err publishing.UnknownChannel) call = ap (λ (p : PassState). p.limit) call.4
-published_limit before after m (Err (publishing.TooManyRecords count)) call = ap (λ (p : PassState). p.limit) call.5
-published_limit before after m (Err (publishing.Full held)) call = ap (λ (p : PassState). p.limit) call.5
+published_limit before after m (Err (publishing.Closed at)) call = ap (λ (p : PassState). p.limit) call.5
+published_limit before after m (Err (publishing.Stopped at stop)) call = ap (λ (p : PassState). p.limit) call.5
+published_limit before after m (Err publishing.UnknownChannel) call = ap (λ (p : PassState). p.limit) call.5
+published_limit before after m (Err (publishing.TooManyRecords count)) call = ap (λ (p : PassState). p.limit) call.7
+published_limit before after m (Err (publishing.Full held)) call = ap (λ (p : PassState). p.limit) call.8
 published_limit before after m (Err publishing.Memory) call = ap (λ (p : PassState). p.limit) call.3
 
 pub declared_limit : (before after : PassState) (d : ChannelDef) (result : Result Declared DeclareRefused) → DeclaredInto before after d result → after.limit ≡ before.limit
-declared_limit before after d (Ok given) call = ap (λ (p : PassState). p.limit) call.8
+declared_limit before after d (Ok given) call = ap (λ (p : PassState). p.limit) call.9
 declared_limit before after d (Err (declaring.TooLarge len)) call = ap (λ (p : PassState). p.limit) call.2
-declared_limit before after d (Err (declaring.Closed at)) call = ap (λ (p : PassState). p.limit) call.4
-declared_limit before after d (Err (declaring.Stopped at stop)) call = ap (λ (p : PassState). p.limit) call.4
-declared_limit before after d (Err (declaring.TooManyRecords count)) call = ap (λ (p : PassState). p.limit) call.5
-declared_limit before after d (Err (declaring.Full held)) call = ap (λ (p : PassState). p.limit) call.5
-declared_limit before after d (Err declaring.TooManySchemas) call = ap (λ (p : PassState). p.limit) call.4
-declared_limit before after d (Err declaring.TooManyChannels) call = ap (λ (p : PassState). p.limit) call.4
-declared_limit before after d (Err declaring.Memory) call = ap (λ (p : PassState). p.limit) call.3
+declared_limit before after d (Err (declaring.Closed at)) call = ap (λ (p : PassState). p.limit) call.5
+declared_limit before after d (Err (declaring.Stopped at stop)) call = ap (λ (p : PassState). p.limit) call.5
+declared_limit before after d (Err (declaring.TooManyRecords count)) call = ap (λ (p : PassState). p.limit) call.7
+declared_limit before after d (Err (declaring.Full held)) call = ap (λ (p : PassState). p.limit) call.8
+declared_limit before after d (Err declaring.TooManySchemas) call = ap (λ (p : PassState). p.limit) call.7
+declared_limit before after d (Err declaring.TooManyChannels) call = ap (λ (p : PassState). p.limit) call.7
+declared_limit before after d (Err declaring.Memory) call = ap (λ (p : PassState). p.limit) call.4

@@ -129,6 +129,7 @@ declared_fits records handled ids lists source before found content d stands fin
       named = in_step_joined (IsNamed records) lists.declared (d ∷ []) before.named ((d.channel, content) ∷ []) was.named
           (in_step_one (IsNamed records) d (d.channel, content) (refl, record { source = source; on = subst (λ (n : ℕ). IsOn records n source) (sym is.index) is.on; describes = is.describes }));
       lacks = was.lacks;
+      reasons = was.reasons;
       fulls = was.fulls;
       accepted_between = was.accepted_between;
       declared_between = λ j k r e at_j at_k. elim (at_more lists.declared d k e at_k) [

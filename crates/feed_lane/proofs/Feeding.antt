@@ -28,8 +28,8 @@ use Rattle.record_core.specs.declared.answers.Found.{Found}
 use Rattle.mcap_model.specs.declared.ends.End.{End}
 use Rattle.feed_lane.specs.Pass.{PassState}
 use Rattle.feed_lane.specs.Lanes.{messages, LaneFits}
-use Rattle.feed_lane.specs.Steps.{lists_of, IsOpen, goes_on, LaneStands, AreKnown, MessageTaken}
-use Rattle.feed_lane.specs.Feeds.{Waits, RecordTaken, Counts, Counted, refused_end, over_end, ReadSoFar, FeedEnds, IsInLast, AllTaken, Takes, reported, Reports}
+use Rattle.feed_lane.specs.Steps.{lists_of, IsOpen, goes_on, LaneStands, AreKnown, MessageTaken, Waits, RecordTaken, Counts, Counted, refused_end, over_end}
+use Rattle.feed_lane.specs.Feeds.{ReadSoFar, FeedEnds, IsInLast, AllTaken, Takes, reported, Reports}
 use Rattle.feed_lane.proofs.Members.{true_false, unended}
 use Rattle.feed_lane.proofs.Growing.{stands_more}
 use Rattle.feed_lane.proofs.Walking.{waits_behind, waits_none, flat_more, passed_more, passed_short}

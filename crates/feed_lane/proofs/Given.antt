@@ -1,15 +1,19 @@
 -- The places that the lists of a lane give.
-use Rattle.std.proofs.Common.{◌≡◌, ℕ, suc, ◌+◌, ◌<◌, ◌≤◌, List, [], ◌∷◌, length, refl, subst, inl, inr, arith}
+use Rattle.std.proofs.Common.{◌≡◌, ℕ, zero, suc, ◌+◌, ◌<◌, ◌≤◌, List, [], ◌∷◌, length, refl, sym, subst, inl, inr, arith}
 use Rattle.std.proofs.lemmas.Bool.{cases_lt}
 use Rattle.rec_data.specs.declared.owned.Rec.{Rec}
 use Rattle.mcap_model.specs.Places.{At}
 use Rattle.mcap_model.specs.Tops.{Top}
-use Rattle.mcap_model.proofs.Lists.{pairs_at}
+use Rattle.mcap_model.proofs.Places.{at_none}
+use Rattle.mcap_model.proofs.Lists.{at_either, pairs_at}
 use Rattle.feed_lane.specs.declared.report.Accepted.{Accepted}
 use Rattle.feed_lane.specs.declared.report.DeclaredAt.{DeclaredAt}
-use Rattle.feed_lane.specs.Pass.{PassState, placed_from}
-use Rattle.feed_lane.specs.Lanes.{Lists, IsGiven, LaneFits}
-use Rattle.feed_lane.specs.Laws.{GivenOnce, IsOwn, PlacesAreGiven}
+use Rattle.feed_lane.specs.declared.report.Refused.{Refused}
+use Rattle.feed_lane.specs.declared.report.Cause.{Cause}
+use Rattle.feed_lane.specs.declared.report.Cause.TheVariants as causes
+use Rattle.feed_lane.specs.Pass.{Reason, for_channel, PassState, placed_from}
+use Rattle.feed_lane.specs.Lanes.{Lists, IsGiven, reason_in, reasons_of, LaneFits}
+use Rattle.feed_lane.specs.Laws.{GivenOnce, IsOwn, PlacesAreGiven, ChannelsAreKnown}
 
 -- each place of some records is there
 placed_there : (first : ℕ) (rs : List Rec) (place : ℕ) → first ≤ place → place < first + length rs → (k : ℕ) × (pair : ℕ × Rec) × At (placed_from first rs) k pair × (pair.0 ≡ place)
@@ -51,3 +55,32 @@ once records handled lists pass fits = record {
 pub places_are_given : PlacesAreGiven
 places_are_given records handled lists pass fits =
     ((λ place. (given_own records handled lists pass fits place, λ own. subst (IsGiven lists) own.2 (fits.given own.1.0 own.0 own.1.1))), once records handled lists pass fits)
+
+-- ---- channels are known
+
+unlike : (cause : Cause) (n : ℕ) → At (reason_in cause) n for_channel → ⊥
+unlike (causes.Full held from to) zero at = cc
+unlike (causes.Full held from to) (suc n) at = at_none n for_channel at
+unlike (causes.TooLarge len) zero at = cc
+unlike (causes.TooLarge len) (suc n) at = at_none n for_channel at
+unlike (causes.Closed place) zero at = cc
+unlike (causes.Closed place) (suc n) at = at_none n for_channel at
+unlike (causes.Stopped place stop) zero at = cc
+unlike (causes.Stopped place stop) (suc n) at = at_none n for_channel at
+unlike causes.TooManySchemas zero at = cc
+unlike causes.TooManySchemas (suc n) at = at_none n for_channel at
+unlike causes.TooManyChannels zero at = cc
+unlike causes.TooManyChannels (suc n) at = at_none n for_channel at
+unlike (causes.TooManyRecords count) zero at = cc
+unlike (causes.TooManyRecords count) (suc n) at = at_none n for_channel at
+unlike causes.Memory n at = at_none n for_channel at
+
+none_among : (refused : List Refused) (n : ℕ) → At (reasons_of refused) n for_channel → ⊥
+none_among [] n at = at_none n for_channel at
+none_among (r ∷ rs) n at = elim (at_either (reason_in r.cause) (reasons_of rs) n for_channel at) [
+  | inl one ↦ unlike r.cause n one
+  | inr more ↦ none_among rs more.0 more.2
+]
+
+pub channels_are_known : ChannelsAreKnown
+channels_are_known records handled lists pass fits has = none_among lists.refused has.0 (subst (λ (l : List Reason). At l has.0 for_channel) (sym fits.reasons) has.1)

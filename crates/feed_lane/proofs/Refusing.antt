@@ -13,8 +13,8 @@ use Rattle.record_core.specs.declared.answers.DeclareRefused.{DeclareRefused}
 use Rattle.feed_lane.specs.declared.report.DeclaredAt.{DeclaredAt}
 use Rattle.feed_lane.specs.declared.report.Refused.{Refused}
 use Rattle.feed_lane.specs.declared.report.Cause.{Cause}
-use Rattle.feed_lane.specs.Pass.{FullAt, PassState}
-use Rattle.feed_lane.specs.Lanes.{Lists, messages, CauseFits, IsTried, full_in, fulls_of, lack_in, lacks_of, IsNamed, IsLacking, InStep, InTurnWith, ListsFit}
+use Rattle.feed_lane.specs.Pass.{FullAt, Reason, PassState}
+use Rattle.feed_lane.specs.Lanes.{Lists, messages, CauseFits, IsTried, full_in, fulls_of, lack_in, lacks_of, reason_in, reasons_of, IsNamed, IsLacking, InStep, InTurnWith, ListsFit}
 use Rattle.feed_lane.specs.Steps.{goes_on, IsRefusal, Stands, LastEnds, ListsTell}
 use Rattle.feed_lane.proofs.Members.{in_step_joined, declares_on, accepts_on, cause_on, declared_above, accepted_above}
 
@@ -54,6 +54,11 @@ refused_fits records handled ids lists before after cause stands is some =
           (sym (flat_map-append (λ (r : Refused). lack_in r.index r.cause) lists.refused (new ∷ []) ∙ ap (λ (l : List (ℕ × DeclareRefused)). lacks_of lists.refused ++ l) (append-nil (lack_in handled cause))))
           (subst (InStep (IsLacking records) (lacks_of lists.refused ++ lack_in handled cause)) (sym is.lacks)
           (in_step_joined (IsLacking records) (lacks_of lists.refused) (lack_in handled cause) before.lacks is.lacking was.lacks is.are));
+      reasons =
+          flat_map-append (λ (r : Refused). reason_in r.cause) lists.refused (new ∷ [])
+          ∙ ap (λ (l : List Reason). reasons_of lists.refused ++ l) (append-nil (reason_in cause))
+          ∙ ap (λ (l : List Reason). l ++ reason_in cause) was.reasons
+          ∙ sym is.reasons;
       fulls =
           flat_map-append (λ (r : Refused). full_in r.cause) lists.refused (new ∷ [])
           ∙ ap (λ (l : List FullAt). fulls_of lists.refused ++ l) (append-nil (full_in cause))

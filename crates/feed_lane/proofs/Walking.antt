@@ -14,8 +14,7 @@ use Rattle.mcap_model.proofs.Places.{at_last}
 use Rattle.mcap_model.proofs.Readings.{length-top}
 use Rattle.mcap_model.proofs.Logging.{few_filtered}
 use Rattle.feed_lane.specs.Lanes.{messages}
-use Rattle.feed_lane.specs.Steps.{AtHand}
-use Rattle.feed_lane.specs.Feeds.{Waits, unknown_in}
+use Rattle.feed_lane.specs.Steps.{AtHand, Waits, unknown_in}
 use Rattle.feed_lane.proofs.Growing.{messages_more}
 
 -- ---- which messages wait

@@ -1,14 +1,11 @@
--- What a lane takes of a feed, record by record, and what its report says at the end.
-use Rattle.std.specs.Prelude.{◌≡◌, ◌⊎◌, ℕ, ◌+◌, ◌^◌, ◌<◌, ◌≤◌, List, [], ◌∷◌, ◌++◌, length, false, filter, Some, OnOk, Result, Ok, Err}
+-- What the report on a feed says.
+use Rattle.std.specs.Prelude.{◌≡◌, ◌⊎◌, ℕ, ◌+◌, ◌<◌, ◌≤◌, List, [], ◌∷◌, ◌++◌, length, false, Some}
 use Rattle.mcap_io.specs.Outside.{SourceState}
 use Rattle.mcap_model.specs.declared.ends.End.{End}
 use Rattle.mcap_model.specs.Places.{Has, Each}
 use Rattle.mcap_model.specs.Tops.{Top, flat}
-use Rattle.mcap_model.specs.Rules.{is_unknown}
 use Rattle.mcap_model.specs.Kept.{reading_limits, Good, at_end, grammar, compressed, beyond}
 use Rattle.mcap_model.specs.Written.{passed}
-use Rattle.mcap_scan.specs.declared.answers.ScanRefused.{ScanRefused}
-use Rattle.mcap_scan.specs.declared.answers.ScanRefused.TheVariants as refusals
 use Rattle.mcap_scan.specs.Sources.{ReadTo}
 use Rattle.mcap_scan.specs.Scanning.{HaltsSo, FaultStands, MemoryStands}
 use Rattle.record_core.specs.declared.answers.Found.{Found}
@@ -16,51 +13,11 @@ use Rattle.feed_lane.specs.declared.report.Refused.{Refused}
 use Rattle.feed_lane.specs.declared.report.FeedReport.{FeedReport}
 use Rattle.feed_lane.specs.declared.report.FeedEnd.{FeedEnd}
 use Rattle.feed_lane.specs.declared.report.FeedEnd.TheVariants as feed_ends
-use Rattle.feed_lane.specs.declared.lane.Lane.{Lane}
-use Rattle.feed_lane.specs.declared.lane.Over.{Over}
-use Rattle.feed_lane.specs.declared.lane.Over.TheVariants as overs
 use Rattle.feed_lane.specs.Pass.{PassState, Seen}
 use Rattle.feed_lane.specs.Lanes.{Lists, messages, IsTried, LaneFits}
-use Rattle.feed_lane.specs.Steps.{goes_on, LaneStands, LaneOver}
-
--- ---- records
-
--- the messages of the records that aren't handled yet are those of these
-pub record Waits (records : List Top) (handled : ℕ) (more : List Top) : Type 0 where
-  pub done : List Top
-  pub split : messages records ≡ done ++ messages more
-  pub many : length done ≡ handled
-
--- what a record comes to, before which so many messages were handled and behind which these still wait
-abbrev pub RecordTaken : Lane → List Top → ℕ → List Top → PassState → Result Unit Over → Type 0
-RecordTaken lane records before more pass (Ok it) = (handled : ℕ) × (before ≤ handled) × LaneStands lane records handled pass × Waits records handled more
-RecordTaken lane records before more pass (Err over) = (handled : ℕ) × (before ≤ handled) × LaneOver lane records handled pass over
-
--- how many of the records inside a chunk are passed over
-abbrev pub unknown_in : List Top → ℕ
-unknown_in records = length (filter (λ u. is_unknown u.op) records)
-
--- so many were counted, where the count doesn't pass the end of its type
-abbrev pub Counts : ℕ → ℕ → ℕ → Type 0
-Counts before now n = before + n < 2 ^ 64 → now ≡ before + n
-
--- so it is of a record that was taken; where the lane is over within it, at most so many were counted
-abbrev pub Counted : ℕ → ℕ → ℕ → Result Unit Over → Type 0
-Counted before now n result = (before ≤ now) × (now ≤ before + n) × OnOk result (Counts before now n)
+use Rattle.feed_lane.specs.Steps.{goes_on}
 
 -- ---- ends
-
--- what a refused reading says of a feed
-abbrev pub refused_end : ScanRefused → FeedEnd
-refused_end (refusals.Fault faults) = feed_ends.Fault faults
-refused_end (refusals.Grammar offset rule) = feed_ends.Grammar offset
-refused_end (refusals.Compressed offset name) = feed_ends.Compressed offset name
-refused_end (refusals.Limit offset) = feed_ends.Limit offset
-refused_end refusals.Memory = feed_ends.Memory
-
-abbrev pub over_end : Over → FeedEnd
-over_end overs.Memory = feed_ends.Memory
-over_end overs.Ended = feed_ends.Ended
 
 -- these records were read, and the source has what follows them
 pub record ReadSoFar (before now : SourceState) (tops : List Top) : Type 0 where
@@ -95,7 +52,7 @@ pub record IsInLast (tops : List Top) (index count : ℕ) : Type 0 where
   pub passed_within : count ≤ passed tops
 
 -- the intake had ended and refused the last message that was handled, which is one of the last record
-abbrev pub EndsInLast : List Top → ℕ → ℕ → List Refused → Type 0
+abbrev EndsInLast : List Top → ℕ → ℕ → List Refused → Type 0
 EndsInLast tops handled count refused = (r : Refused) × Has refused r × (r.index + 1 ≡ handled) × (goes_on r.cause ≡ false) × IsInLast tops r.index count
 
 -- All were taken, unless memory lacked for the next message, which is one of the last record, or the intake had ended.

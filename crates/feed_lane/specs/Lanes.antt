@@ -21,7 +21,7 @@ use Rattle.feed_lane.specs.declared.report.DeclaredAt.{DeclaredAt}
 use Rattle.feed_lane.specs.declared.report.Refused.{Refused}
 use Rattle.feed_lane.specs.declared.report.Cause.{Cause}
 use Rattle.feed_lane.specs.declared.report.Cause.TheVariants as causes
-use Rattle.feed_lane.specs.Pass.{FullAt, PassState, Seen, placed_from, AreAdded}
+use Rattle.feed_lane.specs.Pass.{FullAt, Reason, for_size, for_close, for_stop, for_count, for_room, for_id, PassState, Seen, placed_from, AreAdded}
 
 -- the lists of a report
 pub record Lists : Type 0 where
@@ -177,6 +177,20 @@ lack_in index causes.Memory = []
 abbrev pub lacks_of : List Refused → List (ℕ × DeclareRefused)
 lacks_of refused = flat_map (λ r. lack_in r.index r.cause) refused
 
+-- why the message was refused, unless memory lacked
+abbrev pub reason_in : Cause → List Reason
+reason_in (causes.Full held from to) = for_room (record { from = from; to = to; held = held }) ∷ []
+reason_in (causes.TooLarge len) = for_size len ∷ []
+reason_in (causes.Closed at) = for_close at ∷ []
+reason_in (causes.Stopped at stop) = for_stop at stop ∷ []
+reason_in causes.TooManySchemas = for_id declaring.TooManySchemas ∷ []
+reason_in causes.TooManyChannels = for_id declaring.TooManyChannels ∷ []
+reason_in (causes.TooManyRecords count) = for_count count ∷ []
+reason_in causes.Memory = []
+
+abbrev pub reasons_of : List Refused → List Reason
+reasons_of refused = flat_map (λ r. reason_in r.cause) refused
+
 -- what the pass shows of a declaration, and of a refusal for which no id was left
 abbrev pub IsNamed : List Top → DeclaredAt → ℕ × ChannelDef → Type 0
 IsNamed records d pair = (pair.0 ≡ d.channel) × IsChannelOf records d.index pair.1
@@ -229,6 +243,9 @@ pub record ListsFit (records : List Top) (handled bound : ℕ) (lists : Lists) (
   pub named : InStep (IsNamed records) lists.declared pass.named
   -- so are the declarations that no id was left for those of the refusals for that
   pub lacks : InStep (IsLacking records) (lacks_of lists.refused) pass.lacks
+  -- The refusals but for want of memory are those of the pass, in their order, one each: what it refused for another reason is
+  -- told so, and where memory is told the pass lacked it, or the lane itself.
+  pub reasons : reasons_of lists.refused ≡ pass.reasons
   -- the refusals for a full buffer are those that the pass shows, in their order, one each, and between the places
   pub fulls : fulls_of lists.refused ≡ pass.fulls
   pub accepted_between : (j k : ℕ) (r : Refused) (a : Accepted) → At lists.refused j r → At lists.accepted k a

@@ -5,7 +5,7 @@ use Rattle.mcap_model.specs.Places.{At, Has}
 use Rattle.mcap_model.specs.Tops.{Top}
 use Rattle.feed_lane.specs.declared.report.Accepted.{Accepted}
 use Rattle.feed_lane.specs.declared.report.DeclaredAt.{DeclaredAt}
-use Rattle.feed_lane.specs.Pass.{PassState}
+use Rattle.feed_lane.specs.Pass.{for_channel, PassState}
 use Rattle.feed_lane.specs.Lanes.{Lists, IsGiven, LaneFits}
 
 -- the place is that of a record which the declaration added
@@ -26,3 +26,7 @@ IsOwn pass place = (pair : ℕ × Rec) × Has pass.own pair × (pair.0 ≡ place
 abbrev pub PlacesAreGiven : Type 0
 PlacesAreGiven = (records : List Top) (handled : ℕ) (lists : Lists) (pass : PassState) → LaneFits records handled lists pass
     → ((place : ℕ) → IsGiven lists place ↔ IsOwn pass place) × GivenOnce lists
+
+-- No call of a lane on its pass was refused since its channel has no id: the pass gave it, so that the intake knows it.
+abbrev pub ChannelsAreKnown : Type 0
+ChannelsAreKnown = (records : List Top) (handled : ℕ) (lists : Lists) (pass : PassState) → LaneFits records handled lists pass → Has pass.reasons for_channel → ⊥

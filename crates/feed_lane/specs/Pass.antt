@@ -4,6 +4,7 @@ use Rattle.rec_data.specs.declared.owned.Rec.{Rec}
 use Rattle.rec_data.specs.declared.channel.ChannelDef.{ChannelDef}
 use Rattle.mcap_model.specs.declared.ends.End.{End}
 use Rattle.mcap_model.specs.declared.ends.End.TheVariants.{Closed, Stopped}
+use Rattle.mcap_model.specs.declared.ends.Stop.{Stop}
 use Rattle.mcap_model.specs.Places.{Each}
 use Rattle.mcap_model.specs.History.{schema_of, channel_of, message_of}
 use Rattle.record_core.specs.Ids.{fields_of_schema, fields_with}
@@ -22,19 +23,30 @@ pub record FullAt : Type 0 where
   pub to : ℕ
   pub held : ℕ
 
+-- why a call was refused, but for want of memory
+pub data Reason : Type 0 where
+  for_size : ℕ → Reason
+  for_close : ℕ → Reason
+  for_stop : ℕ → Stop → Reason
+  for_channel : Reason
+  for_count : ℕ → Reason
+  for_room : FullAt → Reason
+  for_id : DeclareRefused → Reason
+
 -- The records that the pass added, each with its place; the ids that its declarations got; where it met a full buffer;
--- the declarations that no id was left for; how the intake stood in its last call, before what that did; and how many
--- bytes a buffer may hold before it is full.
+-- the declarations that no id was left for; the reasons of all refusals but want of memory; how the intake stood in its last
+-- call, before what that did; and how many bytes a buffer may hold before it is full.
 pub record PassState : Type 0 where
   pub own : List (ℕ × Rec)
   pub named : List (ℕ × ChannelDef)
   pub fulls : List FullAt
   pub lacks : List (ChannelDef × DeclareRefused)
+  pub reasons : List Reason
   pub found : Option Found
   pub limit : ℕ
 
 abbrev pub no_calls : ℕ → PassState
-no_calls limit = record { own = []; named = []; fulls = []; lacks = []; found = None; limit = limit }
+no_calls limit = record { own = []; named = []; fulls = []; lacks = []; reasons = []; found = None; limit = limit }
 
 -- the pass found the intake with at least so many records
 pub record Seen (pass : PassState) (n : ℕ) : Type 0 where
@@ -69,11 +81,19 @@ pub record Finds (before : PassState) (found : Found) : Type 0 where
 abbrev pub with_found : PassState → Found → PassState
 with_found before found = record before { found = Some found }
 
+-- and but for why the call was refused
+abbrev pub with_refused : PassState → Found → Reason → PassState
+with_refused before found reason = record before { reasons = before.reasons ++ reason ∷ []; found = Some found }
+
+-- the same without a look at the intake
+abbrev pub with_reason : PassState → Reason → PassState
+with_reason before reason = record before { reasons = before.reasons ++ reason ∷ [] }
+
 abbrev pub full_at : Found → FullAt
 full_at found = record { from = found.taken; to = found.count; held = found.held }
 
 abbrev pub with_full : PassState → Found → PassState
-with_full before found = record before { fulls = before.fulls ++ full_at found ∷ []; found = Some found }
+with_full before found = record before { fulls = before.fulls ++ full_at found ∷ []; reasons = before.reasons ++ for_room (full_at found) ∷ []; found = Some found }
 
 -- ---- publishing
 
@@ -83,31 +103,42 @@ message_record m = message_of m.channel (fields_of_message m)
 abbrev pub with_message : PassState → Found → NewMessage → PassState
 with_message before found m = record before { own = before.own ++ (found.count, message_record m) ∷ []; found = Some found }
 
+-- the intake gave that id to a channel
+abbrev pub IsChannel : Found → ℕ → Type 0
+IsChannel found channel = (1 ≤ channel) × (channel ≤ found.channels)
+
+-- the intake has a place for a record more, and its buffer has room
+pub record HasPlace (before : PassState) (found : Found) : Type 0 where
+  pub few : found.count < 2 ^ 48
+  pub room : found.held < before.limit
+
 -- the intake may take a message on that channel
 pub record MayTake (before : PassState) (found : Found) (channel : ℕ) : Type 0 where
   pub finds : Finds before found
   pub unended : found.end ≡ None
-  pub room : found.held < before.limit
-  pub few : found.count < 2 ^ 48
-  pub known : (1 ≤ channel) × (channel ≤ found.channels)
+  pub known : IsChannel found channel
+  pub place : HasPlace before found
 
--- A message was accepted at a place, or refused for a reason by which the intake was found. A message of too much data is
--- refused without a look at the intake.
+-- the message has no more data than one may have
+abbrev pub IsShort : NewMessage → Type 0
+IsShort m = length m.payload.now ≤ 33554432
+
+-- A message was accepted at a place, or refused for the first reason that held of how the intake was found. A message of too
+-- much data is refused without a look at the intake; memory may lack only where there is no other reason.
 abbrev pub PublishedBy : PassState → PassState → NewMessage → Result ℕ PublishRefused → Type 0
-PublishedBy before after m (Ok place) = (found : Found) × MayTake before found m.channel × (length m.payload.now ≤ 33554432) × (place ≡ found.count)
-    × (after ≡ with_message before found m)
-PublishedBy before after m (Err (publishing.TooLarge len)) = (len ≡ length m.payload.now) × (33554432 < len) × (after ≡ before)
-PublishedBy before after m (Err (publishing.Closed at)) = (found : Found) × Finds before found × (found.end ≡ Some Closed) × (at ≡ found.count)
-    × (after ≡ with_found before found)
-PublishedBy before after m (Err (publishing.Stopped at stop)) = (found : Found) × Finds before found × (found.end ≡ Some (Stopped stop)) × (at ≡ found.count)
-    × (after ≡ with_found before found)
-PublishedBy before after m (Err publishing.UnknownChannel) = (found : Found) × Finds before found × (found.end ≡ None)
-    × ((m.channel ≡ 0) ⊎ (found.channels < m.channel)) × (after ≡ with_found before found)
-PublishedBy before after m (Err (publishing.TooManyRecords count)) = (found : Found) × Finds before found × (found.end ≡ None) × (count ≡ found.count) × (2 ^ 48 ≤ count)
-    × (after ≡ with_found before found)
-PublishedBy before after m (Err (publishing.Full held)) = (found : Found) × Finds before found × (found.end ≡ None) × (held ≡ found.held) × (before.limit ≤ held)
-    × (after ≡ with_full before found)
-PublishedBy before after m (Err publishing.Memory) = (found : Found) × Finds before found × (found.end ≡ None) × (after ≡ with_found before found)
+PublishedBy before after m (Ok place) = (found : Found) × IsShort m × MayTake before found m.channel × (place ≡ found.count) × (after ≡ with_message before found m)
+PublishedBy before after m (Err (publishing.TooLarge len)) = (len ≡ length m.payload.now) × (33554432 < len) × (after ≡ with_reason before (for_size len))
+PublishedBy before after m (Err (publishing.Closed at)) = (found : Found) × IsShort m × Finds before found × (found.end ≡ Some Closed) × (at ≡ found.count)
+    × (after ≡ with_refused before found (for_close at))
+PublishedBy before after m (Err (publishing.Stopped at stop)) = (found : Found) × IsShort m × Finds before found × (found.end ≡ Some (Stopped stop)) × (at ≡ found.count)
+    × (after ≡ with_refused before found (for_stop at stop))
+PublishedBy before after m (Err publishing.UnknownChannel) = (found : Found) × IsShort m × Finds before found × (found.end ≡ None)
+    × ((m.channel ≡ 0) ⊎ (found.channels < m.channel)) × (after ≡ with_refused before found for_channel)
+PublishedBy before after m (Err (publishing.TooManyRecords count)) = (found : Found) × IsShort m × Finds before found × (found.end ≡ None) × IsChannel found m.channel
+    × (count ≡ found.count) × (2 ^ 48 ≤ count) × (after ≡ with_refused before found (for_count count))
+PublishedBy before after m (Err (publishing.Full held)) = (found : Found) × IsShort m × Finds before found × (found.end ≡ None) × IsChannel found m.channel × (found.count < 2 ^ 48)
+    × (held ≡ found.held) × (before.limit ≤ held) × (after ≡ with_full before found)
+PublishedBy before after m (Err publishing.Memory) = (found : Found) × IsShort m × MayTake before found m.channel × (after ≡ with_found before found)
 
 -- ---- declaring
 
@@ -121,24 +152,45 @@ abbrev pub with_declared : PassState → Found → ChannelDef → ℕ → List R
 with_declared before found d channel records = record before { own = before.own ++ placed_from found.count records; named = before.named ++ (channel, d) ∷ []; found = Some found }
 
 abbrev pub with_lack : PassState → Found → ChannelDef → DeclareRefused → PassState
-with_lack before found d refusal = record before { lacks = before.lacks ++ (d, refusal) ∷ []; found = Some found }
+with_lack before found d refusal = record before { lacks = before.lacks ++ (d, refusal) ∷ []; reasons = before.reasons ++ for_id refusal ∷ []; found = Some found }
 
--- A channel got an id and its records their places, or the declaration was refused for a reason by which the intake was
--- found.
+-- the records of a declaration are no longer than they may be
+abbrev pub IsNarrow : ChannelDef → Type 0
+IsNarrow d = declared_size d ≤ 1048576
+
+-- the pass got no id for this content
+abbrev pub IsUnnamed : PassState → ChannelDef → Type 0
+IsUnnamed before d = Each (λ pair. pair.1 ≡ d → ⊥) before.named
+
+-- a channel whose content is new gets the next id, and its records have a place; ids were left
+pub record IsNextId (before : PassState) (found : Found) (channel : ℕ) (records : List Rec) : Type 0 where
+  pub next : channel ≡ found.channels + 1
+  pub some : 1 ≤ length records
+  pub place : HasPlace before found
+  pub channels : found.channels < 65535
+  pub schemas : length records ≡ 2 → found.schemas < 65535
+
+-- a channel whose content had an id gets that and adds no record
+abbrev pub GetsId : PassState → Found → ℕ → List Rec → Type 0
+GetsId before found channel records = ((records ≡ []) × IsChannel found channel) ⊎ IsNextId before found channel records
+
+-- A channel got an id and its records their places, or the declaration was refused for the first reason that held of how the
+-- intake was found. Records that are too long are refused without a look at the intake. No other reason than an end refuses a
+-- content for which the pass has an id; memory may lack only where there is no other reason.
 abbrev pub DeclaredInto : PassState → PassState → ChannelDef → Result Declared DeclareRefused → Type 0
-DeclaredInto before after d (Ok given) = (found : Found) × (records : List Rec) × Finds before found × (found.end ≡ None) × (given.first ≡ found.count) × (1 ≤ given.channel)
-    × (given.count ≡ length records) × AreAdded d given.channel records × (after ≡ with_declared before found d given.channel records)
-DeclaredInto before after d (Err (declaring.TooLarge len)) = (len ≡ declared_size d) × (1048576 < len) × (after ≡ before)
-DeclaredInto before after d (Err (declaring.Closed at)) = (found : Found) × Finds before found × (found.end ≡ Some Closed) × (at ≡ found.count)
-    × (after ≡ with_found before found)
-DeclaredInto before after d (Err (declaring.Stopped at stop)) = (found : Found) × Finds before found × (found.end ≡ Some (Stopped stop)) × (at ≡ found.count)
-    × (after ≡ with_found before found)
-DeclaredInto before after d (Err (declaring.TooManyRecords count)) = (found : Found) × Finds before found × (found.end ≡ None) × (count ≡ found.count) × (2 ^ 48 ≤ count)
-    × (after ≡ with_found before found)
-DeclaredInto before after d (Err (declaring.Full held)) = (found : Found) × Finds before found × (found.end ≡ None) × (held ≡ found.held) × (before.limit ≤ held)
-    × (after ≡ with_full before found)
-DeclaredInto before after d (Err declaring.TooManySchemas) = (found : Found) × Finds before found × (found.end ≡ None) × (found.schemas ≡ 65535)
-    × (after ≡ with_lack before found d declaring.TooManySchemas)
-DeclaredInto before after d (Err declaring.TooManyChannels) = (found : Found) × Finds before found × (found.end ≡ None) × (found.channels ≡ 65535)
-    × (after ≡ with_lack before found d declaring.TooManyChannels)
-DeclaredInto before after d (Err declaring.Memory) = (found : Found) × Finds before found × (found.end ≡ None) × (after ≡ with_found before found)
+DeclaredInto before after d (Ok given) = (found : Found) × (records : List Rec) × IsNarrow d × Finds before found × (found.end ≡ None) × (given.first ≡ found.count)
+    × (given.count ≡ length records) × AreAdded d given.channel records × GetsId before found given.channel records × (after ≡ with_declared before found d given.channel records)
+DeclaredInto before after d (Err (declaring.TooLarge len)) = (len ≡ declared_size d) × (1048576 < len) × (after ≡ with_reason before (for_size len))
+DeclaredInto before after d (Err (declaring.Closed at)) = (found : Found) × IsNarrow d × Finds before found × (found.end ≡ Some Closed) × (at ≡ found.count)
+    × (after ≡ with_refused before found (for_close at))
+DeclaredInto before after d (Err (declaring.Stopped at stop)) = (found : Found) × IsNarrow d × Finds before found × (found.end ≡ Some (Stopped stop)) × (at ≡ found.count)
+    × (after ≡ with_refused before found (for_stop at stop))
+DeclaredInto before after d (Err (declaring.TooManyRecords count)) = (found : Found) × IsNarrow d × Finds before found × (found.end ≡ None) × IsUnnamed before d
+    × (count ≡ found.count) × (2 ^ 48 ≤ count) × (after ≡ with_refused before found (for_count count))
+DeclaredInto before after d (Err (declaring.Full held)) = (found : Found) × IsNarrow d × Finds before found × (found.end ≡ None) × IsUnnamed before d × (found.count < 2 ^ 48)
+    × (held ≡ found.held) × (before.limit ≤ held) × (after ≡ with_full before found)
+DeclaredInto before after d (Err declaring.TooManySchemas) = (found : Found) × IsNarrow d × Finds before found × (found.end ≡ None) × IsUnnamed before d × HasPlace before found
+    × (found.schemas ≡ 65535) × (after ≡ with_lack before found d declaring.TooManySchemas)
+DeclaredInto before after d (Err declaring.TooManyChannels) = (found : Found) × IsNarrow d × Finds before found × (found.end ≡ None) × IsUnnamed before d × HasPlace before found
+    × (found.channels ≡ 65535) × (after ≡ with_lack before found d declaring.TooManyChannels)
+DeclaredInto before after d (Err declaring.Memory) = (found : Found) × IsNarrow d × Finds before found × (found.end ≡ None) × (after ≡ with_found before found)

@@ -1,6 +1,6 @@
--- A lane between its steps: for which records it stands, what a call on its pass leaves to be listed, and what becomes of
--- the message at hand.
-use Rattle.std.specs.Prelude.{◌≡◌, ℕ, ◌+◌, ◌<◌, ◌≤◌, List, ◌++◌, length, Bool, true, false, vec_len, vec_capacity, Option, Some, None, Result, Ok, Err}
+-- A lane between its steps: for which records it stands, what a call on its pass leaves to be listed, what becomes of the
+-- message at hand, and what it takes of a feed, record by record.
+use Rattle.std.specs.Prelude.{◌≡◌, ℕ, ◌+◌, ◌^◌, ◌<◌, ◌≤◌, List, ◌++◌, length, filter, Bool, true, false, vec_len, vec_capacity, Option, Some, None, Result, Ok, Err, OnOk}
 use Rattle.rec_data.specs.declared.owned.Rec.{Rec}
 use Rattle.rec_data.specs.declared.channel.ChannelDef.{ChannelDef}
 use Rattle.mcap_model.specs.Places.{At, Has, Each}
@@ -8,9 +8,11 @@ use Rattle.mcap_model.specs.Tops.{Top}
 use Rattle.mcap_model.specs.Made.{top}
 use Rattle.mcap_model.specs.Fields.{MessageFields}
 use Rattle.rec_data.specs.declared.message.Message.{Message}
-use Rattle.mcap_model.specs.Rules.{V6}
+use Rattle.mcap_model.specs.Rules.{V6, is_unknown}
 use Rattle.mcap_model.specs.declared.tables.Tables.{Tables}
 use Rattle.mcap_model.specs.Declarations.{TablesOf}
+use Rattle.mcap_scan.specs.declared.answers.ScanRefused.{ScanRefused}
+use Rattle.mcap_scan.specs.declared.answers.ScanRefused.TheVariants as refusals
 use Rattle.record_core.specs.declared.answers.Found.{Found}
 use Rattle.record_core.specs.declared.answers.PublishRefused.{PublishRefused}
 use Rattle.record_core.specs.declared.answers.PublishRefused.TheVariants as publishing
@@ -20,11 +22,13 @@ use Rattle.feed_lane.specs.declared.report.DeclaredAt.{DeclaredAt}
 use Rattle.feed_lane.specs.declared.report.Refused.{Refused}
 use Rattle.feed_lane.specs.declared.report.Cause.{Cause}
 use Rattle.feed_lane.specs.declared.report.Cause.TheVariants as causes
+use Rattle.feed_lane.specs.declared.report.FeedEnd.{FeedEnd}
+use Rattle.feed_lane.specs.declared.report.FeedEnd.TheVariants as feed_ends
 use Rattle.feed_lane.specs.declared.lane.Lane.{Lane}
 use Rattle.feed_lane.specs.declared.lane.Over.{Over}
 use Rattle.feed_lane.specs.declared.lane.Over.TheVariants as overs
 use Rattle.feed_lane.specs.Pass.{FullAt, PassState, Seen}
-use Rattle.feed_lane.specs.Lanes.{Lists, messages, IsOn, CauseFits, IsTried, full_in, lack_in, IsLacking, InStep, ListsFit, LaneFits}
+use Rattle.feed_lane.specs.Lanes.{Lists, messages, IsOn, CauseFits, IsTried, full_in, lack_in, reason_in, IsLacking, InStep, ListsFit, LaneFits}
 
 -- ---- what a pass shows, call by call
 
@@ -111,6 +115,7 @@ pub record IsRefusal (records : List Top) (handled : ℕ) (before after : PassSt
   pub lacking : List (ChannelDef × DeclareRefused)
   pub lacks : after.lacks ≡ before.lacks ++ lacking
   pub are : InStep (IsLacking records) (lack_in handled cause) lacking
+  pub reasons : after.reasons ≡ before.reasons ++ reason_in cause
   pub fits : CauseFits records (handled + 1) after handled cause
   pub above : Each (λ full. Above before full.to) (full_in cause)
   pub tos : Each (λ full. Seen after full.to) (full_in cause)
@@ -166,7 +171,8 @@ abbrev pub full_cause : ℕ → Option Found → Cause
 full_cause held None = causes.Memory
 full_cause held (Some found) = causes.Full held found.taken found.count
 
--- the cause of a refusal; that a channel isn't known can't come, since the pass named it
+-- The cause of a refusal. That a channel isn't known never comes, since the pass gave the id; it would be told as no cause, and
+-- the lists wouldn't fit.
 abbrev pub publish_cause : PublishRefused → Option Found → Cause
 publish_cause (publishing.TooLarge len) found = causes.TooLarge len
 publish_cause (publishing.Closed at) found = causes.Closed at
@@ -193,3 +199,42 @@ pub record Roomy (lane : Lane) : Type 0 where
   pub accepted : vec_len lane.accepted + 1 ≤ vec_capacity lane.accepted
   pub declared : vec_len lane.declared + 1 ≤ vec_capacity lane.declared
   pub refused : vec_len lane.refused + 1 ≤ vec_capacity lane.refused
+
+-- ---- the records of a feed
+
+-- the messages of the records that aren't handled yet are those of these
+pub record Waits (records : List Top) (handled : ℕ) (more : List Top) : Type 0 where
+  pub done : List Top
+  pub split : messages records ≡ done ++ messages more
+  pub many : length done ≡ handled
+
+-- what a record comes to, before which so many messages were handled and behind which these still wait
+abbrev pub RecordTaken : Lane → List Top → ℕ → List Top → PassState → Result Unit Over → Type 0
+RecordTaken lane records before more pass (Ok it) = (handled : ℕ) × (before ≤ handled) × LaneStands lane records handled pass × Waits records handled more
+RecordTaken lane records before more pass (Err over) = (handled : ℕ) × (before ≤ handled) × LaneOver lane records handled pass over
+
+-- how many of the records inside a chunk are passed over
+abbrev pub unknown_in : List Top → ℕ
+unknown_in records = length (filter (λ u. is_unknown u.op) records)
+
+-- so many were counted, where the count doesn't pass the end of its type
+abbrev pub Counts : ℕ → ℕ → ℕ → Type 0
+Counts before now n = before + n < 2 ^ 64 → now ≡ before + n
+
+-- so it is of a record that was taken; where the lane is over within it, at most so many were counted
+abbrev pub Counted : ℕ → ℕ → ℕ → Result Unit Over → Type 0
+Counted before now n result = (before ≤ now) × (now ≤ before + n) × OnOk result (Counts before now n)
+
+-- ---- ends of a feed
+
+-- what a refused reading says of a feed
+abbrev pub refused_end : ScanRefused → FeedEnd
+refused_end (refusals.Fault faults) = feed_ends.Fault faults
+refused_end (refusals.Grammar offset rule) = feed_ends.Grammar offset
+refused_end (refusals.Compressed offset name) = feed_ends.Compressed offset name
+refused_end (refusals.Limit offset) = feed_ends.Limit offset
+refused_end refusals.Memory = feed_ends.Memory
+
+abbrev pub over_end : Over → FeedEnd
+over_end overs.Memory = feed_ends.Memory
+over_end overs.Ended = feed_ends.Ended

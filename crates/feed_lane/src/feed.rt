@@ -2,7 +2,8 @@
 ghost use Rattle.std.specs.Prelude.{◌≡◌, ℕ, []};
 ghost use Rattle.feed_lane.specs.Pass.{PassState, no_calls};
 ghost use Rattle.feed_lane.specs.Lanes.{LaneFits};
-ghost use Rattle.feed_lane.specs.Feeds.{refused_end, over_end as end_of_over, reported, Reports};
+ghost use Rattle.feed_lane.specs.Steps.{refused_end, over_end as end_of_over};
+ghost use Rattle.feed_lane.specs.Feeds.{reported, Reports};
 
 use crate::lane::{Lane, Over};
 use crate::pass::Pass;

@@ -60,7 +60,8 @@ fn full_cause(held: u64, found: Option<Found>) -> Cause
     }
 }
 
-// Why a message is refused that wasn't accepted. The pass gave the channel's id, so that it is known.
+// Why a message is refused that wasn't accepted. That its channel isn't known never comes, since the pass gave the id
+// (`laws::channels_are_known`).
 fn publish_cause(refusal: PublishRefused, found: Option<Found>) -> Cause
     ensures { result ≡ cause_of_publishing refusal found }
 {

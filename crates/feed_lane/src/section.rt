@@ -5,8 +5,7 @@ ghost use Rattle.mcap_model.specs.Rules.{V6};
 ghost use Rattle.mcap_model.specs.Made.{top};
 ghost use Rattle.mcap_model.specs.Written.{passed_in};
 ghost use Rattle.feed_lane.specs.Pass.{PassState};
-ghost use Rattle.feed_lane.specs.Steps.{LaneStands, AreKnown, ThenShows};
-ghost use Rattle.feed_lane.specs.Feeds.{Waits, RecordTaken, unknown_in, Counted};
+ghost use Rattle.feed_lane.specs.Steps.{LaneStands, AreKnown, ThenShows, Waits, RecordTaken, unknown_in, Counted};
 
 use crate::lane::{Lane, Over};
 use crate::pass::Pass;

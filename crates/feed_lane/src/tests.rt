@@ -10,7 +10,7 @@ use mcap_io::MemorySource;
 use mcap_model::{End, Stop};
 use mcap_wire::{Bytes, Memory, PairList, PairsRef, Text};
 use rec_data::{ChannelDef, Rec};
-use record_core::{DeclareRefused, Declared, Found, NewMessage, PublishRefused};
+use record_core::{DeclareRefused, Declared, Found, NewMessage, PublishRefused, declared_size};
 use std::alloc::Global;
 use std::test::Fail;
 
@@ -42,6 +42,7 @@ struct Tape {
     defined: usize,
     ended: bool,
     ghost few: { length channels.items ≤ 1000 },
+    ghost short: { length records.items ≤ 1000 },
 }
 
 // The record of a channel that has no schema in the file.
@@ -142,12 +143,17 @@ impl Tape {
 }
 
 impl Pass for Tape {
-    ghost use Rattle.std.specs.Prelude.{◌≡◌, ◌-◌, length};
+    ghost use Rattle.std.specs.Prelude.{◌≡◌, ◌-◌, List, length};
+    ghost use Rattle.feed_lane.specs.Pass.{Reason};
     ghost use Rattle.feed_lane.specs.Tapes.{found_when, shown};
 
-    ghost since = { λ begun t now. now ≡ shown t.records.items t.channels.items (found_when t.asked (length t.records.items - t.added) (length t.channels.items - t.defined) t.ended) };
+    ghost since = { λ begun t now. (reasons : List Reason) × (now ≡ shown t.records.items t.channels.items reasons (found_when t.asked (length t.records.items - t.added) (length t.channels.items - t.defined) t.ended)) };
 
     fn declare(&mut self, d: &ChannelDef) -> Result<Declared, DeclareRefused> {
+        let len = declared_size(d);
+        if len > 1_048_576 {
+            return Err(DeclareRefused::TooLarge { len });
+        }
         self.asked = true;
         self.added = 0;
         self.defined = 0;
@@ -163,6 +169,9 @@ impl Pass for Tape {
             return Err(DeclareRefused::Memory);
         }
         if self.channels.len() >= 1_000 {
+            return Err(DeclareRefused::Memory);
+        }
+        if self.records.len() >= 1_000 {
             return Err(DeclareRefused::Memory);
         }
         self.left -= 1;

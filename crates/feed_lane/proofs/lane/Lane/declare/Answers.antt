@@ -7,7 +7,7 @@ use Rattle.feed_lane.specs.Lanes.{messages, IsTried}
 use Rattle.feed_lane.specs.Steps.{lists_of, HasId, Stands, IsRefusal, declare_cause}
 use Rattle.feed_lane.proofs.Growing.{may_declare}
 use Rattle.feed_lane.proofs.Declaring.{IsNew, declared_stands, new_has_id}
-use Rattle.feed_lane.proofs.Calls.{unchanged, declare_refused, declare_tried, memory_tried, declared_limit}
+use Rattle.feed_lane.proofs.Calls.{some_id, unchanged, declare_refused, declare_tried, memory_tried, declared_limit}
 use Rattle.feed_lane.proofs.lane.Lane.declare.Goals as goal
 
 -- no definition was made, for want of memory
@@ -19,7 +19,7 @@ returns-in-Err-clause-found g c = λ begun before since. (
   λ records handled stands known on none. record {
     before = before;
     stands = may_declare records handled c.args.self.now.ids (lists_of c.args.self.now) before stands;
-    refusal = unchanged records handled before causes.Memory (refl, refl) tt;
+    refusal = unchanged records handled before;
     some = at_within (messages records) handled on.top on.at;
     tried = memory_tried records c.args.self.now.declared.items handled;
   },
@@ -43,17 +43,17 @@ returns-in-Ok-declare-clause-found g c = λ begun before since.
             on = on;
             describes = c.in-Ok.ensures.describes records known.tables_are;
             index = c.handled.ensures ∙ sym stands.fits.count;
-            first = call.4;
-            some = call.5;
+            first = call.5;
+            some = some_id before call.0 given.channel call.1 call.8;
             added = call.1;
             are = call.7;
             many = call.6;
           } in
-          let now = declared_stands records handled l.ids (lists_of l) c.args.source before call.0 content d stands call.2 call.3 is in (
+          let now = declared_stands records handled l.ids (lists_of l) c.args.source before call.0 content d stands call.3 call.4 is in (
             subst (λ (declared : List DeclaredAt). HasId records declared c.args.source given.channel) (sym c.add.ensures) (new_has_id records handled l.ids (lists_of l) c.args.source call.0 content d is),
             subst (λ (declared : List DeclaredAt). Stands records handled (handled + 1) c.set.new.self (record { accepted = l.accepted.items; declared = declared; refused = l.refused.items }) after) (sym c.add.ensures)
                 (subst (λ (ids : List ℕ). Stands records handled (handled + 1) ids (record { accepted = l.accepted.items; declared = l.declared.items ++ d ∷ []; refused = l.refused.items }) after) (sym c.set.ensures)
-                (subst (Stands records handled (handled + 1) _ (record { accepted = l.accepted.items; declared = l.declared.items ++ d ∷ []; refused = l.refused.items })) (sym call.8) now)),
+                (subst (Stands records handled (handled + 1) _ (record { accepted = l.accepted.items; declared = l.declared.items ++ d ∷ []; refused = l.refused.items })) (sym call.9) now)),
           ),
     )
 

@@ -5,7 +5,7 @@ use Rattle.feed_lane.specs.declared.report.Accepted.{Accepted}
 use Rattle.feed_lane.specs.Lanes.{messages}
 use Rattle.feed_lane.specs.Steps.{lists_of, Stands, IsRefusal, publish_cause, fields_of}
 use Rattle.feed_lane.proofs.Accepting.{accepted_at, accepted_stands}
-use Rattle.feed_lane.proofs.Calls.{publish_refused, published_limit}
+use Rattle.feed_lane.proofs.Calls.{named_there, publish_refused, published_limit}
 use Rattle.feed_lane.proofs.lane.Lane.publish.Goals as goal
 
 pub returns-in-Ok-clause-taken : goal.returns-in-Ok-clause-taken
@@ -25,7 +25,7 @@ returns-in-Ok-clause-taken g c = λ begun before since.
           c.add.ensures ∙ ap (λ (n : ℕ). l.accepted.items ++ accepted_at n c.in-Ok.place ∷ []) index ∙ ap (λ (n : ℕ). l.accepted.items ++ accepted_at handled n ∷ []) call.3 in
           subst (λ (accepted : List Accepted). Stands records (handled + 1) (handled + 1) l.ids (record { accepted = accepted; declared = l.declared.items; refused = l.refused.items }) after) (sym listed)
           (subst (Stands records (handled + 1) (handled + 1) l.ids (record { accepted = l.accepted.items ++ accepted_at handled found.count ∷ []; declared = l.declared.items; refused = l.refused.items })) (sym call.4)
-          (accepted_stands records handled l.ids (lists_of l) before found m source t stands call.1.finds call.1.unended (record { id = has; at = at; is = is; small = call.2 }))),
+          (accepted_stands records handled l.ids (lists_of l) before found m source t stands call.2.finds call.2.unended (record { id = has; at = at; is = is; small = call.1 }))),
     )
 
 pub returns-in-Err-clause-taken : goal.returns-in-Err-clause-taken
@@ -41,7 +41,7 @@ returns-in-Err-clause-taken g c = λ begun before since.
           c.refuse.ensures.taken records handled after (record {
             before = before;
             stands = stands;
-            refusal = subst (IsRefusal records handled before after) (sym cause) (publish_refused records handled source t before after m c.in-Err.refusal at is shown.2);
+            refusal = subst (IsRefusal records handled before after) (sym cause) (publish_refused records handled source t before after m c.in-Err.refusal at is (λ found finds. named_there records handled (handled + 1) (lists_of c.args.self.now) before source c.args.id found stands.fits has finds) shown.2);
             some = at_within (messages records) handled t at;
             tried = λ len e. inr (record {
               source = source;

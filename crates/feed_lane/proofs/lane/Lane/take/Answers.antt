@@ -5,7 +5,7 @@ use Rattle.mcap_model.specs.Fields.{ChunkFields, IsChunk}
 use Rattle.mcap_model.specs.Rules.{V6}
 use Rattle.mcap_model.specs.Written.{passed_in}
 use Rattle.mcap_model.proofs.Unpacking.{chunks_are_opened}
-use Rattle.feed_lane.specs.Feeds.{Waits, Counted, unknown_in}
+use Rattle.feed_lane.specs.Steps.{Waits, Counted, unknown_in}
 use Rattle.feed_lane.proofs.Walking.{waits_at}
 use Rattle.feed_lane.proofs.Feeding.{message_record, counted_none}
 use Rattle.feed_lane.proofs.lane.Lane.take.Goals as goal

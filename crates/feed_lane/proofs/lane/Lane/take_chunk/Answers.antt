@@ -1,7 +1,7 @@
 use Rattle.std.proofs.Common.{ap, subst, arith, ◌∙◌}
 use Rattle.mcap_model.specs.Tops.{records_in}
 use Rattle.mcap_model.specs.Walk.{walk_rest, inner_top}
-use Rattle.feed_lane.specs.Feeds.{Waits, unknown_in}
+use Rattle.feed_lane.specs.Steps.{Waits, unknown_in}
 use Rattle.feed_lane.proofs.Walking.{unknown_more}
 use Rattle.feed_lane.proofs.lane.Lane.take_chunk.Goals as goal
 

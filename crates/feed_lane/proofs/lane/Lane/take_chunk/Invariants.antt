@@ -2,8 +2,7 @@ use Rattle.std.proofs.Common.{◌≡◌, ◌+◌, ◌^◌, ◌<◌, ◌≤◌, �
 use Rattle.mcap_model.specs.Tops.{Top, records_in}
 use Rattle.mcap_model.specs.Walk.{walk_rest}
 use Rattle.feed_lane.specs.Pass.{PassState}
-use Rattle.feed_lane.specs.Steps.{LaneStands, AreKnown, ThenShows}
-use Rattle.feed_lane.specs.Feeds.{Waits, unknown_in}
+use Rattle.feed_lane.specs.Steps.{LaneStands, AreKnown, ThenShows, Waits, unknown_in}
 use Rattle.feed_lane.proofs.lane.Lane.take_chunk.Given as goal
 
 abbrev pub invariant-records : goal.invariant-records

@@ -1,6 +1,6 @@
 use Rattle.std.proofs.Common.{ℕ, ◌∷◌, [], ap, subst}
 use Rattle.mcap_model.specs.Made.{top}
-use Rattle.feed_lane.specs.Feeds.{Waits, unknown_in}
+use Rattle.feed_lane.specs.Steps.{Waits, unknown_in}
 use Rattle.feed_lane.proofs.Walking.{waits_at}
 use Rattle.feed_lane.proofs.Feeding.{message_record, counted_none}
 use Rattle.feed_lane.proofs.lane.Lane.take_inner.Goals as goal
