@@ -31,7 +31,7 @@ fn schema_size(schema: &Option<SchemaDef>) -> u64
 }
 
 /// How many bytes the records of a declaration have.
-pub(crate) fn declared_size(channel: &ChannelDef) -> u64
+pub fn declared_size(channel: &ChannelDef) -> u64
     requires { DefFits channel.now }
     ensures { result ≡ declared_size channel.now }
 {

@@ -69,6 +69,7 @@ alone_at limit desk s stands empty same unclosed = record {
     fulls = λ n full at. absurd (at_none n full at);
     lacks = λ n pair at. absurd (at_none n pair at);
     found = λ f is. absurd (none_found is);
+    there = λ f is. absurd (none_found is);
     limit = sym same;
   };
   found = refl;
@@ -158,6 +159,7 @@ shown_by lone s pass end alone same = record {
       let count = (parts lone.desk s alone.stands).count in
       record {
         within = omega (arith, before.later.count, count);
+        numbers = alone.shows.there f is;
         all = λ e ended_so. before.all e ended_so ∙ count;
         same = λ e ended_so. sym (same e (before.later.end e ended_so));
         unclosed = before.unclosed;

@@ -1,5 +1,5 @@
 -- What a recording did to its store.
-use Rattle.std.proofs.Common.{◌≡◌, ℕ, List, [], Some, refl, sym, subst, arith}
+use Rattle.std.proofs.Common.{◌≡◌, ℕ, List, [], Some, refl, sym, subst, inl, inr, arith}
 use Rattle.rec_data.specs.declared.owned.Rec.{Rec}
 use Rattle.mcap_io.specs.Outside.{SourceState, LiveState}
 use Rattle.mcap_model.specs.declared.ends.End.TheVariants as ends
@@ -40,10 +40,12 @@ module _ {L : Type 0} (state : L → LiveState) (options : RecordOptions) (sourc
   onto_scribe live first last store limit history report r is limited stored stands still reported written all =
       let before = sides source live in
       let w = report.writer in
+      let ended = written.ended options.file live history (written.grown options.file live [] stands) in
       let writer : WriterRecorded options.file live (state (store_of last)) history w = record {
         records = all.records;
-        wrote = written.ended options.file live history (written.grown options.file live [] stands);
+        wrote = ended.0;
         within = all.within;
+        begun = inl ended.1;
         cause = subst (λ (n : ℕ). Cause {X = Unit {0}} n (state (store_of last)).faults (answer_of w.end)) still written.cause;
       } in
       subst (Recorded options before (sides now (state store))) (same_report is)
@@ -62,6 +64,7 @@ module _ {L : Type 0} (state : L → LiveState) (options : RecordOptions) (sourc
         records = refl;
         wrote = stops;
         within = record { few = omega arith; small = omega arith };
+        begun = inr (refl, refl);
         cause = cause;
       } in
       let all : IsAll [] none = record {

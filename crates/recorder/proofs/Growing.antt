@@ -15,8 +15,8 @@ use Rattle.record_core.specs.declared.answers.Found.{Found}
 use Rattle.record_core.specs.declared.answers.DeclareRefused.{DeclareRefused}
 use Rattle.record_core.specs.declared.answers.DeclareRefused.TheVariants as declaring
 use Rattle.record_core.proofs.Searches.{schemas_counted, channels_counted, schemas_more, channels_more, schema_content, channel_content}
-use Rattle.feed_lane.specs.Pass.{FullAt, placed_from}
-use Rattle.recorder.specs.Shown.{SchemaStands, ChannelStands, LacksSchema, LacksChannel, Lacks, HeldThere}
+use Rattle.feed_lane.specs.Pass.{FullAt, full_at, placed_from}
+use Rattle.recorder.specs.Shown.{SchemaStands, ChannelStands, LacksSchema, LacksChannel, Lacks, HeldThere, FoundThere}
 use Rattle.recorder.specs.Lone.{FoundBefore}
 
 -- ---- places
@@ -152,6 +152,15 @@ held_there_on history more full there =
     }
 
 -- ---- how the desk was found
+
+pub found_there_on : (history more : List Rec) (found : Found) → FoundThere history found → FoundThere (history ++ more) found
+found_there_on history more found there =
+    let same : take found.count (history ++ more) ≡ take found.count history = take-append-le found.count history more there.held.within in
+    record {
+      held = held_there_on history more (full_at found) there.held;
+      schemas = there.schemas ∙ ap schema_count (sym same);
+      channels = there.channels ∙ ap channel_count (sym same);
+    }
 
 pub found_on : (d later : DeskView) (found : Found) → FoundBefore d found → FoundBefore later (found_of d) → FoundBefore later found
 found_on d later found one other = record {

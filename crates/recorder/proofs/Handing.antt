@@ -139,6 +139,7 @@ alone_written lone s pass phase alone =
         fulls = shows.fulls;
         lacks = shows.lacks;
         found = λ f is. found_on lone.desk (written lone.desk phase) f (shows.found f is) (found_written lone.desk phase alone.unclosed);
+        there = shows.there;
         limit = shows.limit ∙ sym (written_limit lone.desk phase);
       });
       found = alone.found;

@@ -1,6 +1,6 @@
 -- Ids by content, of a history and of what a declaration adds to it.
-use Rattle.std.proofs.Common.{◌≡◌, ℕ, ◌+◌, ◌<◌, ◌≤◌, Bool, true, List, [], ◌∷◌, ◌++◌, length, take, Option, Some, None, refl, sym, ap, subst, inl, inr, ◌∙◌, append-nil, append_assoc, length-append, arith}
-use Rattle.std.specs.Prelude.{position, nat_lt, nat_le}
+use Rattle.std.proofs.Common.{◌≡◌, ℕ, ◌+◌, ◌<◌, ◌≤◌, Bool, true, false, List, [], ◌∷◌, ◌++◌, length, take, Option, Some, None, refl, sym, ap, subst, inl, inr, ◌∙◌, append-nil, append_assoc, length-append, arith}
+use Rattle.std.specs.Prelude.{position, nat_lt, nat_le, ◌&&◌}
 use Rattle.std.proofs.lemmas.Bool.{and_parts, ltb-true, leb-true, cases_lt}
 use Rattle.rec_data.specs.declared.owned.Rec.{Rec}
 use Rattle.rec_data.specs.declared.schema.SchemaDef.{SchemaDef}
@@ -14,9 +14,11 @@ use Rattle.record_core.specs.Ids.{Ids, schemas_in, channels_in, same_schema, sam
 use Rattle.record_core.specs.Tables.{schemas_lack}
 use Rattle.record_core.proofs.Numbering.{HasContents, schema_at, channel_at}
 use Rattle.record_core.proofs.Searches.{found, not_found, schema_own, schema_same, channel_own, channel_same, schemas_counted, channels_counted, schemas_more, channels_more, schema_content, channel_content}
-use Rattle.feed_lane.specs.Pass.{AreAdded}
+use Rattle.record_core.specs.Desk.{DeskView, found_of}
+use Rattle.feed_lane.specs.Pass.{PassState, AreAdded, GetsId}
 use Rattle.recorder.specs.Shown.{SchemaStands, ChannelStands, LacksSchema, LacksChannel}
 use Rattle.recorder.proofs.Growing.{Spares}
+use Rattle.recorder.proofs.Reasons.{MayHave}
 
 -- ---- numbers
 
@@ -224,11 +226,47 @@ schema_is : (ids : Ids) (history : List Rec) (schema : Option SchemaDef) (id : �
 schema_is ids history None id has numbered stands = stands
 schema_is ids history (Some s) id has numbered stands = schema_is_by ids history s id (schema_place ids s) has numbered refl stands
 
+-- no channel of a content that isn't found stands in the history
+pub stands_nowhere : (ids : Ids) (history : List Rec) (c : ChannelDef) (id : ℕ) → HasContents ids history → Numbered history → channel_place ids c ≡ None → ChannelStands history id c → ⊥
+stands_nowhere ids history c id has numbered none stands =
+    let same : stands.schema ≡ schema_id ids c.schema = schema_is ids history c.schema stands.schema has numbered stands.schema_stands in
+    no_channel_found ids history c id has none (subst (λ (k : ℕ). Has history (channel_of id (fields_with c k))) same stands.has)
+
 pub lacks_channel : (ids : Ids) (history : List Rec) (c : ChannelDef) → HasContents ids history → Numbered history → length ids.channels ≤ 65535 → 65535 ≤ length ids.channels
     → channel_place ids c ≡ None → LacksChannel history c
 lacks_channel ids history c has numbered few full none = (
   channels_counted history ∙ sym (ap length has.channels) ∙ omega (arith, few, full),
-  λ id stands.
-      let same : stands.schema ≡ schema_id ids c.schema = schema_is ids history c.schema stands.schema has numbered stands.schema_stands in
-      no_channel_found ids history c id has none (subst (λ (k : ℕ). Has history (channel_of id (fields_with c k))) same stands.has),
+  λ id stands. stands_nowhere ids history c id has numbered none stands,
 )
+
+-- ---- the id that is given
+
+schemas_left : (given new_ones : ℕ) → (nat_lt 0 new_ones && nat_le 65535 given) ≡ false → 1 ≤ new_ones → given < 65535
+schemas_left given new_ones is some = by (nat_lt 0 new_ones) (nat_le 65535 given) refl refl is
+  where
+    by : (a b : Bool) → nat_lt 0 new_ones ≡ a → nat_le 65535 given ≡ b → (a && b) ≡ false → given < 65535
+    by false b first second both = absurd (let none : new_ones ≤ 0 = grind arith in omega (arith, none, some))
+    by true false first second both = grind arith
+    by true true first second both = absurd cc
+
+-- the id of a content that is known, or the next one
+gets_by : (d : DeskView) (c : ChannelDef) (before : PassState) (place : Option ℕ) → channel_place d.ids c ≡ place → before.limit ≡ d.limit → MayHave d c place
+    → GetsId before (found_of d) (id_at place (length d.ids.channels)) (new_at place d.ids c)
+gets_by d c before (Some k) is same have =
+    let there = found (same_channel (fields_of_channel d.ids c)) d.ids.channels k is in
+    let within = at_within d.ids.channels k there.element there.at in
+    inl (refl, (omega arith, omega (arith, within)))
+gets_by d c before None is same have =
+    let few = have.place.few in
+    let room = have.place.room in
+    let size = length-append (new_schema d.ids c.schema) (channel_of (length d.ids.channels + 1) (fields_of_channel d.ids c) ∷ []) in
+    inr (record {
+      next = refl;
+      some = omega (arith, size);
+      place = record { few = few; room = omega (arith, room, same) };
+      channels = have.channels;
+      schemas = λ two. schemas_left (length d.ids.schemas) (length (new_schema d.ids c.schema)) have.schemas (omega (arith, two, size));
+    })
+
+pub gets_id : (d : DeskView) (c : ChannelDef) (before : PassState) → before.limit ≡ d.limit → MayHave d c (channel_place d.ids c) → GetsId before (found_of d) (channel_id d.ids c) (new_records d.ids c)
+gets_id d c before same have = gets_by d c before (channel_place d.ids c) refl same have

@@ -10,10 +10,10 @@ use Rattle.mcap_model.specs.declared.ends.End.TheVariants as ends
 use Rattle.mcap_model.specs.declared.options.FileOptions.{FileOptions}
 use Rattle.mcap_model.specs.Places.{At, Each}
 use Rattle.mcap_model.specs.Fields.{MessageFields}
-use Rattle.mcap_model.specs.History.{message_of, history_bytes}
+use Rattle.mcap_model.specs.History.{message_of, schema_count, channel_count, history_bytes}
 use Rattle.mcap_model.proofs.Places.{at_none}
 use Rattle.mcap_model.proofs.Lists.{each_cons, each_joined}
-use Rattle.record_core.specs.Ids.{Ids, schemas_in, channels_in, is_known, ids_of, with_ids, channel_id, new_records}
+use Rattle.record_core.specs.Ids.{Ids, schemas_in, channels_in, is_known, ids_of, with_ids, channel_place, channel_id, new_records}
 use Rattle.record_core.specs.Tables.{IsTable}
 use Rattle.record_core.specs.Desk.{DeskView, accepted, added, first_of, end_of, found_of, EndIsLast, fields_of_message, publish_refusal, declare_refusal, Published, DeclaredBy}
 use Rattle.record_core.specs.Machine.{State, desk_of, publish, declare, accept, unless}
@@ -26,14 +26,14 @@ use Rattle.record_core.specs.declared.answers.PublishRefused.TheVariants as publ
 use Rattle.record_core.specs.declared.answers.DeclareRefused.{DeclareRefused}
 use Rattle.record_core.specs.declared.answers.DeclareRefused.TheVariants as declaring
 use Rattle.record_core.proofs.Numbering.{HasContents}
-use Rattle.record_core.proofs.Searches.{channels_more}
-use Rattle.feed_lane.specs.Pass.{FullAt, PassState, placed_from, Finds, full_at, with_found, with_full, with_lack, with_declared, message_record, AreAdded}
+use Rattle.record_core.proofs.Searches.{schemas_counted, channels_counted, channels_more}
+use Rattle.feed_lane.specs.Pass.{FullAt, Reason, for_size, for_close, for_stop, for_channel, for_count, for_room, for_id, PassState, placed_from, Finds, full_at, with_found, with_refused, with_reason, with_full, with_lack, with_declared, message_record, MayTake, HasPlace, IsUnnamed, AreAdded, GetsId}
 use Rattle.recorder.specs.declared.lone.LoneDesk.{LoneDesk}
-use Rattle.recorder.specs.Shown.{ChannelStands, Lacks, HeldThere}
+use Rattle.recorder.specs.Shown.{ChannelStands, Lacks, HeldThere, FoundThere}
 use Rattle.recorder.specs.Lone.{FoundBefore, Showing, IsAlone, GoesOn, looked, looked_in, PublishesAlone, DeclaresAlone}
-use Rattle.recorder.proofs.Growing.{placed_at, placed_more, Spares, channel_stands_on, lacks_on, held_there_on}
-use Rattle.recorder.proofs.Reasons.{publish_reason, declare_reason}
-use Rattle.recorder.proofs.Numbers.{message_spares, declared_spares, declared_stands, declared_id, are_added, lacking_schemas, lacks_schema, lacks_channel}
+use Rattle.recorder.proofs.Growing.{placed_at, placed_more, Spares, channel_stands_on, lacks_on, held_there_on, found_there_on}
+use Rattle.recorder.proofs.Reasons.{PublishReason, HasRecords, publish_reason, declare_reason, narrow}
+use Rattle.recorder.proofs.Numbers.{message_spares, declared_spares, declared_stands, declared_id, are_added, lacking_schemas, lacks_schema, lacks_channel, stands_nowhere, gets_id}
 
 -- ---- a desk and its state
 
@@ -95,46 +95,6 @@ found_self d unclosed = record {
   unclosed = unclosed;
 }
 
--- what a call that was refused showed beside how it found the desk
-record Shown (history : List Rec) (fulls : List FullAt) (lacks : List (ChannelDef × DeclareRefused)) : Type 0 where
-  pub fulls_are : Each (HeldThere history) fulls
-  pub lacks_are : Each (λ pair. Lacks history pair.0 pair.1) lacks
-
-abbrev showing : PassState → Found → List FullAt → List (ChannelDef × DeclareRefused) → PassState
-showing before found fulls lacks = record before { fulls = fulls; lacks = lacks; found = Some found }
-
-refused : (old new : LoneDesk) (s : State) (before : PassState) (fulls : List FullAt) (lacks : List (ChannelDef × DeclareRefused)) → IsAlone old s before
-    → new.desk ≡ old.desk → new.found ≡ Some (found_of old.desk) → Shown s.history fulls lacks → IsAlone new s (showing before (found_of old.desk) fulls lacks)
-refused old new s before fulls lacks alone same looked shown = record {
-  stands = subst (λ (d : DeskView). StandsFor d s) (sym same) alone.stands;
-  shows = record {
-    own = alone.shows.own;
-    named = alone.shows.named;
-    ids = alone.shows.ids;
-    fulls = shown.fulls_are;
-    lacks = shown.lacks_are;
-    found = λ f is. subst (FoundBefore new.desk) (some_found is) (subst (λ (d : DeskView). FoundBefore d (found_of old.desk)) (sym same) (found_self old.desk alone.unclosed));
-    limit = alone.shows.limit ∙ ap (λ (d : DeskView). d.limit) (sym same);
-  };
-  found = sym looked;
-  unclosed = subst (λ (d : DeskView). end_of d ≡ Some ends.Closed → ⊥) (sym same) alone.unclosed;
-}
-
-same_shown : (lone : LoneDesk) (s : State) (before : PassState) → IsAlone lone s before → Shown s.history before.fulls before.lacks
-same_shown lone s before alone = record { fulls_are = alone.shows.fulls; lacks_are = alone.shows.lacks }
-
--- nothing was looked at
-unseen : (old new : LoneDesk) (s : State) (before : PassState) → IsAlone old s before → new.desk ≡ old.desk → new.found ≡ old.found → IsAlone new s before
-unseen old new s before alone same looked = record {
-  stands = subst (λ (d : DeskView). StandsFor d s) (sym same) alone.stands;
-  shows = subst (λ (d : DeskView). Showing d s.history before) (sym same) alone.shows;
-  found = alone.found ∙ sym looked;
-  unclosed = subst (λ (d : DeskView). end_of d ≡ Some ends.Closed → ⊥) (sym same) alone.unclosed;
-}
-
-one_more : {X : Type 0} (P : X → Type 0) (xs : List X) (x : X) → Each P xs → P x → Each P (xs ++ x ∷ [])
-one_more P xs x each it = each_joined P xs (x ∷ []) each (each_cons P x [] it (λ n y at. absurd (at_none n y at)))
-
 full_there : (d : DeskView) (s : State) → StandsFor d s → HeldThere s.history (full_at (found_of d))
 full_there d s stands =
     let p = parts d s stands in
@@ -146,6 +106,66 @@ full_there d s stands =
       within = omega (arith, p.count);
       held = ap (λ (l : List Rec). length (history_bytes l)) (sym same);
     }
+
+found_there : (d : DeskView) (s : State) → StandsFor d s → FoundThere s.history (found_of d)
+found_there d s stands =
+    let p = parts d s stands in
+    let all : take (accepted d) s.history ≡ s.history = take_all (accepted d) s.history (omega (arith, p.count)) in
+    record {
+      held = full_there d s stands;
+      schemas = ap length p.contents.schemas ∙ sym (schemas_counted s.history) ∙ ap schema_count (sym all);
+      channels = ap length p.contents.channels ∙ sym (channels_counted s.history) ∙ ap channel_count (sym all);
+    }
+
+-- what a call that was refused showed beside how it found the desk
+record Shown (history : List Rec) (fulls : List FullAt) (lacks : List (ChannelDef × DeclareRefused)) : Type 0 where
+  pub fulls_are : Each (HeldThere history) fulls
+  pub lacks_are : Each (λ pair. Lacks history pair.0 pair.1) lacks
+
+abbrev showing : PassState → Found → List FullAt → List (ChannelDef × DeclareRefused) → List Reason → PassState
+showing before found fulls lacks reasons = record before { fulls = fulls; lacks = lacks; reasons = reasons; found = Some found }
+
+refused : (old new : LoneDesk) (s : State) (before : PassState) (fulls : List FullAt) (lacks : List (ChannelDef × DeclareRefused)) (reasons : List Reason) → IsAlone old s before
+    → new.desk ≡ old.desk → new.found ≡ Some (found_of old.desk) → Shown s.history fulls lacks → IsAlone new s (showing before (found_of old.desk) fulls lacks reasons)
+refused old new s before fulls lacks reasons alone same looked shown = record {
+  stands = subst (λ (d : DeskView). StandsFor d s) (sym same) alone.stands;
+  shows = record {
+    own = alone.shows.own;
+    named = alone.shows.named;
+    ids = alone.shows.ids;
+    fulls = shown.fulls_are;
+    lacks = shown.lacks_are;
+    found = λ f is. subst (FoundBefore new.desk) (some_found is) (subst (λ (d : DeskView). FoundBefore d (found_of old.desk)) (sym same) (found_self old.desk alone.unclosed));
+    there = λ f is. subst (FoundThere s.history) (some_found is) (found_there old.desk s alone.stands);
+    limit = alone.shows.limit ∙ ap (λ (d : DeskView). d.limit) (sym same);
+  };
+  found = sym looked;
+  unclosed = subst (λ (d : DeskView). end_of d ≡ Some ends.Closed → ⊥) (sym same) alone.unclosed;
+}
+
+same_shown : (lone : LoneDesk) (s : State) (before : PassState) → IsAlone lone s before → Shown s.history before.fulls before.lacks
+same_shown lone s before alone = record { fulls_are = alone.shows.fulls; lacks_are = alone.shows.lacks }
+
+-- nothing was looked at
+unseen : (old new : LoneDesk) (s : State) (before : PassState) (reason : Reason) → IsAlone old s before → new.desk ≡ old.desk → new.found ≡ old.found → IsAlone new s (with_reason before reason)
+unseen old new s before reason alone same looked = record {
+  stands = subst (λ (d : DeskView). StandsFor d s) (sym same) alone.stands;
+  shows = subst (λ (d : DeskView). Showing d s.history (with_reason before reason)) (sym same) (record {
+    own = alone.shows.own;
+    named = alone.shows.named;
+    ids = alone.shows.ids;
+    fulls = alone.shows.fulls;
+    lacks = alone.shows.lacks;
+    found = alone.shows.found;
+    there = alone.shows.there;
+    limit = alone.shows.limit;
+  });
+  found = alone.found ∙ sym looked;
+  unclosed = subst (λ (d : DeskView). end_of d ≡ Some ends.Closed → ⊥) (sym same) alone.unclosed;
+}
+
+one_more : {X : Type 0} (P : X → Type 0) (xs : List X) (x : X) → Each P xs → P x → Each P (xs ++ x ∷ [])
+one_more P xs x each it = each_joined P xs (x ∷ []) each (each_cons P x [] it (λ n y at. absurd (at_none n y at)))
 
 with_a_full : (lone : LoneDesk) (s : State) (before : PassState) → IsAlone lone s before → Shown s.history (before.fulls ++ full_at (found_of lone.desk) ∷ []) before.lacks
 with_a_full lone s before alone = record {
@@ -217,6 +237,7 @@ adds old new s before records named alone stands is unended looked spares are =
         fulls = λ k full at. held_there_on s.history records full (alone.shows.fulls k full at);
         lacks = λ k pair at. lacks_on s.history records pair.0 pair.1 spares (alone.shows.lacks k pair at);
         found = λ f same. subst (FoundBefore new.desk) (some_found same) (subst (λ (d : DeskView). FoundBefore d (found_of old.desk)) (sym is) (found_grown old.desk records unended));
+        there = λ f same. subst (FoundThere (s.history ++ records)) (some_found same) (found_there_on s.history records (found_of old.desk) (found_there old.desk s alone.stands));
         limit = alone.shows.limit ∙ ap (λ (d : DeskView). d.limit) (sym is);
       };
       found = sym looked;
@@ -250,6 +271,15 @@ unknown_by ids channel true true is all no_more = cc
 unknown_id : (ids : Ids) (channel : ℕ) → is_known ids channel ≡ false → (channel ≡ 0) ⊎ (length ids.channels < channel)
 unknown_id ids channel unknown = unknown_by ids channel (nat_lt 0 channel) (nat_le channel (length ids.channels)) refl refl unknown
 
+-- nothing refuses the message
+may_take : (lone : LoneDesk) (s : State) (before : PassState) (channel : ℕ) {len : ℕ} → IsAlone lone s before → PublishReason lone.desk channel len None → MayTake before (found_of lone.desk) channel
+may_take lone s before channel alone (open_end, known, few, room, small) = record {
+  finds = finds lone s before alone;
+  unended = ap first_of open_end;
+  known = known_id lone.desk.ids channel known;
+  place = record { few = few; room = omega (arith, room, alone.shows.limit) };
+}
+
 pub published : (old new : LoneDesk) (m : NewMessage) (result : Result ℕ PublishRefused) → EndIsLast old.desk
     → Published old.desk m.channel (fields_of_message m) result new.desk → PublishSteps old.desk m.channel (fields_of_message m) result new.desk
     → new.found ≡ looked (found_of old.desk) old.found result → PublishesAlone old new m result
@@ -265,74 +295,68 @@ published old new m (Ok place) last is steps looked s before alone =
       goes_on old.desk s records alone.stands,
       (
         found,
-        record {
-          finds = finds old s before alone;
-          unended = ap first_of open_end;
-          room = omega (arith, room, alone.shows.limit);
-          few = few;
-          known = known_id old.desk.ids m.channel known;
-        },
         small,
+        may_take old s before m.channel alone (open_end, known, few, room, small),
         is.1,
         refl,
       ),
     )
 published old new m (Err (publishing.TooLarge len)) last is steps looked s before alone =
     let why = publish_reason old.desk m.channel (length m.payload.now) (Some (publishing.TooLarge len)) is.0 in
-    (s, before, unseen old new s before alone is.1 looked, goes_on_same s, (why.0, why.1, refl))
+    (s, with_reason before (for_size len), unseen old new s before (for_size len) alone is.1 looked, goes_on_same s, (why.0, why.1, refl))
 published old new m (Err (publishing.Closed at)) last is steps looked s before alone =
     let why = publish_reason old.desk m.channel (length m.payload.now) (Some (publishing.Closed at)) is.0 in
     let found = found_of old.desk in (
       s,
-      with_found before found,
-      refused old new s before before.fulls before.lacks alone is.1 looked (same_shown old s before alone),
+      with_refused before found (for_close at),
+      refused old new s before before.fulls before.lacks (before.reasons ++ for_close at ∷ []) alone is.1 looked (same_shown old s before alone),
       goes_on_same s,
-      (found, finds old s before alone, ap first_of why, last ends.Closed at why, refl),
+      (found, why.1, finds old s before alone, ap first_of why.0, last ends.Closed at why.0, refl),
     )
 published old new m (Err (publishing.Stopped at stop)) last is steps looked s before alone =
     let why = publish_reason old.desk m.channel (length m.payload.now) (Some (publishing.Stopped at stop)) is.0 in
     let found = found_of old.desk in (
       s,
-      with_found before found,
-      refused old new s before before.fulls before.lacks alone is.1 looked (same_shown old s before alone),
+      with_refused before found (for_stop at stop),
+      refused old new s before before.fulls before.lacks (before.reasons ++ for_stop at stop ∷ []) alone is.1 looked (same_shown old s before alone),
       goes_on_same s,
-      (found, finds old s before alone, ap first_of why, last (ends.Stopped stop) at why, refl),
+      (found, why.1, finds old s before alone, ap first_of why.0, last (ends.Stopped stop) at why.0, refl),
     )
 published old new m (Err publishing.UnknownChannel) last is steps looked s before alone =
     let why = publish_reason old.desk m.channel (length m.payload.now) (Some publishing.UnknownChannel) is.0 in
     let found = found_of old.desk in (
       s,
-      with_found before found,
-      refused old new s before before.fulls before.lacks alone is.1 looked (same_shown old s before alone),
+      with_refused before found for_channel,
+      refused old new s before before.fulls before.lacks (before.reasons ++ for_channel ∷ []) alone is.1 looked (same_shown old s before alone),
       goes_on_same s,
-      (found, finds old s before alone, ap first_of why.0, unknown_id old.desk.ids m.channel why.1, refl),
+      (found, why.2, finds old s before alone, ap first_of why.0, unknown_id old.desk.ids m.channel why.1, refl),
     )
 published old new m (Err (publishing.TooManyRecords count)) last is steps looked s before alone =
     let why = publish_reason old.desk m.channel (length m.payload.now) (Some (publishing.TooManyRecords count)) is.0 in
     let found = found_of old.desk in (
       s,
-      with_found before found,
-      refused old new s before before.fulls before.lacks alone is.1 looked (same_shown old s before alone),
+      with_refused before found (for_count count),
+      refused old new s before before.fulls before.lacks (before.reasons ++ for_count count ∷ []) alone is.1 looked (same_shown old s before alone),
       goes_on_same s,
-      (found, finds old s before alone, ap first_of why.0, why.1, why.2, refl),
+      (found, why.4, finds old s before alone, ap first_of why.0, known_id old.desk.ids m.channel why.3, why.1, why.2, refl),
     )
 published old new m (Err (publishing.Full h)) last is steps looked s before alone =
     let why = publish_reason old.desk m.channel (length m.payload.now) (Some (publishing.Full h)) is.0 in
     let found = found_of old.desk in (
       s,
       with_full before found,
-      refused old new s before (before.fulls ++ full_at found ∷ []) before.lacks alone is.1 looked (with_a_full old s before alone),
+      refused old new s before (before.fulls ++ full_at found ∷ []) before.lacks (before.reasons ++ for_room (full_at found) ∷ []) alone is.1 looked (with_a_full old s before alone),
       goes_on_same s,
-      (found, finds old s before alone, ap first_of why.0, why.1, omega (arith, why.2, alone.shows.limit), refl),
+      (found, why.5, finds old s before alone, ap first_of why.0, known_id old.desk.ids m.channel why.3, why.4, why.1, omega (arith, why.2, alone.shows.limit), refl),
     )
 published old new m (Err publishing.Memory) last is steps looked s before alone =
     let why = publish_reason old.desk m.channel (length m.payload.now) None is.0 in
     let found = found_of old.desk in (
       s,
       with_found before found,
-      refused old new s before before.fulls before.lacks alone is.1 looked (same_shown old s before alone),
+      refused old new s before before.fulls before.lacks before.reasons alone is.1 looked (same_shown old s before alone),
       goes_on_same s,
-      (found, finds old s before alone, ap first_of why.0, refl),
+      (found, why.4, may_take old s before m.channel alone why, refl),
     )
 
 -- ---- declarations
@@ -343,6 +367,14 @@ declared_state d after s c none steps stands =
     let open_there : declare_refusal (desk_of d.limit s) c ≡ None = ap (λ (x : DeskView). declare_refusal x c) stands.desk ∙ none in
     let there = subst (λ (r : Option DeclareRefused). StandsFor after (unless r 0 (new_records (ids_of s.history) c) s)) open_there (steps some_options s stands) in
     subst (λ (ids : Ids). StandsFor after (accept 0 (new_records ids c) s)) (sym (parts d s stands).ids) there
+
+-- a content that isn't found got no id
+unnamed : (lone : LoneDesk) (s : State) (before : PassState) (c : ChannelDef) → IsAlone lone s before → channel_place lone.desk.ids c ≡ None → IsUnnamed before c
+unnamed lone s before c alone none = λ k pair at same.
+    stands_nowhere lone.desk.ids s.history c pair.0 (parts lone.desk s alone.stands).contents alone.stands.numbered none (subst (ChannelStands s.history pair.0) same (alone.shows.named k pair at))
+
+placed : (lone : LoneDesk) (s : State) (before : PassState) → IsAlone lone s before → HasRecords lone.desk → HasPlace before (found_of lone.desk)
+placed lone s before alone has = let room = has.room in record { few = has.few; room = omega (arith, room, alone.shows.limit) }
 
 abbrev naming : ℕ → ChannelDef → ℕ × ChannelDef
 naming channel c = (channel, c)
@@ -358,7 +390,8 @@ pub declared : (old new : LoneDesk) (c : ChannelDef) (result : Result Declared D
     → DeclaredBy old.desk c result new.desk → DeclareSteps old.desk c result new.desk
     → new.found ≡ looked_in (found_of old.desk) old.found result → DeclaresAlone old new c result
 declared old new c (Ok given) last few is steps looked s before alone =
-    let open_end : old.desk.end ≡ None = declare_reason old.desk c None is.0 in
+    let why = declare_reason old.desk c None is.0 in
+    let open_end : old.desk.end ≡ None = why.0 in
     let found = found_of old.desk in
     let ids = old.desk.ids in
     let records = new_records ids c in
@@ -378,53 +411,54 @@ declared old new c (Ok given) last few is steps looked s before alone =
       (
         found,
         records,
+        narrow old.desk c None is.0 (λ len e. cc),
         finds old s before alone,
         ap first_of open_end,
         is.2,
-        omega (arith, id.0, channel),
         is.3,
         subst (λ (k : ℕ). AreAdded c k records) (sym channel) (are_added ids c),
+        subst (λ (k : ℕ). GetsId before found k records) (sym channel) (gets_id old.desk c before alone.shows.limit why.1),
         refl,
       ),
     )
 declared old new c (Err (declaring.TooLarge len)) last few is steps looked s before alone =
     let why = declare_reason old.desk c (Some (declaring.TooLarge len)) is.0 in
-    (s, before, unseen old new s before alone is.1 looked, goes_on_same s, (why.0, why.1, refl))
+    (s, with_reason before (for_size len), unseen old new s before (for_size len) alone is.1 looked, goes_on_same s, (why.0, why.1, refl))
 declared old new c (Err (declaring.Closed at)) last few is steps looked s before alone =
     let why = declare_reason old.desk c (Some (declaring.Closed at)) is.0 in
     let found = found_of old.desk in (
       s,
-      with_found before found,
-      refused old new s before before.fulls before.lacks alone is.1 looked (same_shown old s before alone),
+      with_refused before found (for_close at),
+      refused old new s before before.fulls before.lacks (before.reasons ++ for_close at ∷ []) alone is.1 looked (same_shown old s before alone),
       goes_on_same s,
-      (found, finds old s before alone, ap first_of why, last ends.Closed at why, refl),
+      (found, narrow old.desk c (Some (declaring.Closed at)) is.0 (λ len e. cc), finds old s before alone, ap first_of why, last ends.Closed at why, refl),
     )
 declared old new c (Err (declaring.Stopped at stop)) last few is steps looked s before alone =
     let why = declare_reason old.desk c (Some (declaring.Stopped at stop)) is.0 in
     let found = found_of old.desk in (
       s,
-      with_found before found,
-      refused old new s before before.fulls before.lacks alone is.1 looked (same_shown old s before alone),
+      with_refused before found (for_stop at stop),
+      refused old new s before before.fulls before.lacks (before.reasons ++ for_stop at stop ∷ []) alone is.1 looked (same_shown old s before alone),
       goes_on_same s,
-      (found, finds old s before alone, ap first_of why, last (ends.Stopped stop) at why, refl),
+      (found, narrow old.desk c (Some (declaring.Stopped at stop)) is.0 (λ len e. cc), finds old s before alone, ap first_of why, last (ends.Stopped stop) at why, refl),
     )
 declared old new c (Err (declaring.TooManyRecords count)) last few is steps looked s before alone =
     let why = declare_reason old.desk c (Some (declaring.TooManyRecords count)) is.0 in
     let found = found_of old.desk in (
       s,
-      with_found before found,
-      refused old new s before before.fulls before.lacks alone is.1 looked (same_shown old s before alone),
+      with_refused before found (for_count count),
+      refused old new s before before.fulls before.lacks (before.reasons ++ for_count count ∷ []) alone is.1 looked (same_shown old s before alone),
       goes_on_same s,
-      (found, finds old s before alone, ap first_of why.0, why.1, why.2, refl),
+      (found, narrow old.desk c (Some (declaring.TooManyRecords count)) is.0 (λ len e. cc), finds old s before alone, ap first_of why.0, unnamed old s before c alone why.3, why.1, why.2, refl),
     )
 declared old new c (Err (declaring.Full h)) last few is steps looked s before alone =
     let why = declare_reason old.desk c (Some (declaring.Full h)) is.0 in
     let found = found_of old.desk in (
       s,
       with_full before found,
-      refused old new s before (before.fulls ++ full_at found ∷ []) before.lacks alone is.1 looked (with_a_full old s before alone),
+      refused old new s before (before.fulls ++ full_at found ∷ []) before.lacks (before.reasons ++ for_room (full_at found) ∷ []) alone is.1 looked (with_a_full old s before alone),
       goes_on_same s,
-      (found, finds old s before alone, ap first_of why.0, why.1, omega (arith, why.2, alone.shows.limit), refl),
+      (found, narrow old.desk c (Some (declaring.Full h)) is.0 (λ len e. cc), finds old s before alone, ap first_of why.0, unnamed old s before c alone why.3, why.4, why.1, omega (arith, why.2, alone.shows.limit), refl),
     )
 declared old new c (Err declaring.TooManySchemas) last few is steps looked s before alone =
     let why = declare_reason old.desk c (Some declaring.TooManySchemas) is.0 in
@@ -434,9 +468,9 @@ declared old new c (Err declaring.TooManySchemas) last few is steps looked s bef
     let lacks = lacks_schema old.desk.ids s.history c.schema p.contents at_most why.1 in (
       s,
       with_lack before found c declaring.TooManySchemas,
-      refused old new s before before.fulls (before.lacks ++ lack c declaring.TooManySchemas ∷ []) alone is.1 looked (with_a_lack old s before c declaring.TooManySchemas alone lacks),
+      refused old new s before before.fulls (before.lacks ++ lack c declaring.TooManySchemas ∷ []) (before.reasons ++ for_id declaring.TooManySchemas ∷ []) alone is.1 looked (with_a_lack old s before c declaring.TooManySchemas alone lacks),
       goes_on_same s,
-      (found, finds old s before alone, ap first_of why.0, omega (arith, at_most, lacking_schemas old.desk.ids c why.1), refl),
+      (found, narrow old.desk c (Some declaring.TooManySchemas) is.0 (λ len e. cc), finds old s before alone, ap first_of why.0, unnamed old s before c alone why.2, placed old s before alone why.3, omega (arith, at_most, lacking_schemas old.desk.ids c why.1), refl),
     )
 declared old new c (Err declaring.TooManyChannels) last few is steps looked s before alone =
     let why = declare_reason old.desk c (Some declaring.TooManyChannels) is.0 in
@@ -446,16 +480,16 @@ declared old new c (Err declaring.TooManyChannels) last few is steps looked s be
     let lacks = lacks_channel old.desk.ids s.history c p.contents alone.stands.numbered at_most why.2 why.1 in (
       s,
       with_lack before found c declaring.TooManyChannels,
-      refused old new s before before.fulls (before.lacks ++ lack c declaring.TooManyChannels ∷ []) alone is.1 looked (with_a_lack old s before c declaring.TooManyChannels alone lacks),
+      refused old new s before before.fulls (before.lacks ++ lack c declaring.TooManyChannels ∷ []) (before.reasons ++ for_id declaring.TooManyChannels ∷ []) alone is.1 looked (with_a_lack old s before c declaring.TooManyChannels alone lacks),
       goes_on_same s,
-      (found, finds old s before alone, ap first_of why.0, omega (arith, at_most, why.2), refl),
+      (found, narrow old.desk c (Some declaring.TooManyChannels) is.0 (λ len e. cc), finds old s before alone, ap first_of why.0, unnamed old s before c alone why.1, placed old s before alone why.4, omega (arith, at_most, why.2), refl),
     )
 declared old new c (Err declaring.Memory) last few is steps looked s before alone =
     let why = declare_reason old.desk c None is.0 in
     let found = found_of old.desk in (
       s,
       with_found before found,
-      refused old new s before before.fulls before.lacks alone is.1 looked (same_shown old s before alone),
+      refused old new s before before.fulls before.lacks before.reasons alone is.1 looked (same_shown old s before alone),
       goes_on_same s,
-      (found, finds old s before alone, ap first_of why, refl),
+      (found, narrow old.desk c None is.0 (λ len e. cc), finds old s before alone, ap first_of why.0, refl),
     )

@@ -1,5 +1,5 @@
 -- Why a desk refuses what it refuses.
-use Rattle.std.proofs.Common.{◌≡◌, ℕ, ◌^◌, ◌<◌, ◌≤◌, Bool, true, false, length, Option, Some, None, refl, subst, arith}
+use Rattle.std.proofs.Common.{◌≡◌, ℕ, ◌^◌, ◌<◌, ◌≤◌, Bool, true, false, length, Option, Some, None, refl, sym, subst, arith}
 use Rattle.std.specs.Prelude.{nat_lt, nat_le, if◌then◌else◌}
 use Rattle.std.proofs.lemmas.Bool.{ltb-true, leb-true}
 use Rattle.rec_data.specs.declared.channel.ChannelDef.{ChannelDef}
@@ -26,32 +26,32 @@ le_false a b e = grind arith
 abbrev pub PublishReason : DeskView → ℕ → ℕ → Option PublishRefused → Type 0
 PublishReason d channel len None = (d.end ≡ None) × (is_known d.ids channel ≡ true) × (accepted d < 2 ^ 48) × (held d < d.limit) × (len ≤ 33554432)
 PublishReason d channel len (Some (publishing.TooLarge l)) = (l ≡ len) × (33554432 < l)
-PublishReason d channel len (Some (publishing.Closed at)) = d.end ≡ Some (Closed, at)
-PublishReason d channel len (Some (publishing.Stopped at stop)) = d.end ≡ Some (Stopped stop, at)
-PublishReason d channel len (Some publishing.UnknownChannel) = (d.end ≡ None) × (is_known d.ids channel ≡ false)
-PublishReason d channel len (Some (publishing.TooManyRecords count)) = (d.end ≡ None) × (count ≡ accepted d) × (2 ^ 48 ≤ count)
-PublishReason d channel len (Some (publishing.Full h)) = (d.end ≡ None) × (h ≡ held d) × (d.limit ≤ h)
+PublishReason d channel len (Some (publishing.Closed at)) = (d.end ≡ Some (Closed, at)) × (len ≤ 33554432)
+PublishReason d channel len (Some (publishing.Stopped at stop)) = (d.end ≡ Some (Stopped stop, at)) × (len ≤ 33554432)
+PublishReason d channel len (Some publishing.UnknownChannel) = (d.end ≡ None) × (is_known d.ids channel ≡ false) × (len ≤ 33554432)
+PublishReason d channel len (Some (publishing.TooManyRecords count)) = (d.end ≡ None) × (count ≡ accepted d) × (2 ^ 48 ≤ count) × (is_known d.ids channel ≡ true) × (len ≤ 33554432)
+PublishReason d channel len (Some (publishing.Full h)) = (d.end ≡ None) × (h ≡ held d) × (d.limit ≤ h) × (is_known d.ids channel ≡ true) × (accepted d < 2 ^ 48) × (len ≤ 33554432)
 PublishReason d channel len (Some publishing.Memory) = ⊥
 
 open_full : (d : DeskView) (channel len : ℕ) (b : Bool) → nat_le d.limit (held d) ≡ b → d.end ≡ None → is_known d.ids channel ≡ true → accepted d < 2 ^ 48 → len ≤ 33554432
     → PublishReason d channel len (if b then Some (publishing.Full (held d)) else None)
-open_full d channel len true is unended known few small = (unended, refl, leb-true d.limit (held d) is)
+open_full d channel len true is unended known few small = (unended, refl, leb-true d.limit (held d) is, known, few, small)
 open_full d channel len false is unended known few small = (unended, known, few, le_false d.limit (held d) is, small)
 
 open_many : (d : DeskView) (channel len : ℕ) (b : Bool) → nat_le (2 ^ 48) (accepted d) ≡ b → d.end ≡ None → is_known d.ids channel ≡ true → len ≤ 33554432
     → PublishReason d channel len (if b then Some (publishing.TooManyRecords (accepted d)) else (if nat_le d.limit (held d) then Some (publishing.Full (held d)) else None))
-open_many d channel len true is unended known small = (unended, refl, leb-true (2 ^ 48) (accepted d) is)
+open_many d channel len true is unended known small = (unended, refl, leb-true (2 ^ 48) (accepted d) is, known, small)
 open_many d channel len false is unended known small = open_full d channel len (nat_le d.limit (held d)) refl unended known (le_false (2 ^ 48) (accepted d) is) small
 
 open_known : (d : DeskView) (channel len : ℕ) (b : Bool) → is_known d.ids channel ≡ b → d.end ≡ None → len ≤ 33554432
     → PublishReason d channel len (if b then (if nat_le (2 ^ 48) (accepted d) then Some (publishing.TooManyRecords (accepted d)) else (if nat_le d.limit (held d) then Some (publishing.Full (held d)) else None)) else Some publishing.UnknownChannel)
 open_known d channel len true is unended small = open_many d channel len (nat_le (2 ^ 48) (accepted d)) refl unended is small
-open_known d channel len false is unended small = (unended, is)
+open_known d channel len false is unended small = (unended, is, small)
 
 ended_reason : (d : DeskView) (channel len : ℕ) (end : Option (End × ℕ)) → d.end ≡ end → len ≤ 33554432 → PublishReason d channel len (publish_ended end d channel)
 ended_reason d channel len None is small = open_known d channel len (is_known d.ids channel) refl is small
-ended_reason d channel len (Some (Closed, at)) is small = is
-ended_reason d channel len (Some (Stopped stop, at)) is small = is
+ended_reason d channel len (Some (Closed, at)) is small = (is, small)
+ended_reason d channel len (Some (Stopped stop, at)) is small = (is, small)
 
 size_reason : (d : DeskView) (channel len : ℕ) (b : Bool) → nat_lt 33554432 len ≡ b → PublishReason d channel len (if b then Some (publishing.TooLarge len) else publish_ended d.end d channel)
 size_reason d channel len true is = (refl, ltb-true 33554432 len is)
@@ -62,39 +62,59 @@ publish_reason d channel len refusal is = subst (PublishReason d channel len) is
 
 -- ---- declarations
 
+-- the desk has a place for the records of a channel that is new
+pub record HasRecords (d : DeskView) : Type 0 where
+  pub few : accepted d < 2 ^ 48
+  pub room : held d < d.limit
+
+-- and ids for it
+pub record HasAll (d : DeskView) (c : ChannelDef) : Type 0 where
+  pub place : HasRecords d
+  pub schemas : schemas_lack d.ids c.schema ≡ false
+  pub channels : length d.ids.channels < 65535
+
+-- a content that is known needs none of this
+abbrev pub MayHave : DeskView → ChannelDef → Option ℕ → Type 0
+MayHave d c (Some place) = Unit {0}
+MayHave d c None = HasAll d c
+
+-- what is so of each answer but that the records are too long
 abbrev pub DeclareReason : DeskView → ChannelDef → Option DeclareRefused → Type 0
-DeclareReason d c None = d.end ≡ None
+DeclareReason d c None = (d.end ≡ None) × MayHave d c (channel_place d.ids c)
 DeclareReason d c (Some (declaring.TooLarge l)) = (l ≡ declared_size c) × (1048576 < l)
 DeclareReason d c (Some (declaring.Closed at)) = d.end ≡ Some (Closed, at)
 DeclareReason d c (Some (declaring.Stopped at stop)) = d.end ≡ Some (Stopped stop, at)
-DeclareReason d c (Some (declaring.TooManyRecords count)) = (d.end ≡ None) × (count ≡ accepted d) × (2 ^ 48 ≤ count)
-DeclareReason d c (Some (declaring.Full h)) = (d.end ≡ None) × (h ≡ held d) × (d.limit ≤ h)
-DeclareReason d c (Some declaring.TooManySchemas) = (d.end ≡ None) × (schemas_lack d.ids c.schema ≡ true)
-DeclareReason d c (Some declaring.TooManyChannels) = (d.end ≡ None) × (channel_place d.ids c ≡ None) × (65535 ≤ length d.ids.channels)
+DeclareReason d c (Some (declaring.TooManyRecords count)) = (d.end ≡ None) × (count ≡ accepted d) × (2 ^ 48 ≤ count) × (channel_place d.ids c ≡ None)
+DeclareReason d c (Some (declaring.Full h)) = (d.end ≡ None) × (h ≡ held d) × (d.limit ≤ h) × (channel_place d.ids c ≡ None) × (accepted d < 2 ^ 48)
+DeclareReason d c (Some declaring.TooManySchemas) = (d.end ≡ None) × (schemas_lack d.ids c.schema ≡ true) × (channel_place d.ids c ≡ None) × HasRecords d
+DeclareReason d c (Some declaring.TooManyChannels) = (d.end ≡ None) × (channel_place d.ids c ≡ None) × (65535 ≤ length d.ids.channels) × (schemas_lack d.ids c.schema ≡ false) × HasRecords d
 DeclareReason d c (Some declaring.Memory) = ⊥
 
-channels_reason : (d : DeskView) (c : ChannelDef) (b : Bool) → nat_le 65535 (length d.ids.channels) ≡ b → d.end ≡ None → channel_place d.ids c ≡ None
+may_have : (d : DeskView) (c : ChannelDef) (place : Option ℕ) → channel_place d.ids c ≡ place → MayHave d c place → MayHave d c (channel_place d.ids c)
+may_have d c place is have = subst (MayHave d c) (sym is) have
+
+channels_reason : (d : DeskView) (c : ChannelDef) (b : Bool) → nat_le 65535 (length d.ids.channels) ≡ b → d.end ≡ None → channel_place d.ids c ≡ None → HasRecords d → schemas_lack d.ids c.schema ≡ false
     → DeclareReason d c (if b then Some declaring.TooManyChannels else None)
-channels_reason d c true is unended new = (unended, new, leb-true 65535 (length d.ids.channels) is)
-channels_reason d c false is unended new = unended
+channels_reason d c true is unended new place schemas = (unended, new, leb-true 65535 (length d.ids.channels) is, schemas, place)
+channels_reason d c false is unended new place schemas = (unended, may_have d c None new (record { place = place; schemas = schemas; channels = le_false 65535 (length d.ids.channels) is }))
 
-ids_reason : (d : DeskView) (c : ChannelDef) (b : Bool) → schemas_lack d.ids c.schema ≡ b → d.end ≡ None → channel_place d.ids c ≡ None
+ids_reason : (d : DeskView) (c : ChannelDef) (b : Bool) → schemas_lack d.ids c.schema ≡ b → d.end ≡ None → channel_place d.ids c ≡ None → HasRecords d
     → DeclareReason d c (if b then Some declaring.TooManySchemas else (if nat_le 65535 (length d.ids.channels) then Some declaring.TooManyChannels else None))
-ids_reason d c true is unended new = (unended, is)
-ids_reason d c false is unended new = channels_reason d c (nat_le 65535 (length d.ids.channels)) refl unended new
+ids_reason d c true is unended new place = (unended, is, new, place)
+ids_reason d c false is unended new place = channels_reason d c (nat_le 65535 (length d.ids.channels)) refl unended new place is
 
-full_reason : (d : DeskView) (c : ChannelDef) (b : Bool) → nat_le d.limit (held d) ≡ b → d.end ≡ None → channel_place d.ids c ≡ None
+full_reason : (d : DeskView) (c : ChannelDef) (b : Bool) → nat_le d.limit (held d) ≡ b → d.end ≡ None → channel_place d.ids c ≡ None → accepted d < 2 ^ 48
     → DeclareReason d c (if b then Some (declaring.Full (held d)) else ids_lack d.ids c)
-full_reason d c true is unended new = (unended, refl, leb-true d.limit (held d) is)
-full_reason d c false is unended new = ids_reason d c (schemas_lack d.ids c.schema) refl unended new
+full_reason d c true is unended new few = (unended, refl, leb-true d.limit (held d) is, new, few)
+full_reason d c false is unended new few = ids_reason d c (schemas_lack d.ids c.schema) refl unended new (record { few = few; room = le_false d.limit (held d) is })
 
 many_reason : (d : DeskView) (c : ChannelDef) (b : Bool) → nat_le (2 ^ 48) (accepted d) ≡ b → d.end ≡ None → channel_place d.ids c ≡ None
     → DeclareReason d c (if b then Some (declaring.TooManyRecords (accepted d)) else (if nat_le d.limit (held d) then Some (declaring.Full (held d)) else ids_lack d.ids c))
-many_reason d c true is unended new = (unended, refl, leb-true (2 ^ 48) (accepted d) is)
-many_reason d c false is unended new = full_reason d c (nat_le d.limit (held d)) refl unended new
+many_reason d c true is unended new = (unended, refl, leb-true (2 ^ 48) (accepted d) is, new)
+many_reason d c false is unended new = full_reason d c (nat_le d.limit (held d)) refl unended new (le_false (2 ^ 48) (accepted d) is)
 
 place_reason : (d : DeskView) (c : ChannelDef) (place : Option ℕ) → channel_place d.ids c ≡ place → d.end ≡ None → DeclareReason d c (declare_at place d c)
-place_reason d c (Some place) is unended = unended
+place_reason d c (Some place) is unended = (unended, may_have d c (Some place) is tt)
 place_reason d c None is unended = many_reason d c (nat_le (2 ^ 48) (accepted d)) refl unended is
 
 declare_ended_reason : (d : DeskView) (c : ChannelDef) (end : Option (End × ℕ)) → d.end ≡ end → DeclareReason d c (declare_ended end d c)
@@ -108,3 +128,12 @@ declare_size_reason d c false is = declare_ended_reason d c d.end refl
 
 pub declare_reason : (d : DeskView) (c : ChannelDef) (refusal : Option DeclareRefused) → declare_refusal d c ≡ refusal → DeclareReason d c refusal
 declare_reason d c refusal is = subst (DeclareReason d c) is (declare_size_reason d c (nat_lt 1048576 (declared_size c)) refl)
+
+-- the records are too long only where that is the answer
+narrow_by : (d : DeskView) (c : ChannelDef) (refusal : Option DeclareRefused) (b : Bool) → nat_lt 1048576 (declared_size c) ≡ b
+    → (if b then Some (declaring.TooLarge (declared_size c)) else declare_ended d.end d c) ≡ refusal → ((len : ℕ) → refusal ≡ Some (declaring.TooLarge len) → ⊥) → declared_size c ≤ 1048576
+narrow_by d c refusal true is same other = absurd (other (declared_size c) (sym same))
+narrow_by d c refusal false is same other = lt_false 1048576 (declared_size c) is
+
+pub narrow : (d : DeskView) (c : ChannelDef) (refusal : Option DeclareRefused) → declare_refusal d c ≡ refusal → ((len : ℕ) → refusal ≡ Some (declaring.TooLarge len) → ⊥) → declared_size c ≤ 1048576
+narrow d c refusal is other = narrow_by d c refusal (nat_lt 1048576 (declared_size c)) refl is other

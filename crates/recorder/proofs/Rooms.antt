@@ -42,24 +42,24 @@ pub published_unfull : (before after : PassState) (m : NewMessage) (result : Res
     → ((h : ℕ) → result ≡ Err (publishing.Full h) → ⊥) → after.fulls ≡ before.fulls
 published_unfull before after m (Ok place) is unfull = fulls_there is.4
 published_unfull before after m (Err (publishing.TooLarge len)) is unfull = fulls_there is.2
-published_unfull before after m (Err (publishing.Closed at)) is unfull = fulls_there is.4
-published_unfull before after m (Err (publishing.Stopped at stop)) is unfull = fulls_there is.4
-published_unfull before after m (Err publishing.UnknownChannel) is unfull = fulls_there is.4
-published_unfull before after m (Err (publishing.TooManyRecords count)) is unfull = fulls_there is.5
+published_unfull before after m (Err (publishing.Closed at)) is unfull = fulls_there is.5
+published_unfull before after m (Err (publishing.Stopped at stop)) is unfull = fulls_there is.5
+published_unfull before after m (Err publishing.UnknownChannel) is unfull = fulls_there is.5
+published_unfull before after m (Err (publishing.TooManyRecords count)) is unfull = fulls_there is.7
 published_unfull before after m (Err (publishing.Full h)) is unfull = absurd (unfull h refl)
 published_unfull before after m (Err publishing.Memory) is unfull = fulls_there is.3
 
 pub declared_unfull : (before after : PassState) (c : ChannelDef) (result : Result Declared DeclareRefused) → DeclaredInto before after c result
     → ((h : ℕ) → result ≡ Err (declaring.Full h) → ⊥) → after.fulls ≡ before.fulls
-declared_unfull before after c (Ok given) is unfull = fulls_there is.8
+declared_unfull before after c (Ok given) is unfull = fulls_there is.9
 declared_unfull before after c (Err (declaring.TooLarge len)) is unfull = fulls_there is.2
-declared_unfull before after c (Err (declaring.Closed at)) is unfull = fulls_there is.4
-declared_unfull before after c (Err (declaring.Stopped at stop)) is unfull = fulls_there is.4
-declared_unfull before after c (Err (declaring.TooManyRecords count)) is unfull = fulls_there is.5
+declared_unfull before after c (Err (declaring.Closed at)) is unfull = fulls_there is.5
+declared_unfull before after c (Err (declaring.Stopped at stop)) is unfull = fulls_there is.5
+declared_unfull before after c (Err (declaring.TooManyRecords count)) is unfull = fulls_there is.7
 declared_unfull before after c (Err (declaring.Full h)) is unfull = absurd (unfull h refl)
-declared_unfull before after c (Err declaring.TooManySchemas) is unfull = fulls_there is.4
-declared_unfull before after c (Err declaring.TooManyChannels) is unfull = fulls_there is.4
-declared_unfull before after c (Err declaring.Memory) is unfull = fulls_there is.3
+declared_unfull before after c (Err declaring.TooManySchemas) is unfull = fulls_there is.7
+declared_unfull before after c (Err declaring.TooManyChannels) is unfull = fulls_there is.7
+declared_unfull before after c (Err declaring.Memory) is unfull = fulls_there is.4
 
 -- ---- room
 

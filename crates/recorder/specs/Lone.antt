@@ -17,7 +17,7 @@ use Rattle.record_core.specs.declared.answers.NewMessage.{NewMessage}
 use Rattle.record_core.specs.declared.answers.PublishRefused.{PublishRefused}
 use Rattle.record_core.specs.declared.answers.PublishRefused.TheVariants as publishing
 use Rattle.feed_lane.specs.Pass.{PassState, placed_from, IsLater, PublishedBy, DeclaredInto}
-use Rattle.recorder.specs.Shown.{ChannelStands, Lacks, HeldThere}
+use Rattle.recorder.specs.Shown.{ChannelStands, Lacks, HeldThere, FoundThere}
 use Rattle.recorder.specs.declared.lone.LoneDesk.{LoneDesk}
 
 -- The desk was found so, and has but grown since. Where an end stood, which isn't that it was closed, nothing was accepted
@@ -35,6 +35,7 @@ pub record Showing (d : DeskView) (history : List Rec) (pass : PassState) : Type
   pub fulls : Each (HeldThere history) pass.fulls
   pub lacks : Each (λ pair. Lacks history pair.0 pair.1) pass.lacks
   pub found : (f : Found) → pass.found ≡ Some f → FoundBefore d f
+  pub there : (f : Found) → pass.found ≡ Some f → FoundThere history f
   pub limit : pass.limit ≡ d.limit
 
 -- The desk stands for a state of the machine, whose records are the lane's own; it isn't closed.

@@ -1,5 +1,5 @@
 -- What a recording of one feed did to its source and to its store.
-use Rattle.std.specs.Prelude.{◌≡◌, List, [], ◌∷◌, length, Result, Ok, Err}
+use Rattle.std.specs.Prelude.{◌≡◌, ◌⊎◌, ◌≤◌, ℕ, List, [], ◌∷◌, length, Result, Ok, Err}
 use Rattle.rec_data.specs.declared.owned.Rec.{Rec}
 use Rattle.mcap_io.specs.Outside.{SourceState, LiveState}
 use Rattle.mcap_model.specs.declared.ends.End.{End}
@@ -8,6 +8,7 @@ use Rattle.mcap_model.specs.declared.ends.Stop.{Stop}
 use Rattle.mcap_model.specs.declared.options.FileOptions.{FileOptions}
 use Rattle.mcap_model.specs.Places.{Each}
 use Rattle.mcap_model.specs.Tops.{flat}
+use Rattle.mcap_model.specs.File.{front}
 use Rattle.record_cache.specs.Buffers.{IsKept}
 use Rattle.chunk_writer.specs.Limits.{Holds}
 use Rattle.chunk_writer.specs.Stops.{Cause}
@@ -35,12 +36,17 @@ abbrev pub answer_of : End → Result Unit Stop
 answer_of ends.Closed = Ok tt
 answer_of (ends.Stopped stop) = Err stop
 
+-- the store took the front of a file whole; or nothing whole, and then nothing was accepted
+abbrev pub IsBegun : FileOptions → List Rec → ℕ → Type 0
+IsBegun options history bytes = (length (front options.profile) ≤ bytes) ⊎ ((bytes ≡ 0) × (history ≡ []))
+
 -- What the writer's report says of its store. Where it closed, the file of the history stands behind what the store held;
 -- else the writer stopped at a piece of that file.
 pub record WriterRecorded (options : FileOptions) (before now : LiveState) (history : List Rec) (w : WriterReport) : Type 0 where
   pub records : w.records ≡ length history
   pub wrote : Ends options before.held now.held history w.blocks w.bytes (answer_of w.end)
   pub within : Holds w.blocks w.bytes
+  pub begun : IsBegun options history w.bytes
   -- the store's count rises by one where the writer stopped at a fault, which carries it, and stands still otherwise
   pub cause : Cause before.faults now.faults (answer_of w.end)
 

@@ -11,7 +11,7 @@ use Rattle.record_core.specs.Ids.{fields_of_schema, fields_with}
 use Rattle.record_core.specs.declared.answers.DeclareRefused.{DeclareRefused}
 use Rattle.record_core.specs.declared.answers.DeclareRefused.TheVariants as declaring
 use Rattle.record_core.specs.declared.answers.Found.{Found}
-use Rattle.feed_lane.specs.Pass.{FullAt, PassState}
+use Rattle.feed_lane.specs.Pass.{FullAt, full_at, PassState}
 
 -- ---- channels
 
@@ -54,10 +54,18 @@ pub record HeldThere (history : List Rec) (full : FullAt) : Type 0 where
   pub within : full.to ≤ length history
   pub held : full.held ≡ length (history_bytes (take (full.to - full.from) (drop full.from history)))
 
+-- The numbers with which the intake was found are those of the history so far: the bytes that its buffer held, and how many
+-- ids were given.
+pub record FoundThere (history : List Rec) (found : Found) : Type 0 where
+  pub held : HeldThere history (full_at found)
+  pub schemas : found.schemas ≡ schema_count (take found.count history)
+  pub channels : found.channels ≡ channel_count (take found.count history)
+
 -- The intake was found with no more records than the history has. An end that was found is the recording's, which isn't that
 -- it was closed, and behind it nothing was accepted.
 pub record FoundIn (history : List Rec) (end : End) (found : Found) : Type 0 where
   pub within : found.count ≤ length history
+  pub numbers : FoundThere history found
   pub all : (e : End) → found.end ≡ Some e → found.count ≡ length history
   pub same : (e : End) → found.end ≡ Some e → e ≡ end
   pub unclosed : found.end ≡ Some ends.Closed → ⊥
