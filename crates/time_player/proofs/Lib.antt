@@ -1,4 +1,6 @@
 mod Asked
 mod Chosen
+mod Digits
 mod Played
+mod Printed
 mod Quoted

@@ -3,13 +3,16 @@
 #![tactic(auto)]
 
 mod asking;
+mod hex;
 mod keeping;
 mod line;
 mod lines;
+mod printer;
 mod replaying;
 
 pub use line::add_line;
 pub use lines::cat_text;
+pub use printer::Printer;
 pub use replaying::replay_scan;
 
 #[cfg(test)]

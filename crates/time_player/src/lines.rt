@@ -5,7 +5,7 @@ ghost use Rattle.mcap_model.specs.declared.replay.Topic.{Topic as Entry};
 ghost use Rattle.mcap_model.specs.Scan.{Seen};
 ghost use Rattle.mcap_model.specs.Showing.{Shows};
 ghost use Rattle.mcap_model.specs.Text.{cat_text as text_of};
-ghost use Rattle.time_player.specs.Lines.{Quotes, Spells};
+ghost use Rattle.time_player.specs.Lines.{Apart, Quotes, Spells, spelling};
 
 use crate::line::add_line;
 use mcap_model::{Replayed, Table, Topic};
@@ -39,8 +39,8 @@ fn quote_topic(alloc: Global, entry: &Topic, quoted: &mut Table) -> Result<(), M
     }
 }
 
-// The topic of each channel as a JSON string.
-fn quote_topics(alloc: Global, topics: &[Topic]) -> Result<Table, Memory>
+/// The topic of each channel as a JSON string.
+pub(crate) fn quote_topics(alloc: Global, topics: &[Topic]) -> Result<Table, Memory>
     ensures { IfOk result (λ quoted. Quotes topics.now quoted) }
 {
     let mut quoted = Table::new(alloc);
@@ -53,9 +53,10 @@ fn quote_topics(alloc: Global, topics: &[Topic]) -> Result<Table, Memory>
     return Ok(quoted);
 }
 
-// The topic of a channel as a JSON string: an empty one, where it has none.
-fn spelled(quoted: &Table, channel: u16) -> &[u8]
-    ensures { Spells quoted.now channel result.now }
+/// The topic of a channel as a JSON string: an empty one, where it has none.
+pub(crate) fn spelled(quoted: &Table, channel: u16) -> &[u8]
+    ensures spells { Spells quoted.now channel result.now }
+    ensures first { Apart quoted.now → result.now ≡ spelling quoted.now channel }
 {
     match quoted.find(channel) {
         Some(topic) => return topic,

@@ -1,9 +1,9 @@
 //! What a replay gives of small files, how it is refused, and what is printed.
-use crate::{cat_text, replay_scan};
-use mcap_io::{Failed, MemorySource, QuietSource, Source};
-use mcap_model::{PlainRefused, Range, replay_plain, scan_plain};
+use crate::{Printer, cat_text, replay_scan};
+use mcap_io::{Failed, FailingWrite, MemorySink, MemorySource, QuietSource, Short, Source};
+use mcap_model::{Place, PlainRefused, Range, Replayed, Shown, Topic, replay_plain, scan_plain};
 use mcap_scan::ScanRefused;
-use mcap_wire::Text;
+use mcap_wire::{Bytes, Text};
 use std::alloc::Global;
 use std::test::Fail;
 
@@ -120,6 +120,21 @@ fn text_of(alloc: Global, bytes: &[u8]) -> Result<Outcome, Fail> {
     Ok(Outcome::Lines(String::from_str(alloc, text)?))
 }
 
+// The lines of a replay: the whole text and the printed one are the same.
+fn told(alloc: Global, played: Replayed) -> Result<Outcome, Fail> {
+    let Ok(bytes) = cat_text(alloc, &played) else {
+        return Ok(Outcome::Memory);
+    };
+    let Ok(mut printer) = Printer::new(alloc, played) else {
+        return Ok(Outcome::Memory);
+    };
+    let mut sink = MemorySink::new(alloc, Vec::new(alloc));
+    if printer.print(alloc, &mut sink).is_err() || sink.bytes() != bytes.as_slice() {
+        return Err(Fail::from("printed otherwise"));
+    }
+    text_of(alloc, bytes.as_slice())
+}
+
 fn play<S: Source>(
     alloc: Global,
     source: &mut S,
@@ -127,10 +142,7 @@ fn play<S: Source>(
     topic: Option<&Text>,
 ) -> Result<Outcome, Fail> {
     match replay_scan(alloc, source, range, topic) {
-        Ok(played) => match cat_text(alloc, &played) {
-            Ok(bytes) => text_of(alloc, bytes.as_slice()),
-            Err(_) => Ok(Outcome::Memory),
-        },
+        Ok(played) => told(alloc, played),
         Err(ScanRefused::Fault { faults }) => Ok(Outcome::Fault(faults)),
         Err(ScanRefused::Grammar { offset, rule: _ }) => Ok(Outcome::Grammar(offset)),
         Err(ScanRefused::Compressed { offset, name: _ }) => Ok(Outcome::Compressed(offset)),
@@ -254,5 +266,83 @@ fn a_failing_read_is_a_fault(rt: HostRuntime) -> Result<(), Fail> {
             assert_eq!(rt; found, lines(alloc, ALL)?);
         }
     }
+    Ok(())
+}
+
+// Three messages of 20,000 bytes. A line has 14 bytes before the data, 40,000 digits and its end: 40,015 bytes. So the first
+// two are a piece of 80,030 bytes, and the third is the rest.
+fn long_messages(alloc: Global) -> Result<Replayed, Fail> {
+    let mut shown = Vec::new(alloc);
+    for inner in 0..3 {
+        shown.push(Shown {
+            place: Place { top: 34, inner },
+            log_time: 10,
+            publish_time: 9,
+            channel: 1,
+            sequence: 4,
+            payload: Bytes::new(vec![in alloc; 0xab; 20_000]?),
+        })?;
+    }
+    let topics = vec![in alloc;
+        Topic {
+            channel: 1,
+            topic: Text::copied(alloc, "/a")?
+        },
+    ]?;
+    Ok(Replayed { topics, shown })
+}
+
+fn long_lines(alloc: Global) -> Result<Vec<u8>, Fail> {
+    let mut text = Vec::new(alloc);
+    for _ in 0..3 {
+        text.extend_from_slice(b"10 9 1 4 \"/a\" ")?;
+        for _ in 0..20_000 {
+            text.extend_from_slice(b"ab")?;
+        }
+        text.push(b'\n')?;
+    }
+    Ok(text)
+}
+
+#[test]
+fn long_lines_are_printed_in_pieces(rt: HostRuntime) -> Result<(), Fail> {
+    let alloc = rt.alloc();
+    let mut printer = Printer::new(alloc, long_messages(alloc)?)?;
+    let mut sink = MemorySink::new(alloc, Vec::new(alloc));
+    assert!(rt; printer.print(alloc, &mut sink).is_ok());
+    assert!(rt; sink.bytes() == long_lines(alloc)?.as_slice());
+    assert!(rt; printer.print(alloc, &mut sink).is_ok());
+    assert_eq!(rt; sink.bytes().len(), 120_045, "nothing is left");
+    Ok(())
+}
+
+// The first write is that of the piece, the second that of the rest.
+#[test]
+fn a_failing_write_ends_the_printing(rt: HostRuntime) -> Result<(), Fail> {
+    let alloc = rt.alloc();
+    for (call, printed) in [(0, 5), (1, 80_035)] {
+        let mut text = long_lines(alloc)?;
+        text.truncate(printed);
+        let failing = vec![in alloc; FailingWrite { call, taken: 5 }]?;
+        let mut printer = Printer::new(alloc, long_messages(alloc)?)?;
+        let mut sink = MemorySink::new(alloc, failing);
+        let ended = printer.print(alloc, &mut sink);
+        assert_eq!(rt; ended, Err(Short { taken: printed - 5 }));
+        assert!(rt; sink.bytes() == text.as_slice(), "at {call}");
+    }
+    Ok(())
+}
+
+#[test]
+fn without_messages_nothing_is_written(rt: HostRuntime) -> Result<(), Fail> {
+    let alloc = rt.alloc();
+    let none = Replayed {
+        topics: Vec::new(alloc),
+        shown: Vec::new(alloc),
+    };
+    let failing = vec![in alloc; FailingWrite { call: 0, taken: 0 }]?;
+    let mut printer = Printer::new(alloc, none)?;
+    let mut sink = MemorySink::new(alloc, failing);
+    assert!(rt; printer.print(alloc, &mut sink).is_ok());
     Ok(())
 }

@@ -12,4 +12,4 @@ messages-preserved c = λ messages shows.
     let within : c.messages.i < length shown = omega arith in
     let at : At shown c.messages.i c.index-message.result.now = subst (At shown c.messages.i) (sym c.index-message.ensures) (at_read shown c.messages.i c.index-message.result.now within) in
     lines_on c.args.replayed.now c.in-Ok.quoted messages c.messages.i c.index-message.result.now c.spelled.result.now c.messages.out.items c.add_line.new.out.items shows
-    (subst (λ (l : List Topic). Quotes l c.in-Ok.quoted) c.deref.ensures.value c.in-Ok.ensures) at c.spelled.ensures c.in-Ok-add_line.ensures (c.messages.invariant messages shows)
+    (subst (λ (l : List Topic). Quotes l c.in-Ok.quoted) c.deref.ensures.value c.in-Ok.ensures) at c.spelled.ensures.spells c.in-Ok-add_line.ensures.ok (c.messages.invariant messages shows)

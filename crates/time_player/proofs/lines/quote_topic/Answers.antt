@@ -13,7 +13,7 @@ returns-in-Ok-add c = λ before was.
     let text : c.as_bytes.result.now ≡ quoted c.args.entry.now.topic = c.as_bytes.ensures.value ∙ c.in-Ok.ensures ∙ ap quoted c.as_str.ensures.same in
     subst (Quotes (before ++ c.args.entry.now ∷ []))
     (sym (c.in-Ok-add.ensures.ok ∙ ap (λ (l : List ℕ). c.args.quoted.now ++ made c.args.entry.now.channel l ∷ []) text))
-    (quotes_new before c.args.quoted.now c.args.entry.now was)
+    (quotes_new before c.args.quoted.now c.args.entry.now c.in-None.ensures was)
   where
     made : ℕ → List ℕ → Declared
     made id content = record { id = id; content = content }

@@ -1,0 +1,140 @@
+-- Lines that are printed in pieces.
+use Rattle.std.proofs.Common.{◌≡◌, ℕ, ◌+◌, ◌<◌, ◌≤◌, List, [], ◌∷◌, ◌++◌, length, take, reverse, suc, Some, Ok, Err, refl, sym, ap, subst, inl, inr, ◌∙◌, append_assoc, length-append, arith}
+use Rattle.std.proofs.lemmas.List.{append-nil, take-append-le, reverse-append}
+use Rattle.std.proofs.lemmas.Bool.{cases_lt}
+use Rattle.std.proofs.lemmas.Option.{same_Some}
+use Rattle.mcap_io.specs.declared.outside.Short.{Short}
+use Rattle.mcap_io.specs.Outside.{SinkState, RisesOnce, Adds, WritesAll}
+use Rattle.mcap_io.proofs.Calls.{adds-adds, adds-part}
+use Rattle.mcap_model.specs.declared.replay.Shown.{Shown}
+use Rattle.mcap_model.specs.declared.table.Declared.{Declared}
+use Rattle.mcap_model.specs.Places.{At}
+use Rattle.time_player.specs.Lines.{spelling, line_of, line_room, lines_of, IsReady}
+
+-- ---- the longest line
+
+pub longest_more : (shown : List Shown) (table : List Declared) (i longest room more : ℕ) (s : Shown) (text : List ℕ) → At shown i s → text ≡ spelling table s.channel → room ≡ line_room s text → room ≤ more → longest ≤ more
+    → ((n : ℕ) (t : Shown) → n < i → At shown n t → line_room t (spelling table t.channel) ≤ longest)
+    → (n : ℕ) (t : Shown) → n < i + 1 → At shown n t → line_room t (spelling table t.channel) ≤ more
+longest_more shown table i longest room more s text at is room_is room_below below so_far n t within there = elim (cases_lt n i) [
+  | inl less ↦ let old = so_far n t less there in omega (arith, old, below)
+  | inr last ↦
+      let n_is : n ≡ i = omega (arith, last, within) in
+      let same : s ≡ t = same_Some s t (sym at ∙ subst (λ (k : ℕ). At shown k t) n_is there) in
+      subst (λ (u : Shown). line_room u (spelling table u.channel) ≤ more) same
+      (subst (λ (l : List ℕ). line_room s l ≤ more) is (omega (arith, room_is, room_below)))
+]
+
+-- ---- a vector whose last element was taken
+
+pub popped : {X : Type 0} (old new : List X) (m : X) → old ≡ new ++ m ∷ [] → reverse old ≡ m ∷ reverse new
+popped old new m is = ap reverse is ∙ reverse-append new (m ∷ [])
+
+pub none_left : (table : List Declared) (old : List Shown) → length old ≡ 0 → lines_of table (reverse old) ≡ []
+none_left table [] is = refl
+none_left table (m ∷ rest) is = absurd (omega (arith, is))
+
+pub room_for_first : (m : Shown) (rest : List Shown) (table : List Declared) (len room : ℕ) (text : List ℕ) → IsReady (m ∷ rest) table room → text ≡ spelling table m.channel → len < 65536 → len + line_room m text ≤ room
+room_for_first m rest table len room text ready is short =
+    let first = ready.fits 0 m refl in
+    let same : length text ≡ length (spelling table m.channel) = ap length is in
+    omega (arith, first, same, short)
+
+pub ready_rest : (m : Shown) (rest : List Shown) (table : List Declared) (room more : ℕ) → IsReady (m ∷ rest) table room → room ≤ more → IsReady rest table more
+ready_rest m rest table room more ready grows = record {
+  apart = ready.apart;
+  fits = λ n s at. let one = ready.fits (suc n) s at in omega (arith, one, grows);
+}
+
+-- ---- what was written
+
+-- a first part of the text was written, with so many bytes counted; a piece is gathered behind it, and the rest is left
+pub record Printing (before now : SinkState) (text piece left : List ℕ) (taken : ℕ) : Type 0 where
+  pub done : List ℕ
+  pub still : now.faults ≡ before.faults
+  pub adds : Adds before.took now.took done
+  pub whole : done ++ (piece ++ left) ≡ text
+  pub count : taken ≤ length done
+  pub silent : text ≡ [] → now ≡ before
+
+pub begins : (s : SinkState) (text piece : List ℕ) → piece ≡ [] → Printing s s text piece text 0
+begins s text piece none = record {
+  done = [];
+  still = refl;
+  adds = λ before told. told ∙ ap (λ (l : List ℕ). Some l) (sym (append-nil before));
+  whole = ap (λ (l : List ℕ). l ++ text) none;
+  count = omega arith;
+  silent = λ is. refl;
+}
+
+pub line_on : (a b : SinkState) (text piece left more line rest : List ℕ) (taken : ℕ) → Printing a b text piece left taken → left ≡ line ++ rest → more ≡ piece ++ line → Printing a b text more rest taken
+line_on a b text piece left more line rest taken p is gathered = record {
+  done = p.done;
+  still = p.still;
+  adds = p.adds;
+  whole =
+      ap (λ (l : List ℕ). p.done ++ l) (ap (λ (l : List ℕ). l ++ rest) gathered ∙ append_assoc piece line rest ∙ ap (λ (l : List ℕ). piece ++ l) (sym is))
+      ∙ p.whole;
+  count = p.count;
+  silent = p.silent;
+}
+
+some_written : (done piece left text : List ℕ) → done ++ (piece ++ left) ≡ text → 0 < length piece → text ≡ [] → 0 < 0
+some_written done piece left text whole some none =
+    let lengths : length (done ++ (piece ++ left)) ≡ length text = ap length whole in
+    let zero_is : length text ≡ 0 = ap length none in
+    omega (arith, lengths, zero_is, length-append done (piece ++ left), length-append piece left, some)
+
+pub piece_on : (a b c : SinkState) (text piece left fresh : List ℕ) (taken more : ℕ) → Printing a b text piece left taken → WritesAll b c piece (Ok tt) → 0 < length piece → fresh ≡ [] → more ≤ taken + length piece → Printing a c text fresh left more
+piece_on a b c text piece left fresh taken more p wrote some none below = record {
+  done = p.done ++ piece;
+  still = wrote.0 ∙ p.still;
+  adds = adds-adds a.took b.took c.took p.done piece p.adds wrote.1;
+  whole = ap (λ (l : List ℕ). (p.done ++ piece) ++ (l ++ left)) none ∙ append_assoc p.done piece left ∙ p.whole;
+  count = let both = length-append p.done piece in omega (arith, both, below, p.count);
+  silent = λ is. absurd (omega (arith, some_written p.done piece left text p.whole some is));
+}
+
+-- all was written
+pub printed : (a b c : SinkState) (text piece left : List ℕ) (taken : ℕ) → Printing a b text piece left taken → WritesAll b c piece (Ok tt) → left ≡ [] → WritesAll a c text (Ok tt)
+printed a b c text piece left taken p wrote none =
+    let is : p.done ++ piece ≡ text = ap (λ (l : List ℕ). p.done ++ l) (sym (append-nil piece) ∙ ap (λ (l : List ℕ). piece ++ l) (sym none)) ∙ p.whole in
+    (wrote.0 ∙ p.still, subst (λ (l : List ℕ). Adds a.took c.took l) is (adds-adds a.took b.took c.took p.done piece p.adds wrote.1))
+
+-- or a first part of it
+pub printed_part : (a b c : SinkState) (text piece left : List ℕ) (taken all : ℕ) (short : Short) → Printing a b text piece left taken → WritesAll b c piece (Err short) → all ≤ taken + short.taken → WritesAll a c text (Err (record { taken = all }))
+printed_part a b c text piece left taken all short p wrote below =
+    let lengths : length (p.done ++ (piece ++ left)) ≡ length text = ap length p.whole in
+    let parts = length-append p.done (piece ++ left) in
+    let ends = length-append piece left in (
+      subst (λ (n : ℕ). RisesOnce n c.faults) p.still wrote.0,
+      omega (arith, below, p.count, wrote.1, lengths, parts, ends),
+      λ before told.
+          let q = adds-part a.took b.took c.took p.done piece short.taken p.adds wrote.2 before told in
+          let longer = length-append p.done piece in
+          let whole : (p.done ++ piece) ++ left ≡ text = append_assoc p.done piece left ∙ p.whole in (
+            q.0,
+            omega (arith, q.1, below, p.count),
+            omega (arith, q.2, longer, lengths, parts, ends),
+            q.3 ∙ ap (λ (l : List ℕ). Some (before ++ l)) (sym (take-append-le q.0 (p.done ++ piece) left q.2) ∙ ap (take q.0) whole),
+          ),
+    )
+
+-- ---- a message more
+
+pub message_on : (a b : SinkState) (text piece more spelled : List ℕ) (table : List Declared) (old new : List Shown) (m : Shown) (taken : ℕ) → Printing a b text piece (lines_of table (reverse old)) taken → old ≡ new ++ m ∷ []
+    → spelled ≡ spelling table m.channel → more ≡ piece ++ line_of m spelled → Printing a b text more (lines_of table (reverse new)) taken
+message_on a b text piece more spelled table old new m taken p is first gathered =
+    line_on a b text piece (lines_of table (reverse old)) more (line_of m spelled) (lines_of table (reverse new)) taken p
+    (ap (lines_of table) (popped old new m is) ∙ ap (λ (l : List ℕ). line_of m l ++ lines_of table (reverse new)) (sym first)) gathered
+
+pub ready_on : (table : List Declared) (old new : List Shown) (m : Shown) (room more : ℕ) → IsReady (reverse old) table room → old ≡ new ++ m ∷ [] → room ≤ more → IsReady (reverse new) table more
+ready_on table old new m room more ready is grows = ready_rest m (reverse new) table room more (subst (λ (l : List Shown). IsReady l table room) (popped old new m is) ready) grows
+
+pub room_on : (table : List Declared) (old new : List Shown) (m : Shown) (spelled : List ℕ) (len room : ℕ) → IsReady (reverse old) table room → old ≡ new ++ m ∷ [] → spelled ≡ spelling table m.channel → len < 65536 → len + line_room m spelled ≤ room
+room_on table old new m spelled len room ready is first short =
+    room_for_first m (reverse new) table len room spelled (subst (λ (l : List Shown). IsReady l table room) (popped old new m is) ready) first short
+
+-- an equal piece
+pub same_piece : (a b : SinkState) (text piece given left : List ℕ) (taken : ℕ) → Printing a b text piece left taken → given ≡ piece → Printing a b text given left taken
+same_piece a b text piece given left taken p is = subst (λ (l : List ℕ). Printing a b text l left taken) (sym is) p
