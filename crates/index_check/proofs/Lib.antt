@@ -12,3 +12,4 @@ pub mod Covered
 pub mod Tracked
 pub mod Counted
 pub mod Ends
+pub mod Heard

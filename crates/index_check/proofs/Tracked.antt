@@ -1,13 +1,13 @@
 -- Chunks and the Message Indexes behind them, as records are added.
 use Rattle.std.proofs.Common.{◌≡◌, ℕ, zero, suc, ◌+◌, ◌^◌, ◌<◌, ◌≤◌, Bool, true, false, List, [], ◌∷◌, ◌++◌, length, drop, set, cond, refl, sym, ap, subst, inl, inr, ◌∙◌, append_assoc, arith}
-use Rattle.std.specs.Prelude.{take_while}
+use Rattle.std.specs.Prelude.{take_while, ◌↔◌}
 use Rattle.std.proofs.lemmas.Bool.{cases_lt, ne_eqb, eq-eqb}
 use Rattle.std.proofs.lemmas.List.{append-nil, length-append, length-drop, length-set, take-append-le}
 use Rattle.std.proofs.lemmas.List.Sums.{take_while-cons}
 use Rattle.std.proofs.lemmas.Grind.{flat_map-append}
 use Rattle.std.proofs.Math.Seq.{take-append_seam}
 use Rattle.mcap_model.specs.Places.{At, Each}
-use Rattle.mcap_model.specs.Tops.{Top, top_bytes, spelled, offset_behind}
+use Rattle.mcap_model.specs.Tops.{Top, top_bytes, spelled, offset_behind, inner_tops}
 use Rattle.mcap_model.specs.Fields.{IsMessageIndex}
 use Rattle.mcap_model.specs.Whole.{offset_of, is_index, indexes_behind}
 use Rattle.mcap_model.proofs.Places.{at_none, at_within, at_one, at_last, at_more, at_set}
@@ -17,7 +17,7 @@ use Rattle.index_check.specs.declared.chunk_indexes.ChunkNote.{ChunkNote}
 use Rattle.index_check.specs.declared.chunk_indexes.Chunks.{Chunks}
 use Rattle.index_check.specs.declared.spots.Spot.{Spot}
 use Rattle.index_check.specs.Spots.{spot, SpotsOf, NotesOf}
-use Rattle.index_check.specs.Chunks.{NotesIndexes, NotesChunk, ChunksOf, EndsWithChunk, AddsIndex}
+use Rattle.index_check.specs.Chunks.{HasMessage, NotesIndexes, NotesChunk, ChunksOf, EndsWithChunk, AddsIndex}
 use Rattle.index_check.proofs.Spotted.{offsets_rise, one_place, old_place, spots_more, spots_other, notes_more, notes_other}
 use Rattle.index_check.proofs.Followers.{drop_seam}
 
@@ -103,6 +103,7 @@ chunk_stays tops t n u note within same was = record {
   uncompressed = was.uncompressed;
   indexes = indexes_stay tops t n note.indexes.items within same was.indexes;
   indexes_size = was.indexes_size ∙ ap (λ (l : List Top). length (spelled l)) (sym same);
+  heard = was.heard;
 }
 
 -- ---- a chunk more
@@ -197,6 +198,7 @@ index_added tops t u e old new note entries size was adds seven is counted there
   end = adds.end ∙ was.end;
   records = adds.records ∙ was.records;
   uncompressed = adds.records ∙ was.uncompressed;
+  heard = subst (λ (b : Bool). (b ≡ true) ↔ HasMessage (inner_tops u)) (sym adds.messages) was.heard;
   indexes = subst (NotesIndexes (tops ++ t ∷ []) (length e.others)) (sym adds.indexes) (record {
     paired = omega (arith, length-append old.indexes.items (note ∷ []), length-append e.earlier (t ∷ []), ap length now_are, ap length were, (let indexes = was.indexes in indexes.paired));
     noted = λ p x v at_x at_v. elim (at_more e.earlier t p v (subst (λ (l : List Top). At l p v) now_are at_v)) [

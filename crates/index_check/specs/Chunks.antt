@@ -1,7 +1,7 @@
 -- What is kept of chunks and of the Message Indexes behind them, for their indexes.
-use Rattle.std.specs.Prelude.{◌≡◌, ◌≢◌, ◌⊎◌, ℕ, suc, ◌+◌, ◌-◌, ◌^◌, min, List, [], ◌∷◌, ◌++◌, length}
+use Rattle.std.specs.Prelude.{◌≡◌, ◌≢◌, ◌⊎◌, ◌↔◌, ℕ, suc, ◌+◌, ◌-◌, ◌^◌, min, List, [], ◌∷◌, ◌++◌, length, true}
 use Rattle.mcap_model.specs.Places.{At, Has, Each}
-use Rattle.mcap_model.specs.Tops.{Top, top_bytes, spelled}
+use Rattle.mcap_model.specs.Tops.{Top, top_bytes, spelled, inner_tops}
 use Rattle.mcap_model.specs.Fields.{ChunkFields, IsChunk, IsMessageIndex, ChunkIndexFields, IsChunkIndex}
 use Rattle.mcap_model.specs.Whole.{offset_of, indexes_behind}
 use Rattle.index_check.specs.declared.chunk_indexes.IndexNote.{IndexNote}
@@ -39,6 +39,10 @@ IsOfChunk note f = HasNumbers note f × NamesNoted note f
 
 -- ---- what was noted
 
+-- one of the records is a Message
+abbrev pub HasMessage : List Top → Type 0
+HasMessage records = (n : ℕ) × (t : Top) × At records n t × (t.op ≡ 5)
+
 -- this was noted of the Message Index that stands so far behind the chunk at that place
 pub record NotesIndex (tops : List Top) (k p : ℕ) (t : Top) (note : IndexNote) : Type 0 where
   pub shown : List (ℕ × ℕ)
@@ -62,6 +66,7 @@ pub record NotesChunk (tops : List Top) (k : ℕ) (t : Top) (note : ChunkNote) :
   pub uncompressed : note.size ≡ shown.size
   pub indexes : NotesIndexes tops k note.indexes.items
   pub indexes_size : note.indexes_length ≡ length (spelled (indexes_behind tops k))
+  pub heard : (note.messages ≡ true) ↔ HasMessage (inner_tops t)
 
 -- all chunks of these records are kept
 pub record ChunksOf (tops : List Top) (kept : Chunks) : Type 0 where
@@ -92,5 +97,6 @@ pub record AddsIndex (old new : ChunkNote) (note : IndexNote) (size : ℕ) : Typ
   pub start : new.start ≡ old.start
   pub end : new.end ≡ old.end
   pub records : new.size ≡ old.size
+  pub messages : new.messages ≡ old.messages
   pub indexes : new.indexes.items ≡ old.indexes.items ++ note ∷ []
   pub together : new.indexes_length ≡ min (old.indexes_length + size) (2 ^ 64 - 1)

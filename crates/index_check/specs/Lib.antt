@@ -7,3 +7,4 @@ pub mod Chunks
 pub mod Order
 pub mod Tally
 pub mod SummaryPlaces
+pub mod Section

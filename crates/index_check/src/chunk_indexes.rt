@@ -1,14 +1,14 @@
 //! Chunk Indexes.
-ghost use Rattle.std.specs.Prelude.{◌≡◌, ◌↔◌, ◌<◌, ◌+◌, ◌^◌, ◌++◌, ◌∷◌, [], ℕ, suc, false, List, length as size, IsTrue, OnOk};
+ghost use Rattle.std.specs.Prelude.{◌≡◌, ◌↔◌, ◌<◌, ◌+◌, ◌^◌, ◌++◌, ◌∷◌, [], ℕ, suc, false, List, length as size, true, IsTrue, OnOk};
 ghost use Rattle.rec_index.specs.Parsed.{chunk_fields, chunk_index_fields};
 ghost use Rattle.rec_index.specs.Records.{ShowsChunk, ShowsMessageIndex};
 ghost use Rattle.mcap_model.specs.Places.{At, Has, Each};
-ghost use Rattle.mcap_model.specs.Tops.{Top, top_bytes, offset_behind};
+ghost use Rattle.mcap_model.specs.Tops.{Top, inner_tops, top_bytes, offset_behind};
 ghost use Rattle.mcap_model.specs.Fields.{IsChunkIndex};
-ghost use Rattle.mcap_model.specs.Whole.{ChunkIndexIsRight};
+ghost use Rattle.mcap_model.specs.Whole.{offset_of, ChunkIndexIsRight};
 ghost use Rattle.mcap_model.specs.Made.{top};
 ghost use Rattle.index_check.specs.Spots.{FitsNamed, spot};
-ghost use Rattle.index_check.specs.Chunks.{IsNoteAt, IsNotedAt, AreNoted, IsNamedOrEmpty, AreNamed, NamesNoted, HasNumbers, IsOfChunk, ChunksOf, ChunksNamed, AddsIndex, EndsWithChunk};
+ghost use Rattle.index_check.specs.Chunks.{IsNoteAt, IsNotedAt, AreNoted, IsNamedOrEmpty, AreNamed, NamesNoted, HasNumbers, IsOfChunk, HasMessage, ChunksOf, ChunksNamed, AddsIndex, EndsWithChunk};
 
 use crate::spots::{Naming, Spots};
 use mcap_wire::{CountsRef, Memory};
@@ -24,13 +24,15 @@ pub struct IndexNote {
 }
 
 /// What is kept of a chunk: the length of the whole record, its times in nanoseconds and the size of its records, which
-/// aren't compressed; and the Message Indexes behind it, with their length together. Lengths are in bytes.
+/// aren't compressed; whether there is a Message among them; and the Message Indexes behind it, with their length together.
+/// Lengths are in bytes.
 #[derive(Drop)]
 pub struct ChunkNote {
     pub length: u64,
     pub start: u64,
     pub end: u64,
     pub size: u64,
+    pub messages: bool,
     pub indexes: Vec<IndexNote>,
     pub indexes_length: u64,
 }
@@ -191,17 +193,19 @@ impl Chunks {
     }
 
     /// Adds the chunk that stands at that offset, behind the others, in a record of that length. It names no compression,
-    /// and has the size of its records. After a want of memory what is kept is of no use.
+    /// and has the size of its records; it is said whether there is a Message among them. After a want of memory what is kept
+    /// is of no use.
     pub fn add(
         &mut self,
         alloc: Global,
         offset: u64,
         length: u64,
         chunk: &Chunk<'_>,
+        messages: bool,
     ) -> Result<(), Memory>
         requires { Each (λ s. s.offset < offset) self.old.spots }
         ensures kept { OnOk result ((tops : List Top) (content : List ℕ) → ChunksOf tops self.old → offset ≡ offset_behind tops → length ≡ size (top_bytes (top 6 content)) → ShowsChunk content (chunk_fields chunk.now)
-            → chunk.now.compression.now ≡ [] → chunk.now.uncompressed_size ≡ size chunk.now.records.now → ChunksOf (tops ++ top 6 content ∷ []) self.new) }
+            → chunk.now.compression.now ≡ [] → chunk.now.uncompressed_size ≡ size chunk.now.records.now → (messages ≡ true) ↔ HasMessage (inner_tops (top 6 content)) → ChunksOf (tops ++ top 6 content ∷ []) self.new) }
         ensures unnamed { OnOk result (self.new.spots ≡ self.old.spots ++ spot offset false ∷ []) }
     {
         match self.spots.add(offset) {
@@ -213,6 +217,7 @@ impl Chunks {
             start: chunk.message_start_time,
             end: chunk.message_end_time,
             size: chunk.uncompressed_size,
+            messages,
             indexes: Vec::new(alloc),
             indexes_length: 0,
         }) {
@@ -253,5 +258,20 @@ impl Chunks {
     {
         let naming = self.spots.name(index.chunk_start_offset);
         fits_chunk(naming, &self.notes, index)
+    }
+
+    /// Whether the chunk at that offset holds a Message.
+    pub fn holds_messages(&self, offset: u64) -> bool
+        ensures { (tops : List Top) (n : ℕ) (t : Top) → ChunksOf tops self.now → At tops n t → t.op ≡ 6 → offset ≡ offset_of tops n → IsTrue result ↔ HasMessage (inner_tops t) }
+    {
+        match self.spots.place_of(offset) {
+            None => return false,
+            Some(place) => {
+                if place >= self.notes.len() {
+                    return false;
+                }
+                return self.notes[place].messages;
+            }
+        }
     }
 }

@@ -1,5 +1,5 @@
 //! Ids that were come to.
-ghost use Rattle.std.specs.Prelude.{◌≡◌, ◌↔◌, ◌<◌, ◌∷◌, ◌++◌, [], ℕ, true, vec_len, IsTrue, OnOk, OnErr};
+ghost use Rattle.std.specs.Prelude.{◌≡◌, ◌↔◌, ◌<◌, ◌∷◌, ◌++◌, [], ℕ, true, length, vec_len, IsTrue, OnOk, OnErr};
 ghost use Rattle.mcap_model.specs.Places.{At, Has};
 ghost use Rattle.index_check.specs.Ids.{AddsOnce};
 
@@ -61,6 +61,12 @@ impl Ids {
             return false;
         }
         return self.marks[place];
+    }
+
+    pub fn len(&self) -> usize
+        ensures { result ≡ length self.now }
+    {
+        self.ids.len()
     }
 
     pub fn is_empty(&self) -> bool

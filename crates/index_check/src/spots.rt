@@ -1,5 +1,5 @@
 //! Where records of one kind stand, and which of them an index named.
-ghost use Rattle.std.specs.Prelude.{◌≡◌, ◌<◌, ◌∷◌, ◌++◌, [], false, length, OnOk, OnErr};
+ghost use Rattle.std.specs.Prelude.{◌≡◌, ◌↔◌, ◌<◌, ◌∷◌, ◌++◌, [], true, false, length, IsTrue, OnOk, OnErr};
 ghost use Rattle.mcap_model.specs.Places.{Each};
 ghost use Rattle.index_check.specs.Spots.{Ascends, FindsSpot, NamesSpot};
 
@@ -66,6 +66,25 @@ fn find(spots: &[Spot], offset: u64) -> Option<usize>
     return None;
 }
 
+// Whether a record was named.
+fn is_named(spot: &Spot) -> bool
+    ensures { IsTrue result ↔ (spot.now.named ≡ true) }
+{
+    spot.named
+}
+
+// Whether each of these was.
+fn all_named(spots: &[Spot]) -> bool
+    ensures { IsTrue result ↔ Each (λ s. s.named ≡ true) spots.now }
+{
+    'spots: for i in 0..spots.len() {
+        if !is_named(&spots[i]) {
+            return false;
+        }
+    }
+    return true;
+}
+
 impl Spots {
     pub fn new(alloc: Global) -> Spots
         ensures { result ≡ [] }
@@ -106,5 +125,19 @@ impl Spots {
             named: true,
         };
         return Naming::First { place };
+    }
+
+    /// The place of the record at that offset.
+    pub fn place_of(&self, offset: u64) -> Option<usize>
+        ensures { FindsSpot self.now offset result }
+    {
+        find(&self.spots, offset)
+    }
+
+    /// Whether each record was named.
+    pub fn are_named(&self) -> bool
+        ensures { IsTrue result ↔ Each (λ s. s.named ≡ true) self.now }
+    {
+        all_named(&self.spots)
     }
 }

@@ -81,7 +81,7 @@ fn a_chunk_has_an_index_for_each_channel_or_none(rt: HostRuntime) -> Result<(), 
 fn chunks_of_file(alloc: Global) -> Result<Chunks, Fail> {
     let mut chunks = Chunks::new(alloc);
     let chunk = Chunk::parse(&CHUNKED[43..142])?;
-    chunks.add(alloc, 34, 108, &chunk)?;
+    chunks.add(alloc, 34, 108, &chunk, true)?;
     let index = MessageIndex::parse(&CHUNKED[151..173])?;
     chunks.add_index(142, 31, &index)?;
     Ok(chunks)

@@ -60,3 +60,9 @@ place_named places first id p is at some =
 -- the place that was read
 pub place_read : (places : List ℕ) (id p : ℕ) → id < length places → p ≡ get_or places id p → At places id p
 place_read places id p within read = subst (λ (x : ℕ). At places id x) (sym read) (at_read places id p within)
+
+-- an id stands at one place
+pub one_place : (places : List ℕ) (first : List Declared) (j k : ℕ) (d e : Declared) → IsIndexed places first → At first j d → At first k e → d.id ≡ e.id → j ≡ k
+one_place places first j k d e is at other same =
+    let one = at_one places e.id (suc j) (suc k) (subst (λ (n : ℕ). At places n (suc j)) same (is.shown j d at)) (is.shown k e other) in
+    omega (arith, one)

@@ -34,7 +34,7 @@ pub use refusals::PlainRefused;
 pub use replay::{Place, Range, Replayed, Shown, Topic};
 pub use replaying::{is_within, put_in_order, replay_plain};
 pub use table::Table;
-pub use tables::Tables;
+pub use tables::{Ruling, Tables};
 pub use topics::topics_of;
 pub use tops::{Judged, judge, judge_first};
 

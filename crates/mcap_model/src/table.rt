@@ -1,6 +1,7 @@
 //! Declarations by their ids.
-ghost use Rattle.std.specs.Prelude.{◌≡◌, ◌∷◌, ◌++◌, ◌<◌, [], ℕ, suc, vec_len, OnOk, OnErr};
+ghost use Rattle.std.specs.Prelude.{◌≡◌, ◌∷◌, ◌++◌, ◌<◌, [], ℕ, suc, length, vec_len, OnOk, OnErr};
 ghost use Rattle.mcap_model.specs.Places.{At};
+ghost use Rattle.mcap_model.specs.declared.table.Declared.{Declared};
 ghost use Rattle.mcap_model.specs.Declarations.{FindsFirst};
 
 use mcap_wire::{Bytes, Memory};
@@ -59,6 +60,14 @@ impl Table {
             places: Vec::new(alloc),
             first: Vec::new(alloc),
         }
+    }
+
+    /// How many ids were declared, each once.
+    pub fn len(&self) -> usize
+        ensures count { result ≡ length self.now }
+        ensures apart { (j k : ℕ) (d e : Declared) → At self.now j d → At self.now k e → d.id ≡ e.id → j ≡ k }
+    {
+        self.first.len()
     }
 
     /// The content that declared that id.

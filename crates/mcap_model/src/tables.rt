@@ -11,7 +11,7 @@ use std::alloc::Global;
 
 /// Whether a record may stand where it does.
 #[derive(Clone, Copy)]
-pub(crate) enum Ruling {
+pub enum Ruling {
     Fits,
     /// It breaks the rule of that number.
     Breaks { rule: u8 },
@@ -38,7 +38,7 @@ impl Tables {
     }
 
     /// Takes a Schema.
-    pub(crate) fn take_schema(&mut self, alloc: Global, content: &[u8]) -> Ruling
+    pub fn take_schema(&mut self, alloc: Global, content: &[u8]) -> Ruling
         ensures { Takes self.old self.new (top 3 content.now) result }
     {
         let schema = match Schema::parse(content) {
@@ -73,7 +73,7 @@ impl Tables {
     }
 
     /// Takes a Channel.
-    pub(crate) fn take_channel(&mut self, alloc: Global, content: &[u8]) -> Ruling
+    pub fn take_channel(&mut self, alloc: Global, content: &[u8]) -> Ruling
         ensures { Takes self.old self.new (top 4 content.now) result }
     {
         let channel = match Channel::parse(content) {

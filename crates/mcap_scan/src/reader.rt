@@ -71,6 +71,21 @@ impl Reader {
         &self.tables
     }
 
+    /// The declarations of the records that were given, handed out at the reading's end.
+    pub fn into_tables(self) -> Tables
+        ensures { result ≡ tables_of self }
+    {
+        let Reader {
+            alloc: _,
+            head: _,
+            room: _,
+            tables,
+            offset: _,
+            stage: _,
+        } = self;
+        tables
+    }
+
     /// Why the reading was refused, where it was.
     pub fn refusal(&self) -> Option<&ScanRefused>
         ensures { KeptBy self.now result }

@@ -11,6 +11,7 @@ mod walk;
 
 pub use loaded::Loaded;
 pub use loading::load;
+pub use records::breaks;
 pub use refusals::LoadRefused;
 
 #[cfg(test)]

@@ -86,7 +86,7 @@ fn is_summary_offset(content: &[u8]) -> bool
 }
 
 /// The rule that a record breaks: 5 where it is none that stands in a summary, 6 where its content can't be read.
-pub(crate) fn breaks(op: u8, content: &[u8]) -> Option<u8>
+pub fn breaks(op: u8, content: &[u8]) -> Option<u8>
     ensures { Judged (top op content.now) result }
 {
     let readable = match op {
