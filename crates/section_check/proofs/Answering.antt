@@ -1,0 +1,16 @@
+-- Answers that say something more.
+use Rattle.std.proofs.Common.{◌≡◌, Bool, true, false, not, refl}
+use Rattle.std.specs.Prelude.{Result, Ok, Err, OnOk}
+use Rattle.std.proofs.lemmas.Bool.{both_ways}
+
+pub on_ok : {T E : Type 0} (P Q : Type 0) (r : Result T E) → OnOk r P → (P → Q) → OnOk r Q
+on_ok P Q (Ok x) p f = f p
+on_ok P Q (Err e) p f = tt
+
+pub not_true : (b : Bool) → not b ≡ true → b ≡ false
+not_true true e = absurd (both_ways false refl e)
+not_true false e = refl
+
+pub not_false : (b : Bool) → not b ≡ false → b ≡ true
+not_false true e = refl
+not_false false e = absurd (both_ways true e refl)

@@ -1,0 +1,77 @@
+-- The Schemas, Channels and Messages of one record more, and how few they are.
+use Rattle.std.proofs.Common.{◌≡◌, ℕ, zero, suc, ◌+◌, ◌<◌, ◌≤◌, Bool, true, false, List, [], ◌∷◌, length, take, drop, cond, refl, ap, ◌∙◌, arith}
+use Rattle.std.specs.Prelude.{nat_lt}
+use Rattle.std.proofs.lemmas.Bool.{or_parts, ltb-false, ne_eqb, eq-eqb}
+use Rattle.std.proofs.lemmas.List.{length-append, length-take, length-drop}
+use Rattle.mcap_model.specs.Places.{Each}
+use Rattle.mcap_model.specs.Tops.{Top, top_bytes, spelled, offset_behind, first_top, behind_first, begins_record, first_records, records_in, chunk_records, is_chunk, inner_tops, opened, is_flat_kind, flattened, flat}
+use Rattle.mcap_model.specs.Fields.{ChunkFields, IsChunk}
+use Rattle.mcap_model.specs.Rules.{V6}
+use Rattle.mcap_model.specs.Kept.{reading_limits, Fits}
+use Rattle.mcap_model.proofs.Flat.{named_or}
+use Rattle.mcap_model.proofs.Logging.{few_filtered}
+use Rattle.mcap_model.proofs.Readings.{length-top}
+use Rattle.mcap_model.proofs.Unpacking.{chunks_are_opened}
+
+-- ---- what a record holds
+
+pub opened_other : (t : Top) → (t.op ≡ 6 → ⊥) → opened t ≡ t ∷ []
+opened_other t other = ap (λ (b : Bool). cond b (inner_tops t) (t ∷ [])) (ne_eqb t.op 6 other)
+
+pub opened_chunk : (t : Top) (f : ChunkFields) → IsChunk t f → opened t ≡ records_in f.records
+opened_chunk t f is =
+    let six = is.kind in
+    ap (λ (b : Bool). cond b (inner_tops t) (t ∷ [])) (eq-eqb t.op 6 six) ∙ ap records_in (chunks_are_opened t f is)
+
+-- each record of a chunk keeps the rule on layouts
+pub chunk_meets : (tops : List Top) (t : Top) (f : ChunkFields) → IsChunk t f → Fits reading_limits tops t → Each V6 (records_in f.records)
+chunk_meets tops t f is fits = (fits.v8 f is (named_or t f f.compression is refl fits.plain)).layouts
+
+-- ---- they are fewer than the bytes
+
+first_short : (n : ℕ) (bytes : List ℕ) → length (first_records n bytes) ≤ n
+first_short zero bytes = omega arith
+first_short (suc n) bytes = by (begins_record bytes) (first_short n (behind_first bytes))
+  where
+    by : (b : Bool) → length (first_records n (behind_first bytes)) ≤ n → length (cond b (first_top bytes ∷ first_records n (behind_first bytes)) []) ≤ suc n
+    by true short = omega (arith, short)
+    by false short = omega arith
+
+records_short : (bytes : List ℕ) → length (records_in bytes) ≤ length bytes
+unfolding records_in
+records_short bytes = first_short (length bytes) bytes
+
+part_short : (bytes : List ℕ) (n at : ℕ) → length (take n (drop at bytes)) ≤ length bytes
+part_short bytes n at = omega (arith, length-take n (drop at bytes), length-drop at bytes)
+
+chunk_short : (content : List ℕ) → length (chunk_records content) ≤ length content
+unfolding chunk_records
+chunk_short content = part_short content _ _
+
+pub opened_short : (t : Top) → length (opened t) ≤ length (top_bytes t)
+opened_short t = by (is_chunk t)
+  where
+    by : (b : Bool) → length (cond b (inner_tops t) (t ∷ [])) ≤ length (top_bytes t)
+    by true = omega (arith, records_short (chunk_records t.content), chunk_short t.content, length-top t)
+    by false = omega (arith, length-top t)
+
+flat_short : (tops : List Top) → length (flat tops) ≤ length (spelled tops)
+flat_short [] = omega arith
+flat_short (t ∷ ts) =
+    let few = few_filtered is_flat_kind (opened t) in
+    let one = opened_short t in
+    let rest = flat_short ts in
+    omega (arith, few, one, rest, length-append (flattened t) (flat ts), length-append (top_bytes t) (spelled ts))
+
+-- ---- a record that fits ends within the limit
+
+pub fits_end : (tops : List Top) (t : Top) → Fits reading_limits tops t → offset_behind tops + length (top_bytes t) ≤ 1099511627776
+fits_end tops t fits =
+    let len = length t.content in
+    let at = offset_behind tops in
+    let parts = or_parts (nat_lt 268435456 len) (nat_lt 1099511627776 (at + 9 + len)) fits.within in
+    let near : at + 9 + len ≤ 1099511627776 = ltb-false 1099511627776 (at + 9 + len) parts.1 in
+    omega (arith, near, length-top t)
+
+pub flat_few : (tops : List Top) (t : Top) → Fits reading_limits tops t → length (flat tops) + length (opened t) < 1099511627776
+flat_few tops t fits = omega (arith, fits_end tops t fits, flat_short tops, opened_short t)

@@ -1,0 +1,6 @@
+pub mod MessageCounts
+pub mod RecordCounts
+pub mod LastChunk
+pub mod IndexedRecords
+pub mod Gathering
+pub mod Reading
