@@ -1,0 +1,25 @@
+use Rattle.std.proofs.Common.{◌<◌, ℕ, length, false, refl, arith}
+use Rattle.std.proofs.lemmas.Bool.{both_ways}
+use Rattle.mcap_model.specs.Places.{Has}
+use Rattle.mcap_model.proofs.Places.{at_read, at_within}
+use Rattle.index_check.proofs.Apart.{front_more}
+use Rattle.summary_check.proofs.repeats.have_entries.Goals as goal
+
+pub returns-then-not-has_entry : goal.returns-then-not-has_entry
+returns-then-not-has_entry c = (
+  λ e. absurd (both_ways false refl e),
+  λ has.
+      let within : c.counts.i < length c.args.counts.now = omega (arith, c.counts-test.true) in
+      absurd (both_ways c.has_entry.result c.if-not-has_entry.true (c.has_entry.ensures.1 (has c.counts.i _ (at_read c.args.counts.now c.counts.i _ within)))),
+)
+
+pub counts-preserved : goal.counts-preserved
+counts-preserved c =
+    let within : c.counts.i < length c.args.counts.now = omega (arith, c.counts-test.true) in
+    front_more (λ (entry : ℕ × ℕ). Has c.args.ids.now entry.0) c.args.counts.now c.counts.i _ c.counts.invariant (at_read c.args.counts.now c.counts.i _ within) (c.has_entry.ensures.0 c.if-not-has_entry.false)
+
+pub returns : goal.returns
+returns c = (
+  λ e n x at. c.counts.invariant n x at (let within = at_within c.args.counts.now n x at in omega (arith, within, c.counts-test.false)),
+  λ has. refl,
+)

@@ -1,0 +1,34 @@
+-- A file whose records keep all rules, and what is known of it.
+use Rattle.std.specs.Prelude.{◌≡◌, ◌↔◌, ◌+◌, ◌++◌, ℕ, Bool, List, length, None, true}
+use Rattle.mcap_wire.specs.declared.faults.Cut.{Cut}
+use Rattle.mcap_model.specs.Places.{Each}
+use Rattle.mcap_model.specs.Plain.{cut_top}
+use Rattle.mcap_model.specs.Tops.{Top, spelled}
+use Rattle.mcap_model.specs.Valid.{Valid, FullyIndexed}
+use Rattle.index_check.specs.Chunks.{HasMessage}
+use Rattle.index_check.specs.Tally.{TallyOf}
+use Rattle.summary_read.specs.Parts.{tops_of}
+use Rattle.summary_read.specs.Steps.{Judged}
+use Rattle.summary_check.specs.Laid.{IsEnded, IsFront}
+use Rattle.summary_check.specs.declared.judging.Known.{Known}
+use Rattle.summary_check.specs.Files.{file_of}
+use Rattle.summary_check.specs.Filed.{records_of}
+use Rattle.summary_check.specs.Told.{ToldOf}
+
+-- the file of this data section and of these records is valid, and this is known of it
+pub record KnownOf (tops : List Top) (bytes : List ℕ) (cuts : List Cut) (foot : Cut) (known : Known) : Type 0 where
+  pub valid : Valid (file_of tops bytes) (records_of tops bytes cuts foot)
+  pub told : ToldOf (records_of tops bytes cuts foot) (length tops + length (tops_of bytes cuts)) known.told
+  pub ended : IsEnded tops
+  pub kinds : Each IsFront tops
+  pub judged : Each (λ t. Judged t None) (tops_of bytes cuts)
+  pub foot_is : (cut_top bytes foot).op ≡ 2
+  pub tally : TallyOf (records_of tops bytes cuts foot) ended.section known.tally
+  pub at_top : (known.has_messages ≡ true) ↔ HasMessage tops
+
+-- The bytes are records, with which the file of this data section is valid, and fully indexed where that is told.
+pub record IsJudged (tops : List Top) (bytes : List ℕ) (indexed : Bool) : Type 0 where
+  pub behind : List Top
+  pub split : bytes ≡ spelled behind
+  pub valid : Valid (file_of tops bytes) (tops ++ behind)
+  pub full : (indexed ≡ true) ↔ FullyIndexed (file_of tops bytes) (tops ++ behind)

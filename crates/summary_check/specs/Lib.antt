@@ -1,0 +1,13 @@
+pub mod Files
+pub mod Cutting
+pub mod Body
+pub mod Told
+pub mod Declaring
+pub mod Laid
+pub mod Offsets
+pub mod Filed
+pub mod Closing
+pub mod Sectioned
+pub mod Judging
+pub mod Repeating
+pub mod FullIndex

@@ -1,0 +1,29 @@
+-- What the indexes of a summary tell of, and what they have named.
+use Rattle.std.specs.Prelude.{◌≡◌, ◌⊎◌, ℕ, suc, ◌+◌, List, length, Option, Some, None}
+use Rattle.mcap_model.specs.Places.{At}
+use Rattle.mcap_model.specs.Tops.{Top}
+use Rattle.mcap_model.specs.Whole.{V12, V13}
+use Rattle.index_check.specs.Chunks.{ChunksOf, ChunksNamed}
+use Rattle.index_check.specs.Extras.{AttachmentsOf, AttachmentsNamed, MetadataOf, MetadataNamed}
+use Rattle.summary_check.specs.declared.told.Told.{Told}
+
+-- this is kept of a file, and the indexes in front of that place have named what is marked
+pub record ToldOf (all : List Top) (n : ℕ) (told : Told) : Type 0 where
+  pub chunks : ChunksOf all told.chunks
+  pub chunks_named : ChunksNamed all n told.chunks
+  pub attachments : AttachmentsOf all told.attachments
+  pub attachments_named : AttachmentsNamed all n told.attachments
+  pub metadata : MetadataOf all told.metadata
+  pub metadata_named : MetadataNamed all n told.metadata
+
+abbrev pub BreaksIndexing : List Top → ℕ → Top → ℕ → Type 0
+BreaksIndexing all n t rule = ((rule ≡ 12) × (V12 all n t → ⊥)) ⊎ ((rule ≡ 13) × (V13 all n t → ⊥))
+
+abbrev pub IndexTaken : List Top → ℕ → Top → Told → Option ℕ → Type 0
+IndexTaken all n t told None = V12 all n t × V13 all n t × ToldOf all (suc n) told
+IndexTaken all n t told (Some rule) = BreaksIndexing all n t rule
+
+-- the indexes among these records, from that place on, were taken; or one breaks that rule
+abbrev pub IndexesTaken : List Top → ℕ → List Top → Told → Option (ℕ × ℕ) → Type 0
+IndexesTaken all base body told None = ((k : ℕ) (t : Top) → At body k t → V12 all (base + k) t × V13 all (base + k) t) × ToldOf all (base + length body) told
+IndexesTaken all base body told (Some found) = (t : Top) × At body found.0 t × BreaksIndexing all (base + found.0) t found.1

@@ -1,0 +1,143 @@
+//! What the first record that breaks a rule comes to.
+ghost use Rattle.std.specs.Prelude.{◌≡◌, ◌+◌, ◌++◌, ℕ, List, length as size, None, IfErr, OnOk};
+ghost use Rattle.mcap_wire.specs.declared.faults.Cut.{Cut as OneCut};
+ghost use Rattle.mcap_model.specs.Places.{At, Each};
+ghost use Rattle.mcap_model.specs.Tops.{Top, flat};
+ghost use Rattle.mcap_model.specs.Declarations.{TablesOf};
+ghost use Rattle.mcap_model.specs.Whole.{offset_of, V14, V15};
+ghost use Rattle.index_check.specs.Tally.{TallyOf};
+ghost use Rattle.summary_read.specs.Parts.{tops_of, AreInside};
+ghost use Rattle.summary_read.specs.Steps.{Judged};
+ghost use Rattle.summary_check.specs.Body.{StandFrom, KeptFrom, OrderJudged};
+ghost use Rattle.summary_check.specs.Declaring.{DeclarationsTaken};
+ghost use Rattle.summary_check.specs.Files.{file_of, flawed_at, IsRefused};
+ghost use Rattle.summary_check.specs.Filed.{records_of, Filed};
+ghost use Rattle.summary_check.specs.Laid.{all_of, Laid};
+ghost use Rattle.summary_check.specs.Told.{ToldOf, IndexesTaken};
+
+use crate::declarations::find_disagreeing;
+use crate::kinds::find_broken;
+use crate::offsets::find_misnamed;
+use crate::ordering::find_misplaced;
+use crate::records::from_at;
+use crate::refusals::SummaryRefused;
+use crate::statistics::find_miscounted;
+use crate::told::Told;
+use index_check::Tally;
+use mcap_model::Tables;
+use mcap_wire::Cut;
+use std::alloc::Global;
+
+/// The length of a record's head: the opcode and the content's length.
+pub(crate) const HEAD_LENGTH: u64 = 9;
+
+// The rule fails at the record that was cut at that place, in bytes that stand in the file from `start` on.
+fn flawed(rule: u8, cuts: &[Cut], i: usize, start: u64) -> SummaryRefused
+    ensures { (tops : List Top) (bytes : List ℕ) (foot t : Top) → Laid tops bytes cuts.now start → At (tops_of bytes cuts.now) i t → result ≡ flawed_at rule (offset_of (all_of tops (tops_of bytes cuts.now) foot) (size tops + i)) }
+{
+    if i >= cuts.len() {
+        return SummaryRefused::Memory;
+    }
+    let from = from_at(cuts, i);
+    let offset = start.saturating_add(from.saturating_sub(HEAD_LENGTH));
+    return SummaryRefused::Flawed { rule, offset };
+}
+
+/// Judges which records stand behind a Data End, and their layouts.
+pub(crate) fn judge_kinds(bytes: &[u8], cuts: &[Cut], start: u64) -> Result<(), SummaryRefused>
+    requires { AreInside bytes.now cuts.now }
+    ensures ok { OnOk result (Each (λ t. Judged t None) (tops_of bytes.now cuts.now)) }
+    ensures err { IfErr result (λ why. (tops : List Top) (foot : OneCut) → Filed tops bytes.now cuts.now foot start → IsRefused (file_of tops bytes.now) why) }
+{
+    match find_broken(bytes, cuts) {
+        None => return Ok(()),
+        Some((i, rule)) => return Err(flawed(rule, cuts, i, start)),
+    }
+}
+
+/// Judges how Schemas and Channels agree with those before them. The tables have them too from then on.
+pub(crate) fn judge_declarations(
+    alloc: Global,
+    tables: &mut Tables,
+    bytes: &[u8],
+    cuts: &[Cut],
+    start: u64,
+) -> Result<(), SummaryRefused>
+    requires { AreInside bytes.now cuts.now }
+    ensures ok { OnOk result ((tops : List Top) → TablesOf (flat tops) tables.old → Each (λ t. Judged t None) (tops_of bytes.now cuts.now)
+        → DeclarationsTaken tops (tops_of bytes.now cuts.now) tables.new None) }
+    ensures err { IfErr result (λ why. (tops : List Top) (foot : OneCut) → Filed tops bytes.now cuts.now foot start → TablesOf (flat tops) tables.old → Each (λ t. Judged t None) (tops_of bytes.now cuts.now)
+        → IsRefused (file_of tops bytes.now) why) }
+{
+    match find_disagreeing(alloc, tables, bytes, cuts) {
+        Ok(None) => return Ok(()),
+        Ok(Some(i)) => return Err(flawed(7, cuts, i, start)),
+        Err(_) => return Err(SummaryRefused::Memory),
+    }
+}
+
+/// Judges the order of a summary.
+pub(crate) fn judge_order(alloc: Global, cuts: &[Cut], start: u64) -> Result<(), SummaryRefused>
+    ensures ok { OnOk result ((bytes : List ℕ) → OrderJudged (tops_of bytes cuts.now) None) }
+    ensures err { IfErr result (λ why. (tops : List Top) (bytes : List ℕ) (foot : OneCut) → Filed tops bytes cuts.now foot start → IsRefused (file_of tops bytes) why) }
+{
+    match find_misplaced(alloc, cuts) {
+        Ok(None) => return Ok(()),
+        Ok(Some(i)) => return Err(flawed(11, cuts, i, start)),
+        Err(_) => return Err(SummaryRefused::Memory),
+    }
+}
+
+/// Judges indexes. What they tell of counts as named from then on.
+pub(crate) fn judge_indexes(
+    told: &mut Told,
+    bytes: &[u8],
+    cuts: &[Cut],
+    start: u64,
+) -> Result<(), SummaryRefused>
+    requires { AreInside bytes.now cuts.now }
+    ensures ok { OnOk result ((all : List Top) (base : ℕ) → StandFrom all base (tops_of bytes.now cuts.now) → ToldOf all base told.old → IndexesTaken all base (tops_of bytes.now cuts.now) told.new None) }
+    ensures err { IfErr result (λ why. (tops : List Top) (foot : OneCut) → Filed tops bytes.now cuts.now foot start → Each (λ t. Judged t None) (tops_of bytes.now cuts.now)
+        → ToldOf (records_of tops bytes.now cuts.now foot) (size tops) told.old → IsRefused (file_of tops bytes.now) why) }
+{
+    match told.take_indexes(bytes, cuts) {
+        None => return Ok(()),
+        Some((i, rule)) => return Err(flawed(rule, cuts, i, start)),
+    }
+}
+
+/// Judges Statistics.
+pub(crate) fn judge_statistics(
+    tally: &Tally,
+    bytes: &[u8],
+    cuts: &[Cut],
+    start: u64,
+) -> Result<(), SummaryRefused>
+    requires { AreInside bytes.now cuts.now }
+    ensures ok { OnOk result ((all section : List Top) (base : ℕ) → TallyOf all section tally.now → KeptFrom V14 all base (tops_of bytes.now cuts.now)) }
+    ensures err { IfErr result (λ why. (tops section : List Top) (foot : OneCut) → Filed tops bytes.now cuts.now foot start → Each (λ t. Judged t None) (tops_of bytes.now cuts.now)
+        → TallyOf (records_of tops bytes.now cuts.now foot) section tally.now → IsRefused (file_of tops bytes.now) why) }
+{
+    match find_miscounted(tally, bytes, cuts) {
+        None => return Ok(()),
+        Some(i) => return Err(flawed(14, cuts, i, start)),
+    }
+}
+
+/// Judges Summary Offsets.
+pub(crate) fn judge_offsets(
+    alloc: Global,
+    bytes: &[u8],
+    cuts: &[Cut],
+    start: u64,
+) -> Result<(), SummaryRefused>
+    requires { AreInside bytes.now cuts.now }
+    ensures ok { OnOk result ((tops : List Top) (foot : Top) → Laid tops bytes.now cuts.now start → KeptFrom V15 (all_of tops (tops_of bytes.now cuts.now) foot) (size tops) (tops_of bytes.now cuts.now)) }
+    ensures err { IfErr result (λ why. (tops : List Top) (foot : OneCut) → Filed tops bytes.now cuts.now foot start → IsRefused (file_of tops bytes.now) why) }
+{
+    match find_misnamed(alloc, bytes, cuts, start) {
+        Ok(None) => return Ok(()),
+        Ok(Some(i)) => return Err(flawed(15, cuts, i, start)),
+        Err(_) => return Err(SummaryRefused::Memory),
+    }
+}
