@@ -1,0 +1,4 @@
+pub mod Halted
+pub mod Parts
+pub mod Refusing
+pub mod Judged

@@ -1,0 +1,14 @@
+use Rattle.std.proofs.Common.{ℕ, ◌∙◌, take, drop, ap}
+use Rattle.file_check.proofs.Parts.{head_there}
+use Rattle.file_check.proofs.ends.tell_flaw.Goals as goal
+
+pub returns-in-Ok-clause-tells : goal.returns-in-Ok-clause-tells
+returns-in-Ok-clause-tells g c = (
+  c.failed_rule-in-Ok.ensures,
+  λ file told room within. (
+    c.length_in-len.result,
+    c.length_in-len.ensures.small,
+    head_there file c.read_at.new.out c.args.offset c.args.end c.length_in-len.result
+        (c.in-Ok.ensures.gives file told ∙ ap (λ (n : ℕ). take n (drop c.args.offset file)) c.read_at.auto.out) room c.length_in-len.ensures.stands,
+  ),
+)

@@ -1,0 +1,151 @@
+-- What a check of a file comes to.
+use Rattle.std.specs.Prelude.{◌≡◌, ◌⊎◌, Bool, true, false, ℕ, ◌+◌, ◌≤◌, ◌<◌, ◌^◌, List, ◌++◌, length, take, Option, Some, Result, Ok, Err}
+use Rattle.mcap_wire.specs.Layout.{magic}
+use Rattle.mcap_io.specs.Outside.{SourceState, RisesOnce}
+use Rattle.mcap_io.specs.Stores.{StoreState}
+use Rattle.mcap_io.specs.StoreSources.{front_left}
+use Rattle.mcap_model.specs.declared.checked.Counts.{Counts}
+use Rattle.mcap_model.specs.declared.checked.Verdict.{Verdict}
+use Rattle.mcap_model.specs.declared.checked.Verdict.TheVariants as verdicts
+use Rattle.mcap_model.specs.Tops.{Top, Tops}
+use Rattle.mcap_model.specs.Rules.{HasDataEnd}
+use Rattle.mcap_model.specs.Kept.{reading_limits, Good, Halt, compressed, beyond, Halts}
+use Rattle.mcap_model.specs.Whole.{V9}
+use Rattle.mcap_model.specs.Valid.{Keeps as KeepsAll, Valid, IsFullyIndexed, FullyIndexed, CountsAre, Flaw}
+use Rattle.file_check.specs.declared.flaws.FailedRule.{FailedRule}
+use Rattle.file_check.specs.declared.refusals.CheckRefused.{CheckRefused}
+use Rattle.file_check.specs.declared.refusals.CheckRefused.TheVariants as refusals
+use Rattle.index_check.specs.declared.section.Section.{Section}
+use Rattle.index_check.specs.Section.{SectionOf}
+use Rattle.section_check.specs.declared.reading.SectionRefused.{SectionRefused}
+use Rattle.section_check.specs.Reading.{Reads}
+use Rattle.summary_check.specs.declared.refusals.SummaryRefused.{SummaryRefused}
+use Rattle.summary_check.specs.declared.refusals.SummaryRefused.TheVariants as summaries
+use Rattle.summary_check.specs.Judging.{IsJudged}
+use Rattle.summary_check.specs.Files.{file_of, PassesLimit, IsRefused as IsRefusedBehind}
+use Rattle.file_check.specs.Halting.{told_flaw, HasLengthAt}
+
+-- the numbers of the data section
+abbrev pub Counted : List Top → Counts → Type 0
+Counted tops c = CountsAre tops c.messages c.channels c.schemas c.chunks c.attachments c.metadata
+
+-- what a verdict says of a file
+abbrev pub IsSo : List ℕ → Verdict → Type 0
+IsSo file (verdicts.Indexed counts) = (tops : List Top) × FullyIndexed file tops × Counted tops counts
+IsSo file (verdicts.Plain counts) = (tops : List Top) × Valid file tops × (IsFullyIndexed file → ⊥) × Counted tops counts
+IsSo file (verdicts.Flawed rule offset) = Flaw file rule offset
+
+-- a reading of the records in front of the last magic halts so
+abbrev pub HaltsBefore : List ℕ → Halt → Type 0
+HaltsBefore file halt = (inner : List ℕ) × (tops : List Top) × (file ≡ inner ++ magic) × Halts reading_limits inner tops halt
+
+-- a record in front of the last magic passes a limit of reading there, or one behind the data section that on its content
+abbrev pub MeetsLimit : List ℕ → ℕ → Type 0
+MeetsLimit file offset = HaltsBefore file (beyond offset) ⊎ PassesLimit file offset
+
+-- why a file isn't checked
+abbrev pub IsUnchecked : List ℕ → CheckRefused → Type 0
+IsUnchecked file (refusals.Fault faults) = Unit {0}
+IsUnchecked file (refusals.Compressed offset name) = HaltsBefore file (compressed offset name)
+IsUnchecked file (refusals.Limit offset) = MeetsLimit file offset
+IsUnchecked file refusals.Memory = Unit {0}
+
+abbrev pub Checked : List ℕ → Result Verdict CheckRefused → Type 0
+Checked file (Ok verdict) = IsSo file verdict
+Checked file (Err why) = IsUnchecked file why
+
+-- where the store tells its bytes, these are the file
+abbrev pub Checks : Option (List ℕ) → Result Verdict CheckRefused → Type 0
+Checks told result = (file : List ℕ) → told ≡ Some file → Checked file result
+
+-- a fault comes where the store failed, and has the count; otherwise the count stands still
+abbrev pub CheckCause : {V : Type 0} → ℕ → ℕ → Result V CheckRefused → Type 0
+CheckCause before now (Ok it) = now ≡ before
+CheckCause before now (Err (refusals.Fault faults)) = RisesOnce before now × (faults ≡ now)
+CheckCause before now (Err (refusals.Compressed offset name)) = now ≡ before
+CheckCause before now (Err (refusals.Limit offset)) = now ≡ before
+CheckCause before now (Err refusals.Memory) = now ≡ before
+
+-- what a check leaves of the store
+pub record Leaves (old new : StoreState) : Type 0 where
+  pub bytes : new.bytes ≡ old.bytes
+  pub known : old.known ≤ new.known
+
+-- ---- the steps
+
+-- it is for a fault of the store
+abbrev pub IsFault : CheckRefused → Type 0
+IsFault (refusals.Fault faults) = Unit {0}
+IsFault (refusals.Compressed offset name) = ⊥
+IsFault (refusals.Limit offset) = ⊥
+IsFault refusals.Memory = ⊥
+
+-- the bytes and the length that the store tells stay
+pub record Keeps (old new : StoreState) : Type 0 where
+  pub bytes : new.bytes ≡ old.bytes
+  pub known : new.known ≡ old.known
+
+abbrev pub EndsWithMagic : List ℕ → Type 0
+EndsWithMagic file = (start : List ℕ) × (file ≡ start ++ magic)
+
+-- the source over the front of a store
+abbrev pub front_of : StoreState → ℕ → SourceState
+front_of store end = record { left = front_left store.bytes 0 end; faults = store.faults }
+
+-- what is told of a reading that halted there
+abbrev pub TellsFlaw : Option (List ℕ) → ℕ → ℕ → ℕ → FailedRule → Type 0
+TellsFlaw told end offset rule f = (f ≡ told_flaw end offset rule)
+    × ((file : List ℕ) → told ≡ Some file → offset + 9 ≤ end → end ≤ length file → HasLengthAt (take end file) offset)
+
+-- ---- the data section
+
+-- the data section of a store was read in front of that end
+abbrev pub SectionReads : StoreState → ℕ → StoreState → Result Section SectionRefused → Type 0
+SectionReads old end new result = (now : SourceState) × (now.faults ≡ new.faults) × Reads (front_of old end) now result
+
+-- the file's last magic stands at that end
+pub record IsEnded (file : List ℕ) (end : ℕ) : Type 0 where
+  pub size : length file ≡ end + 8
+  pub magic_last : EndsWithMagic file
+  pub fits : length file < 2 ^ 64
+
+-- what is told, by a store of these bytes, of a data section that was refused
+abbrev pub TellsRefused : Option (List ℕ) → ℕ → SectionRefused → Result Verdict CheckRefused → Type 0
+TellsRefused told end why result = (old : StoreState) (now : SourceState) → old.bytes ≡ told → Reads (front_of old end) now (Err why)
+    → (file : List ℕ) → told ≡ Some file → IsEnded file end → Checked file result
+
+-- and its cause
+abbrev pub RefusedCause : ℕ → ℕ → ℕ → SectionRefused → Result Verdict CheckRefused → Type 0
+RefusedCause before now end why result = (old : StoreState) (read : SourceState) → read.faults ≡ before → Reads (front_of old end) read (Err why) → CheckCause old.faults now result
+
+-- ---- behind the data section
+
+-- the data section of a file, whose last magic stands at that end, was read, and this was kept of it
+pub record FrontIs (file : List ℕ) (end : ℕ) (section : Section) : Type 0 where
+  pub tops : List Top
+  pub rest : List ℕ
+  pub stand : Tops (take end file) tops rest
+  pub good : Good reading_limits tops
+  pub ended : HasDataEnd tops
+  pub v9 : KeepsAll V9 tops
+  pub kept : SectionOf tops section
+
+-- what is told, by a store of these bytes, of a file whose data section was kept so
+abbrev pub TellsJudged : Option (List ℕ) → ℕ → Section → Result Verdict CheckRefused → Type 0
+TellsJudged told end section result = (file : List ℕ) → told ≡ Some file → IsEnded file end → FrontIs file end section → Checked file result
+
+-- of a file whose last magic stands at that end
+abbrev pub TellsFile : Option (List ℕ) → ℕ → Result Verdict CheckRefused → Type 0
+TellsFile told end result = (file : List ℕ) → told ≡ Some file → IsEnded file end → Checked file result
+
+-- what a file with these bytes behind a data section comes to
+abbrev pub told_by : Result Bool SummaryRefused → Counts → Result Verdict CheckRefused
+told_by (Ok true) counts = Ok (verdicts.Indexed counts)
+told_by (Ok false) counts = Ok (verdicts.Plain counts)
+told_by (Err (summaries.Flawed rule offset)) counts = Ok (verdicts.Flawed rule offset)
+told_by (Err (summaries.Limit offset)) counts = Err (refusals.Limit offset)
+told_by (Err summaries.Memory) counts = Err refusals.Memory
+
+abbrev pub Judges : List Top → List ℕ → Result Bool SummaryRefused → Type 0
+Judges tops rest (Ok indexed) = IsJudged tops rest indexed
+Judges tops rest (Err why) = IsRefusedBehind (file_of tops rest) why

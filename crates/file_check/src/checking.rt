@@ -1,0 +1,183 @@
+//! The check of a file, part by part.
+ghost use Rattle.std.specs.Prelude.{◌≡◌, ◌≤◌, ◌<◌, ◌+◌, ◌^◌, ℕ, List, Some, Err, length, take, drop, IfOk, IfErr};
+ghost use Rattle.summary_check.specs.Sectioned.{IsSectioned};
+ghost use Rattle.section_check.specs.declared.reading.SectionRefused.TheVariants as sections;
+ghost use Rattle.mcap_model.specs.Tops.{Top};
+ghost use Rattle.index_check.specs.Section.{SectionOf};
+ghost use Rattle.file_check.specs.Checking.{Counted, CheckCause, Keeps, SectionReads, TellsRefused, RefusedCause, TellsJudged, TellsFile, IsUnchecked, told_by, Judges};
+
+use crate::ends::tell_flaw;
+use crate::refusals::CheckRefused;
+use index_check::Section;
+use mcap_io::{ReadRefused, Store, StoreSource, read_part};
+use mcap_model::{Counts, Verdict};
+use mcap_scan::ScanRefused;
+use section_check::{SectionRefused, read_section};
+use std::alloc::Global;
+use summary_check::{SummaryRefused, judge_summary};
+
+// Reads the data section of a store in front of that end.
+fn read_front<T: Store>(alloc: Global, store: &mut T, end: u64) -> Result<Section, SectionRefused>
+    requires { end ≤ (T.state store.old).known }
+    ensures reads { SectionReads (T.state store.old) end (T.state store.new) result }
+    ensures keeps { Keeps (T.state store.old) (T.state store.new) }
+{
+    let mut source = StoreSource::new(store, end);
+    read_section(alloc, &mut source)
+}
+
+// What is told of a file whose records weren't all read, up to that end.
+fn tell_scan<T: Store>(store: &mut T, end: u64, why: ScanRefused) -> Result<Verdict, CheckRefused>
+    requires known { end ≤ (T.state store.old).known }
+    requires long { 8 ≤ end }
+    ensures tells { TellsRefused (T.state store.old).bytes end (sections.Scan why) result }
+    ensures cause { RefusedCause (T.state store.old).faults (T.state store.new).faults end (sections.Scan why) result }
+    ensures keeps { Keeps (T.state store.old) (T.state store.new) }
+{
+    match why {
+        ScanRefused::Fault { faults } => return Err(CheckRefused::Fault { faults }),
+        ScanRefused::Grammar { offset, rule } => match tell_flaw(store, end, offset, rule) {
+            Ok(failed) => {
+                return Ok(Verdict::Flawed {
+                    rule: failed.rule,
+                    offset: failed.offset,
+                });
+            }
+            Err(why) => return Err(why),
+        },
+        ScanRefused::Compressed { offset, name } => {
+            return Err(CheckRefused::Compressed { offset, name });
+        }
+        ScanRefused::Limit { offset } => return Err(CheckRefused::Limit { offset }),
+        ScanRefused::Memory => return Err(CheckRefused::Memory),
+    }
+}
+
+// What is told of a file whose data section was refused, in front of that end.
+fn tell_section<T: Store>(
+    store: &mut T,
+    end: u64,
+    why: SectionRefused,
+) -> Result<Verdict, CheckRefused>
+    requires known { end ≤ (T.state store.old).known }
+    requires long { 8 ≤ end }
+    ensures tells { TellsRefused (T.state store.old).bytes end why result }
+    ensures cause { RefusedCause (T.state store.old).faults (T.state store.new).faults end why result }
+    ensures keeps { Keeps (T.state store.old) (T.state store.new) }
+{
+    match why {
+        SectionRefused::Scan { why } => return tell_scan(store, end, why),
+        SectionRefused::Index { offset } => return Ok(Verdict::Flawed { rule: 9, offset }),
+    }
+}
+
+// The numbers of a data section.
+fn counts_of(section: &Section) -> Counts
+    ensures { (tops : List Top) → SectionOf tops section.now → Counted tops result }
+{
+    Counts {
+        messages: section.tally.messages,
+        channels: section.tally.channels.in_section,
+        schemas: section.tally.schemas.in_section,
+        chunks: section.tally.chunks,
+        attachments: section.tally.attachments,
+        metadata: section.tally.metadata,
+    }
+}
+
+// The bytes of a store from there on, as many.
+fn read_rest<T: Store>(
+    alloc: Global,
+    store: &mut T,
+    at: u64,
+    len: u64,
+) -> Result<Vec<u8>, CheckRefused>
+    requires { at + len ≤ (T.state store.old).known }
+    ensures size { IfOk result (λ part. length part.items ≡ len) }
+    ensures gives { IfOk result (λ part. (file : List ℕ) → (T.state store.old).bytes ≡ Some file → part.items ≡ take len (drop at file)) }
+    ensures unchecked { IfErr result (λ why. (file : List ℕ) → IsUnchecked file why) }
+    ensures cause { CheckCause (T.state store.old).faults (T.state store.new).faults result }
+    ensures keeps { Keeps (T.state store.old) (T.state store.new) }
+{
+    match read_part(alloc, store, at, len) {
+        Ok(part) => return Ok(part),
+        Err(ReadRefused::Failed) => {
+            return Err(CheckRefused::Fault {
+                faults: store.faults(),
+            });
+        }
+        Err(ReadRefused::Memory) => return Err(CheckRefused::Memory),
+    }
+}
+
+// What a file with these numbers comes to.
+fn tell(judged: Result<bool, SummaryRefused>, counts: Counts) -> Result<Verdict, CheckRefused>
+    ensures told { result ≡ told_by judged counts }
+    ensures cause { (faults : ℕ) → CheckCause faults faults result }
+{
+    match judged {
+        Ok(true) => return Ok(Verdict::Indexed { counts }),
+        Ok(false) => return Ok(Verdict::Plain { counts }),
+        Err(SummaryRefused::Flawed { rule, offset }) => {
+            return Ok(Verdict::Flawed { rule, offset });
+        }
+        Err(SummaryRefused::Limit { offset }) => return Err(CheckRefused::Limit { offset }),
+        Err(SummaryRefused::Memory) => return Err(CheckRefused::Memory),
+    }
+}
+
+// Judges the bytes between a data section and the last magic.
+fn judge(alloc: Global, section: Section, rest: &[u8]) -> Result<bool, SummaryRefused>
+    requires { section.behind + length rest.now + 8 < 2 ^ 64 }
+    ensures { (tops : List Top) → IsSectioned tops section → Judges tops rest.now result }
+{
+    match judge_summary(alloc, section, rest) {
+        Ok(indexed) => return Ok(indexed),
+        Err(why) => return Err(why),
+    }
+}
+
+// Judges what stands behind a data section, up to that end.
+fn judge_behind<T: Store>(
+    alloc: Global,
+    store: &mut T,
+    end: u64,
+    section: Section,
+) -> Result<Verdict, CheckRefused>
+    requires known { end ≤ (T.state store.old).known }
+    requires fits { end + 8 < 2 ^ 64 }
+    ensures tells { TellsJudged (T.state store.old).bytes end section result }
+    ensures cause { CheckCause (T.state store.old).faults (T.state store.new).faults result }
+    ensures keeps { Keeps (T.state store.old) (T.state store.new) }
+{
+    let at = section.behind;
+    if at > end {
+        return Err(CheckRefused::Memory);
+    }
+    let rest = match read_rest(alloc, store, at, end - at) {
+        Ok(rest) => rest,
+        Err(why) => return Err(why),
+    };
+    let counts = counts_of(&section);
+    let judged = judge(alloc, section, &rest);
+    tell(judged, counts)
+}
+
+/// Checks the records of a store, whose last magic begins at that end.
+pub(crate) fn check_records<T: Store>(
+    alloc: Global,
+    store: &mut T,
+    end: u64,
+) -> Result<Verdict, CheckRefused>
+    requires known { end ≤ (T.state store.old).known }
+    requires long { 8 ≤ end }
+    requires fits { end + 8 < 2 ^ 64 }
+    ensures tells { TellsFile (T.state store.old).bytes end result }
+    ensures cause { CheckCause (T.state store.old).faults (T.state store.new).faults result }
+    ensures keeps { Keeps (T.state store.old) (T.state store.new) }
+{
+    match read_front(alloc, store, end) {
+        Ok(section) => return judge_behind(alloc, store, end, section),
+        Err(why) => return tell_section(store, end, why),
+    }
+}

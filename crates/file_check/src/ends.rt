@@ -1,0 +1,79 @@
+//! Parts of a file that are read by themselves: its last magic, and the head of a record.
+ghost use Rattle.std.specs.Prelude.{◌≡◌, ◌+◌, ◌≤◌, ◌↔◌, ◌^◌, ◌<◌, ℕ, List, Some, length, take, drop, IsTrue, IfOk, IfErr};
+ghost use Rattle.mcap_wire.specs.Layout.{le};
+ghost use Rattle.file_check.specs.Checking.{CheckCause, IsFault, Keeps, EndsWithMagic, TellsFlaw};
+
+use crate::flaws::{FailedRule, failed_rule};
+use crate::refusals::CheckRefused;
+use mcap_io::{Failed, Store};
+use mcap_wire::{MAGIC, take_u64};
+
+// Whether the bytes end with the magic.
+fn are_ended(bytes: &[u8]) -> bool
+    ensures { IsTrue result ↔ EndsWithMagic bytes.now }
+{
+    bytes.ends_with(&MAGIC)
+}
+
+/// Whether the last eight bytes of a store of that length are the magic.
+pub(crate) fn ends_with_magic<T: Store>(store: &mut T, len: u64) -> Result<bool, CheckRefused>
+    requires known { len ≤ (T.state store.old).known }
+    requires long { 8 ≤ len }
+    ensures tells { IfOk result (λ ends. (file : List ℕ) → (T.state store.old).bytes ≡ Some file → length file ≡ len → IsTrue ends ↔ EndsWithMagic file) }
+    ensures cause { CheckCause (T.state store.old).faults (T.state store.new).faults result }
+    ensures fault { IfErr result IsFault }
+    ensures keeps { Keeps (T.state store.old) (T.state store.new) }
+{
+    let mut end = [0; 8];
+    match store.read_at(len - 8, &mut end) {
+        Ok(()) => return Ok(are_ended(&end)),
+        Err(Failed) => {
+            return Err(CheckRefused::Fault {
+                faults: store.faults(),
+            });
+        }
+    }
+}
+
+// The length that a head of nine bytes declares.
+fn length_in(head: &[u8]) -> u64
+    requires { length head.now ≡ 9 }
+    ensures small { result < 2 ^ 64 }
+    ensures stands { take 8 (drop 1 head.now) ≡ le 8 result }
+{
+    match take_u64(head, 1) {
+        Ok((len, _)) => return len,
+        Err(_) => unreachable!(),
+    }
+}
+
+/// What is told of a file whose records are read up to `end`, where its last magic begins, and whose reading halts at that
+/// offset for that rule. The head of the record there is read once more.
+pub(crate) fn tell_flaw<T: Store>(
+    store: &mut T,
+    end: u64,
+    offset: u64,
+    rule: u8,
+) -> Result<FailedRule, CheckRefused>
+    requires { end ≤ (T.state store.old).known }
+    ensures tells { IfOk result (λ f. TellsFlaw (T.state store.old).bytes end offset rule f) }
+    ensures cause { CheckCause (T.state store.old).faults (T.state store.new).faults result }
+    ensures fault { IfErr result IsFault }
+    ensures keeps { Keeps (T.state store.old) (T.state store.new) }
+{
+    if offset > end || end - offset < 9 {
+        return Ok(failed_rule(end, offset, rule));
+    }
+    let mut head = [0; 9];
+    match store.read_at(offset, &mut head) {
+        Ok(()) => {
+            let _len = length_in(&head);
+            return Ok(failed_rule(end, offset, rule));
+        }
+        Err(Failed) => {
+            return Err(CheckRefused::Fault {
+                faults: store.faults(),
+            });
+        }
+    }
+}
