@@ -11,10 +11,12 @@ use Rattle.mcap_scan.specs.declared.answers.ScanRefused.TheVariants as refusals
 use Rattle.mcap_app.specs.declared.cat.Reading.{Reading}
 use Rattle.mcap_app.specs.declared.cat.Reading.TheVariants as readings
 use Rattle.mcap_app.specs.declared.cat.Played.{Played}
+use Rattle.mcap_app.specs.declared.cat.Faults.{Faults}
+use Rattle.mcap_app.specs.declared.faults.Counts.{Counts}
 use Rattle.mcap_app.specs.Printing.{TellsAll, Takes}
 use Rattle.mcap_app.specs.Texts.{Trouble, halt_status, status_of}
 use Rattle.mcap_app.specs.Ran.{Scene, counts_in, AnyRose, WorldRose, IsCaused, Blames, BlamesOutput, kept, has_failed, named_when, failed_names, troubles_of, Complains}
-use Rattle.mcap_app.specs.Cat.{files_of, ComesTo, IsReading, ReadUnder, NamePlayed, PrintsLines, lines_of, lacks_memory, findings_of, Cats}
+use Rattle.mcap_app.specs.Cat.{files_of, ComesTo, IsReading, ReadUnder, NamePlayed, PrintsLines, lines_of, lacks_memory, findings_of, AskedRose, ShowsFaults, Cats}
 use Rattle.mcap_app.proofs.Counting.{not_risen}
 use Rattle.mcap_app.proofs.Blamed.{each_one, some_one}
 
@@ -83,13 +85,52 @@ number_not_two false false n other e = other e
 -- the status of a printing is not that of bad words
 pub not_two : (file : List ℕ) (old new : Scene) (answer : ℕ) → Cats file old new answer → answer ≡ 2 → ⊥
 not_two file old new answer all two =
-    let due : troubles_of (findings_of file all.reading) all.ran.failed all.ran.printing ≡ cat_troubles file all.reading all.failed all.ran.printing =
-    ap (λ (l : List (List ℕ)). troubles_of (findings_of file all.reading) l all.ran.printing) (all.blame ∙ all.names_are) in
-    let told : Complains (cat_troubles file all.reading all.failed all.ran.printing) old.err new.err answer =
+    let due : troubles_of (findings_of file all.reading) all.ran.failed all.ran.printing ≡ cat_troubles file all.reading all.faults.file all.faults.printing =
+    ap (λ (l : List (List ℕ)). troubles_of (findings_of file all.reading) l all.ran.printing) all.blame ∙ ap (cat_troubles file all.reading all.faults.file) all.printing_is in
+    let told : Complains (cat_troubles file all.reading all.faults.file all.faults.printing) old.err new.err answer =
     subst (λ (l : List Trouble). Complains l old.err new.err answer) due all.ran.said in
-    elim (answered file all.reading all.failed all.ran.printing old.err new.err answer told) [
+    elim (answered file all.reading all.faults.file all.faults.printing old.err new.err answer told) [
       | inl five ↦ omega (arith, five, two)
-      | inr is ↦ number_not_two (lacks_memory all.reading) (all.failed || all.ran.printing) (own_status all.reading) (own_not_two all.reading) (sym is ∙ two)
+      | inr is ↦ number_not_two (lacks_memory all.reading) (all.faults.file || all.faults.printing) (own_status all.reading) (own_not_two all.reading) (sym is ∙ two)
+    ]
+
+-- ---- tests
+
+is_false : (b : Bool) → (b ≡ true → ⊥) → b ≡ false
+is_false true none = absurd (none refl)
+is_false false none = refl
+
+is_true : (b : Bool) → (b ≡ false → ⊥) → b ≡ true
+is_true true none = refl
+is_true false none = absurd (none refl)
+
+same_tests : (a b : Bool) → (a ≡ true → b ≡ true) → (b ≡ true → a ≡ true) → a ≡ b
+same_tests true b there back = sym (there refl)
+same_tests false b there back = sym (is_false b (λ is. both_ways false refl (back is)))
+
+-- ---- a count that rose
+
+either : (a b : Bool) → (a ≡ true) ⊎ (b ≡ true) → (a || b) ≡ true
+either true b some = refl
+either false b (inl is) = absurd cc
+either false b (inr is) = is
+
+three_or : (lacked some : Bool) (own answer : ℕ) → some ≡ true → answer ≡ cond lacked 5 (cond some 3 own) → (answer ≡ 3) ⊎ (answer ≡ 5)
+three_or true some own answer risen is = inr is
+three_or false true own answer risen is = inl is
+three_or false false own answer risen is = absurd cc
+
+rose : (file : List ℕ) (reading : Reading) (before now : Counts) (failed broke : Bool) (faults : Faults) (err err_now : SinkState) (answer : ℕ) → ShowsFaults before now failed broke faults
+    → Complains (cat_troubles file reading faults.file faults.printing) err err_now answer → AskedRose before now → (answer ≡ 3) ⊎ (answer ≡ 5)
+rose file reading before now failed broke faults err err_now answer shows a risen =
+    let some : (faults.file || faults.printing) ≡ true = either faults.file faults.printing (elim risen [
+      | inl world ↦ inl (shows.file_told (inr (inl world)))
+      | inr (inl inputs) ↦ inl (shows.file_told (inr (inr inputs)))
+      | inr (inr printing) ↦ inr (shows.printing_told (inr printing))
+    ]) in
+    elim (answered file reading faults.file faults.printing err err_now answer a) [
+      | inl five ↦ inr five
+      | inr is ↦ three_or (lacks_memory reading) (faults.file || faults.printing) (own_status reading) answer some is
     ]
 
 -- ---- the status 0
@@ -158,15 +199,18 @@ all_taken before now reading printing text prints is well =
     let P : Reading → Type 0 = λ r. PrintsLines before now r printing in
     elim (subst P is prints) [ inl all ↦ all.1 | inr part ↦ absurd (both_ways printing well part.0) ]
 
-whole : (file : List ℕ) (old new : WorldState) (out out_now err err_now : SinkState) (played : Played) (printing : Bool) (answer : ℕ) → NamePlayed file old new played → PrintsLines out out_now played.reading printing
-    → Complains (cat_troubles file played.reading played.failed printing) err err_now answer → answer ≡ 0 → (text : List ℕ) × (played.reading ≡ readings.Lines text) × TellsAll out out_now text
-whole file old new out out_now err err_now played printing answer name prints a zero_is =
-    let number : number_of played.reading played.failed printing ≡ 0 = elim (answered file played.reading played.failed printing err err_now answer a) [
+whole : (file : List ℕ) (old new : WorldState) (out out_now err err_now : SinkState) (before now : Counts) (played : Played) (broke : Bool) (faults : Faults) (answer : ℕ) → NamePlayed file old new played → PrintsLines out out_now played.reading broke
+    → ShowsFaults before now played.failed broke faults → Complains (cat_troubles file played.reading faults.file faults.printing) err err_now answer → answer ≡ 0 → (text : List ℕ) × (played.reading ≡ readings.Lines text) × TellsAll out out_now text
+whole file old new out out_now err err_now before now played broke faults answer name prints shows a zero_is =
+    let number : number_of played.reading faults.file faults.printing ≡ 0 = elim (answered file played.reading faults.file faults.printing err err_now answer a) [
       | inl five ↦ absurd (omega (arith, five, zero_is))
       | inr is ↦ sym is ∙ zero_is
     ] in
-    let all = all_read played.reading played.failed printing number (λ calm. reads_whole file old name.entries played.reading name.reading (none_named played.failed file (failed_names name.entries) name.failed calm)) in
-    (all.0, all.1, all_taken out out_now played.reading printing all.0 prints all.1 all.2)
+    let all = all_read played.reading faults.file faults.printing number (λ calm.
+    let none : played.failed ≡ false = is_false played.failed (λ is. both_ways faults.file calm (shows.file_told (inl is))) in
+    reads_whole file old name.entries played.reading name.reading (none_named played.failed file (failed_names name.entries) name.failed none)) in
+    let well : broke ≡ false = is_false broke (λ is. both_ways faults.printing all.2 (shows.printing_told (inl is))) in
+    (all.0, all.1, all_taken out out_now played.reading broke all.0 prints all.1 well)
 
 -- ---- the bytes decide
 
@@ -211,10 +255,6 @@ module _ (bytes : List ℕ) (tops : List Top) (halt : Halt) (halts : Halts readi
       halted_so under.source (record { left = keeping.left; faults = keeping.faults }) reading ((under.tells told here).0 ∙ there) under.comes
       (under_whole file world keeping reading under (sym (ap (λ (e : Opening). has_failed e) is) ∙ first_calm (has_failed entry) entry.name (failed_names more) calm))
 
-is_false : (b : Bool) → (b ≡ true → ⊥) → b ≡ false
-is_false true none = absurd (none refl)
-is_false false none = refl
-
 neither : (a b : Bool) → a ≡ false → b ≡ false → (a || b) ≡ false
 neither true b first second = absurd cc
 neither false b first second = second
@@ -232,60 +272,91 @@ settled false true own want answer is none why = absurd cc
 settled false false own want answer is none (inl same) = inl (is ∙ same)
 settled false false own want answer is none (inr lacks) = absurd cc
 
-decided : (file : List ℕ) (old new : Scene) (played : Played) (printing : Bool) (answer : ℕ) → NamePlayed file old.world new.world played → PrintsLines old.out new.out played.reading printing
-    → Complains (cat_troubles file played.reading played.failed printing) old.err new.err answer
+decided : (file : List ℕ) (old new : Scene) (played : Played) (broke : Bool) (faults : Faults) (answer : ℕ) → NamePlayed file old.world new.world played → PrintsLines old.out new.out played.reading broke
+    → ShowsFaults (counts_in old) (counts_in new) played.failed broke faults → Complains (cat_troubles file played.reading faults.file faults.printing) old.err new.err answer
     → (told : Told) (bytes : List ℕ) (tops : List Top) (halt : Halt) → old.world.told ≡ Some told → told.names file ≡ Some bytes → Halts reading_limits bytes tops halt
     → (AnyRose (counts_in old) (counts_in new) → ⊥) → (answer ≡ halt_status halt) ⊎ (answer ≡ 5)
-decided file old new played printing answer name prints a told bytes tops halt here there halts quiet =
-    let calm : played.failed ≡ false = is_false played.failed (λ failed. elim (name.cause failed) [ inl world ↦ quiet (inl world) | inr inputs ↦ quiet (inr (inl inputs)) ]) in
-    let still : printing ≡ false = printing_calm old.out new.out played.reading printing prints (λ rose. quiet (inr (inr (inr rose)))) in
-    elim (answered file played.reading played.failed printing old.err new.err answer a) [
+decided file old new played broke faults answer name prints shows a told bytes tops halt here there halts quiet =
+    let none : played.failed ≡ false = is_false played.failed (λ failed. elim (name.cause failed) [ inl world ↦ quiet (inl world) | inr inputs ↦ quiet (inr (inl inputs)) ]) in
+    let calm : faults.file ≡ false = is_false faults.file (λ blamed. elim (shows.file_cause blamed) [
+      | inl is ↦ both_ways played.failed none is
+      | inr (inl world) ↦ quiet (inl world)
+      | inr (inr inputs) ↦ quiet (inr (inl inputs))
+    ]) in
+    let well : broke ≡ false = printing_calm old.out new.out played.reading broke prints (λ rose. quiet (inr (inr (inr rose)))) in
+    let still : faults.printing ≡ false = is_false faults.printing (λ blamed. elim (shows.printing_cause blamed) [ inl is ↦ both_ways broke well is | inr rose ↦ quiet (inr (inr (inr rose))) ]) in
+    elim (answered file played.reading faults.file faults.printing old.err new.err answer a) [
       | inl five ↦ inr five
-      | inr is ↦ settled (lacks_memory played.reading) (played.failed || printing) (own_status played.reading) (halt_status halt) answer is (neither played.failed printing calm still)
-          (name_halted bytes tops halt halts file old.world told name.entries played.reading name.reading here there (none_named played.failed file (failed_names name.entries) name.failed calm))
+      | inr is ↦ settled (lacks_memory played.reading) (faults.file || faults.printing) (own_status played.reading) (halt_status halt) answer is (neither faults.file faults.printing calm still)
+          (name_halted bytes tops halt halts file old.world told name.entries played.reading name.reading here there (none_named played.failed file (failed_names name.entries) name.failed none))
     ]
 
-blames : (file : List ℕ) (old new : WorldState) (played : Played) → (name : NamePlayed file old new played) → Blames (files_of file) old new name.entries (named_when played.failed file ++ [])
-blames file old new played name = record {
-  exact = λ on. sym name.failed;
-  caused = each_one (IsCaused (files_of file) old new) played.failed file (λ is. elim (name.cause is) [ inl world ↦ inl world | inr inputs ↦ inr (inl ((0, refl), inputs)) ]);
+blames : (file : List ℕ) (old new : Scene) (played : Played) (broke : Bool) (faults : Faults) → (name : NamePlayed file old.world new.world played) → ShowsFaults (counts_in old) (counts_in new) played.failed broke faults
+    → Blames (files_of file) old.world new.world name.entries (named_when faults.file file ++ [])
+blames file old new played broke faults name shows = record {
+  exact = λ on.
+      let same : faults.file ≡ played.failed = same_tests faults.file played.failed (λ blamed. elim (shows.file_cause blamed) [
+        | inl is ↦ is
+        | inr (inl world) ↦ is_true played.failed (λ none. not_risen ⊥ old.world.faults new.world.faults on.world (name.world_told none) world)
+        | inr (inr inputs) ↦ name.inputs_told on.inputs inputs
+      ]) (λ is. shows.file_told (inl is)) in
+      ap (λ (b : Bool). named_when b file ++ []) same ∙ sym name.failed;
+  caused = each_one (IsCaused (files_of file) old.world new.world) faults.file file (λ blamed. elim (shows.file_cause blamed) [
+    | inl is ↦ elim (name.cause is) [ inl world ↦ inl world | inr inputs ↦ inr (inl ((0, refl), inputs)) ]
+    | inr (inl world) ↦ inl world
+    | inr (inr inputs) ↦ inr (inl ((0, refl), inputs))
+  ]);
   told = λ on risen none.
-      let calm : played.failed ≡ false = is_false played.failed (λ is. some_one played.failed file is none) in
+      let calm : faults.file ≡ false = is_false faults.file (λ is. some_one faults.file file is none) in
       elim risen [
-        | inl world ↦ not_risen ⊥ old.faults new.faults on.world (name.world_told calm) world
-        | inr (inl inputs) ↦ both_ways played.failed calm (name.inputs_told on.inputs inputs)
-        | inr (inr outputs) ↦ not_risen ⊥ old.output_faults new.output_faults on.outputs name.outputs outputs
+        | inl world ↦ both_ways faults.file calm (shows.file_told (inr (inl world)))
+        | inr (inl inputs) ↦ both_ways faults.file calm (shows.file_told (inr (inr inputs)))
+        | inr (inr outputs) ↦ not_risen ⊥ old.world.output_faults new.world.output_faults on.outputs name.outputs outputs
       ];
 }
 
-blames_output : (before now : SinkState) (reading : Reading) (printing : Bool) → PrintsLines before now reading printing → BlamesOutput before now printing
-blames_output before now readings.Unopened printing prints = record { caused = λ is. absurd (both_ways printing prints.0 is); told = λ on rose. not_risen _ before.faults now.faults on (ap (λ (s : SinkState). s.faults) prints.1) rose }
-blames_output before now (readings.Lines text) printing (inl all) = record { caused = λ is. absurd (both_ways printing all.0 is); told = λ on rose. not_risen _ before.faults now.faults on all.1.still rose }
-blames_output before now (readings.Lines text) printing (inr part) = record { caused = λ is. omega (arith, part.1.rises.once); told = λ on rose. part.0 }
-blames_output before now (readings.Refused why) printing prints = record { caused = λ is. absurd (both_ways printing prints.0 is); told = λ on rose. not_risen _ before.faults now.faults on (ap (λ (s : SinkState). s.faults) prints.1) rose }
+-- a write that failed shows in the count
+broke_rose : (before now : SinkState) (reading : Reading) (broke : Bool) → PrintsLines before now reading broke → broke ≡ true → Rose before.faults now.faults
+broke_rose before now readings.Unopened broke prints is = absurd (both_ways broke prints.0 is)
+broke_rose before now (readings.Lines text) broke (inl all) is = absurd (both_ways broke all.0 is)
+broke_rose before now (readings.Lines text) broke (inr part) is = omega (arith, part.1.rises.once)
+broke_rose before now (readings.Refused why) broke prints is = absurd (both_ways broke prints.0 is)
 
 -- all that the program promises of a printing
-pub printed : (file : List ℕ) (old new : Scene) (played : Played) (printing : Bool) (answer : ℕ) → NamePlayed file old.world new.world played → PrintsLines old.out new.out played.reading printing → Takes old.out new.out (lines_of played.reading)
-    → Complains (cat_troubles file played.reading played.failed printing) old.err new.err answer → Cats file old new answer
-printed file old new played printing answer name prints takes a = record {
+pub printed : (file : List ℕ) (old new : Scene) (played : Played) (broke : Bool) (faults : Faults) (answer : ℕ) → NamePlayed file old.world new.world played → PrintsLines old.out new.out played.reading broke → Takes old.out new.out (lines_of played.reading)
+    → ShowsFaults (counts_in old) (counts_in new) played.failed broke faults → Complains (cat_troubles file played.reading faults.file faults.printing) old.err new.err answer → Cats file old new answer
+printed file old new played broke faults answer name prints takes shows a = record {
   entries = name.entries;
   reading = played.reading;
   read = name.reading;
-  failed = played.failed;
   ran = record {
     opened = name.opened;
     leaves = name.leaves;
     counts = name.counts;
     printed = takes;
-    failed = named_when played.failed file ++ [];
-    blames = blames file old.world new.world played name;
-    printing = printing;
-    blames_output = blames_output old.out new.out played.reading printing prints;
+    failed = named_when faults.file file ++ [];
+    blames = blames file old new played broke faults name shows;
+    printing = faults.printing;
+    blames_output = record {
+      caused = λ blamed. elim (shows.printing_cause blamed) [ inl is ↦ broke_rose old.out new.out played.reading broke prints is | inr rose ↦ rose ];
+      told = λ on rose. shows.printing_told (inr rose);
+    };
     said = a;
   };
-  blame = sym name.failed;
+  failed = played.failed;
   names_are = name.failed;
+  broke = broke;
   printed = prints;
-  decided = decided file old new played printing answer name prints a;
-  whole = whole file old.world new.world old.out new.out old.err new.err played printing answer name prints a;
+  faults = faults;
+  shows = shows;
+  blame = refl;
+  printing_is = refl;
+  rose = rose file played.reading (counts_in old) (counts_in new) played.failed broke faults old.err new.err answer shows a;
+  decided = decided file old new played broke faults answer name prints shows a;
+  whole = whole file old.world new.world old.out new.out old.err new.err (counts_in old) (counts_in new) played broke faults answer name prints shows a;
 }
+
+-- what holds of counts holds of equal ones
+pub shows_at : (b before n now : Counts) (failed broke : Bool) (faults : Faults) → b ≡ before → n ≡ now → ShowsFaults b n failed broke faults → ShowsFaults before now failed broke faults
+shows_at b before n now failed broke faults same same_now shows =
+    subst (λ (x : Counts). ShowsFaults before x failed broke faults) same_now (subst (λ (x : Counts). ShowsFaults x n failed broke faults) same shows)

@@ -4,13 +4,14 @@ use Rattle.std.specs.Str.Parse.{digits_value}
 use Rattle.std.proofs.lemmas.List.{append_cancel_left}
 use Rattle.mcap_model.proofs.Places.{heads, tails}
 use Rattle.mcap_app.specs.declared.words.Command.{Command}
-use Rattle.mcap_app.specs.declared.words.Command.TheVariants.{Record, Cat}
+use Rattle.mcap_app.specs.declared.words.Command.TheVariants.{Record, Check, Cat}
 use Rattle.mcap_app.specs.Words.{IsSize, IsChunked, IsRecord, AreBad, Derives}
 use Rattle.mcap_app.proofs.Sliced.{middle_is}
 
 -- the words of a command aren't bad
 pub derived : (words : List (List ℕ)) (c : Command) → Derives words c → AreBad words → ⊥
 derived words (Record out feed chunk) is bad = bad.no_record chunk out.now feed.now is
+derived words (Check file) is bad = bad.no_check file.now is
 derived words (Cat file) is bad = bad.no_cat file.now is
 
 -- ---- options

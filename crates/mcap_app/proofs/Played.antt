@@ -8,12 +8,15 @@ use Rattle.mcap_io.specs.declared.outside.Failed.{Failed}
 use Rattle.mcap_io.specs.declared.outside.ObjectKind.TheVariants as kinds
 use Rattle.mcap_io.specs.declared.outside.OpenRefused.{OpenRefused}
 use Rattle.mcap_io.specs.declared.outside.OpenRefused.TheVariants as open_refusals
+use Rattle.mcap_model.specs.Tops.{Top}
+use Rattle.mcap_scan.specs.declared.answers.ScanRefused.{ScanRefused}
 use Rattle.mcap_scan.specs.declared.answers.ScanRefused.TheVariants as refusals
+use Rattle.mcap_scan.specs.Scanning.{RefusalStands}
 use Rattle.mcap_app.specs.declared.cat.Reading.{Reading}
 use Rattle.mcap_app.specs.declared.cat.Reading.TheVariants as readings
 use Rattle.mcap_app.specs.declared.cat.Played.{Played}
 use Rattle.mcap_app.specs.Ran.{kept, refused, failed_so}
-use Rattle.mcap_app.specs.Cat.{ComesTo, NamePlayed}
+use Rattle.mcap_app.specs.Cat.{IsRefused, ComesTo, NamePlayed}
 use Rattle.mcap_app.proofs.Counting.{added_none, kept_adds, kept_shows, not_risen, kept_well, still_where, blamed}
 use Rattle.mcap_app.proofs.Opened.{tells_more, source_keeping, given, source_noted, none_last, SameNames, leaves_same}
 
@@ -66,6 +69,14 @@ pub lacked : (file : List ℕ) (old new : WorldState) (why : OpenRefused) → wh
     → old.faults < 2 ^ 64 → old.input_faults < 2 ^ 64 → old.output_faults < 2 ^ 64 → NamePlayed file old new (played (readings.Refused refusals.Memory) false)
 lacked file old new open_refusals.Failed is opens stand cause world_fits inputs_fit outputs_fit = absurd cc
 lacked file old new open_refusals.Memory is opens stand cause world_fits inputs_fit outputs_fit = lacked_so file old new opens stand cause world_fits inputs_fit outputs_fit
+
+-- what is said of a refused replay
+pub refused_so : (before now : SourceState) (why : ScanRefused) → (tops : List Top) × RefusalStands why before now tops → IsRefused before now why
+refused_so before now (refusals.Fault faults) stands = stands
+refused_so before now (refusals.Grammar offset rule) stands = stands
+refused_so before now (refusals.Compressed offset name) stands = stands
+refused_so before now (refusals.Limit offset) stands = stands
+refused_so before now refusals.Memory stands = inl stands
 
 -- what was seen of the world at each of the calls: the source was opened, read, and taken back
 pub record IsGiven (file : List ℕ) (w0 w1 w2 : WorldState) (source source_now : SourceState) (reading : Reading) (result : Result Unit Failed) : Type 0 where

@@ -27,11 +27,11 @@ use Rattle.mcap_app.specs.Laws.{IsAllowed, PrintsHistory, RecordingsArePrinted}
 -- ---- the recording
 
 -- with the status 0 no count rose
-calm : (old new : Scene) (report : Option Report) → EndsWith (counts_in old) (counts_in new) report 0 → AnyRose (counts_in old) (counts_in new) → ⊥
+pub calm : (old new : Scene) (report : Option Report) → EndsWith (counts_in old) (counts_in new) report 0 → AnyRose (counts_in old) (counts_in new) → ⊥
 calm old new report came risen = elim (came.rose risen) [ inl three ↦ omega (arith, three) | inr five ↦ omega (arith, five) ]
 
 -- a keeping went well where the world's count stood still
-kept_well : (before now : ℕ) (source live : Bool) → now ≡ added before ((if source then 0 else 1) + (if live then 0 else 1)) → (Rose before now → ⊥) → live ≡ true
+pub kept_well : (before now : ℕ) (source live : Bool) → now ≡ added before ((if source then 0 else 1) + (if live then 0 else 1)) → (Rose before now → ⊥) → live ≡ true
 kept_well before now source true is quiet = refl
 kept_well before now true false is quiet = absurd (quiet (omega (arith, is)))
 kept_well before now false false is quiet = absurd (quiet (omega (arith, is)))

@@ -320,7 +320,7 @@ module _ (options : RecordOptions) (out feed : List ℕ) (w0 w1 w2 w3 w4 : World
     unused = b.unused;
     live_unused = b.new;
     file = λ told now here here_now.
-        let h : Holds options.file made.history r.writer live_now.held = holds options.file live.held live_now.held made.history r.writer made.writer.wrote (nothing_yet told here) in
+        let h : Holds options.file made.history r.writer live_now.held = holds options.file live.held live_now.held made.history r.writer made.writer.wrote made.writer.begun (nothing_yet told here) in
         placed_holds options.file told.names now.names out made.history r.writer live_now.held live_kept h ((both_placed told now here here_now).placed h.text h.is);
     kept_are = refl;
   }

@@ -9,10 +9,12 @@ use Rattle.mcap_model.specs.Scan.{Seen, Scan, Replay}
 use Rattle.mcap_model.specs.Text.{cat_text}
 use Rattle.mcap_scan.specs.declared.answers.ScanRefused.{ScanRefused}
 use Rattle.mcap_scan.specs.declared.answers.ScanRefused.TheVariants as refusals
-use Rattle.mcap_scan.specs.Scanning.{HaltsSo, FaultStands}
+use Rattle.mcap_scan.specs.Scanning.{HaltsSo, FaultStands, MemoryStands}
 use Rattle.mcap_app.specs.declared.cat.Reading.{Reading}
 use Rattle.mcap_app.specs.declared.cat.Reading.TheVariants as readings
 use Rattle.mcap_app.specs.declared.cat.Played.{Played}
+use Rattle.mcap_app.specs.declared.cat.Faults.{Faults}
+use Rattle.mcap_app.specs.declared.faults.Counts.{Counts}
 use Rattle.mcap_app.specs.Printing.{TellsAll, TellsPart}
 use Rattle.mcap_app.specs.Texts.{Trouble, grammar, compressed, limit, halt_status}
 use Rattle.mcap_app.specs.Ran.{Scene, counts_in, AnyRose, Files, wanted, kept, refused, AreOpened, Leaves, CountsKept, named_when, failed_names, Findings, Ran}
@@ -21,7 +23,7 @@ use Rattle.mcap_app.specs.Ran.{Scene, counts_in, AnyRose, Files, wanted, kept, r
 
 -- the name of a printing
 abbrev pub files_of : List ℕ → Files
-files_of file = record { inputs = file ∷ []; outputs = [] }
+files_of file = record { kind = kinds.Source; inputs = file ∷ []; outputs = [] }
 
 abbrev pub all_times : Range
 all_times = record { start = 0; end = None }
@@ -38,13 +40,14 @@ pub record IsPrinted (before now : SourceState) (text : List ℕ) : Type 0 where
   pub replay : Replay all_times None messages shown
   pub text_is : text ≡ cat_text shown
 
--- the reading halted so, behind some records; or the source failed; or memory lacked, in the reading or behind it
+-- The reading halted so, behind some records; or the source failed; or memory lacked, behind records that are good or for the
+-- lines once all was read.
 abbrev pub IsRefused : SourceState → SourceState → ScanRefused → Type 0
 IsRefused before now (refusals.Fault faults) = (tops : List Top) × FaultStands faults before now tops
 IsRefused before now (refusals.Grammar n rule) = (tops : List Top) × HaltsSo before now tops (breaks n rule)
 IsRefused before now (refusals.Compressed n name) = (tops : List Top) × HaltsSo before now tops (names n name)
 IsRefused before now (refusals.Limit n) = (tops : List Top) × HaltsSo before now tops (beyond n)
-IsRefused before now refusals.Memory = now.faults ≡ before.faults
+IsRefused before now refusals.Memory = ((tops : List Top) × MemoryStands before now tops) ⊎ ((tops : List Top) × (end : ℕ) × HaltsSo before now tops (at_end end))
 
 -- what the reading of a source came to
 abbrev pub ComesTo : SourceState → SourceState → Reading → Type 0
@@ -124,6 +127,19 @@ lacks_memory (readings.Refused why) = is_memory_refused why
 abbrev pub findings_of : List ℕ → Reading → Findings
 findings_of file reading = record { halts = reading_troubles file reading; limits = []; lacked = lacks_memory reading }
 
+-- ---- faults
+
+-- a count of what a printing asks has risen: of the world, of its inputs, or of standard output
+abbrev pub AskedRose : Counts → Counts → Type 0
+AskedRose before now = Rose before.world now.world ⊎ (Rose before.inputs now.inputs ⊎ Rose before.printing now.printing)
+
+-- Which parts failed: those that told it, and those of a count that rose. Each has its cause.
+pub record ShowsFaults (before now : Counts) (failed broke : Bool) (faults : Faults) : Type 0 where
+  pub file_told : (failed ≡ true) ⊎ (Rose before.world now.world ⊎ Rose before.inputs now.inputs) → faults.file ≡ true
+  pub file_cause : faults.file ≡ true → (failed ≡ true) ⊎ (Rose before.world now.world ⊎ Rose before.inputs now.inputs)
+  pub printing_told : (broke ≡ true) ⊎ Rose before.printing now.printing → faults.printing ≡ true
+  pub printing_cause : faults.printing ≡ true → (broke ≡ true) ⊎ Rose before.printing now.printing
+
 -- ---- the command
 
 -- what `cat` does
@@ -134,11 +150,18 @@ pub record Cats (file : List ℕ) (old new : Scene) (status : ℕ) : Type 0 wher
   pub read : IsReading file old.world entries reading
   -- standard output takes the lines of the messages, and standard error the troubles
   pub ran : Ran (files_of file) old new entries (lines_of reading) (findings_of file reading) status
-  -- the file is blamed exactly where its opening, its keeping or its source failed, and standard output where it failed
+  -- what failed: the opening, the keeping or the source of the file; and a write
   pub failed : Bool
-  pub blame : ran.failed ≡ failed_names entries
   pub names_are : failed_names entries ≡ named_when failed file ++ []
-  pub printed : PrintsLines old.out new.out reading ran.printing
+  pub broke : Bool
+  pub printed : PrintsLines old.out new.out reading broke
+  -- the file and standard output are blamed for these, and for a count that rose
+  pub faults : Faults
+  pub shows : ShowsFaults (counts_in old) (counts_in new) failed broke faults
+  pub blame : ran.failed ≡ named_when faults.file file ++ []
+  pub printing_is : ran.printing ≡ faults.printing
+  -- a count that rose is answered, also one that stands at the end of its type
+  pub rose : AskedRose (counts_in old) (counts_in new) → (status ≡ 3) ⊎ (status ≡ 5)
   -- where the world tells, the bytes under the name decide the status, unless a count rises or memory lacks
   pub decided : (told : Told) (bytes : List ℕ) (tops : List Top) (halt : Halt) → old.world.told ≡ Some told → told.names file ≡ Some bytes → Halts reading_limits bytes tops halt
       → (AnyRose (counts_in old) (counts_in new) → ⊥) → (status ≡ halt_status halt) ⊎ (status ≡ 5)

@@ -1,8 +1,10 @@
--- A law of the commands: what is recorded is printed.
+-- Laws of the commands: what is recorded is printed, and keeps all rules.
 use Rattle.std.specs.Prelude.{◌≡◌, ◌⊎◌, ℕ, ◌≤◌, List, filter, refl, Option, Some, None}
 use Rattle.std.specs.List.{AllZip}
 use Rattle.mcap_io.specs.Outside.{SinkState, Told}
 use Rattle.rec_data.specs.declared.owned.Rec.{Rec}
+use Rattle.mcap_model.specs.declared.checked.Verdict.{Verdict}
+use Rattle.mcap_model.specs.declared.checked.Verdict.TheVariants as verdicts
 use Rattle.mcap_model.specs.Tops.{Top, flat}
 use Rattle.mcap_model.specs.History.{is_message, flat_history}
 use Rattle.mcap_model.specs.Scan.{Seen, Scan, Replay}
@@ -13,6 +15,7 @@ use Rattle.mcap_app.specs.Printing.{TellsAll}
 use Rattle.mcap_app.specs.Ran.{Scene, counts_in, AnyRose}
 use Rattle.mcap_app.specs.Record.{options_of, Records}
 use Rattle.mcap_app.specs.Cat.{all_times, Cats}
+use Rattle.mcap_app.specs.Check.{verdict_line, FileChecks}
 
 -- An output took the lines of the messages of a history, in the order of log time and place: these are the messages of a
 -- file's records, which are those of the history, in chunks or not. So their topics and their order are the history's.
@@ -37,3 +40,25 @@ RecordingsArePrinted = (chunk : Option ℕ) (out feed : List ℕ) (old new later
     → (it : Records (options_of chunk) out feed old new (Some r) 0) → old.world.told ≡ Some told
     → later.world ≡ new.world → Cats out later last answer → (AnyRose (counts_in later) (counts_in last) → ⊥)
     → ((answer ≡ 0) × PrintsHistory (it.reported r refl).recorded.history later.out last.out) ⊎ (answer ≡ 5)
+
+-- ---- what is recorded keeps all rules
+
+-- what is said of the file of a recording: that it is fully indexed where it has chunks, and else that it is valid
+abbrev pub IsSaid : Option ℕ → Verdict → Type 0
+IsSaid chunk (verdicts.Indexed n) = chunk ≡ None → ⊥
+IsSaid chunk (verdicts.Plain n) = chunk ≡ None
+IsSaid chunk (verdicts.Flawed rule offset) = ⊥
+
+-- that was printed
+pub record PrintsSound (chunk : Option ℕ) (before now : SinkState) : Type 0 where
+  pub verdict : Verdict
+  pub said : IsSaid chunk verdict
+  pub line : TellsAll before now (verdict_line verdict)
+
+-- A recording with the status 0 in a world that tells, and then a check of its output there, in which no count rises: it
+-- finds no flaw and no compression, and prints that; or a limit of reading was met, or memory lacked for the check.
+abbrev pub RecordingsAreSound : Type 0
+RecordingsAreSound = (chunk : Option ℕ) (out feed : List ℕ) (old new later last : Scene) (r : Report) (answer : ℕ) (told : Told) → IsAllowed chunk
+    → Records (options_of chunk) out feed old new (Some r) 0 → old.world.told ≡ Some told
+    → later.world ≡ new.world → FileChecks out later last answer → (AnyRose (counts_in later) (counts_in last) → ⊥)
+    → ((answer ≡ 0) × PrintsSound chunk later.out last.out) ⊎ ((answer ≡ 4) ⊎ (answer ≡ 5))

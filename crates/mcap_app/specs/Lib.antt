@@ -1,5 +1,6 @@
 pub mod Answer
 pub mod Cat
+pub mod Check
 pub mod Laws
 pub mod Printing
 pub mod Ran

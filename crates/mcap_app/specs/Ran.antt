@@ -45,8 +45,9 @@ pub record CountsOn (w : WorldState) : Type 0 where
 
 -- ---- openings
 
--- the names that a command reads and those that it writes, in the order of the words
+-- the names that a command reads and those that it writes, in the order of the words; and as what it opens its inputs
 pub record Files : Type 0 where
+  pub kind : ObjectKind
   pub inputs : List (List ℕ)
   pub outputs : List (List ℕ)
 
@@ -56,7 +57,7 @@ Wanted = ObjectKind × List ℕ
 
 -- the inputs, and then the outputs
 abbrev pub wanted : Files → List Wanted
-wanted files = map (λ name. (kinds.Source, name)) files.inputs ++ map (λ name. (kinds.Live, name)) files.outputs
+wanted files = map (λ name. (files.kind, name)) files.inputs ++ map (λ name. (kinds.Live, name)) files.outputs
 
 -- an object that was given, and taken back under its own name
 abbrev pub kept : ObjectKind → List ℕ → Keeping → Opening

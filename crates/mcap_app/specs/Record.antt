@@ -12,7 +12,7 @@ use Rattle.mcap_model.specs.declared.options.FileOptions.{FileOptions}
 use Rattle.mcap_model.specs.Places.{Each}
 use Rattle.mcap_model.specs.Tops.{Top}
 use Rattle.mcap_model.specs.Kept.{Halt, reading_limits, Halts}
-use Rattle.mcap_model.specs.File.{file_of, IsPrefix}
+use Rattle.mcap_model.specs.File.{front, file_of, IsPrefix}
 use Rattle.feed_lane.specs.declared.report.Cause.{Cause}
 use Rattle.feed_lane.specs.declared.report.Cause.TheVariants as causes
 use Rattle.feed_lane.specs.declared.report.FeedReport.{FeedReport}
@@ -30,7 +30,7 @@ use Rattle.mcap_app.specs.Ran.{Scene, counts_in, AnyRose, Files, wanted, kept, A
 
 -- the names of a recording
 abbrev pub files_of : List ℕ → List ℕ → Files
-files_of out feed = record { inputs = feed ∷ []; outputs = out ∷ [] }
+files_of out feed = record { kind = kinds.Source; inputs = feed ∷ []; outputs = out ∷ [] }
 
 -- how it is made, with that size of chunks, or none: no profile, and a buffer of 100 MiB
 abbrev pub options_of : Option ℕ → RecordOptions
@@ -39,11 +39,13 @@ options_of chunk = record { file = record { profile = []; chunk = chunk }; limit
 -- ---- with a report
 
 -- What stands under the output's name: the file of the history, where the writer closed it and it was kept; else that or a
--- first part of it, with all that was taken in whole appends; or what stood there, where the keeping failed.
+-- first part of it, with all that was taken in whole appends; or what stood there, where the keeping failed. Where a record was
+-- accepted, and the output kept, the front of a file stands there.
 pub record OutputHolds (options : FileOptions) (history : List Rec) (w : WriterReport) (well : Bool) (before now : Option (List ℕ)) : Type 0 where
   pub whole : w.end ≡ ends.Closed → well ≡ true → now ≡ Some (file_of options [] history)
   pub part : ((text : List ℕ) × (now ≡ Some text) × (w.bytes ≤ length text) × IsPrefix text (file_of options [] history))
       ⊎ ((now ≡ before) × (well ≡ false))
+  pub begun : (history ≡ [] → ⊥) → well ≡ true → (more : List ℕ) × (now ≡ Some (front options.profile ++ more))
 
 -- The feed's source was recorded into the output's store.
 pub record Reported (options : RecordOptions) (out feed : List ℕ) (old new : WorldState) (entries : List Opening) (r : Report) : Type 0 where

@@ -82,7 +82,7 @@ complained None = []
 complained (Some complaint) = trouble_of complaint ∷ []
 
 abbrev pub usage : List ℕ
-usage = codes "usage: mcaprec\n  record [--plain] [--chunk N] OUT FEED\n  cat FILE\n"
+usage = codes "usage: mcaprec\n  record [--plain] [--chunk N] OUT FEED\n  check FILE\n  cat FILE\n"
 
 unfoldable pub line_of : Trouble → List ℕ
 line_of bad_words = codes "mcaprec: bad words\n" ++ usage

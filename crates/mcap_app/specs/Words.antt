@@ -2,7 +2,7 @@
 use Rattle.std.specs.Prelude.{◌≡◌, ◌≢◌, ◌≤◌, ◌⊎◌, List, [], ◌∷◌, ◌++◌, ℕ, length, codes, Option, Some, None}
 use Rattle.std.specs.Str.Parse.{IsNumeral, digits_value}
 use Rattle.mcap_app.specs.declared.words.Command.{Command}
-use Rattle.mcap_app.specs.declared.words.Command.TheVariants.{Record, Cat}
+use Rattle.mcap_app.specs.declared.words.Command.TheVariants.{Record, Check, Cat}
 
 -- a name of a file: not empty, and no option
 pub record IsName (name : List ℕ) : Type 0 where
@@ -32,6 +32,11 @@ pub record IsRecord (words : List (List ℕ)) (chunk : Option ℕ) (out feed : L
   pub feed_name : IsName feed
   pub differ : out ≢ feed
 
+-- check FILE
+pub record IsCheck (words : List (List ℕ)) (file : List ℕ) : Type 0 where
+  pub form : words ≡ codes "check" ∷ file ∷ []
+  pub name : IsName file
+
 -- cat FILE
 pub record IsCat (words : List (List ℕ)) (file : List ℕ) : Type 0 where
   pub form : words ≡ codes "cat" ∷ file ∷ []
@@ -40,9 +45,11 @@ pub record IsCat (words : List (List ℕ)) (file : List ℕ) : Type 0 where
 -- no command has these words
 pub record AreBad (words : List (List ℕ)) : Type 0 where
   pub no_record : (chunk : Option ℕ) (out feed : List ℕ) → IsRecord words chunk out feed → ⊥
+  pub no_check : (file : List ℕ) → IsCheck words file → ⊥
   pub no_cat : (file : List ℕ) → IsCat words file → ⊥
 
 -- the words are those of the command
 abbrev pub Derives : List (List ℕ) → Command → Type 0
 Derives words (Record out feed chunk) = IsRecord words chunk out.now feed.now
+Derives words (Check file) = IsCheck words file.now
 Derives words (Cat file) = IsCat words file.now

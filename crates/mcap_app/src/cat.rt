@@ -1,19 +1,19 @@
 //! Printing the messages of a file in the order of their log times.
-ghost use Rattle.std.specs.Prelude.{◌≡◌, ◌<◌, ◌^◌, ◌++◌, [], map, IfOk};
+ghost use Rattle.std.specs.Prelude.{◌≡◌, ◌<◌, ◌^◌, ◌++◌, [], List, ℕ, map, IfOk};
 ghost use Rattle.mcap_app.specs.Texts.{trouble_of, complained};
 ghost use Rattle.mcap_app.specs.Printing.{Takes};
 ghost use Rattle.mcap_app.specs.Ran.{scene, named_when, troubles_of, Complains};
-ghost use Rattle.mcap_app.specs.Cat.{ComesTo, NamePlayed, PrintsLines, lines_of, reading_troubles, halt_troubles, lacks_memory, is_memory_refused, findings_of, Cats};
+ghost use Rattle.mcap_app.specs.Cat.{ComesTo, NamePlayed, PrintsLines, lines_of, reading_troubles, halt_troubles, lacks_memory, is_memory_refused, findings_of, ShowsFaults, Cats};
 
 use crate::answering::{complain_of, push_some, push_when};
 use crate::complaint::Complaint;
-use crate::faults::{Counts, has_failed};
-use mcap_io::{OpenRefused, Sink, Source, World, write_all_of};
+use crate::faults::{Counts, has_failed, rose};
+use mcap_io::{OpenRefused, Sink, Source, World};
 use mcap_model::Range;
 use mcap_scan::ScanRefused;
-use mcap_wire::{Bytes, Memory};
+use mcap_wire::Memory;
 use std::alloc::Global;
-use time_player::{cat_text, replay_scan};
+use time_player::{Printer, replay_scan};
 
 /// What the reading of a file came to.
 #[derive(Drop)]
@@ -21,7 +21,7 @@ pub enum Reading {
     /// The world failed to open it.
     Unopened,
     /// It was read to its Data End, and its messages have these lines.
-    Lines { text: Bytes },
+    Lines { text: Printer },
     /// It was refused; or memory lacked for the opening or for the lines.
     Refused { why: ScanRefused },
 }
@@ -33,7 +33,7 @@ pub struct Played {
     pub failed: bool,
 }
 
-// Reads a source to its Data End, and makes the lines of its messages.
+// Reads a source to its Data End, and takes all the memory that the lines of its messages want.
 fn read_lines<S: Source>(alloc: Global, source: &mut S) -> Reading
     ensures { ComesTo (S.state source.old) (S.state source.new) result }
 {
@@ -45,7 +45,7 @@ fn read_lines<S: Source>(alloc: Global, source: &mut S) -> Reading
         Ok(replayed) => replayed,
         Err(why) => return Reading::Refused { why },
     };
-    match cat_text(alloc, &replayed) {
+    match Printer::new(alloc, replayed) {
         Ok(text) => return Reading::Lines { text },
         Err(_) => {
             return Reading::Refused {
@@ -53,6 +53,13 @@ fn read_lines<S: Source>(alloc: Global, source: &mut S) -> Reading
             };
         }
     }
+}
+
+/// Which parts of the outside failed in a printing: its file, or standard output.
+#[derive(Clone, Copy, Debug, PartialEq, Eq)]
+pub struct Faults {
+    pub file: bool,
+    pub printing: bool,
 }
 
 // Opens the name, reads it, and keeps it.
@@ -89,20 +96,16 @@ fn play_name<W: World>(alloc: Global, file: &str, world: &mut W) -> Played
 }
 
 // Prints the lines if all of the file was read, and says whether the output failed.
-fn print_lines<O: Sink>(out: &mut O, reading: &Reading) -> bool
-    ensures prints { PrintsLines (O.state out.old) (O.state out.new) reading.now result }
-    ensures takes { Takes (O.state out.old) (O.state out.new) (lines_of reading.now) }
+fn print_lines<O: Sink>(alloc: Global, out: &mut O, reading: &mut Reading) -> bool
+    ensures prints { PrintsLines (O.state out.old) (O.state out.new) reading.old result }
+    ensures takes { Takes (O.state out.old) (O.state out.new) (lines_of reading.old) }
+    ensures kept { (file : List ℕ) → findings_of file reading.new ≡ findings_of file reading.old }
 {
     match reading {
-        Reading::Lines { text } => {
-            if text.as_slice().is_empty() {
-                return false;
-            }
-            match write_all_of(out, text.as_slice()) {
-                Ok(()) => return false,
-                Err(_) => return true,
-            }
-        }
+        Reading::Lines { text } => match text.print(alloc, out) {
+            Ok(()) => return false,
+            Err(_) => return true,
+        },
         Reading::Unopened => return false,
         Reading::Refused { .. } => return false,
     }
@@ -165,28 +168,38 @@ fn has_lacked(reading: &Reading) -> bool
     }
 }
 
+// Which parts failed between the two counts: those that told it, and those of a count that stands at the end of its type.
+fn faults_of(before: &Counts, now: &Counts, failed: bool, broke: bool) -> Faults
+    ensures { ShowsFaults before.now now.now failed broke result }
+{
+    Faults {
+        file: failed || rose(before.world, now.world) || rose(before.inputs, now.inputs),
+        printing: broke || rose(before.printing, now.printing),
+    }
+}
+
 // The complaints of a printing, in their order.
 fn complaints_of<'a>(
     alloc: Global,
     file: &'a str,
-    played: &'a Played,
-    printing: bool,
+    reading: &'a Reading,
+    faults: Faults,
 ) -> Result<Vec<Complaint<'a>>, Memory>
-    ensures { IfOk result (λ all. map trouble_of all.items ≡ troubles_of (findings_of file.now played.now.reading) (named_when played.now.failed file.now ++ []) printing) }
+    ensures { IfOk result (λ all. map trouble_of all.items ≡ troubles_of (findings_of file.now reading.now) (named_when faults.file file.now ++ []) faults.printing) }
 {
     let mut all = Vec::new(alloc);
-    push_some(&mut all, reading_complaint(file, &played.reading))?;
-    push_when(&mut all, played.failed, Complaint::Fault { name: file })?;
-    push_when(&mut all, printing, Complaint::OutputFault)?;
-    push_when(&mut all, has_lacked(&played.reading), Complaint::NoMemory)?;
+    push_some(&mut all, reading_complaint(file, reading))?;
+    push_when(&mut all, faults.file, Complaint::Fault { name: file })?;
+    push_when(&mut all, faults.printing, Complaint::OutputFault)?;
+    push_when(&mut all, has_lacked(reading), Complaint::NoMemory)?;
     Ok(all)
 }
 
 // Complains of what went wrong in a printing, and answers the status.
-fn answer<E: Sink>(alloc: Global, err: &mut E, file: &str, played: &Played, printing: bool) -> u8
-    ensures { Complains (troubles_of (findings_of file.now played.now.reading) (named_when played.now.failed file.now ++ []) printing) (E.state err.old) (E.state err.new) result }
+fn answer<E: Sink>(alloc: Global, err: &mut E, file: &str, reading: &Reading, faults: Faults) -> u8
+    ensures { Complains (troubles_of (findings_of file.now reading.now) (named_when faults.file file.now ++ []) faults.printing) (E.state err.old) (E.state err.new) result }
 {
-    complain_of(alloc, err, complaints_of(alloc, file, played, printing))
+    complain_of(alloc, err, complaints_of(alloc, file, reading, faults))
 }
 
 /// Prints on `out` the messages of the file under the name, in the order of log time and place, and answers the status:
@@ -204,8 +217,10 @@ pub fn cat_command<W: World, O: Sink, E: Sink>(
         (scene (W.state world.new) (O.state out.new) (E.state err.new))
         result }
 {
-    let _before = Counts::of(world, out);
-    let played = play_name(alloc, file, world);
-    let printing = print_lines(out, &played.reading);
-    answer(alloc, err, file, &played, printing)
+    let before = Counts::of(world, out);
+    let mut played = play_name(alloc, file, world);
+    let broke = print_lines(alloc, out, &mut played.reading);
+    let now = Counts::of(world, out);
+    let faults = faults_of(&before, &now, played.failed, broke);
+    answer(alloc, err, file, &played.reading, faults)
 }

@@ -10,7 +10,7 @@ use std::alloc::{AllocError, Global};
 
 /// What standard error is told of words that are no command, with the usage.
 pub(crate) const BAD_WORDS: &str =
-    "mcaprec: bad words\nusage: mcaprec\n  record [--plain] [--chunk N] OUT FEED\n  cat FILE\n";
+    "mcaprec: bad words\nusage: mcaprec\n  record [--plain] [--chunk N] OUT FEED\n  check FILE\n  cat FILE\n";
 
 /// What standard error is told of a want of memory.
 pub(crate) const NO_MEMORY: &str = "mcaprec: no memory\n";
@@ -187,7 +187,7 @@ mod tests {
             (&[], ""),
             (
                 &[Complaint::BadWords],
-                "mcaprec: bad words\nusage: mcaprec\n  record [--plain] [--chunk N] OUT FEED\n  cat FILE\n",
+                "mcaprec: bad words\nusage: mcaprec\n  record [--plain] [--chunk N] OUT FEED\n  check FILE\n  cat FILE\n",
             ),
             (
                 &[COMPRESSED],

@@ -1,14 +1,16 @@
-//! The program: its words, what it records, what it prints and how it ends.
+//! The program: its words, what it records, what it checks, what it prints and how it ends.
 #![tactic(auto)]
 
 mod answering;
 mod cat;
+mod checking;
 mod complaint;
 mod faults;
 pub mod laws;
 mod line;
 mod print;
 mod program;
+mod verdict;
 mod words;
 
 pub use complaint::{Complaint, say, status};

@@ -5,8 +5,8 @@ use arrayvec::ArrayString;
 use itoa::Buffer;
 use std::marker::Model;
 
-/// The bytes that a line has room for: the longest, of a feed with the largest numbers, takes all of them.
-pub(crate) const LINE_ROOM: usize = 145;
+/// The bytes that a line has room for: the longest, of a verdict with the largest numbers, takes all of them.
+pub(crate) const LINE_ROOM: usize = 191;
 
 /// A line that is being put together. Contracts see the list of its bytes.
 #[derive(Drop)]

@@ -1,14 +1,16 @@
 //! The program: what each command does to the world and to both outputs.
 ghost use Rattle.std.specs.Prelude.{◌≡◌, ◌≤◌, ◌<◌, ◌^◌, ◌↔◌, ℕ, List, [], ◌∷◌, length, Option, None, Some, true, false};
-ghost use Rattle.mcap_app.specs.Words.{AreBad, IsRecord, IsCat};
+ghost use Rattle.mcap_app.specs.Words.{AreBad, IsRecord, IsCheck, IsCat};
 ghost use Rattle.mcap_app.specs.Texts.{bad_words, said};
 ghost use Rattle.mcap_app.specs.Printing.{Takes};
 ghost use Rattle.mcap_app.specs.Ran.{scene};
 ghost use Rattle.mcap_app.specs.Record.{options_of, report_text, NamesRecorded, Records};
+ghost use Rattle.mcap_app.specs.Check.{FileChecks};
 ghost use Rattle.mcap_app.specs.Cat.{Cats};
 
 use crate::answering::{Outcome, answer, failed_parts, refuse_words};
 use crate::cat::cat_command;
+use crate::checking::check_command;
 use crate::faults::{Counts, has_failed};
 use crate::print::print_report;
 use crate::words::{Command, parse_words};
@@ -172,6 +174,12 @@ pub fn run<R: AllocGlobal, W: World, O: Sink, E: Sink>(
         (scene (W.state world.new) (O.state out.new) (E.state err.new))
         result.report result.status }
 
+    // The words of a check check, and there is no report.
+    ensures checks { (file : List ℕ) → IsCheck words.now file → FileChecks file
+        (scene (W.state world.old) (O.state out.old) (E.state err.old))
+        (scene (W.state world.new) (O.state out.new) (E.state err.new))
+        result.status × (result.report ≡ None) }
+
     // The words of a printing print, and there is no report.
     ensures cats { (file : List ℕ) → IsCat words.now file → Cats file
         (scene (W.state world.old) (O.state out.old) (E.state err.old))
@@ -188,6 +196,13 @@ pub fn run<R: AllocGlobal, W: World, O: Sink, E: Sink>(
         ) => {
             let (name, feed) = (name.as_str(), feed.as_str());
             return record_command(rt.alloc(), chunk, name, feed, world, out, err);
+        }
+        Ok(Command::Check { file }) => {
+            let status = check_command(rt.alloc(), file.as_str(), world, out, err);
+            return Ended {
+                status,
+                report: None,
+            };
         }
         Ok(Command::Cat { file }) => {
             let status = cat_command(rt.alloc(), file.as_str(), world, out, err);

@@ -2,14 +2,18 @@
 use super::*;
 use mcap_io::{FailingWrite, Kept, MemorySink, MemoryWorld, ObjectKind, Plan};
 use mcap_wire::Text;
+use recorder::Report;
 use std::alloc::{AllocError, Global};
 use std::process::Abort;
 use std::test::Fail;
 
 mod cat;
+mod check;
 mod faults;
 mod files;
+mod limits;
 mod recording;
+mod verdicts;
 
 use files::{
     CHUNK_OF_A_CHANNEL, EMPTY_FILE, FRONT, ONE, ONE_CHUNK, PLAIN_BACK, RECORDED, TWO_CHUNKS,
@@ -43,7 +47,7 @@ const RECORD: &[&str] = &["record", "OUT", "F"];
 const PLAIN: &[&str] = &["record", "--plain", "OUT", "F"];
 
 const USAGE: &str = "mcaprec: bad words\nusage: mcaprec\n  \
-    record [--plain] [--chunk N] OUT FEED\n  cat FILE\n";
+    record [--plain] [--chunk N] OUT FEED\n  check FILE\n  cat FILE\n";
 
 const FEED_FAULT: &str = "mcaprec: \"F\": fault\n";
 
@@ -75,7 +79,7 @@ const NOTHING: Failing<'static> = Failing {
 #[derive(Drop)]
 struct Ran {
     status: u8,
-    has_report: bool,
+    report: Option<Report>,
     world: MemoryWorld,
     out: MemorySink,
     err: MemorySink,
@@ -108,7 +112,7 @@ fn run_in_memory(
     let Ended { status, report } = run(rt, &texts, &mut world, &mut out, &mut err);
     Ok(Ran {
         status,
-        has_report: report.is_some(),
+        report,
         world,
         out,
         err,
@@ -159,7 +163,7 @@ fn expect(
     assert_eq!(rt; ran.out.bytes(), wanted.out.as_bytes());
     assert_eq!(rt; ran.err.bytes(), wanted.err.as_bytes());
     assert_eq!(rt; ran.status, wanted.status);
-    assert_eq!(rt; ran.has_report, wanted.has_report);
+    assert_eq!(rt; ran.report.is_some(), wanted.has_report);
     assert!(rt; ran.world.bytes("OUT") == Some(wanted.file));
     assert!(rt; ran.world.bytes("F") == Some(feed));
     assert!(rt; ran.world.bytes("other") == Some(b"kept"));
@@ -242,7 +246,7 @@ fn openings_of(alloc: Global, ran: &Ran) -> Result<String, AllocError> {
 
 #[test]
 fn other_words_are_refused_and_nothing_is_opened(rt: HostRuntime) -> Result<(), Fail> {
-    let table: [&[&str]; 12] = [
+    let table: [&[&str]; 17] = [
         &[],
         &["record"],
         &["record", "OUT"],
@@ -252,9 +256,14 @@ fn other_words_are_refused_and_nothing_is_opened(rt: HostRuntime) -> Result<(), 
         &["record", "--chunk", "OUT", "F"],
         &["replay", "OUT", "F"],
         &["record", "F", "F"],
+        &["check"],
+        &["check", "F", "F"],
         &["cat"],
         &["cat", "F", "F"],
         &["F", "cat"],
+        &["merge", "F", "F"],
+        &["cat", "--end", "x", "F"],
+        &["record", "--plain", "--watchers", "1", "OUT", "F"],
     ];
     for words in table {
         let ran = expect(&rt, words, ONE, NOTHING, &unwritten(2, "", USAGE))?;

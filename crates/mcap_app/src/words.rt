@@ -1,7 +1,7 @@
 //! The words of the command line.
 ghost use Rattle.std.specs.Prelude.{◌≡◌, ◌≤◌, ◌<◌, ◌^◌, ◌↔◌, ◌++◌, ℕ, List, Option, length, codes, IfOk, OnErr, IsTrue};
 ghost use Rattle.std.specs.Str.Parse.{IsNumeral, digits_value};
-ghost use Rattle.mcap_app.specs.Words.{IsName, IsSize, IsChunked, IsRecord, IsCat, AreBad, Derives};
+ghost use Rattle.mcap_app.specs.Words.{IsName, IsSize, IsChunked, IsRecord, IsCheck, IsCat, AreBad, Derives};
 
 use mcap_wire::Text;
 
@@ -19,6 +19,10 @@ pub enum Command<'a> {
         out: &'a Text,
         feed: &'a Text,
         chunk: Option<u64>,
+    },
+    /// Check what stands under the name `file` by the rules of the format.
+    Check {
+        file: &'a Text,
     },
     /// Print the messages of what stands under the name `file`.
     Cat {
@@ -125,6 +129,21 @@ fn parse_record(words: &[Text]) -> Result<Command<'_>, BadWords>
     }
 }
 
+// The words of a check.
+fn parse_check(words: &[Text]) -> Result<Command<'_>, BadWords>
+    ensures command { IfOk result (λ c. Derives words.now c) }
+    ensures bad { OnErr result ((file : List ℕ) → IsCheck words.now file → ⊥) }
+{
+    let [command, file] = words else {
+        return Err(BadWords);
+    };
+    if command.is("check") && is_name(file.as_str()) {
+        Ok(Command::Check { file })
+    } else {
+        Err(BadWords)
+    }
+}
+
 // The words of a printing.
 fn parse_cat(words: &[Text]) -> Result<Command<'_>, BadWords>
     ensures command { IfOk result (λ c. Derives words.now c) }
@@ -141,13 +160,17 @@ fn parse_cat(words: &[Text]) -> Result<Command<'_>, BadWords>
 }
 
 /// Reads the words behind the program's own name. The commands are `record OUT FEED`, with `--plain`, `--chunk N` or
-/// `--chunk=N` in front of the names, where OUT and FEED differ and N is from 1 to 67,108,864; and `cat FILE`. No name is
-/// empty or begins with `-`. The command borrows the words, and no memory is taken.
+/// `--chunk=N` in front of the names, where OUT and FEED differ and N is from 1 to 67,108,864; `check FILE` and
+/// `cat FILE`. No name is empty or begins with `-`. The command borrows the words, and no memory is taken.
 pub fn parse_words(words: &[Text]) -> Result<Command<'_>, BadWords>
     ensures command { IfOk result (λ c. Derives words.now c) }
     ensures bad { OnErr result (AreBad words.now) }
 {
     match parse_record(words) {
+        Ok(command) => return Ok(command),
+        Err(BadWords) => {}
+    }
+    match parse_check(words) {
         Ok(command) => return Ok(command),
         Err(BadWords) => {}
     }
@@ -175,6 +198,10 @@ mod tests {
                 let size = chunk.unwrap_or(0);
                 Ok(format!(in alloc; "{feed} to {out} in {size}")?)
             }
+            Ok(Command::Check { file }) => {
+                let file = file.as_str();
+                Ok(format!(in alloc; "check {file}")?)
+            }
             Ok(Command::Cat { file }) => {
                 let file = file.as_str();
                 Ok(format!(in alloc; "print {file}")?)
@@ -186,7 +213,7 @@ mod tests {
     // Without chunks the size is said as 0.
     #[test]
     fn words_give_a_command(rt: HostRuntime) -> Result<(), Fail> {
-        let table: [(&[&str], &str); 9] = [
+        let table: [(&[&str], &str); 11] = [
             (&["record", "O", "F"], "F to O in 786432"),
             (&["record", "--plain", "O", "F"], "F to O in 0"),
             (&["record", "--chunk", "59", "O", "F"], "F to O in 59"),
@@ -201,6 +228,8 @@ mod tests {
                 "F to O in 60",
             ),
             (&["record", "record", "cat"], "cat to record in 786432"),
+            (&["check", "F"], "check F"),
+            (&["check", "check"], "check check"),
             (&["cat", "F"], "print F"),
         ];
         for (words, want) in table {
@@ -211,8 +240,14 @@ mod tests {
 
     #[test]
     fn all_other_words_are_bad(rt: HostRuntime) -> Result<(), Fail> {
-        let table: [&[&str]; 36] = [
+        let table: [&[&str]; 42] = [
             &[],
+            &["check"],
+            &["check", "a", "b"],
+            &["check", "-x"],
+            &["check", ""],
+            &["Check", "a"],
+            &["a", "check"],
             &["cat"],
             &["cat", "a", "b"],
             &["cat", "-x"],

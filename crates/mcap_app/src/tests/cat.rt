@@ -25,6 +25,20 @@ const BY_TIME_AND_LAST: &str = "10 9 7 1 \"/a\" aa\n10 9 7 5 \"/a\" cc\n\
     11 9 7 2 \"/a\" aa\n11 9 7 4 \"/a\" bb\n\
     18446744073709551615 0 7 3 \"/a\" -\n";
 
+// The entries of a chunk of the Channel (27 bytes) and both Messages (32 each), the later time first: at 59, and at 27.
+const UNSORTED_INDEX: &[u8] = b"\x07\x26\0\0\0\0\0\0\0\x07\0\x20\0\0\0\
+    \x0b\0\0\0\0\0\0\0\x3b\0\0\0\0\0\0\0\x0a\0\0\0\0\0\0\0\x1b\0\0\0\0\0\0\0";
+
+// A Schema 1 of the name "s", and a Footer of a summary that starts at 106: behind 8 bytes of magic, 26 of the Header, 27 of
+// the Channel, 32 of the Message and 13 of the Data End.
+const SUMMARY: &[u8] = b"\x03\x0f\0\0\0\0\0\0\0\x01\0\x01\0\0\0s\0\0\0\0\0\0\0\0\
+    \x02\x14\0\0\0\0\0\0\0\x6a\0\0\0\0\0\0\0\0\0\0\0\0\0\0\0\0\0\0\0\x89MCAP0\r\n";
+
+const BOTH: &str = "10 9 7 1 \"/a\" aa\n11 9 7 2 \"/a\" aa\n";
+
+const LATER_FIRST: &str = "10 9 7 5 \"/a\" cc\n10 9 7 1 \"/a\" aa\n\
+    11 9 7 4 \"/a\" bb\n11 9 7 2 \"/a\" aa\n";
+
 // A Channel whose topic is no UTF-8.
 const NO_TEXT: &[u8] = b"\x04\x12\0\0\0\0\0\0\0\x07\0\0\0\x02\0\0\0\xff\xff\0\0\0\0\0\0\0\0";
 
@@ -51,6 +65,52 @@ fn files_are_printed_by_time(rt: HostRuntime) -> Result<(), Fail> {
             openings_of(alloc, &ran)?.as_str(),
             "source F given, kept\n"
         );
+    }
+    Ok(())
+}
+
+// A message of the time 10 and one of 11 in each chunk; the later sequences stand in the first.
+#[test]
+fn messages_of_one_time_are_printed_in_the_order_of_the_file(rt: HostRuntime) -> Result<(), Fail> {
+    let alloc = rt.alloc();
+    let one = chunk(alloc, b"", &[CHANNEL, FOURTH, THIRD])?;
+    let two = chunk(alloc, b"", &[FIRST, SECOND])?;
+    let file = feed_of(alloc, &[&one, &two])?;
+    let _ran = expect(&rt, CAT, &file, NOTHING, &unwritten(0, LATER_FIRST, ""))?;
+    Ok(())
+}
+
+#[test]
+fn entries_of_an_index_need_no_order(rt: HostRuntime) -> Result<(), Fail> {
+    let alloc = rt.alloc();
+    let one = chunk(alloc, b"", &[CHANNEL, FIRST, SECOND])?;
+    let index = joined(alloc, &[UNSORTED_INDEX])?;
+    let file = feed_of(alloc, &[&one, &index])?;
+    let _ran = expect(&rt, CAT, &file, NOTHING, &unwritten(0, BOTH, ""))?;
+    Ok(())
+}
+
+#[test]
+fn a_schema_of_the_summary_alone_is_left_unread(rt: HostRuntime) -> Result<(), Fail> {
+    let alloc = rt.alloc();
+    let front = feed_of(alloc, &[CHANNEL, FIRST])?;
+    let back = joined(alloc, &[SUMMARY])?;
+    let file = joined(alloc, &[&front, &back])?;
+    assert_eq!(rt; front.len(), 106);
+    let want = "10 9 7 1 \"/a\" aa\n";
+    let _ran = expect(&rt, CAT, &file, NOTHING, &unwritten(0, want, ""))?;
+    Ok(())
+}
+
+// Where an allocation fails (`rt try --test --fail-alloc N`) nothing is printed; with ample memory all is.
+#[test]
+fn where_memory_lacks_nothing_is_printed(rt: HostRuntime) -> Result<(), Fail> {
+    let ran = run_in_memory(&rt, CAT, ONE, NOTHING)?;
+    if ran.status == 5 {
+        assert!(rt; ran.out.bytes().is_empty());
+    } else {
+        assert_eq!(rt; ran.status, 0);
+        assert_eq!(rt; ran.out.bytes(), ONE_LINE.as_bytes());
     }
     Ok(())
 }

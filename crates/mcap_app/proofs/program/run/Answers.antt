@@ -6,6 +6,7 @@ use Rattle.mcap_app.specs.Ran.{scene}
 use Rattle.mcap_app.specs.Record.{options_of, Records}
 use Rattle.mcap_app.proofs.Answered.{not_two}
 use Rattle.mcap_app.proofs.Cats.{not_two as cat_not_two}
+use Rattle.mcap_app.proofs.Checks.{not_two as check_not_two}
 use Rattle.mcap_app.proofs.Derived.{derived, records_same}
 use Rattle.mcap_app.proofs.program.run.Goals as goal
 
@@ -27,6 +28,15 @@ returns-in-Ok-Record-clause-records g c = λ chunk out feed is.
     subst (λ (o : List ℕ). P c.in-Ok-Record.chunk o c.in-Ok-Record.feed.now) c.as_str-name.ensures.same
     (subst (λ (f : List ℕ). P c.in-Ok-Record.chunk c.as_str-name.result.now f) c.as_str-feed.ensures.same c.record_command.ensures) in
     records_same c.args.words.now P c.in-Ok-Record.chunk chunk c.in-Ok-Record.name.now out c.in-Ok-Record.feed.now feed words made is
+
+pub returns-in-Ok-Check-clause-words : goal.returns-in-Ok-Check-clause-words
+returns-in-Ok-Check-clause-words g c = (
+  λ two. absurd (check_not_two _ _ _ _ c.check_command-status.ensures two),
+  λ bad. absurd (derived _ _ c.in-Ok-Check.ensures.command bad),
+)
+
+pub returns-in-Ok-Check-clause-err : goal.returns-in-Ok-Check-clause-err
+returns-in-Ok-Check-clause-err g c = λ bad. absurd (derived _ _ c.in-Ok-Check.ensures.command bad)
 
 pub returns-in-Ok-Cat-clause-words : goal.returns-in-Ok-Cat-clause-words
 returns-in-Ok-Cat-clause-words g c = (

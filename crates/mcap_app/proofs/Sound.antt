@@ -1,0 +1,160 @@
+-- What is recorded keeps all rules.
+use Rattle.std.proofs.Common.{◌≡◌, ◌⊎◌, ℕ, ◌≤◌, true, List, [], ◌++◌, length, Option, Some, None, refl, sym, ap, subst, inl, inr, ◌∙◌, arith, length-append}
+use Rattle.std.proofs.lemmas.Str.{IsUtf8-nil}
+use Rattle.mcap_wire.specs.Layout.{magic}
+use Rattle.mcap_io.specs.Outside.{added, WorldState, Opening}
+use Rattle.mcap_model.specs.declared.ends.End.TheVariants as ends
+use Rattle.mcap_model.specs.declared.checked.Verdict.{Verdict}
+use Rattle.mcap_model.specs.declared.checked.Verdict.TheVariants as verdicts
+use Rattle.mcap_model.specs.Tops.{Top, spelled}
+use Rattle.mcap_model.specs.Kept.{Halt, HaltsAt, Halts, SameHalt, reading_limits, at_end, grammar as breaks, compressed as names, beyond, no_magic, at_data_end, behind_kept}
+use Rattle.mcap_model.specs.File.{file_of}
+use Rattle.mcap_model.specs.Places.{At, Each}
+use Rattle.mcap_model.specs.Fields.{IsFooter}
+use Rattle.mcap_model.specs.Summary.{footer_fields}
+use Rattle.mcap_model.specs.Valid.{IsFullyIndexed}
+use Rattle.mcap_model.specs.Laws.{CanBeWritten}
+use Rattle.rec_data.specs.declared.owned.Rec.{Rec}
+use Rattle.rec_data.proofs.Contents.{footer_shown}
+use Rattle.mcap_model.proofs.Places.{at_none}
+use Rattle.mcap_model.proofs.Edges.{header_top}
+use Rattle.mcap_model.proofs.Files.{body_tops, footer_top, written_tops, file_spelled, whole_of}
+use Rattle.mcap_model.proofs.Front.{IsTail, summary_only}
+use Rattle.mcap_model.proofs.Body.{standing, header_is, body_right}
+use Rattle.mcap_model.proofs.WholeFiles.{whole_files_are_one}
+use Rattle.mcap_model.proofs.Halting.{readings_halt_once}
+use Rattle.mcap_model.proofs.Prefixes.{ends_there}
+use Rattle.mcap_model.proofs.Fronts.{fronts_keep_whole}
+use Rattle.mcap_model.proofs.Flaws.{flaws_exclude_validity}
+use Rattle.recorder.specs.declared.report.Report.{Report}
+use Rattle.recorder.specs.Laws.{AreReadable, ReadsAs, IsSound}
+use Rattle.recorder.proofs.ReadBack.{recordings_are_read_back}
+use Rattle.recorder.proofs.Validity.{recordings_are_valid}
+use Rattle.file_check.specs.declared.refusals.CheckRefused.TheVariants as refusals
+use Rattle.file_check.specs.Checking.{IsSo, HaltsBefore}
+use Rattle.mcap_app.specs.declared.checking.Judgement.{Judgement}
+use Rattle.mcap_app.specs.declared.checking.Judgement.TheVariants as judgements
+use Rattle.mcap_app.specs.Ran.{world_faults}
+use Rattle.mcap_app.specs.Record.{options_of}
+use Rattle.mcap_app.specs.Check.{verdict_status, Decides}
+use Rattle.mcap_app.specs.Laws.{IsSaid, RecordingsAreSound}
+use Rattle.mcap_app.proofs.RoundTrip.{calm, kept_well}
+
+-- ---- no compression, and no limit
+
+abbrev EndsOrBreaks : Halt → Type 0
+EndsOrBreaks (at_end n) = Unit {0}
+EndsOrBreaks (breaks n rule) = Unit {0}
+EndsOrBreaks (names n name) = ⊥
+EndsOrBreaks (beyond n) = ⊥
+
+same_ends : (halt other : Halt) → SameHalt halt other → EndsOrBreaks other → EndsOrBreaks halt
+same_ends (at_end n) other same ends = tt
+same_ends (breaks n rule) other same ends = tt
+same_ends (names n name) (at_end m) same ends = absurd cc
+same_ends (names n name) (breaks m rule) same ends = same
+same_ends (names n name) (names m other) same ends = ends
+same_ends (names n name) (beyond m) same ends = ends
+same_ends (beyond n) (at_end m) same ends = absurd cc
+same_ends (beyond n) (breaks m rule) same ends = same
+same_ends (beyond n) (names m other) same ends = ends
+same_ends (beyond n) (beyond m) same ends = ends
+
+-- bytes of which a reading halts for another reason than a missing magic have one
+long : (bytes : List ℕ) (tops : List Top) (halt : Halt) → HaltsAt reading_limits bytes tops halt → (halt ≡ breaks 0 1 → ⊥) → 8 ≤ length bytes
+long bytes tops halt (no_magic none) other = absurd (other refl)
+long bytes tops halt (at_data_end rest stand ended) other = omega (arith, ap length stand.split, length-append magic (spelled tops ++ rest))
+long bytes tops halt (behind_kept rest stand unended why there) other = omega (arith, ap length stand.split, length-append magic (spelled tops ++ rest))
+
+-- where a file is read to its Data End, a reading in front of its last magic meets no compression and no limit
+reads_on : (file : List ℕ) (tops : List Top) (end : ℕ) → Halts reading_limits file tops (at_end end) → (halt : Halt) → (halt ≡ breaks 0 1 → ⊥) → HaltsBefore file halt → EndsOrBreaks halt
+reads_on file tops end halts halt other (inner, others, is, found) =
+    let (rest, stand, ended) = ends_there file tops (at_end end) end halts.there refl in
+    let keeps = fronts_keep_whole file inner magic tops rest stand halts.kept.good ended is (long inner others halt found.there other) in
+    elim keeps.halts [
+      | inl all ↦ same_ends halt _ (readings_halt_once inner others keeps.whole halt _ found all.1).1 tt
+      | inr cut ↦ same_ends halt _ (readings_halt_once inner others keeps.whole halt _ found cut.1).1 tt
+    ]
+
+-- ---- a file without chunks
+
+no_foot : IsFooter (footer_top 0 0 0) 0 0 0
+no_foot = record { kind = refl; layout = footer_shown (footer_fields 0 0 0) (omega arith) (omega arith) (omega arith) }
+
+no_tail : Each IsTail []
+no_tail k t there = absurd (at_none k t there)
+
+-- it has no Statistics
+plain_unindexed : (history : List Rec) → CanBeWritten (options_of None).file [] history → IsFullyIndexed (file_of (options_of None).file [] history) → ⊥
+plain_unindexed history written (tops, full) =
+    let options = (options_of None).file in
+    let stand = standing options [] history written in
+    let all = written_tops options [] history in
+    let file = file_of options [] history in
+    let same : tops ≡ all = whole_files_are_one file tops all full.valid.v4 (whole_of file all (file_spelled options [] history) written.size_fits) in
+    let (n, t, at, within, kind) = full.statistics in
+    let (j, is, second) = summary_only (header_top []) (body_tops options [] history) [] (footer_top 0 0 0) 0 0 0 (header_is options [] history stand) (body_right options [] history stand) no_tail no_foot
+    11 (λ e. omega (arith, e)) (λ e. omega (arith, e)) (λ e. omega (arith, e)) refl n t (subst (λ (l : List Top). At l n t) same at) kind in
+    at_none j t second
+
+unindexed : (chunk : Option ℕ) (history : List Rec) → CanBeWritten (options_of chunk).file [] history → chunk ≡ None → IsFullyIndexed (file_of (options_of chunk).file [] history) → ⊥
+unindexed None history written none full = plain_unindexed history written full
+unindexed (Some size) history written none full = absurd cc
+
+-- ---- the check
+
+-- a file that is sound, and not fully indexed where there are no chunks
+record IsExact (chunk : Option ℕ) (file : List ℕ) : Type 0 where
+  sound : IsSound (options_of chunk).file file
+  plain : chunk ≡ None → IsFullyIndexed file → ⊥
+
+said_of : (chunk : Option ℕ) (file : List ℕ) (verdict : Verdict) → IsExact chunk file → IsSo file verdict → IsSaid chunk verdict
+said_of chunk file (verdicts.Indexed n) exact (tops, full, counted) = λ none. let plain = exact.plain in plain none (tops, full)
+said_of None file (verdicts.Plain n) exact so = refl
+said_of (Some size) file (verdicts.Plain n) exact (tops, valid, missing, counted) = absurd (let indexed = exact.sound.indexed in missing (indexed size refl))
+said_of chunk file (verdicts.Flawed rule offset) exact so = flaws_exclude_validity file rule offset so exact.sound.valid
+
+verdict_ends : (chunk : Option ℕ) (verdict : Verdict) (answer : ℕ) → IsSaid chunk verdict → (answer ≡ verdict_status verdict) ⊎ (answer ≡ 5) → (answer ≡ 0) ⊎ ((answer ≡ 4) ⊎ (answer ≡ 5))
+verdict_ends chunk (verdicts.Indexed n) answer said (inl zero_is) = inl zero_is
+verdict_ends chunk (verdicts.Indexed n) answer said (inr five) = inr (inr five)
+verdict_ends chunk (verdicts.Plain n) answer said (inl zero_is) = inl zero_is
+verdict_ends chunk (verdicts.Plain n) answer said (inr five) = inr (inr five)
+verdict_ends chunk (verdicts.Flawed rule offset) answer said why = absurd said
+
+-- the status where the bytes of a sound file decide it
+ends_well : (chunk : Option ℕ) (file : List ℕ) (tops : List Top) (end : ℕ) (judgement : Judgement) (answer : ℕ) → IsExact chunk file → Halts reading_limits file tops (at_end end)
+    → Decides file judgement answer → (answer ≡ 0) ⊎ ((answer ≡ 4) ⊎ (answer ≡ 5))
+ends_well chunk file tops end judgements.Unopened answer exact halts is = absurd is
+ends_well chunk file tops end (judgements.Given verdict) answer exact halts is = verdict_ends chunk verdict answer (said_of chunk file verdict exact is.0) is.1
+ends_well chunk file tops end (judgements.Refused (refusals.Fault faults)) answer exact halts is = absurd is
+ends_well chunk file tops end (judgements.Refused (refusals.Compressed n name)) answer exact halts is = absurd (reads_on file tops end halts (names n name) (λ e. absurd cc) is.0)
+ends_well chunk file tops end (judgements.Refused (refusals.Limit n)) answer exact halts is = inr is.1
+ends_well chunk file tops end (judgements.Refused refusals.Memory) answer exact halts is = inr (inr is)
+
+pub recordings_are_sound : RecordingsAreSound
+recordings_are_sound chunk out feed old new later last r answer told allowed it here same checks quiet =
+    let is = it.reported r refl in
+    let all = it.whole refl in
+    let closed : r.writer.end ≡ ends.Closed = subst (λ (x : Report). x.writer.end ≡ ends.Closed) (same_report all.0 r (sym all.1)) all.2.closed in
+    let risen = calm old new (Some r) it.ended in
+    let counts = it.ran.counts.world ∙ ap (λ (es : List Opening). added old.world.faults (world_faults es)) is.kept_are in
+    let well : is.live_kept ≡ true = kept_well old.world.faults new.world.faults is.source_kept is.live_kept (omega (arith, counts)) (λ rose. risen (inl rose)) in
+    let left = it.ran.leaves told here in
+    let file = file_of (options_of chunk).file [] is.recorded.history in
+    let held : left.0.names out ≡ Some file = (is.file told left.0 here left.1).whole closed well in
+    let readable : AreReadable (options_of chunk).file = record { profile = IsUtf8-nil; short = omega arith; size = allowed } in
+    let reads : ReadsAs file is.recorded.history = (recordings_are_read_back (options_of chunk) is.given is.back r readable is.recorded closed).0 in
+    let valid = recordings_are_valid (options_of chunk) is.given is.back r readable is.recorded closed in
+    let exact : IsExact chunk file = record { sound = valid.1; plain = unindexed chunk is.recorded.history valid.0 } in
+    let tells : later.world.told ≡ Some left.0 = ap (λ (w : WorldState). w.told) same ∙ left.1 in
+    let decided = checks.decided left.0 file tells held quiet in
+    elim (ends_well chunk file reads.tops reads.end checks.judgement answer exact reads.halts decided) [
+      | inr other ↦ inr other
+      | inl zero_is ↦
+          let given = checks.whole zero_is in
+          let so : IsSo file given.0 = (subst (λ (j : Judgement). Decides file j answer) given.1 decided).0 in
+          inl (zero_is, record { verdict = given.0; said = said_of chunk file given.0 exact so; line = given.3 })
+    ]
+  where
+    same_report : (a b : Report) → Some a ≡ Some b → a ≡ b
+    same_report a b e = cc
