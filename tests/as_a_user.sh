@@ -105,6 +105,7 @@ file records=8 blocks=0 bytes=411 closed'
 usage='mcaprec: bad words
 usage: mcaprec
   record [--plain] [--chunk N] OUT FEED
+  check FILE
   cat FILE'
 
 "$root/mcaprec" >/dev/null </dev/null
