@@ -1,7 +1,7 @@
 #!/usr/bin/env bash
-# Times `mcaprec record OUT FEED`, plain and in chunks, and `mcaprec cat` of the result beside `cp FEED OUT` on feeds of so
-# many MiB (64), best of five each, in one run: messages of 1,000 and of 64 bytes of data, on one channel and on forty. The
-# kind `chunks` is a plain feed recorded in chunks, `again` is the file of that recorded once more, from its chunks.
+# Times `mcaprec record OUT FEED`, plain and in chunks, and `check` and `cat` of the result beside `cp FEED OUT` on feeds of
+# so many MiB (64), best of five each, in one run: messages of 1,000 and of 64 bytes of data, on one channel and on forty.
+# The kind `chunks` is a plain feed recorded in chunks, `again` is the file of that recorded once more, from its chunks.
 # MCAPREC names another program to time in place of the launcher.
 set -e
 export LC_ALL=C
@@ -80,7 +80,7 @@ row() {
     time_best "$@"
     if [ -n "$wanted" ] && ! grep -qx "$wanted" "$work/printed"; then
         cat "$work/printed"
-        echo "bench/record.sh: not all of $count messages were recorded" >&2
+        echo "bench/record.sh: not all of $count messages were recorded or checked" >&2
         exit 1
     fi
     local took=$best
@@ -103,6 +103,7 @@ for size in 1000 64; do
         "$program" record "$chunked" "$feed" >/dev/null
         row again "$all" "$program" record "$out" "$chunked"
         if [ "$channels" -eq 1 ]; then
+            row check "ok indexed messages=$count .*" "$program" check "$chunked"
             sink=/dev/null
             row cat '' "$program" cat "$chunked"
             sink="$work/printed"

@@ -247,6 +247,44 @@ expect 3 '' 'mcaprec: "missing.mcap": fault' mcaprec cat missing.mcap
 # shellcheck disable=SC2016  # the inner shell is to expand it
 expect 3 '' 'mcaprec: output: fault' sh -c 'mcaprec cat "$1" >/dev/full' sh session-out.mcap
 
+# ---- checks
+
+expect 2 '' "$usage" mcaprec check
+expect 2 '' "$usage" mcaprec check "$one" "$one"
+expect 0 'ok indexed messages=1 channels=1 schemas=0 chunks=1 attachments=0 metadata=0' '' mcaprec check "$one"
+expect 0 'ok indexed messages=1 channels=1 schemas=0 chunks=2 attachments=0 metadata=0' '' mcaprec check one-small.mcap
+expect 0 'ok plain messages=1 channels=1 schemas=0 chunks=0 attachments=0 metadata=0' '' mcaprec check one-plain.mcap
+expect 0 'ok indexed messages=5 channels=2 schemas=1 chunks=1 attachments=0 metadata=0' '' mcaprec check session-chunks.mcap
+expect 0 'ok plain messages=5 channels=2 schemas=1 chunks=0 attachments=0 metadata=0' '' mcaprec check session-out.mcap
+expect 0 'ok indexed messages=0 channels=0 schemas=0 chunks=0 attachments=0 metadata=0' '' mcaprec check indexed.mcap
+expect 0 'ok plain messages=0 channels=0 schemas=0 chunks=0 attachments=0 metadata=0' '' mcaprec check out.mcap
+expect 0 'ok plain messages=8192 channels=1 schemas=1 chunks=0 attachments=0 metadata=0' '' mcaprec check many-out.mcap
+
+# What is cut ends with no magic: each first part of two files, by the program that the launcher built. Of what is left a sound
+# file is made.
+for cut in one session-chunks; do
+    if [ "$cut" = one ]; then whole=$one; else whole=$cut.mcap; fi
+    size=$(($(wc -c <"$whole")))
+    n=0
+    while [ "$n" -lt "$size" ]; do
+        head -c "$n" -- "$whole" >checked.mcap
+        said=$("$root/crates/mcap_cli/out/mcap_cli" check checked.mcap 2>&1)
+        compare "the status of a check of $n bytes of $cut" 1 $?
+        compare "a check of $n bytes of $cut" "flaw V2 at $((n < 8 ? 0 : n - 8))" "$said"
+        n=$((n + 1))
+    done
+done
+expect 1 'flaw V2 at 165' '' mcaprec check one-cut.mcap
+expect 0 'ok indexed messages=1 channels=1 schemas=0 chunks=1 attachments=0 metadata=0' '' mcaprec check one-again.mcap
+
+expect 3 '' 'mcaprec: "folder": fault' mcaprec check folder
+expect 3 '' 'mcaprec: "missing.mcap": fault' mcaprec check missing.mcap
+expect 1 'flaw V2 at 0' '' mcaprec check none.mcap
+# shellcheck disable=SC2016  # the inner shell is to expand it
+expect 3 '' 'mcaprec: output: fault' sh -c 'mcaprec check "$1" >/dev/full' sh "$one"
+
+# ---- an output that is a pipe
+
 mkfifo out-pipe
 cat out-pipe >through-pipe.mcap &
 expect 0 "$session_lines" '' mcaprec record --plain out-pipe "$session"
