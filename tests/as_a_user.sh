@@ -279,6 +279,11 @@ expect 0 'ok indexed messages=1 channels=1 schemas=0 chunks=1 attachments=0 meta
 
 expect 3 '' 'mcaprec: "folder": fault' mcaprec check folder
 expect 3 '' 'mcaprec: "missing.mcap": fault' mcaprec check missing.mcap
+# A pipe has no length.
+cat -- "$one" >pipe 2>/dev/null &
+expect 3 '' 'mcaprec: "pipe": fault' mcaprec check pipe
+wait
+expect 3 '' 'mcaprec: "/dev/null": fault' mcaprec check /dev/null
 expect 1 'flaw V2 at 0' '' mcaprec check none.mcap
 # shellcheck disable=SC2016  # the inner shell is to expand it
 expect 3 '' 'mcaprec: output: fault' sh -c 'mcaprec check "$1" >/dev/full' sh "$one"

@@ -16,7 +16,7 @@ use crate::store::Store;
 use crate::store_files::FileStore;
 use crate::writer::WriterSink;
 use std::alloc::{AllocError, Global};
-use std::fs::{OpenFile, OpenOptions};
+use std::fs::{Metadata, OpenFile, OpenOptions};
 use std::io::{Read, Write};
 use std::os::unix::fs::FileExt;
 use std::rt::Files;
@@ -271,17 +271,32 @@ fn open_output<R: Files>(runtime: &R, inputs: &[FileId], name: &str) -> Result<R
     Ok(file)
 }
 
-// Opens the file, and says which it is. A folder, which would fail at its first read alone, is refused.
-fn open_input<R: Files>(runtime: &R, name: &str) -> Result<(R::File, FileId), Failed> {
+// Opens the file to be read.
+fn open_to_read<R: Files>(runtime: &R, name: &str) -> Result<(R::File, Metadata), Failed> {
     let mut options = OpenOptions::new();
     options.read(true);
     let Ok(file) = runtime.open_file(&options, name) else {
         return Err(Failed);
     };
-    let Ok(metadata) = file.metadata() else {
-        return Err(Failed);
-    };
+    match file.metadata() {
+        Ok(metadata) => return Ok((file, metadata)),
+        Err(_) => return Err(Failed),
+    }
+}
+
+// Opens the file, and says which it is. A folder, which would fail at its first read alone, is refused.
+fn open_input<R: Files>(runtime: &R, name: &str) -> Result<(R::File, FileId), Failed> {
+    let (file, metadata) = open_to_read(runtime, name)?;
     if metadata.is_dir() {
+        return Err(Failed);
+    }
+    Ok((file, FileId::of(&metadata)))
+}
+
+// Opens a file to be read at any place. What has no length, as a pipe or a device, is refused: its bytes stand at no place.
+fn open_store<R: Files>(runtime: &R, name: &str) -> Result<(R::File, FileId), Failed> {
+    let (file, metadata) = open_to_read(runtime, name)?;
+    if !metadata.is_file() {
         return Err(Failed);
     }
     Ok((file, FileId::of(&metadata)))
@@ -334,7 +349,7 @@ where
         let Ok(()) = self.inputs.reserve(1) else {
             return Err(OpenRefused::Memory);
         };
-        let Ok((file, id)) = open_input(&self.runtime, name) else {
+        let Ok((file, id)) = open_store(&self.runtime, name) else {
             self.faults = self.faults.saturating_add(1);
             return Err(OpenRefused::Failed);
         };
