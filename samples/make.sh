@@ -1,7 +1,7 @@
 #!/bin/sh
 # Writes the samples of this folder anew: empty.mcap, a feed without messages; session.mcap, a feed with five messages
-# on two channels, one of which has a schema; and one.mcap, a whole file with one message in one chunk, which
-# docs/DEFINITIONS.md reads byte by byte.
+# on two channels, one of which has a schema; one.mcap, a whole file with one message in one chunk, which
+# docs/DEFINITIONS.md reads byte by byte; and another_writer.mcap, a whole file that uses what the format leaves to a writer.
 set -eu
 cd -- "$(dirname -- "$0")"
 content=$(mktemp)
@@ -101,3 +101,76 @@ summary_offset() { { number 1 "$1" && number 8 "$2" && number 8 "$3"; } | record
     { number 8 186 && number 8 361 && number 4 $((0xcc25c6ad)); } | record 2
     magic
 } >one.mcap
+
+# Each crc is 0. Bytes stand behind the fields of a channel, and a record of an unknown kind between two chunks. The indexes
+# and their entries are in other orders than the messages, and the schema 9 stands in the summary alone.
+imu_schema() { { number 2 1 && text imu && text json && text '{}'; } | record 3; }
+pose_schema() { { number 2 2 && text x && text '' && text ''; } | record 3; }
+imu_channel() {
+    {
+        number 2 1 && number 2 1 && text /imu && text json
+        number 4 20 && text k && text v && text a && text b
+    } | record 4
+}
+log_channel() { { number 2 2 && number 2 0 && text /log && text '' && number 4 0 && printf zz; } | record 4; }
+none_channel() { { number 2 3 && number 2 2 && text /none && text '' && number 4 0; } | record 4; }
+byte_message() { { number 2 "$1" && number 4 "$2" && number 8 "$3" && number 8 9 && number 1 "$4"; } | record 5; }
+
+first_records() {
+    imu_schema && imu_channel && byte_message 1 1 10 170 && log_channel
+    message 2 1 12 9 '' && byte_message 1 2 11 187
+}
+second_records() { pose_schema && none_channel && message 2 2 20 9 q && message 1 3 5 9 w; }
+
+# Least and greatest log_time, and the records, which are read.
+plain_chunk() {
+    inner=$(mktemp)
+    cat >"$inner"
+    size=$(($(wc -c <"$inner")))
+    {
+        number 8 "$1" && number 8 "$2" && number 8 $size && number 4 0 && text ''
+        number 8 $size && cat -- "$inner"
+    } | record 6
+    rm -f -- "$inner"
+}
+
+# Times, the offset and the length of a chunk; channels and offsets of its message indexes, which are read, with their
+# length here and that of them all; and the length of its records.
+chunk_index() {
+    {
+        number 8 "$1" && number 8 "$2" && number 8 "$3" && number 8 "$4"
+        number 4 "$5" && cat && number 8 "$6" && text '' && number 8 "$7" && number 8 "$7"
+    } | record 8
+}
+
+{
+    magic
+    { text p && text l; } | record 1
+    { number 8 5 && number 8 6 && text n && text m && number 8 4 && printf data && number 4 0; } | record 9
+    first_records | plain_chunk 10 12
+    { number 2 2 && number 4 16 && number 8 12 && number 8 148; } | record 7
+    { number 2 1 && number 4 32 && number 8 11 && number 8 179 && number 8 10 && number 8 85; } | record 7
+    number 1 1 | record 144
+    { text md && number 4 10 && text x && text y; } | record 12
+    second_records | plain_chunk 5 20
+    { number 2 1 && number 4 16 && number 8 5 && number 8 86; } | record 7
+    { number 2 2 && number 4 16 && number 8 20 && number 8 54; } | record 7
+    none_channel | plain_chunk 0 0
+    data_end
+    imu_schema && pose_schema
+    { number 2 9 && text only && text '' && text ''; } | record 3
+    imu_channel && log_channel && none_channel
+    {
+        number 8 5 && number 2 2 && number 4 3 && number 4 1 && number 4 1 && number 4 3
+        number 8 5 && number 8 20 && number 4 20 && number 2 1 && number 8 3 && number 2 2 && number 8 2
+    } | record 11
+    chunk_index 0 0 684 79 0 0 30 </dev/null
+    { number 2 1 && number 8 622 && number 2 2 && number 8 653; } | chunk_index 5 20 455 167 20 62 118
+    { number 2 2 && number 8 338 && number 2 1 && number 8 369; } | chunk_index 10 12 78 260 20 78 211
+    { number 8 27 && number 8 51 && number 8 5 && number 8 6 && number 8 4 && text n && text m; } | record 10
+    { number 8 426 && number 8 29 && text md; } | record 13
+    summary_offset 3 776 83 && summary_offset 4 859 114 && summary_offset 11 973 75
+    summary_offset 8 1048 259 && summary_offset 10 1307 59 && summary_offset 13 1366 31
+    { number 8 776 && number 8 1397 && number 4 0; } | record 2
+    magic
+} >another_writer.mcap

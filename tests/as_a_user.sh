@@ -7,6 +7,7 @@ root=$(CDPATH='' cd -P -- "$(dirname -- "$0")/.." && pwd)
 sample=$root/samples/empty.mcap
 one=$root/samples/one.mcap
 session=$root/samples/session.mcap
+other=$root/samples/another_writer.mcap
 room=$(mktemp -d) || exit 1
 disk=$room/disk
 wrong=0
@@ -259,6 +260,15 @@ expect 0 'ok plain messages=5 channels=2 schemas=1 chunks=0 attachments=0 metada
 expect 0 'ok indexed messages=0 channels=0 schemas=0 chunks=0 attachments=0 metadata=0' '' mcaprec check indexed.mcap
 expect 0 'ok plain messages=0 channels=0 schemas=0 chunks=0 attachments=0 metadata=0' '' mcaprec check out.mcap
 expect 0 'ok plain messages=8192 channels=1 schemas=1 chunks=0 attachments=0 metadata=0' '' mcaprec check many-out.mcap
+
+# Another writer leaves out each crc, puts bytes behind the fields of a Channel and a record of an unknown kind between chunks,
+# lists entries and indexes in other orders, and has a Schema in the summary alone.
+expect 0 'ok indexed messages=5 channels=3 schemas=2 chunks=3 attachments=1 metadata=1' '' mcaprec check "$other"
+expect 0 '5 9 1 3 "/imu" 77
+10 9 1 1 "/imu" aa
+11 9 1 2 "/imu" bb
+12 9 2 1 "/log" -
+20 9 2 2 "/log" 71' '' mcaprec cat "$other"
 
 # What is cut ends with no magic: each first part of two files, by the program that the launcher built. Of what is left a sound
 # file is made.
