@@ -284,6 +284,50 @@ for cut in one session-chunks; do
         n=$((n + 1))
     done
 done
+# A file of 4.5 GB: behind the Header 17 records of an unknown kind of 256 MiB each, which take no room on the disk, and then
+# what one.mcap has there. Each offset is greater by that.
+number() {
+    number_bytes=$1 number_rest=$2
+    while [ "$number_bytes" -gt 0 ]; do
+        # shellcheck disable=SC2059  # the format is the byte
+        printf "\\$(printf '%03o' $((number_rest % 256)))"
+        number_rest=$((number_rest / 256)) number_bytes=$((number_bytes - 1))
+    done
+}
+part() { tail -c +$(($2 + 1)) -- "$1" | head -c $(($3 - $2)); }
+head -c 34 -- "$one" >huge.mcap
+n=0
+while [ "$n" -lt 17 ]; do
+    { number 1 144 && number 8 268435456; } >>huge.mcap
+    truncate -s +268435456 huge.mcap
+    n=$((n + 1))
+done
+far=$((17 * 268435465))
+{
+    part "$one" 34 303 && number 8 $((far + 34)) && part "$one" 311 325 && number 8 $((far + 142)) && part "$one" 333 371
+    number 8 $((far + 186)) && part "$one" 379 397 && number 8 $((far + 213)) && part "$one" 405 423
+    number 8 $((far + 278)) && part "$one" 431 448 && number 8 $((far + 186)) && number 8 $((far + 361)) && number 4 0
+    tail -c 8 -- "$one"
+} >>huge.mcap
+compare 'the size of huge.mcap' $((far + 476)) "$(($(wc -c <huge.mcap)))"
+expect 0 'ok indexed messages=1 channels=1 schemas=0 chunks=1 attachments=0 metadata=0' '' mcaprec check huge.mcap
+rm -f huge.mcap
+
+# Each record in a chunk of its own: a schema, a channel and 131,072 messages.
+dd if="$session" of=messages bs=1 skip=176 count=40 2>/dev/null
+for _ in 1 2 3 4 5 6 7 8 9 10 11 12 13 14 15 16 17; do
+    cat messages messages >doubled
+    mv doubled messages
+done
+{ head -c 176 -- "$session" && cat messages && tail -c 13 -- "$session"; } >small.mcap
+rm -f messages
+filter='sed s/bytes=[0-9]*/bytes=N/'
+expect 0 'feed 1 accepted=131072 refused=0 passed=0 end
+file records=131074 blocks=131074 bytes=N closed' '' mcaprec record --chunk 1 small-out.mcap small.mcap
+filter='cat'
+expect 0 'ok indexed messages=131072 channels=1 schemas=1 chunks=131074 attachments=0 metadata=0' '' mcaprec check small-out.mcap
+rm -f small.mcap small-out.mcap
+
 expect 1 'flaw V2 at 165' '' mcaprec check one-cut.mcap
 expect 0 'ok indexed messages=1 channels=1 schemas=0 chunks=1 attachments=0 metadata=0' '' mcaprec check one-again.mcap
 
