@@ -11,6 +11,7 @@ mod cat;
 mod check;
 mod faults;
 mod files;
+mod flaws;
 mod limits;
 mod recording;
 mod verdicts;

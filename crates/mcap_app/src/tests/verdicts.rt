@@ -1,7 +1,7 @@
 //! The verdicts on files.
 use super::*;
 
-const CHECK: &[&str] = &["check", "F"];
+pub(super) const CHECK: &[&str] = &["check", "F"];
 
 const ONE_LINE: &str =
     "ok indexed messages=1 channels=1 schemas=0 chunks=1 attachments=0 metadata=0\n";
@@ -10,9 +10,9 @@ const ONE_LINE: &str =
 const NO_TEXT: &[u8] = b"\x04\x12\0\0\0\0\0\0\0\x07\0\0\0\x02\0\0\0\xff\xff\0\0\0\0\0\0\0\0";
 
 // What is put at an offset in place of what stands there.
-type Change<'a> = (usize, &'a [u8]);
+pub(super) type Change<'a> = (usize, &'a [u8]);
 
-const NO_CRC: &[u8] = b"\0\0\0\0";
+pub(super) const NO_CRC: &[u8] = b"\0\0\0\0";
 
 const ZSTD: &[u8] = b"zstd";
 
@@ -32,7 +32,11 @@ fn byte_at(changes: &[Change<'_>], before: usize, byte: u8) -> u8 {
 }
 
 // The bytes, with changes.
-fn changed(alloc: Global, bytes: &[u8], changes: &[Change<'_>]) -> Result<Vec<u8>, AllocError> {
+pub(super) fn changed(
+    alloc: Global,
+    bytes: &[u8],
+    changes: &[Change<'_>],
+) -> Result<Vec<u8>, AllocError> {
     let mut all = Vec::new(alloc);
     for (before, byte) in bytes.iter().enumerate() {
         all.push(byte_at(changes, before, *byte))?;
@@ -41,12 +45,12 @@ fn changed(alloc: Global, bytes: &[u8], changes: &[Change<'_>]) -> Result<Vec<u8
 }
 
 // The file of one message with a change, whose summary has no crc.
-fn one_changed(alloc: Global, at: usize, part: &[u8]) -> Result<Vec<u8>, AllocError> {
+pub(super) fn one_changed(alloc: Global, at: usize, part: &[u8]) -> Result<Vec<u8>, AllocError> {
     changed(alloc, ONE, &[(464, NO_CRC), (at, part)])
 }
 
 // A file without a summary, of these records behind its Header.
-fn plain_of(alloc: Global, records: &[&[u8]]) -> Result<Vec<u8>, AllocError> {
+pub(super) fn plain_of(alloc: Global, records: &[&[u8]]) -> Result<Vec<u8>, AllocError> {
     let between = joined(alloc, records)?;
     joined(alloc, &[MAGIC, HEADER, &between, PLAIN_BACK])
 }
