@@ -2,21 +2,20 @@
 use Rattle.std.proofs.Common.{◌≡◌, ℕ, suc, false, List, [], ◌∷◌, ◌++◌, length, drop, refl, sym, ap, subst, inl, inr, ◌∙◌, append_assoc, arith}
 use Rattle.std.specs.Prelude.{take_while}
 use Rattle.std.proofs.lemmas.Bool.{ne_eqb, eq-eqb}
-use Rattle.std.proofs.lemmas.List.{append-nil}
 use Rattle.std.proofs.lemmas.Option.{same_Some}
 use Rattle.mcap_wire.proofs.Contents.{shows_decided}
 use Rattle.rec_index.specs.Records.{message_index_kinds, message_index_values, ShowsMessageIndex}
 use Rattle.mcap_model.specs.Places.{At, Has, Each}
-use Rattle.mcap_model.specs.Tops.{Top, inner_tops, records_in}
-use Rattle.mcap_model.specs.Fields.{IsMessage, IsMessageIndex}
-use Rattle.mcap_model.specs.Whole.{is_index, indexes_behind, AreEntries, IndexIsRight, BelongsTo, IsIndexed}
+use Rattle.mcap_model.specs.Tops.{Top, inner_tops}
+use Rattle.mcap_model.specs.Fields.{IsMessageIndex}
+use Rattle.mcap_model.specs.Whole.{is_index, indexes_behind, offset_among, IsEntryOf, AreEntries, IndexIsRight, BelongsTo, IsIndexed}
 use Rattle.mcap_model.specs.Made.{top}
-use Rattle.mcap_model.specs.Walk.{inner_top, StepsOver}
-use Rattle.mcap_model.specs.declared.inner.Inner.{Inner}
-use Rattle.mcap_model.proofs.Places.{at_none, at_last, at_more, last_apart}
+use Rattle.mcap_model.proofs.Places.{at_none, at_last, last_apart}
 use Rattle.mcap_model.proofs.Lists.{take_while_front}
 use Rattle.mcap_model.proofs.Cutting.{last_of}
-use Rattle.index_check.specs.Behind.{IsOpen, IsOn, AreOn}
+use Rattle.index_check.specs.declared.chunk_messages.ChunkMessage.{ChunkMessage}
+use Rattle.index_check.specs.Behind.{IsOpen}
+use Rattle.index_check.specs.Messages.{message_of, AreOn}
 
 -- ---- a Message Index
 
@@ -28,9 +27,9 @@ index_once t a b e f one other =
 pub as_index : (content : List ℕ) (channel : ℕ) (entries : List (ℕ × ℕ)) → ShowsMessageIndex content channel entries → IsMessageIndex (top 7 content) channel entries
 as_index content channel entries shows = record { kind = refl; layout = shows }
 
-pub index_belongs : (before : List Top) (records channels content : List ℕ) (channel : ℕ) (entries : List (ℕ × ℕ)) → IsOpen before records channels → ShowsMessageIndex content channel entries
-    → AreEntries (records_in records) channel entries → (Has channels channel → ⊥) → BelongsTo before (top 7 content)
-index_belongs before records channels content channel entries o shows are fresh = by o.earlier refl
+pub index_belongs : (before : List Top) (messages : List ChunkMessage) (channels content : List ℕ) (channel : ℕ) (entries : List (ℕ × ℕ)) → (o : IsOpen before messages channels) → ShowsMessageIndex content channel entries
+    → AreEntries (inner_tops o.chunk) channel entries → (Has channels channel → ⊥) → BelongsTo before (top 7 content)
+index_belongs before messages channels content channel entries o shows are fresh = by o.earlier refl
   where
     right : (others : List Top) (chunk : Top) (earlier : List Top) → before ≡ others ++ chunk ∷ earlier → chunk.op ≡ 6 → Each (λ u. u.op ≡ 7) earlier → IndexIsRight chunk earlier (top 7 content)
     right others chunk earlier joined kind indexes =
@@ -40,7 +39,7 @@ index_belongs before records channels content channel entries o shows are fresh 
               let once = index_once (top 7 content) channel own entries list (as_index content channel entries shows) is in
               subst (λ (l : List (ℕ × ℕ)). AreEntries (inner_tops chunk) own l) once.1
               (subst (λ (n : ℕ). AreEntries (inner_tops chunk) n entries) once.0
-              (subst (λ (l : List Top). AreEntries l channel entries) (sym o.holds ∙ ap inner_tops same.0) are));
+              (subst (λ (u : Top). AreEntries (inner_tops u) channel entries) same.0 are));
           only = λ own u list others_list has is own_is.
               let once = index_once (top 7 content) channel own entries list (as_index content channel entries shows) own_is in
               let there = o.shown has.0 u (subst (λ (l : List Top). At l has.0 u) (sym same.1) has.1) in
@@ -61,14 +60,12 @@ index_belongs before records channels content channel entries o shows are fresh 
           right = right;
         }
 
-pub belongs_index : (before : List Top) (records channels content : List ℕ) (channel : ℕ) (entries : List (ℕ × ℕ)) → IsOpen before records channels → ShowsMessageIndex content channel entries
-    → BelongsTo before (top 7 content) → AreEntries (records_in records) channel entries × (Has channels channel → ⊥)
-belongs_index before records channels content channel entries o shows belongs =
+pub belongs_index : (before : List Top) (messages : List ChunkMessage) (channels content : List ℕ) (channel : ℕ) (entries : List (ℕ × ℕ)) → (o : IsOpen before messages channels) → ShowsMessageIndex content channel entries
+    → BelongsTo before (top 7 content) → AreEntries (inner_tops o.chunk) channel entries × (Has channels channel → ⊥)
+belongs_index before messages channels content channel entries o shows belongs =
     let right = belongs.right o.others o.chunk o.earlier o.joined o.kind o.indexes in
-    let own = as_index content channel entries shows in (
-      subst (λ (l : List Top). AreEntries l channel entries) o.holds (right.entries channel entries own),
-      λ has. let there = o.named channel has in right.only channel there.0 entries there.1 there.2 there.3 own,
-    )
+    let own = as_index content channel entries shows in
+    (right.entries channel entries own, λ has. let there = o.named channel has in right.only channel there.0 entries there.1 there.2 there.3 own)
 
 -- ---- the chunk
 
@@ -87,12 +84,12 @@ indexes_are others chunk earlier t after indexes other =
     first : (x : Top) → At (t ∷ after) 0 x → is_index x ≡ false
     first x at = ap is_index (sym (same_Some t x at)) ∙ ne_eqb t.op 7 other
 
-pub behind_open : (before after : List Top) (t : Top) (records channels : List ℕ) (o : IsOpen before records channels) → (t.op ≡ 7 → ⊥) → indexes_behind (before ++ t ∷ after) (length o.others) ≡ o.earlier
-behind_open before after t records channels o other =
+pub behind_open : (before after : List Top) (t : Top) (messages : List ChunkMessage) (channels : List ℕ) (o : IsOpen before messages channels) → (t.op ≡ 7 → ⊥) → indexes_behind (before ++ t ∷ after) (length o.others) ≡ o.earlier
+behind_open before after t messages channels o other =
     ap (λ (l : List Top). indexes_behind (l ++ t ∷ after) (length o.others)) o.joined ∙ indexes_are o.others o.chunk o.earlier t after o.indexes other
 
-pub indexed_none : (before after : List Top) (t : Top) (records channels : List ℕ) (o : IsOpen before records channels) → (t.op ≡ 7 → ⊥) → channels ≡ [] → IsIndexed (before ++ t ∷ after) (length o.others) o.chunk
-indexed_none before after t records channels o other none = inl (behind_open before after t records channels o other ∙ empty o.earlier refl)
+pub indexed_none : (before after : List Top) (t : Top) (messages : List ChunkMessage) (channels : List ℕ) (o : IsOpen before messages channels) → (t.op ≡ 7 → ⊥) → channels ≡ [] → IsIndexed (before ++ t ∷ after) (length o.others) o.chunk
+indexed_none before after t messages channels o other none = inl (behind_open before after t messages channels o other ∙ empty o.earlier refl)
   where
     empty : (earlier : List Top) → o.earlier ≡ earlier → earlier ≡ []
     empty [] is = refl
@@ -101,24 +98,28 @@ indexed_none before after t records channels o other none = inl (behind_open bef
         let has = subst (λ (l : List ℕ). Has l there.0) none there.3 in
         absurd (at_none has.0 there.0 has.1)
 
-pub indexed_all : (before after : List Top) (t : Top) (records channels : List ℕ) (o : IsOpen before records channels) → (t.op ≡ 7 → ⊥) → AreOn (records_in records) channels → IsIndexed (before ++ t ∷ after) (length o.others) o.chunk
-indexed_all before after t records channels o other on = inr (λ j channel u m at is.
-    let there = o.named channel (on j channel u m (subst (λ (l : List Top). At l j u) o.holds at) is) in
+pub indexed_all : (before after : List Top) (t : Top) (messages : List ChunkMessage) (channels : List ℕ) (o : IsOpen before messages channels) → (t.op ≡ 7 → ⊥) → AreOn messages channels → IsIndexed (before ++ t ∷ after) (length o.others) o.chunk
+indexed_all before after t messages channels o other on = inr (λ j channel u m at is.
+    let entry : IsEntryOf (inner_tops o.chunk) channel (m.log_time, offset_among (inner_tops o.chunk) j) = record { place = j; top = u; message = m; at = at; is = is; time = refl; offset = refl } in
+    let heard = o.holds.all channel (m.log_time, offset_among (inner_tops o.chunk) j) entry in
+    let there = o.named channel (on heard.0 (message_of channel (m.log_time, offset_among (inner_tops o.chunk) j)) heard.1) in
     let has = there.2 in
-    (has.0, there.0, there.1, subst (λ (l : List Top). At l has.0 there.0) (sym (behind_open before after t records channels o other)) has.1, there.3))
+    (has.0, there.0, there.1, subst (λ (l : List Top). At l has.0 there.0) (sym (behind_open before after t messages channels o other)) has.1, there.3))
 
-pub on_indexed : (before after : List Top) (t : Top) (records channels : List ℕ) (o : IsOpen before records channels) → (t.op ≡ 7 → ⊥) → (channels ≡ [] → ⊥) → IsIndexed (before ++ t ∷ after) (length o.others) o.chunk → AreOn (records_in records) channels
-on_indexed before after t records channels o other some indexed = elim indexed [
+pub on_indexed : (before after : List Top) (t : Top) (messages : List ChunkMessage) (channels : List ℕ) (o : IsOpen before messages channels) → (t.op ≡ 7 → ⊥) → (channels ≡ [] → ⊥) → IsIndexed (before ++ t ∷ after) (length o.others) o.chunk → AreOn messages channels
+on_indexed before after t messages channels o other some indexed = elim indexed [
   | inl none ↦ absurd (some (no_channel (none_behind none) channels refl))
-  | inr each ↦ λ j channel u m at is.
-      let (k, i, entries, there, shows) = each j channel u m (subst (λ (l : List Top). At l j u) (sym o.holds) at) is in
-      let seen = o.shown k i (subst (λ (l : List Top). At l k i) (behind_open before after t records channels o other) there) in
-      let once = index_once i seen.0 channel seen.1 entries seen.2 shows in
+  | inr each ↦ λ n heard at.
+      let holds = o.holds in
+      let is = holds.are heard (n, at) in
+      let (k, i, entries, there, shows) = each is.place heard.channel is.top is.message is.at is.is in
+      let seen = o.shown k i (subst (λ (l : List Top). At l k i) (behind_open before after t messages channels o other) there) in
+      let once = index_once i seen.0 heard.channel seen.1 entries seen.2 shows in
       subst (Has channels) once.0 seen.3
 ]
   where
     none_behind : indexes_behind (before ++ t ∷ after) (length o.others) ≡ [] → o.earlier ≡ []
-    none_behind none = sym (behind_open before after t records channels o other) ∙ none
+    none_behind none = sym (behind_open before after t messages channels o other) ∙ none
 
     no_channel : o.earlier ≡ [] → (list : List ℕ) → channels ≡ list → channels ≡ []
     no_channel none [] is = is
@@ -126,33 +127,3 @@ on_indexed before after t records channels o other some indexed = elim indexed [
         let there = o.named c (0, subst (λ (l : List ℕ). At l 0 c) (sym is) refl) in
         let has = there.2 in
         absurd (at_none has.0 there.0 (subst (λ (l : List Top). At l has.0 there.0) none has.1))
-
--- ---- the walk over the records of the chunk
-
-pub record OnSoFar (records rest channels : List ℕ) : Type 0 where
-  pub done : List Top
-  pub split : records_in records ≡ done ++ records_in rest
-  pub on : AreOn done channels
-
-pub on_none : (records rest channels : List ℕ) → rest ≡ records → OnSoFar records rest channels
-on_none records rest channels all = record { done = []; split = ap records_in (sym all); on = λ j channel u m at is. absurd (at_none j u at) }
-
-pub on_step : (records rest rest_new channels : List ℕ) (at at_new : ℕ) (inner : Inner) → OnSoFar records rest channels → StepsOver at rest at_new rest_new inner → IsOn (inner_top inner) channels → OnSoFar records rest_new channels
-on_step records rest rest_new channels at at_new inner was steps on = record {
-  done = was.done ++ inner_top inner ∷ [];
-  split = was.split ∙ ap (λ (l : List Top). was.done ++ l) steps.first ∙ sym (append_assoc was.done (inner_top inner ∷ []) (records_in rest_new));
-  on = λ j channel u m there is. elim (at_more was.done (inner_top inner) j u there) [
-    | inl old ↦ was.on j channel u m old is
-    | inr (_, same) ↦ on channel m (subst (λ (x : Top). IsMessage x channel m) same is)
-  ];
-}
-
-pub on_here : (records rest rest_new channels : List ℕ) (at at_new : ℕ) (inner : Inner) → OnSoFar records rest channels → StepsOver at rest at_new rest_new inner → AreOn (records_in records) channels → IsOn (inner_top inner) channels
-on_here records rest rest_new channels at at_new inner was steps on = λ channel m is.
-    let there : records_in records ≡ was.done ++ inner_top inner ∷ records_in rest_new = was.split ∙ ap (λ (l : List Top). was.done ++ l) steps.first in
-    on (length was.done) channel (inner_top inner) m (subst (λ (l : List Top). At l (length was.done) (inner_top inner)) (sym there) (at_last was.done (inner_top inner) (records_in rest_new))) is
-
-pub on_all : (records rest channels : List ℕ) → OnSoFar records rest channels → records_in rest ≡ [] → AreOn (records_in records) channels
-on_all records rest channels was none =
-    let all : was.done ≡ records_in records = sym (was.split ∙ ap (λ (l : List Top). was.done ++ l) none ∙ append-nil was.done) in
-    subst (λ (l : List Top). AreOn l channels) all was.on

@@ -1,6 +1,7 @@
 pub mod Walked
 pub mod Apart
 pub mod SortedEntries
+pub mod Runs
 pub mod Followers
 pub mod Marks
 pub mod Answering

@@ -1,5 +1,6 @@
--- The messages of a channel that a walk over the records of a chunk has come to.
+-- The messages that a walk over the records of a chunk has come to.
 use Rattle.std.proofs.Common.{◌≡◌, ◌⊎◌, ℕ, ◌+◌, ◌<◌, ◌≤◌, List, [], ◌∷◌, ◌++◌, length, take, sym, ap, subst, inl, inr, ◌∙◌, append_assoc, arith}
+use Rattle.std.specs.Prelude.{◌≢◌}
 use Rattle.std.proofs.lemmas.List.{append-nil, length-append, take-append-le}
 use Rattle.std.proofs.lemmas.Grind.{flat_map-append}
 use Rattle.std.proofs.Math.Seq.{take-append_seam}
@@ -13,8 +14,9 @@ use Rattle.mcap_model.proofs.Places.{at_none, at_within, at_kept, at_last, at_mo
 use Rattle.mcap_model.proofs.Lists.{cut_flat}
 use Rattle.mcap_model.proofs.Readings.{length-top}
 use Rattle.mcap_model.proofs.Maps.{message_once}
-use Rattle.mcap_model.proofs.Logged.{pair_same}
-use Rattle.index_check.specs.Entries.{ListsEntries, entry_offset}
+use Rattle.index_check.specs.declared.chunk_messages.ChunkMessage.{ChunkMessage}
+use Rattle.index_check.specs.Entries.{entry_offset}
+use Rattle.index_check.specs.Messages.{entry_of, message_of, HoldsMessages}
 
 -- ---- offsets among records
 
@@ -67,63 +69,64 @@ entry_old inner t channel entry is = elim (at_more inner t is.place is.top is.at
   )
 ]
 
--- a record that isn't a message of the channel
-pub lists_other : (inner : List Top) (t : Top) (channel : ℕ) (found : List (ℕ × ℕ)) → ListsEntries inner channel found → ((m : MessageFields) → IsMessage t channel m → ⊥) → ListsEntries (inner ++ t ∷ []) channel found
-lists_other inner t channel found was other = record {
-  are = λ entry has. entry_kept inner (t ∷ []) channel entry (was.are entry has);
-  all = λ entry is. elim (entry_old inner t channel entry is) [
-    | inl old ↦ was.all entry old
-    | inr (m, shown, _, _) ↦ absurd (other m shown)
+-- a record that is no message
+pub holds_other : (inner : List Top) (t : Top) (messages : List ChunkMessage) → HoldsMessages inner messages → ((channel : ℕ) (m : MessageFields) → IsMessage t channel m → ⊥) → HoldsMessages (inner ++ t ∷ []) messages
+holds_other inner t messages was other = record {
+  are = λ heard has. entry_kept inner (t ∷ []) heard.channel (entry_of heard) (was.are heard has);
+  all = λ channel entry is. elim (entry_old inner t channel entry is) [
+    | inl old ↦ was.all channel entry old
+    | inr (m, shown, _, _) ↦ absurd (other channel m shown)
   ];
-  rises = was.rises;
+  once = was.once;
 }
 
-abbrev pair : ℕ → ℕ → ℕ × ℕ
-pair a b = (a, b)
+fields_same : (heard : ChunkMessage) (channel time offset : ℕ) → heard.channel ≡ channel → heard.time ≡ time → heard.offset ≡ offset → heard ≡ message_of channel (time, offset)
+fields_same heard channel time offset one two three =
+    ap (λ (n : ℕ). message_of n (heard.time, heard.offset)) one ∙ ap (λ (n : ℕ). message_of channel (n, heard.offset)) two ∙ ap (λ (n : ℕ). message_of channel (time, n)) three
 
--- a message of the channel
-pub lists_more : (inner : List Top) (t : Top) (channel time offset : ℕ) (found : List (ℕ × ℕ)) (m : MessageFields) → ListsEntries inner channel found → IsMessage t channel m → time ≡ m.log_time → offset ≡ length (spelled inner)
-    → ListsEntries (inner ++ t ∷ []) channel (found ++ pair time offset ∷ [])
-lists_more inner t channel time offset found m was is then there = record {
-  are = λ entry has. elim (at_more found (pair time offset) has.0 entry has.1) [
-    | inl old ↦ entry_kept inner (t ∷ []) channel entry (was.are entry (has.0, old))
-    | inr (_, same) ↦ record {
+-- a message
+pub holds_more : (inner : List Top) (t : Top) (messages : List ChunkMessage) (heard : ChunkMessage) (m : MessageFields) → HoldsMessages inner messages → IsMessage t heard.channel m → heard.time ≡ m.log_time → heard.offset ≡ length (spelled inner)
+    → HoldsMessages (inner ++ t ∷ []) (messages ++ heard ∷ [])
+holds_more inner t messages heard m was is then there = record {
+  are = λ x has. elim (at_more messages heard has.0 x has.1) [
+    | inl old ↦ entry_kept inner (t ∷ []) x.channel (entry_of x) (was.are x (has.0, old))
+    | inr (_, same) ↦ subst (λ (y : ChunkMessage). IsEntryOf (inner ++ t ∷ []) y.channel (entry_of y)) (sym same) (record {
       place = length inner;
       top = t;
       message = m;
       at = at_last inner t [];
       is = is;
-      time = ap (λ (p : ℕ × ℕ). p.0) same ∙ then;
-      offset = ap (λ (p : ℕ × ℕ). p.1) same ∙ there ∙ sym (among_seam inner (t ∷ []));
-    }
+      time = then;
+      offset = there ∙ sym (among_seam inner (t ∷ []));
+    })
   ];
-  all = λ entry is_entry. elim (entry_old inner t channel entry is_entry) [
-    | inl old ↦ has_kept found (pair time offset ∷ []) entry (was.all entry old)
+  all = λ channel entry is_entry. elim (entry_old inner t channel entry is_entry) [
+    | inl old ↦ has_kept messages (heard ∷ []) (message_of channel entry) (was.all channel entry old)
     | inr (n, shown, first, second) ↦
-        let one = message_once t channel channel n m shown is in
-        let same : ◌≡◌ {A = ℕ × ℕ} entry (time, offset) = pair_same entry time offset (first ∙ ap (λ (x : MessageFields). x.log_time) one.1 ∙ sym then) (second ∙ sym there) in
-        subst {A = ℕ × ℕ} (λ e. Has (found ++ pair time offset ∷ []) e) (sym same) (has_last found (pair time offset) [])
+        let one = message_once t heard.channel channel m n is shown in
+        let same = fields_same heard channel entry.0 entry.1 one.0 (then ∙ ap (λ (x : MessageFields). x.log_time) one.1 ∙ sym first) (there ∙ sym second) in
+        subst (Has (messages ++ heard ∷ [])) same (has_last messages heard [])
   ];
-  rises = pairs_more (λ (a b : ℕ × ℕ). entry_offset a < entry_offset b) found (pair time offset) was.rises (λ k e at. let below = entry_below inner channel e (was.are e (k, at)) in omega (arith, below, there));
+  once = pairs_more (λ (a b : ChunkMessage). a.offset ≢ b.offset) messages heard was.once (λ k x at. let below = entry_below inner x.channel (entry_of x) (was.are x (k, at)) in λ e. omega (arith, below, there, e));
 }
 
 -- ---- how far a walk is
 
-pub record ListsSoFar (records : List ℕ) (at : ℕ) (rest : List ℕ) (channel : ℕ) (found : List (ℕ × ℕ)) : Type 0 where
+pub record HoldsSoFar (records : List ℕ) (at : ℕ) (rest : List ℕ) (messages : List ChunkMessage) : Type 0 where
   pub done : List Top
   pub place : at ≡ length (spelled done)
   pub split : records_in records ≡ done ++ records_in rest
-  pub lists : ListsEntries done channel found
+  pub holds : HoldsMessages done messages
 
-pub lists_none : (records : List ℕ) (at : ℕ) (rest : List ℕ) (channel : ℕ) → at ≡ 0 → rest ≡ records → ListsSoFar records at rest channel []
-lists_none records at rest channel is all = record {
+pub holds_none : (records : List ℕ) (at : ℕ) (rest : List ℕ) → at ≡ 0 → rest ≡ records → HoldsSoFar records at rest []
+holds_none records at rest is all = record {
   done = [];
   place = is;
   split = ap records_in (sym all);
-  lists = record {
-    are = λ entry has. absurd (at_none has.0 entry has.1);
-    all = λ entry is. absurd (at_none is.place is.top is.at);
-    rises = λ i j d less within. absurd (omega (arith, within));
+  holds = record {
+    are = λ heard has. absurd (at_none has.0 heard has.1);
+    all = λ channel entry is. absurd (at_none is.place is.top is.at);
+    once = λ i j d less within. absurd (omega (arith, within));
   };
 }
 
@@ -132,29 +135,29 @@ spelled_more xs t =
     let size = ap length (flat_map-append top_bytes xs (t ∷ [])) in
     omega (arith, size, length-append (spelled xs) (top_bytes t ++ []), length-append (top_bytes t) [])
 
-lists_step : (records : List ℕ) (at at_new : ℕ) (rest rest_new : List ℕ) (channel : ℕ) (found new : List (ℕ × ℕ)) (inner : Inner) → (was : ListsSoFar records at rest channel found) → StepsOver at rest at_new rest_new inner
-    → ListsEntries (was.done ++ inner_top inner ∷ []) channel new → ListsSoFar records at_new rest_new channel new
-lists_step records at at_new rest rest_new channel found new inner was steps lists =
+holds_step : (records : List ℕ) (at at_new : ℕ) (rest rest_new : List ℕ) (messages new : List ChunkMessage) (inner : Inner) → (was : HoldsSoFar records at rest messages) → StepsOver at rest at_new rest_new inner
+    → HoldsMessages (was.done ++ inner_top inner ∷ []) new → HoldsSoFar records at_new rest_new new
+holds_step records at at_new rest rest_new messages new inner was steps holds =
     let t = inner_top inner in
     record {
       done = was.done ++ t ∷ [];
       place = let behind = steps.behind in let place = was.place in omega (arith, behind, place, spelled_more was.done t);
       split = was.split ∙ ap (λ (l : List Top). was.done ++ l) steps.first ∙ sym (append_assoc was.done (t ∷ []) (records_in rest_new));
-      lists = lists;
+      holds = holds;
     }
 
-pub step_other : (records : List ℕ) (at at_new : ℕ) (rest rest_new : List ℕ) (channel : ℕ) (found : List (ℕ × ℕ)) (inner : Inner) → ListsSoFar records at rest channel found → StepsOver at rest at_new rest_new inner
-    → ((m : MessageFields) → IsMessage (inner_top inner) channel m → ⊥) → ListsSoFar records at_new rest_new channel found
-step_other records at at_new rest rest_new channel found inner was steps other =
-    lists_step records at at_new rest rest_new channel found found inner was steps (lists_other was.done (inner_top inner) channel found was.lists other)
+pub step_other : (records : List ℕ) (at at_new : ℕ) (rest rest_new : List ℕ) (messages : List ChunkMessage) (inner : Inner) → HoldsSoFar records at rest messages → StepsOver at rest at_new rest_new inner
+    → ((channel : ℕ) (m : MessageFields) → IsMessage (inner_top inner) channel m → ⊥) → HoldsSoFar records at_new rest_new messages
+step_other records at at_new rest rest_new messages inner was steps other =
+    holds_step records at at_new rest rest_new messages messages inner was steps (holds_other was.done (inner_top inner) messages was.holds other)
 
-pub step_more : (records : List ℕ) (at at_new : ℕ) (rest rest_new : List ℕ) (channel time : ℕ) (found : List (ℕ × ℕ)) (inner : Inner) → ListsSoFar records at rest channel found → StepsOver at rest at_new rest_new inner
-    → (m : MessageFields) → IsMessage (inner_top inner) channel m → time ≡ m.log_time → ListsSoFar records at_new rest_new channel (found ++ pair time inner.offset ∷ [])
-step_more records at at_new rest rest_new channel time found inner was steps m is then =
-    lists_step records at at_new rest rest_new channel found (found ++ pair time inner.offset ∷ []) inner was steps
-    (lists_more was.done (inner_top inner) channel time inner.offset found m was.lists is then (steps.offset ∙ was.place))
+pub step_more : (records : List ℕ) (at at_new : ℕ) (rest rest_new : List ℕ) (messages : List ChunkMessage) (heard : ChunkMessage) (inner : Inner) → HoldsSoFar records at rest messages → StepsOver at rest at_new rest_new inner
+    → (m : MessageFields) → IsMessage (inner_top inner) heard.channel m → heard.time ≡ m.log_time → heard.offset ≡ inner.offset → HoldsSoFar records at_new rest_new (messages ++ heard ∷ [])
+step_more records at at_new rest rest_new messages heard inner was steps m is then there =
+    holds_step records at at_new rest rest_new messages (messages ++ heard ∷ []) inner was steps
+    (holds_more was.done (inner_top inner) messages heard m was.holds is then (there ∙ steps.offset ∙ was.place))
 
-pub lists_all : (records : List ℕ) (at : ℕ) (rest : List ℕ) (channel : ℕ) (found : List (ℕ × ℕ)) → ListsSoFar records at rest channel found → records_in rest ≡ [] → ListsEntries (records_in records) channel found
-lists_all records at rest channel found was none =
+pub holds_all : (records : List ℕ) (at : ℕ) (rest : List ℕ) (messages : List ChunkMessage) → HoldsSoFar records at rest messages → records_in rest ≡ [] → HoldsMessages (records_in records) messages
+holds_all records at rest messages was none =
     let all : was.done ≡ records_in records = sym (was.split ∙ ap (λ (l : List Top). was.done ++ l) none ∙ append-nil was.done) in
-    subst (λ (l : List Top). ListsEntries l channel found) all was.lists
+    subst (λ (l : List Top). HoldsMessages l messages) all was.holds

@@ -1,14 +1,8 @@
 -- The entries that a Message Index is to have.
-use Rattle.std.specs.Prelude.{◌≡◌, ◌<◌, ℕ, List, Option, Some, None, AllPairs}
+use Rattle.std.specs.Prelude.{◌<◌, ℕ, List, AllPairs}
 use Rattle.mcap_model.specs.Places.{Has}
 use Rattle.mcap_model.specs.Tops.{Top}
-use Rattle.mcap_model.specs.Fields.{MessageFields, IsMessage}
 use Rattle.mcap_model.specs.Whole.{IsEntryOf}
-
--- the log time of a Message on that channel, or the record is none
-abbrev pub IsTimeOn : Top → ℕ → Option ℕ → Type 0
-IsTimeOn t channel (Some time) = (m : MessageFields) × IsMessage t channel m × (time ≡ m.log_time)
-IsTimeOn t channel None = (m : MessageFields) → IsMessage t channel m → ⊥
 
 -- an entry is a log time and an offset
 abbrev pub entry_offset : ℕ × ℕ → ℕ

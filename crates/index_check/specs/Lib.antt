@@ -1,3 +1,4 @@
+pub mod Messages
 pub mod Entries
 pub mod Ids
 pub mod Behind

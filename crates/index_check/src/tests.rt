@@ -1,7 +1,7 @@
 //! The judges of the rules on indexes, over the records of small files.
 use crate::{
-    Attachments, Chunks, IdCounts, Ids, MetadataList, Order, SummaryPlaces, Tally, has_indexes,
-    is_crc_right, is_index_right,
+    Attachments, ChunkMessages, Chunks, IdCounts, Ids, MetadataList, Order, SummaryPlaces, Tally,
+    has_indexes, is_crc_right, is_index_right,
 };
 use mcap_wire::EntriesRef;
 use rec_data::{Attachment, Footer, Metadata};
@@ -35,6 +35,13 @@ fn ids_of(alloc: Global, channels: &[u16]) -> Result<Ids, Fail> {
     Ok(ids)
 }
 
+// The Messages among these records.
+fn messages_of(alloc: Global, records: &[u8]) -> Result<ChunkMessages, Fail> {
+    let mut messages = ChunkMessages::new(alloc);
+    messages.refill(records)?;
+    Ok(messages)
+}
+
 // Whether a Message Index of that channel with these entries is right behind the chunk with two messages, where those of
 // these channels stand in front of it.
 fn is_right(
@@ -49,7 +56,8 @@ fn is_right(
         channel_id,
         entries: EntriesRef::of(entries),
     };
-    let right = is_index_right(alloc, &records, &ids_of(alloc, earlier)?, &index)?;
+    let messages = messages_of(alloc, &records)?;
+    let right = is_index_right(alloc, &messages, &ids_of(alloc, earlier)?, &index)?;
     Ok(right)
 }
 
@@ -70,10 +78,10 @@ fn an_index_has_the_entries_of_its_channel(rt: HostRuntime) -> Result<(), Fail> 
 
 #[test]
 fn a_chunk_has_an_index_for_each_channel_or_none(rt: HostRuntime) -> Result<(), Fail> {
-    let records = &CHUNKED[83..142];
-    assert!(rt; has_indexes(records, &ids_of(rt.alloc(), &[])?));
-    assert!(rt; has_indexes(records, &ids_of(rt.alloc(), &[2, 1])?));
-    assert!(rt; !has_indexes(records, &ids_of(rt.alloc(), &[2])?));
+    let messages = messages_of(rt.alloc(), &CHUNKED[83..142])?;
+    assert!(rt; has_indexes(&messages, &ids_of(rt.alloc(), &[])?));
+    assert!(rt; has_indexes(&messages, &ids_of(rt.alloc(), &[2, 1])?));
+    assert!(rt; !has_indexes(&messages, &ids_of(rt.alloc(), &[2])?));
     Ok(())
 }
 

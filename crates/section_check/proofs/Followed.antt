@@ -16,8 +16,10 @@ use Rattle.mcap_model.specs.Valid.{Keeps}
 use Rattle.mcap_model.proofs.Places.{at_none, at_within, at_kept, at_last, at_more, has_kept, has_last, last_apart}
 use Rattle.mcap_model.proofs.Lists.{each_cons, each_joined, take_while_front}
 use Rattle.mcap_model.proofs.Unpacking.{chunks_are_opened}
+use Rattle.index_check.specs.declared.chunk_messages.ChunkMessage.{ChunkMessage}
 use Rattle.index_check.specs.Behind.{IsOpen}
 use Rattle.index_check.specs.Chunks.{EndsWithChunk}
+use Rattle.index_check.specs.Messages.{HoldsMessages}
 use Rattle.index_check.proofs.Followers.{as_index, behind_open}
 use Rattle.index_check.proofs.Spotted.{offset_last}
 use Rattle.section_check.specs.LastChunk.{IndexFails}
@@ -119,8 +121,8 @@ keeps_apart tops t keeps other none = keeps_more tops t keeps (λ e. absurd (oth
     (λ n u at six not followed. absurd (none (record { others = take n tops; chunk = u; earlier = drop (suc n) tops; joined = cut_drop tops n u at; kind = six; indexes = unfollowed tops n not })))
 
 -- another record behind the last chunk and its Message Indexes
-pub keeps_closed : (tops : List Top) (t : Top) (records channels : List ℕ) (o : IsOpen tops records channels) → Keeps V9 tops → (t.op ≡ 7 → ⊥) → IsIndexed (tops ++ t ∷ []) (length o.others) o.chunk → Keeps V9 (tops ++ t ∷ [])
-keeps_closed tops t records channels o keeps other indexed = keeps_more tops t keeps (λ e. absurd (other e)) (λ n u at six not followed.
+pub keeps_closed : (tops : List Top) (t : Top) (messages : List ChunkMessage) (channels : List ℕ) (o : IsOpen tops messages channels) → Keeps V9 tops → (t.op ≡ 7 → ⊥) → IsIndexed (tops ++ t ∷ []) (length o.others) o.chunk → Keeps V9 (tops ++ t ∷ [])
+keeps_closed tops t messages channels o keeps other indexed = keeps_more tops t keeps (λ e. absurd (other e)) (λ n u at six not followed.
     let own = o.kind in
     let cut = cut_drop tops n u at in
     let within = at_within tops n u at in
@@ -130,8 +132,8 @@ keeps_closed tops t records channels o keeps other indexed = keeps_more tops t k
 
 -- ---- V9 fails
 
-pub fails_closed : (tops : List Top) (t : Top) (records channels : List ℕ) (o : IsOpen tops records channels) → (t.op ≡ 7 → ⊥) → (IsIndexed (tops ++ t ∷ []) (length o.others) o.chunk → ⊥) → IndexFails (tops ++ t ∷ []) (offset_behind o.others)
-fails_closed tops t records channels o other lacks = record {
+pub fails_closed : (tops : List Top) (t : Top) (messages : List ChunkMessage) (channels : List ℕ) (o : IsOpen tops messages channels) → (t.op ≡ 7 → ⊥) → (IsIndexed (tops ++ t ∷ []) (length o.others) o.chunk → ⊥) → IndexFails (tops ++ t ∷ []) (offset_behind o.others)
+fails_closed tops t messages channels o other lacks = record {
   place = length o.others;
   top = o.chunk;
   at = at_kept tops (t ∷ []) (length o.others) o.chunk (subst (λ (l : List Top). At l (length o.others) o.chunk) (sym o.joined) (at_last o.others o.chunk o.earlier));
@@ -147,7 +149,7 @@ fails_closed tops t records channels o other lacks = record {
 
     followed : IsFollowed (tops ++ t ∷ []) (length o.others)
     followed =
-        let behind = ap length (behind_open tops [] t records channels o other) in
+        let behind = ap length (behind_open tops [] t messages channels o other) in
         let long = ap length o.joined in
         omega (arith, behind, long, length-append o.others (o.chunk ∷ o.earlier), length-append tops (t ∷ []))
 
@@ -215,11 +217,11 @@ ends_other tops t six seven e =
     let same = last_apart (λ (u : Top). u.op ≡ 7) tops e.others t e.chunk [] e.earlier e.joined seven (λ is. omega (arith, is, kind)) (λ n u at. absurd (at_none n u at)) e.indexes in
     six (ap (λ (u : Top). u.op) same.0 ∙ kind)
 
-pub ends_open : (tops : List Top) (records channels : List ℕ) → IsOpen tops records channels → EndsWithChunk tops
-ends_open tops records channels o = record { others = o.others; chunk = o.chunk; earlier = o.earlier; joined = o.joined; kind = o.kind; indexes = o.indexes }
+pub ends_open : (tops : List Top) (messages : List ChunkMessage) (channels : List ℕ) → IsOpen tops messages channels → EndsWithChunk tops
+ends_open tops messages channels o = record { others = o.others; chunk = o.chunk; earlier = o.earlier; joined = o.joined; kind = o.kind; indexes = o.indexes }
 
-pub open_chunk : (tops : List Top) (t : Top) (f : ChunkFields) (records channels : List ℕ) → IsChunk t f → f.records ≡ records → channels ≡ [] → (o : IsOpen (tops ++ t ∷ []) records channels) × (o.others ≡ tops)
-open_chunk tops t f records channels is same none = (
+pub open_chunk : (tops : List Top) (t : Top) (f : ChunkFields) (messages : List ChunkMessage) (channels : List ℕ) → IsChunk t f → HoldsMessages (records_in f.records) messages → channels ≡ [] → (o : IsOpen (tops ++ t ∷ []) messages channels) × (o.others ≡ tops)
+open_chunk tops t f messages channels is holds none = (
   record {
     others = tops;
     chunk = t;
@@ -227,16 +229,16 @@ open_chunk tops t f records channels is same none = (
     joined = refl;
     kind = is.kind;
     indexes = λ n u at. absurd (at_none n u at);
-    holds = ap records_in (chunks_are_opened t f is ∙ same);
+    holds = subst (λ (l : List Top). HoldsMessages l messages) (sym (ap records_in (chunks_are_opened t f is))) holds;
     shown = λ n u at. absurd (at_none n u at);
     named = λ channel has. absurd (at_none has.0 channel (subst (λ (l : List ℕ). At l has.0 channel) none has.1));
   },
   refl,
 )
 
-pub open_index : (tops : List Top) (records channels more content : List ℕ) (channel : ℕ) (entries : List (ℕ × ℕ)) → (o : IsOpen tops records channels) → ShowsMessageIndex content channel entries → more ≡ channels ++ channel ∷ []
-    → (n : IsOpen (tops ++ top 7 content ∷ []) records more) × (n.others ≡ o.others)
-open_index tops records channels more content channel entries o shows same = (
+pub open_index : (tops : List Top) (messages : List ChunkMessage) (channels more content : List ℕ) (channel : ℕ) (entries : List (ℕ × ℕ)) → (o : IsOpen tops messages channels) → ShowsMessageIndex content channel entries → more ≡ channels ++ channel ∷ []
+    → (n : IsOpen (tops ++ top 7 content ∷ []) messages more) × (n.others ≡ o.others)
+open_index tops messages channels more content channel entries o shows same = (
   record {
     others = o.others;
     chunk = o.chunk;

@@ -12,7 +12,7 @@ use Rattle.section_check.specs.declared.last_chunk.TakeRefused.TheVariants as re
 
 -- the records end with the chunk that is kept and its Message Indexes
 pub record IsKept (tops : List Top) (last : LastChunk) : Type 0 where
-  pub is : IsOpen tops last.records.items last.channels
+  pub is : IsOpen tops last.messages last.channels
   pub there : last.offset ≡ offset_behind is.others
 
 -- so do they, or with no chunk

@@ -8,7 +8,7 @@ ghost use Rattle.mcap_model.specs.Whole.{V9};
 ghost use Rattle.mcap_model.specs.Made.{top};
 ghost use Rattle.section_check.specs.LastChunk.{LastOf, IndexFails, LastTaken};
 
-use index_check::{Ids, has_indexes, is_index_right};
+use index_check::{ChunkMessages, Ids, has_indexes, is_index_right};
 use mcap_wire::Memory;
 use rec_index::{CHUNK, Chunk, MESSAGE_INDEX, MessageIndex};
 use std::alloc::Global;
@@ -22,13 +22,13 @@ pub(crate) enum TakeRefused {
 }
 
 /// The chunk at the end of the records so far, where nothing but Message Indexes stands behind it: its offset in bytes from
-/// the file's front, its records, and the channels of the Message Indexes.
+/// the file's front, its Messages, and the channels of the Message Indexes.
 #[derive(Drop)]
 pub(crate) struct LastChunk {
     // Whether there is one.
     is_open: bool,
     offset: u64,
-    records: Vec<u8>,
+    messages: ChunkMessages,
     channels: Ids,
 }
 
@@ -39,7 +39,7 @@ impl LastChunk {
         LastChunk {
             is_open: false,
             offset: 0,
-            records: Vec::new(alloc),
+            messages: ChunkMessages::new(alloc),
             channels: Ids::new(alloc),
         }
     }
@@ -52,17 +52,16 @@ impl LastChunk {
         if !self.is_open {
             return false;
         }
-        return !has_indexes(&self.records, &self.channels);
+        return !has_indexes(&self.messages, &self.channels);
     }
 
     // Keeps the chunk at that offset in place of the one before.
     fn begin(&mut self, alloc: Global, offset: u64, records: &[u8]) -> Result<(), Memory>
         ensures { OnOk result ((tops : List Top) (t : Top) (f : ChunkFields) → IsChunk t f → f.records ≡ records.now → offset ≡ offset_behind tops → LastOf (tops ++ t ∷ []) self.new) }
     {
-        self.records.clear();
-        match self.records.extend_from_slice(records) {
+        match self.messages.refill(records) {
             Ok(()) => {}
-            Err(_) => return Err(Memory),
+            Err(memory) => return Err(memory),
         }
         self.channels = Ids::new(alloc);
         self.offset = offset;
@@ -81,7 +80,7 @@ impl LastChunk {
             Ok(index) => index,
             Err(_) => return Ok(()),
         };
-        match is_index_right(alloc, &self.records, &self.channels, &index) {
+        match is_index_right(alloc, &self.messages, &self.channels, &index) {
             Ok(true) => {}
             Ok(false) => return Err(TakeRefused::Index { offset }),
             Err(_) => return Err(TakeRefused::Memory),

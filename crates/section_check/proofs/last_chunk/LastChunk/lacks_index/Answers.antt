@@ -1,9 +1,5 @@
-use Rattle.std.proofs.Common.{◌≡◌, ◌∷◌, ◌++◌, [], ℕ, List, length, sym, subst}
-use Rattle.std.specs.Prelude.{◌↔◌, IsTrue}
+use Rattle.std.proofs.Common.{◌∷◌, ◌++◌, [], sym, subst}
 use Rattle.std.proofs.lemmas.Bool.{both_ways}
-use Rattle.mcap_model.specs.Tops.{Top}
-use Rattle.mcap_model.specs.Whole.{IsIndexed}
-use Rattle.index_check.specs.Behind.{IsOpen}
 use Rattle.section_check.specs.LastChunk.{IndexFails}
 use Rattle.section_check.proofs.Answering.{not_true, not_false}
 use Rattle.section_check.proofs.Followed.{keeps_apart, keeps_closed, fails_closed}
@@ -16,15 +12,13 @@ pub returns-clause-lacks : goal.returns-clause-lacks
 returns-clause-lacks c = λ e tops t last other.
     let chunk = c.args.self.now in
     let kept = last.kept c.if-not-self.false in
-    let judged = subst (λ (l : List ℕ). (before after : List Top) (u : Top) (o : IsOpen before l chunk.channels) → (u.op ≡ 7 → ⊥) → IsTrue c.has_indexes.result ↔ IsIndexed (before ++ u ∷ after) (length o.others) o.chunk)
-    c.deref.ensures.value c.has_indexes.ensures tops [] t kept.is other in
+    let judged = c.has_indexes.ensures tops [] t kept.is other in
     subst (IndexFails (tops ++ t ∷ [])) (sym kept.there)
-    (fails_closed tops t chunk.records.items chunk.channels kept.is other (λ indexed. both_ways c.has_indexes.result (not_true c.has_indexes.result e) (judged.1 indexed)))
+    (fails_closed tops t chunk.messages chunk.channels kept.is other (λ indexed. both_ways c.has_indexes.result (not_true c.has_indexes.result e) (judged.1 indexed)))
 
 pub returns-clause-keeps : goal.returns-clause-keeps
 returns-clause-keeps c = λ e tops t last other keeps.
     let chunk = c.args.self.now in
     let kept = last.kept c.if-not-self.false in
-    let judged = subst (λ (l : List ℕ). (before after : List Top) (u : Top) (o : IsOpen before l chunk.channels) → (u.op ≡ 7 → ⊥) → IsTrue c.has_indexes.result ↔ IsIndexed (before ++ u ∷ after) (length o.others) o.chunk)
-    c.deref.ensures.value c.has_indexes.ensures tops [] t kept.is other in
-    keeps_closed tops t chunk.records.items chunk.channels kept.is keeps other (judged.0 (not_false c.has_indexes.result e))
+    let judged = c.has_indexes.ensures tops [] t kept.is other in
+    keeps_closed tops t chunk.messages chunk.channels kept.is keeps other (judged.0 (not_false c.has_indexes.result e))

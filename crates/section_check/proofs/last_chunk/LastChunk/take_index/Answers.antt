@@ -1,11 +1,7 @@
-use Rattle.std.proofs.Common.{◌∷◌, ◌++◌, [], ℕ, List, refl, sym, ap, subst, ◌∙◌}
-use Rattle.std.specs.Prelude.{◌↔◌, IsTrue}
+use Rattle.std.proofs.Common.{◌∷◌, ◌++◌, [], refl, sym, ap, subst, ◌∙◌}
 use Rattle.std.proofs.lemmas.Bool.{both_ways}
-use Rattle.rec_index.specs.Records.{ShowsMessageIndex}
-use Rattle.mcap_model.specs.Tops.{Top, offset_behind}
-use Rattle.mcap_model.specs.Whole.{BelongsTo}
+use Rattle.mcap_model.specs.Tops.{offset_behind}
 use Rattle.mcap_model.specs.Made.{top}
-use Rattle.index_check.specs.Behind.{IsOpen}
 use Rattle.section_check.specs.LastChunk.{IndexFails}
 use Rattle.section_check.proofs.Followed.{keeps_index, fails_index, ends_behind, open_index}
 use Rattle.section_check.proofs.last_chunk.LastChunk.take_index.Goals as goal
@@ -24,8 +20,7 @@ returns-in-Ok-false c = λ tops last keeps v6 there.
     let chunk = c.args.self.now in
     let index = c.in-Ok.index in
     let kept = last.kept c.if-not-self.false in
-    let judged = subst (λ (l : List ℕ). (before : List Top) (bytes : List ℕ) → IsOpen before l chunk.channels → ShowsMessageIndex bytes index.channel_id index.entries → IsTrue c.in-Ok-false.field-0 ↔ BelongsTo before (top 7 bytes))
-    c.deref.ensures.value c.in-Ok-false.ensures tops content kept.is c.in-Ok.ensures.shown in
+    let judged = c.in-Ok-false.ensures tops content kept.is c.in-Ok.ensures.shown in
     subst (IndexFails (tops ++ top 7 content ∷ [])) (sym there)
     (fails_index tops (top 7 content) refl (λ belongs. both_ways c.in-Ok-false.field-0 c.in-Ok-false.field-0-test (judged.1 belongs)))
 
@@ -35,9 +30,8 @@ returns-in-Ok-add c = λ tops last keeps v6 there.
     let chunk = c.args.self.now in
     let index = c.in-Ok.index in
     let kept = last.kept c.if-not-self.false in
-    let judged = subst (λ (l : List ℕ). (before : List Top) (bytes : List ℕ) → IsOpen before l chunk.channels → ShowsMessageIndex bytes index.channel_id index.entries → IsTrue c.in-Ok-true.field-0 ↔ BelongsTo before (top 7 bytes))
-    c.deref.ensures.value c.in-Ok-true.ensures tops content kept.is c.in-Ok.ensures.shown in
-    let more = open_index tops chunk.records.items chunk.channels c.add.new.self content index.channel_id index.entries kept.is c.in-Ok.ensures.shown c.in-Ok-add.ensures.ok in (
+    let judged = c.in-Ok-true.ensures tops content kept.is c.in-Ok.ensures.shown in
+    let more = open_index tops chunk.messages chunk.channels c.add.new.self content index.channel_id index.entries kept.is c.in-Ok.ensures.shown c.in-Ok-add.ensures.ok in (
       record {
         kept = λ e. record { is = more.0; there = kept.there ∙ sym (ap offset_behind more.1) };
         none = λ e. absurd (both_ways chunk.is_open e c.if-not-self.false);

@@ -1,0 +1,180 @@
+//! The Messages of a chunk, by channel.
+ghost use Rattle.std.specs.Prelude.{◌≡◌, ◌↔◌, ◌<◌, ◌≤◌, ◌==◌, [], ℕ, length, filter, IsTrue, IsPermutation, OnOk, OnErr};
+ghost use Rattle.std.specs.List.{AllAdjacentBelow};
+ghost use Rattle.mcap_model.specs.Places.{At};
+ghost use Rattle.mcap_model.specs.Tops.{records_in};
+ghost use Rattle.mcap_model.specs.Made.{top};
+ghost use Rattle.index_check.specs.declared.chunk_messages.ChunkMessage.{ChunkMessage as Heard};
+ghost use Rattle.index_check.specs.Messages.{IsHeard, NotBehind, Rises, HoldsMessages, AreOn};
+
+use crate::ids::Ids;
+use mcap_model::InnerWalk;
+use mcap_wire::Memory;
+use rec_data::{MESSAGE, Message};
+use std::alloc::Global;
+use std::marker::Model;
+
+/// A Message of a chunk: its channel, its log time in nanoseconds, and where it starts, in bytes from the front of the
+/// chunk's records.
+#[derive(Clone, Copy, Debug, PartialEq, Eq)]
+pub struct ChunkMessage {
+    pub channel: u16,
+    pub time: u64,
+    pub offset: u64,
+}
+
+/// The Messages of a chunk, in ascending order of channel and offset, so that those of a channel stand together. It takes
+/// 24 bytes for each Message. Contracts see the list of them.
+#[derive(Debug, Drop)]
+pub struct ChunkMessages {
+    messages: Vec<ChunkMessage>,
+}
+
+impl Model for ChunkMessages {
+    ghost use Rattle.std.specs.Prelude.{List};
+    ghost use Rattle.index_check.specs.declared.chunk_messages.ChunkMessage.{ChunkMessage as Heard};
+    ghost use Rattle.index_check.specs.Messages.{Rises};
+
+    ghost Value = { List Heard };
+
+    ghost view = { λ s. s.messages.items };
+
+    ghost invariant = { λ s. Rises s.messages.items };
+}
+
+// What is kept of a record at that offset, where it is a Message.
+fn message_at(op: u8, content: &[u8], offset: u64) -> Option<ChunkMessage>
+    ensures { IsHeard (top op content.now) offset result }
+{
+    if op != MESSAGE {
+        return None;
+    }
+    match Message::parse(content) {
+        Ok(message) => {
+            return Some(ChunkMessage {
+                channel: message.channel_id,
+                time: message.log_time,
+                offset,
+            });
+        }
+        Err(_) => return None,
+    }
+}
+
+// Puts the Messages among the records into the room of a list, in the order in which they stand.
+fn gather(messages: &mut Vec<ChunkMessage>, records: &[u8]) -> Result<(), Memory>
+    ensures { OnOk result (HoldsMessages (records_in records.now) messages.new.items) }
+{
+    messages.clear();
+    let mut walk = InnerWalk::new(records);
+    'records: while let Some(inner) = walk.next() {
+        match message_at(inner.op, inner.content, inner.offset) {
+            Some(message) => match messages.push(message) {
+                Ok(()) => {}
+                Err(_) => return Err(Memory),
+            },
+            None => {}
+        }
+    }
+    return Ok(());
+}
+
+// Whether a Message doesn't come behind another.
+fn is_not_behind(one: ChunkMessage, other: ChunkMessage) -> bool
+    ensures { IsTrue result ↔ NotBehind one other }
+{
+    if one.channel != other.channel {
+        return one.channel < other.channel;
+    }
+    return one.offset <= other.offset;
+}
+
+// Whether no Message comes behind the next.
+fn is_in_order(messages: &[ChunkMessage]) -> bool
+    ensures { IsTrue result → AllAdjacentBelow NotBehind messages.now (length messages.now) }
+{
+    'messages: for i in 1..messages.len() {
+        if !is_not_behind(messages[i - 1], messages[i]) {
+            return false;
+        }
+    }
+    return true;
+}
+
+// Puts Messages in order. Those that are in order already, as those of one channel, cost one pass.
+fn put_in_order(messages: &mut Vec<ChunkMessage>)
+    ensures same { IsPermutation messages.old.items messages.new.items }
+    ensures rises { Rises messages.new.items }
+{
+    if is_in_order(messages) {
+        return;
+    }
+    messages.sort_unstable_by_key(|m| (m.channel, m.offset));
+}
+
+// How many Messages, which are in order, are of channels below that number.
+fn count_below(messages: &[ChunkMessage], bound: u32) -> usize
+    requires { Rises messages.now }
+    ensures within { result ≤ length messages.now }
+    ensures parts { (k : ℕ) (heard : Heard) → At messages.now k heard → (k < result) ↔ (heard.channel < bound) }
+{
+    messages.partition_point(|m| (m.channel as u32) < bound)
+}
+
+// Those of them, which are in order, that are on that channel.
+fn run_of(messages: &[ChunkMessage], channel: u16) -> &[ChunkMessage]
+    requires { Rises messages.now }
+    ensures { result.now ≡ filter (λ heard. heard.channel == channel) messages.now }
+{
+    let from = count_below(messages, channel as u32);
+    let to = count_below(messages, channel as u32 + 1);
+    &messages[from..to]
+}
+
+impl ChunkMessages {
+    /// A table of no Messages.
+    pub fn new(alloc: Global) -> ChunkMessages
+        ensures { result ≡ [] }
+    {
+        ChunkMessages {
+            messages: Vec::new(alloc),
+        }
+    }
+
+    /// Holds the Messages among these records in place of those before, in the same room where it suffices. Where memory
+    /// runs out it holds none.
+    pub fn refill(&mut self, records: &[u8]) -> Result<(), Memory>
+        ensures ok { OnOk result (HoldsMessages (records_in records.now) self.new) }
+        ensures err { OnErr result (self.new ≡ []) }
+    {
+        match gather(&mut self.messages, records) {
+            Ok(()) => {}
+            Err(memory) => {
+                self.messages.clear();
+                return Err(memory);
+            }
+        }
+        put_in_order(&mut self.messages);
+        return Ok(());
+    }
+
+    /// Those on that channel, in ascending order of offset.
+    pub(crate) fn on_channel(&self, channel: u16) -> &[ChunkMessage]
+        ensures among { result.now ≡ filter (λ heard. heard.channel == channel) self.now }
+        ensures rises { Rises result.now }
+    {
+        run_of(&self.messages, channel)
+    }
+
+    /// Whether the channel of each of them is one of these.
+    pub(crate) fn are_on(&self, channels: &Ids) -> bool
+        ensures { IsTrue result ↔ AreOn self.now channels.now }
+    {
+        'messages: for i in 0..self.messages.len() {
+            if !channels.has(self.messages[i].channel) {
+                return false;
+            }
+        }
+        return true;
+    }
+}
