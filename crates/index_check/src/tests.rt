@@ -26,6 +26,9 @@ const CHUNKED: &[u8] =
 // A Message on channel 1 with log time 11, behind the records of that file's chunk.
 const SECOND: &[u8] = b"\x05\x16\0\0\0\0\0\0\0\x01\0\x02\0\0\0\x0b\0\0\0\0\0\0\0\x09\0\0\0\0\0\0\0";
 
+// A Message on channel 0 with log time 12, behind that one.
+const THIRD: &[u8] = b"\x05\x16\0\0\0\0\0\0\0\0\0\x03\0\0\0\x0c\0\0\0\0\0\0\0\x09\0\0\0\0\0\0\0";
+
 // The ids of those channels.
 fn ids_of(alloc: Global, channels: &[u16]) -> Result<Ids, Fail> {
     let mut ids = Ids::new(alloc);
@@ -42,8 +45,8 @@ fn messages_of(alloc: Global, records: &[u8]) -> Result<ChunkMessages, Fail> {
     Ok(messages)
 }
 
-// Whether a Message Index of that channel with these entries is right behind the chunk with two messages, where those of
-// these channels stand in front of it.
+// Whether a Message Index of that channel with these entries is right behind the chunk with three messages, where those
+// of these channels stand in front of it.
 fn is_right(
     alloc: Global,
     earlier: &[u16],
@@ -52,6 +55,7 @@ fn is_right(
 ) -> Result<bool, Fail> {
     let mut records = Vec::from_slice(alloc, &CHUNKED[83..142])?;
     records.extend_from_slice(SECOND)?;
+    records.extend_from_slice(THIRD)?;
     let index = MessageIndex {
         channel_id,
         entries: EntriesRef::of(entries),
@@ -66,12 +70,14 @@ fn an_index_has_the_entries_of_its_channel(rt: HostRuntime) -> Result<(), Fail> 
     let alloc = rt.alloc();
     assert!(rt; is_right(alloc, &[], 1, &[(10, 27), (11, 59)])?);
     assert!(rt; is_right(alloc, &[2], 1, &[(11, 59), (10, 27)])?);
+    assert!(rt; is_right(alloc, &[1], 0, &[(12, 90)])?);
     assert!(rt; is_right(alloc, &[1], 2, &[])?);
     assert!(rt; !is_right(alloc, &[1], 1, &[(10, 27), (11, 59)])?);
     assert!(rt; !is_right(alloc, &[], 1, &[(10, 27)])?);
     assert!(rt; !is_right(alloc, &[], 1, &[(10, 27), (11, 58)])?);
     assert!(rt; !is_right(alloc, &[], 1, &[(10, 27), (10, 27)])?);
     assert!(rt; !is_right(alloc, &[], 1, &[(12, 27), (11, 59)])?);
+    assert!(rt; !is_right(alloc, &[], 0, &[])?);
     assert!(rt; !is_right(alloc, &[], 2, &[(10, 27)])?);
     Ok(())
 }
