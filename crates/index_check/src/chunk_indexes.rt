@@ -51,10 +51,15 @@ fn is_note_at(note: &IndexNote, channel: u16, offset: u64) -> bool
     note.channel == channel && note.offset == offset
 }
 
-// Whether one of the Message Indexes is.
-fn is_noted(notes: &[IndexNote], channel: u16, offset: u64) -> bool
+// Whether one of the Message Indexes is. The guess is looked at first.
+fn is_noted(notes: &[IndexNote], guess: usize, channel: u16, offset: u64) -> bool
     ensures { IsTrue result ↔ IsNotedAt notes.now channel offset }
 {
+    if guess < notes.len() {
+        if is_note_at(&notes[guess], channel, offset) {
+            return true;
+        }
+    }
     'notes: for i in 0..notes.len() {
         if is_note_at(&notes[i], channel, offset) {
             return true;
@@ -63,10 +68,15 @@ fn is_noted(notes: &[IndexNote], channel: u16, offset: u64) -> bool
     return false;
 }
 
-// Whether a map gives that channel the offset.
-fn is_named(map: &CountsRef<'_>, channel: u16, offset: u64) -> bool
+// Whether a map gives that channel the offset. The guess is looked at first.
+fn is_named(map: &CountsRef<'_>, guess: usize, channel: u16, offset: u64) -> bool
     ensures { IsTrue result ↔ Has map.now (channel, offset) }
 {
+    if guess < map.count() {
+        if map.item(guess) == (channel, offset) {
+            return true;
+        }
+    }
     'names: for i in 0..map.count() {
         let (key, value) = map.item(i);
         if key == channel && value == offset {
@@ -76,13 +86,13 @@ fn is_named(map: &CountsRef<'_>, channel: u16, offset: u64) -> bool
     return false;
 }
 
-// Whether a map names none but these Message Indexes.
+// Whether a map names none but these Message Indexes. One that names them in their order costs one pass.
 fn are_noted(map: &CountsRef<'_>, notes: &[IndexNote]) -> bool
     ensures { IsTrue result ↔ AreNoted map.now notes.now }
 {
     'names: for i in 0..map.count() {
         let (channel, offset) = map.item(i);
-        if !is_noted(notes, channel, offset) {
+        if !is_noted(notes, i, channel, offset) {
             return false;
         }
     }
@@ -90,13 +100,13 @@ fn are_noted(map: &CountsRef<'_>, notes: &[IndexNote]) -> bool
 }
 
 // Whether a Message Index has no entries, or is named by a map.
-fn is_named_or_empty(map: &CountsRef<'_>, note: &IndexNote) -> bool
+fn is_named_or_empty(map: &CountsRef<'_>, guess: usize, note: &IndexNote) -> bool
     ensures { IsTrue result ↔ IsNamedOrEmpty map.now note.now }
 {
     if note.entries == 0 {
         return true;
     }
-    return is_named(map, note.channel, note.offset);
+    return is_named(map, guess, note.channel, note.offset);
 }
 
 // Whether a map names each of these Message Indexes that has an entry.
@@ -104,7 +114,7 @@ fn are_named(map: &CountsRef<'_>, notes: &[IndexNote]) -> bool
     ensures { IsTrue result ↔ AreNamed map.now notes.now }
 {
     'notes: for i in 0..notes.len() {
-        if !is_named_or_empty(map, &notes[i]) {
+        if !is_named_or_empty(map, i, &notes[i]) {
             return false;
         }
     }

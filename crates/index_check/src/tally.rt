@@ -33,10 +33,15 @@ pub struct Tally {
     pub channels: IdCounts,
 }
 
-// Whether a list gives a channel that number.
-fn has_count(counts: &[(u16, u64)], channel: u16, count: u64) -> bool
+// Whether a list gives a channel that number. The guess is looked at first.
+fn has_count(counts: &[(u16, u64)], guess: usize, channel: u16, count: u64) -> bool
     ensures { IsTrue result ↔ Has counts.now (channel, count) }
 {
+    if guess < counts.len() {
+        if counts[guess] == (channel, count) {
+            return true;
+        }
+    }
     'counts: for i in 0..counts.len() {
         let (key, value) = counts[i];
         if key == channel && value == count {
@@ -59,10 +64,16 @@ fn has_key(counts: &[(u16, u64)], channel: u16) -> bool
     return false;
 }
 
-// Whether a map gives a channel some number.
-fn maps_key(map: &CountsRef<'_>, channel: u16) -> bool
+// Whether a map gives a channel some number. The guess is looked at first.
+fn maps_key(map: &CountsRef<'_>, guess: usize, channel: u16) -> bool
     ensures { IsTrue result ↔ HasKey map.now channel }
 {
+    if guess < map.count() {
+        let (key, _) = map.item(guess);
+        if key == channel {
+            return true;
+        }
+    }
     'counts: for i in 0..map.count() {
         let (key, _) = map.item(i);
         if key == channel {
@@ -73,10 +84,10 @@ fn maps_key(map: &CountsRef<'_>, channel: u16) -> bool
 }
 
 // Whether that is the number that was counted for a channel: 0, where none was.
-fn is_count_of(counts: &[(u16, u64)], channel: u16, count: u64) -> bool
+fn is_count_of(counts: &[(u16, u64)], guess: usize, channel: u16, count: u64) -> bool
     ensures { IsTrue result ↔ IsCountOf counts.now channel count }
 {
-    if has_count(counts, channel, count) {
+    if has_count(counts, guess, channel, count) {
         return true;
     }
     if count != 0 {
@@ -85,13 +96,13 @@ fn is_count_of(counts: &[(u16, u64)], channel: u16, count: u64) -> bool
     return !has_key(counts, channel);
 }
 
-// Whether a map gives each of its channels the number that was counted.
+// Whether a map gives each of its channels the number that was counted. One in the order of the counts costs one pass.
 fn are_counts(map: &CountsRef<'_>, counts: &[(u16, u64)]) -> bool
     ensures { IsTrue result ↔ AreCounts map.now counts.now }
 {
     'counts: for i in 0..map.count() {
         let (channel, count) = map.item(i);
-        if !is_count_of(counts, channel, count) {
+        if !is_count_of(counts, i, channel, count) {
             return false;
         }
     }
@@ -99,10 +110,10 @@ fn are_counts(map: &CountsRef<'_>, counts: &[(u16, u64)]) -> bool
 }
 
 // Whether a map gives the channel of an entry some number.
-fn maps_entry(map: &CountsRef<'_>, entry: &(u16, u64)) -> bool
+fn maps_entry(map: &CountsRef<'_>, guess: usize, entry: &(u16, u64)) -> bool
     ensures { IsTrue result ↔ HasKey map.now entry.now.0 }
 {
-    maps_key(map, entry.0)
+    maps_key(map, guess, entry.0)
 }
 
 // Whether a map has each channel that was counted.
@@ -110,7 +121,7 @@ fn are_keys(map: &CountsRef<'_>, counts: &[(u16, u64)]) -> bool
     ensures { IsTrue result ↔ AreKeys map.now counts.now }
 {
     'counts: for i in 0..counts.len() {
-        if !maps_entry(map, &counts[i]) {
+        if !maps_entry(map, i, &counts[i]) {
             return false;
         }
     }
