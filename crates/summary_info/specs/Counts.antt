@@ -1,0 +1,16 @@
+-- How many messages each channel has.
+use Rattle.std.specs.Prelude.{◌≡◌, ℕ, ◌<◌, List, [], ◌∷◌, Option, Some, None, ◌==◌, slice_get, if◌then◌else◌}
+
+-- the count that stands under an id: 0, where none does
+abbrev pub count_of : List (ℕ × ℕ) → ℕ → ℕ
+count_of [] id = 0
+count_of (c ∷ cs) id = if c.0 == id then c.1 else count_of cs id
+
+-- what a map of counts tells of a channel: nothing, where it is empty
+abbrev pub told_count : List (ℕ × ℕ) → ℕ → Option ℕ
+told_count [] id = None
+told_count (c ∷ cs) id = Some (count_of (c ∷ cs) id)
+
+-- the counts by their ids: none, where the map is empty
+abbrev pub IsCountTable : List (ℕ × ℕ) → List ℕ → Type 0
+IsCountTable counts table = (id : ℕ) → id < 65536 → slice_get table id ≡ told_count counts id
