@@ -1,0 +1,4 @@
+pub mod ItemLemmas
+pub mod CutLemmas
+pub mod ValueLemmas
+pub mod OneCommand
