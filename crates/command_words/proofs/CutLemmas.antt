@@ -1,13 +1,12 @@
 -- Words are cut in one way.
-use Rattle.std.proofs.Common.{◌≡◌, ◌≢◌, ◌⊎◌, ◌<◌, ◌+◌, ℕ, zero, suc, List, [], ◌∷◌, ◌++◌, length, refl, sym, ap, subst, inl, inr, ◌∙◌, arith, codes, append_assoc, append-nil, map}
+use Rattle.std.proofs.Common.{◌≡◌, ◌≢◌, ◌<◌, List, [], ◌∷◌, ◌++◌, length, refl, sym, ap, subst, inl, inr, ◌∙◌, arith, codes, append_assoc, append-nil, map}
 use Rattle.std.specs.List.{All, flat_map}
 use Rattle.std.proofs.lemmas.List.Elements.{All-head, All-tail, All-push}
 use Rattle.std.proofs.lemmas.List.{map-append, flat_map_more}
-use Rattle.command_words.specs.Items.{Word, Item, flag, joined, apart, plain, EndsWith, IsBare, IsCut, IsFlag, IsFree, IsItem, IsOption, item_of, place_of, words_of}
+use Rattle.command_words.specs.Items.{Word, Item, flag, joined, apart, plain, IsCut, IsFlag, IsItem, IsOption, item_of, place_of, words_of}
 use Rattle.command_words.specs.Commands.{Reads}
 use Rattle.command_words.specs.declared.items.Item.{Item as Borrowed}
 use Rattle.command_words.specs.declared.verbs.Verb.{Verb}
-use Rattle.command_words.specs.declared.verbs.Verb.TheVariants as verb
 use Rattle.command_words.proofs.ItemLemmas.{cut_once, uncut, flag_bare, option_bare, named_same, not_plain, flag_or_option, no_empty_flag, no_empty_option}
 
 -- the item at the front of words is one
@@ -124,7 +123,7 @@ grown verb read next words rest others each form is more =
     let joined : map item_of (read ++ next ∷ []) ≡ map item_of read ++ item_of next ∷ [] = map-append item_of read (next ∷ []) in
     let front : flat_map words_of (map item_of read ++ item_of next ∷ []) ≡ flat_map words_of (map item_of read) ++ words_of (item_of next) = sym (flat_map_more words_of [] (map item_of read) (item_of next)) in
     let whole : words ≡ flat_map words_of (map item_of read ++ item_of next ∷ []) ++ others =
-        form ∙ ap (λ (l : List Word). flat_map words_of (map item_of read) ++ l) more ∙ sym (append_assoc (flat_map words_of (map item_of read)) (words_of (item_of next)) others) ∙ ap (λ (l : List Word). l ++ others) (sym front) in
+    form ∙ ap (λ (l : List Word). flat_map words_of (map item_of read) ++ l) more ∙ sym (append_assoc (flat_map words_of (map item_of read)) (words_of (item_of next)) others) ∙ ap (λ (l : List Word). l ++ others) (sym front) in
     (subst (All (IsItem verb)) (sym joined) (All-push (IsItem verb) (map item_of read) (item_of next) each is), subst (λ (l : List Item). words ≡ flat_map words_of l ++ others) (sym joined) whole)
 
 -- `--` with `-` behind it

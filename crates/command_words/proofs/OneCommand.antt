@@ -1,5 +1,5 @@
 -- Words are those of one command at most.
-use Rattle.std.proofs.Common.{◌≡◌, ℕ, Bool, true, false, List, [], ◌∷◌, ◌++◌, Option, Some, None, Ok, Err, codes, refl, sym, ap, subst, ◌∙◌}
+use Rattle.std.proofs.Common.{◌≡◌, ℕ, Bool, true, false, List, [], ◌∷◌, Option, Some, None, Ok, Err, codes, refl, sym, ap, subst, ◌∙◌}
 use Rattle.std.specs.Prelude.{IfOk, unwrap_or}
 use Rattle.std.specs.Option.{option_to_list}
 use Rattle.std.specs.Str.{bytes_eq}
@@ -9,7 +9,7 @@ use Rattle.std.proofs.lemmas.Slice.Eq.{bytes_eq-Decides}
 use Rattle.mcap_model.specs.declared.options.FileOptions.{FileOptions}
 use Rattle.mcap_model.specs.declared.replay.Range.{Range}
 use Rattle.command_words.specs.Items.{Word, Item, given}
-use Rattle.command_words.specs.Commands.{Behind, Derives, Flags, GivesNumber, HasChunks, HasProfile, IsCat, IsFileOptions, IsNumber, IsOfFile, IsOnly, IsRange, IsRecord, SizesChunks, name_of, verb_of}
+use Rattle.command_words.specs.Commands.{Behind, Derives, Flags, GivesNumber, HasChunks, HasProfile, IsCat, IsFileOptions, IsOfFile, IsOnly, IsRange, IsRecord, SizesChunks, name_of, verb_of}
 use Rattle.command_words.specs.declared.command.Command.{Command}
 use Rattle.command_words.specs.declared.command.Command.TheVariants.{Record, Info, Check, Cat}
 use Rattle.command_words.specs.declared.command.WordsRefused.{WordsRefused}
@@ -55,7 +55,7 @@ one_chunk items a b is other =
     let plain = one_flag (given (codes "plain") items) is.is_plain other.is_plain is.plain other.plain in
     let size = one_number 1 67108864 (given (codes "chunk") items) is.size other.size is.sized other.sized in
     one_size is.is_plain is.size a b is.sizes
-        (subst (λ (p : Bool). SizesChunks p is.size b) plain (subst (λ (n : Option ℕ). SizesChunks other.is_plain n b) size other.sizes))
+    (subst (λ (p : Bool). SizesChunks p is.size b) plain (subst (λ (n : Option ℕ). SizesChunks other.is_plain n b) size other.sizes))
 
 one_profile : (items : List Item) (a b : Word) → HasProfile items a → HasProfile items b → b ≡ a
 one_profile items a b is other = other.is ∙ ap (λ (v : Option Word). unwrap_or v []) (one_value is.value other.value (sym is.once ∙ other.once)) ∙ sym is.is

@@ -1,11 +1,8 @@
 -- What items give to a name.
-use Rattle.std.proofs.Common.{◌≡◌, ◌≢◌, ◌<◌, ◌+◌, ℕ, zero, suc, List, [], ◌∷◌, ◌++◌, Option, Some, None, length, get_or, take, drop, map, Bor, Bool, true, false, refl, sym, ap, subst, ◌∙◌, arith, append_assoc, append-nil, add-one}
+use Rattle.std.proofs.Common.{◌≡◌, ◌≢◌, ◌<◌, ℕ, zero, suc, List, [], ◌∷◌, ◌++◌, Option, Some, None, length, get_or, take, drop, map, Bor, Bool, true, false, refl, sym, ap, ◌∙◌, arith, append_assoc}
 use Rattle.std.specs.Prelude.{is_some, option_map}
-use Rattle.std.specs.List.{flat_map}
 use Rattle.std.specs.Option.{option_to_list}
-use Rattle.std.proofs.lemmas.Grind.{flat_map-append}
-use Rattle.std.proofs.lemmas.List.{map-append, take_more}
-use Rattle.command_words.specs.Items.{Word, Item, given, item_of, use_of}
+use Rattle.command_words.specs.Items.{Word, given, item_of, use_of}
 use Rattle.command_words.specs.Commands.{Flags, GivesNumber}
 use Rattle.command_words.specs.declared.items.Item.{Item as Borrowed}
 
@@ -30,7 +27,7 @@ twice_bad name xs i d None second less is before here found whole = cc
 twice_bad name xs i d (Some first) second less is before here found whole =
     let rest = given name (map item_of (drop (suc i) xs)) in
     let parts : given name (map item_of xs) ≡ (first.now ∷ []) ++ ((second.now ∷ []) ++ rest) =
-        given_parts name xs i d less ∙ ap (λ (l : List Word). l ++ (use_of name (item_of (get_or xs i d)) ++ rest)) before ∙ ap (λ (l : List Word). (first.now ∷ []) ++ (l ++ rest)) here in
+    given_parts name xs i d less ∙ ap (λ (l : List Word). l ++ (use_of name (item_of (get_or xs i d)) ++ rest)) before ∙ ap (λ (l : List Word). (first.now ∷ []) ++ (l ++ rest)) here in
     two_of first.now second.now rest found (sym parts ∙ whole)
 
 -- a name that stands twice is no flag, and has no number

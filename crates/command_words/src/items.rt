@@ -2,7 +2,7 @@
 ghost use Rattle.std.specs.Prelude.{◌≡◌, ◌≢◌, ◌↔◌, ℕ, List, ◌∷◌, ◌++◌, IsTrue, IfOk, OnErr, MatchOption, codes};
 ghost use Rattle.command_words.specs.Items.{Word, IsBare, IsFree, IsItem, Item as Read, item_of, words_of};
 
-use crate::verbs::{is_flag, is_option, Verb};
+use crate::verbs::{Verb, is_flag, is_option};
 use mcap_wire::Text;
 
 /// A flag, an option with its value in the same word or in the next, or a positional.
@@ -40,7 +40,11 @@ fn split_value(named: &str) -> Option<(&str, &str)>
 }
 
 // The item of a word that begins with `--`, with the words behind it.
-fn named_item<'a>(verb: Verb, named: &'a str, rest: &'a [Text]) -> Result<(Item<'a>, &'a [Text]), NoItem>
+fn named_item<'a>(
+    verb: Verb,
+    named: &'a str,
+    rest: &'a [Text],
+) -> Result<(Item<'a>, &'a [Text]), NoItem>
     ensures item { IfOk result (λ r. IsItem verb (item_of r.0) × (((codes "--" ++ named.now) ∷ rest.now) ≡ words_of (item_of r.0) ++ r.1.now)) }
     ensures bad { OnErr result ((item : Read) (after : List Word) → IsItem verb item → ((codes "--" ++ named.now) ∷ rest.now) ≡ words_of item ++ after → ⊥) }
 {
@@ -72,7 +76,11 @@ fn named_item<'a>(verb: Verb, named: &'a str, rest: &'a [Text]) -> Result<(Item<
 }
 
 /// The item at the front of words, where the first isn't `--`, with the words behind it.
-pub fn next_item<'a>(verb: Verb, first: &'a Text, rest: &'a [Text]) -> Result<(Item<'a>, &'a [Text]), NoItem>
+pub fn next_item<'a>(
+    verb: Verb,
+    first: &'a Text,
+    rest: &'a [Text],
+) -> Result<(Item<'a>, &'a [Text]), NoItem>
     ensures item { IfOk result (λ r. IsItem verb (item_of r.0) × ((first.now ∷ rest.now) ≡ words_of (item_of r.0) ++ r.1.now)) }
     ensures bad { OnErr result ((item : Read) (after : List Word) → IsItem verb item → (first.now ∷ rest.now) ≡ words_of item ++ after → ⊥) }
 {

@@ -11,6 +11,5 @@ mod verbs;
 pub use command::{Command, WordsRefused};
 pub use parse::parse_words;
 
-
-
-
+#[cfg(test)]
+mod tests;

@@ -10,18 +10,20 @@ ghost use Rattle.mcap_model.specs.declared.replay.Range.{Range as Times};
 use crate::command::{Command, WordsRefused};
 use crate::items::Item;
 use crate::read::read_words;
-use crate::values::{has_flag, number_of, value_of, BadValue};
-use crate::verbs::{named_verb, Verb};
+use crate::values::{BadValue, has_flag, number_of, value_of};
+use crate::verbs::{Verb, named_verb};
 use mcap_model::{FileOptions, Range};
 use mcap_wire::Text;
 use std::alloc::Global;
 
 /// The most bytes that may be held in memory, and those where the words don't say it.
 const LARGEST_LIMIT: u64 = 1_073_741_824;
+
 const USUAL_LIMIT: u64 = 104_857_600;
 
 /// The bytes of records from which on a chunk is closed: the most, and those where the words don't say it.
 const LARGEST_CHUNK: u64 = 67_108_864;
+
 const USUAL_CHUNK: u64 = 786_432;
 
 /// The most bytes of a profile.
@@ -101,7 +103,10 @@ fn range_of(items: &[Item]) -> Result<Range, BadValue>
 {
     match number_of(items, "start", 0, u64::MAX) {
         Ok(start) => match number_of(items, "end", 0, u64::MAX) {
-            Ok(end) => return Ok(Range { start: start.unwrap_or(0), end }),
+            Ok(end) => return Ok(Range {
+                start: start.unwrap_or(0),
+                end,
+            }),
             Err(BadValue) => return Err(BadValue),
         },
         Err(BadValue) => return Err(BadValue),
@@ -196,7 +201,12 @@ fn parse_record(alloc: Global, words: &[Text]) -> Result<Command, WordsRefused>
         Err(refused) => return Err(refused),
     };
     match (copy_of(alloc, out), copy_of(alloc, feed)) {
-        (Ok(out), Ok(feed)) => return Ok(Command::Record { out, feed, file, limit }),
+        (Ok(out), Ok(feed)) => return Ok(Command::Record {
+            out,
+            feed,
+            file,
+            limit,
+        }),
         _ => return Err(WordsRefused::Memory),
     }
 }
@@ -226,7 +236,12 @@ fn parse_cat(alloc: Global, words: &[Text]) -> Result<Command, WordsRefused>
         Err(BadValue) => return Err(WordsRefused::BadWords),
     };
     match (copy_of(alloc, file), maybe_copy(alloc, topic)) {
-        (Ok(file), Ok(topic)) => return Ok(Command::Cat { file, indexed, range, topic }),
+        (Ok(file), Ok(topic)) => return Ok(Command::Cat {
+            file,
+            indexed,
+            range,
+            topic,
+        }),
         _ => return Err(WordsRefused::Memory),
     }
 }

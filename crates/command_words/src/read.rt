@@ -6,7 +6,7 @@ ghost use Rattle.std.specs.Option.{option_to_list};
 ghost use Rattle.command_words.specs.Commands.{Reads};
 
 use crate::command::WordsRefused;
-use crate::items::{next_item, Item, NoItem};
+use crate::items::{Item, NoItem, next_item};
 use crate::verbs::Verb;
 use mcap_wire::{Memory, Text};
 use std::alloc::Global;
@@ -26,7 +26,11 @@ fn are_places(words: &[Text]) -> bool
 }
 
 /// Cuts the words behind a command.
-pub fn cut_words<'a>(alloc: Global, verb: Verb, words: &'a [Text]) -> Result<Parts<'a>, WordsRefused>
+pub fn cut_words<'a>(
+    alloc: Global,
+    verb: Verb,
+    words: &'a [Text],
+) -> Result<Parts<'a>, WordsRefused>
     ensures cut { IfOk result (λ c. IsCut verb words.now (map item_of c.items.items) c.behind.now) }
     ensures bad { IfErr result (λ refused. refused ≡ WordsRefused.BadWords → (items : List Read) (behind : List Word) → IsCut verb words.now items behind → ⊥) }
 {
@@ -35,7 +39,10 @@ pub fn cut_words<'a>(alloc: Global, verb: Verb, words: &'a [Text]) -> Result<Par
     'items: while let Some((first, after)) = rest.split_first() {
         if first.is("--") {
             if are_places(after) {
-                return Ok(Parts { items, behind: after });
+                return Ok(Parts {
+                    items,
+                    behind: after,
+                });
             }
             return Err(WordsRefused::BadWords);
         }
@@ -50,7 +57,10 @@ pub fn cut_words<'a>(alloc: Global, verb: Verb, words: &'a [Text]) -> Result<Par
             Err(NoItem) => return Err(WordsRefused::BadWords),
         }
     }
-    Ok(Parts { items, behind: rest })
+    Ok(Parts {
+        items,
+        behind: rest,
+    })
 }
 
 // The positional that an item is.
@@ -103,7 +113,11 @@ pub struct Reading<'a> {
 }
 
 /// Reads the words behind a command.
-pub fn read_words<'a>(alloc: Global, verb: Verb, words: &'a [Text]) -> Result<Reading<'a>, WordsRefused>
+pub fn read_words<'a>(
+    alloc: Global,
+    verb: Verb,
+    words: &'a [Text],
+) -> Result<Reading<'a>, WordsRefused>
     ensures reads { IfOk result (λ r. Reads verb words.now (map item_of r.items.items) (texts r.places.items)) }
     ensures bad { IfErr result (λ refused. refused ≡ WordsRefused.BadWords → (items : List Read) (places : List Word) → Reads verb words.now items places → ⊥) }
 {

@@ -1,6 +1,5 @@
 -- Which words begin with no item.
-use Rattle.std.proofs.Common.{rules, ◌≡◌, ◌≢◌, ℕ, List, ◌∷◌, codes, arith}
-use Rattle.command_words.specs.Items.{Word, IsFlag, IsFree, IsOption}
+use Rattle.std.proofs.Common.{rules}
 use Rattle.command_words.proofs.ItemLemmas.{joined_bad, apart_bad}
 use Rattle.command_words.proofs.items.named_item.Goals as goal
 

@@ -1,7 +1,7 @@
 -- Words that aren't read are no printing, nor those with other positionals, or with values that may not be.
-use Rattle.std.proofs.Common.{◌≡◌, ◌∷◌, [], List, codes, Option, map, subst, sym}
+use Rattle.std.proofs.Common.{◌≡◌, ◌∷◌, [], List, codes, map, subst, sym}
 use Rattle.std.specs.Option.{option_to_list}
-use Rattle.command_words.specs.Items.{Item, Word, item_of, texts, given}
+use Rattle.command_words.specs.Items.{Item, item_of, texts, given}
 use Rattle.command_words.specs.Commands.{Flags, IsRange}
 use Rattle.command_words.specs.declared.verbs.Verb.TheVariants as verb
 use Rattle.command_words.proofs.CutLemmas.{one_reading}

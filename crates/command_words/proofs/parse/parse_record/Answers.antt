@@ -1,5 +1,5 @@
 -- Words that aren't read are no recording, nor those with other positionals, or with values that may not be.
-use Rattle.std.proofs.Common.{◌≡◌, ◌∷◌, [], List, codes, map, subst, sym}
+use Rattle.std.proofs.Common.{◌∷◌, [], List, codes, map, subst, sym}
 use Rattle.command_words.specs.Items.{Item, item_of, texts, given}
 use Rattle.command_words.specs.Commands.{GivesNumber, IsFileOptions}
 use Rattle.command_words.specs.declared.verbs.Verb.TheVariants as verb

@@ -1,8 +1,7 @@
 -- The items go on with each that is read, and words at which none stands have no cut.
-use Rattle.std.proofs.Common.{◌≡◌, ◌∷◌, ◌++◌, List, rules, arith, map, subst, sym, ◌∙◌}
-use Rattle.std.specs.List.{All, flat_map}
-use Rattle.command_words.specs.Items.{Word, IsItem, item_of, words_of}
-use Rattle.command_words.proofs.CutLemmas.{dash_bad, grown, item_bad, shorter}
+use Rattle.std.proofs.Common.{◌≡◌, ◌∷◌, rules, map, ◌∙◌}
+use Rattle.command_words.specs.Items.{item_of}
+use Rattle.command_words.proofs.CutLemmas.{dash_bad, grown, item_bad}
 use Rattle.command_words.proofs.read.cut_words.Goals as goal
 
 pub returns-then-is-clause-bad : goal.returns-then-is-clause-bad

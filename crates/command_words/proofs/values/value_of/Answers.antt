@@ -1,5 +1,5 @@
 -- A second value is one too many.
-use Rattle.std.proofs.Common.{◌≡◌, ◌<◌, Bool, true, length, refl, sym, ◌∙◌, rules, arith}
+use Rattle.std.proofs.Common.{sym, rules}
 use Rattle.command_words.proofs.ValueLemmas.{twice_bad}
 use Rattle.command_words.proofs.values.value_of.Goals as goal
 
