@@ -1,0 +1,135 @@
+-- The front of a chunk.
+use Rattle.std.proofs.Common.{◌≡◌, ℕ, ◌+◌, ◌-◌, ◌^◌, ◌<◌, ◌≤◌, List, [], ◌∷◌, ◌++◌, length, take, drop, Result, Ok, Err, refl, sym, ap, subst, ◌∙◌, append_assoc, arith}
+use Rattle.std.specs.Prelude.{◌≢◌, IsUtf8}
+use Rattle.std.proofs.lemmas.List.{take-append-drop, take-append-le, drop-append-le, drop-drop, drop-take, take-take, take_at, drop_at, length-append, length-drop}
+use Rattle.mcap_wire.specs.Layout.{le, number, string, prefixed}
+use Rattle.mcap_wire.specs.Reading.{NumberAt, text_length, text_bytes}
+use Rattle.mcap_wire.proofs.Numbers.{length-le, number-le}
+use Rattle.rec_index.specs.Fields.{ChunkFields}
+use Rattle.mcap_model.specs.Tops.{Top, top_bytes, declared_length, first_top}
+use Rattle.mcap_model.specs.Fields.{IsChunk}
+use Rattle.mcap_model.specs.Led.{IsThere}
+use Rattle.mcap_model.proofs.Readings.{length-top}
+use Rattle.indexed_replay.specs.declared.answers.ReplayRefused.{ReplayRefused}
+use Rattle.indexed_replay.specs.Reaching.{LacksChunk}
+use Rattle.indexed_replay.specs.Steps.{FrontStands, LacksRecord}
+use Rattle.indexed_replay.specs.Chunks.{PackedAt, PackRefused, ChunkChecked}
+use Rattle.indexed_replay.proofs.Headed.{there_begun}
+use Rattle.indexed_replay.proofs.Adding.{same_there}
+
+-- ---- the compression in a content
+
+module _ (t : Top) (g : ChunkFields) (is : IsChunk t g) where
+  abbrev front : List ℕ
+  front = le 8 g.start ++ (le 8 g.end ++ (le 8 g.size ++ le 4 g.crc))
+
+  abbrev more : List ℕ
+  more = let layout = is.layout in prefixed 8 g.records ++ layout.0
+
+  length-front : length front ≡ 28
+  length-front = simp (length-append, length-le) refl
+
+  split : t.content ≡ front ++ (le 4 (length g.compression) ++ (g.compression ++ more))
+  split = let layout = is.layout in let row = layout.1 in row.spelled_there ∙ regroup (le 8 g.start) (le 8 g.end) (le 8 g.size) (le 4 g.crc) (le 4 (length g.compression)) g.compression (prefixed 8 g.records ++ layout.0)
+    where
+      regroup : (a b c d e f x : List ℕ) → a ++ (b ++ (c ++ (d ++ ((e ++ f) ++ x)))) ≡ (a ++ (b ++ (c ++ d))) ++ (e ++ (f ++ x))
+      regroup a b c d e f x = simp append_assoc refl
+
+  name_fits : length g.compression < 2 ^ 32
+  name_fits = let layout = is.layout in let row = layout.1 in let fit = row.fit in fit.1.1.1.1.0.0
+
+  pub name_utf8 : IsUtf8 g.compression
+  name_utf8 = let layout = is.layout in let row = layout.1 in let fit = row.fit in fit.1.1.1.1.0.1
+
+  behind : drop 28 t.content ≡ le 4 (length g.compression) ++ (g.compression ++ more)
+  behind = ap (drop 28) split ∙ drop_at front (le 4 (length g.compression) ++ (g.compression ++ more)) 28 length-front
+
+  pub name_length : text_length t.content 28 ≡ length g.compression
+  name_length = ap (λ (l : List ℕ). number (take 4 l)) behind ∙ ap number (take_at (le 4 (length g.compression)) (g.compression ++ more) 4 (length-le 4 (length g.compression))) ∙ number-le 4 (length g.compression) name_fits
+
+  pub name_is : text_bytes t.content 28 ≡ g.compression
+  name_is =
+      let after : drop 32 t.content ≡ g.compression ++ more = sym (drop-drop 4 28 t.content) ∙ ap (drop 4) behind ∙ drop_at (le 4 (length g.compression)) (g.compression ++ more) 4 (length-le 4 (length g.compression)) in
+      ap (λ (n : ℕ). take n (drop 32 t.content)) name_length ∙ ap (take (length g.compression)) after ∙ take_at g.compression more (length g.compression) refl
+
+  pub chunk_long : 40 + length g.compression ≤ length t.content
+  chunk_long = let layout = is.layout in omega (arith, ap length split, length-front, length-append front (le 4 (length g.compression) ++ (g.compression ++ more)), length-append (le 4 (length g.compression)) (g.compression ++ more), length-le 4 (length g.compression), length-append g.compression more, length-append (prefixed 8 g.records) layout.0, length-append (le 8 (length g.records)) g.records, length-le 8 (length g.records))
+
+-- ---- where no chunk stands
+
+pub lacks_front : (file : List ℕ) (at n : ℕ) → n ≡ 49 → LacksRecord file at n → LacksChunk file at
+lacks_front file at n size lacks = λ t g there is.
+    let long = chunk_long t g is in
+    lacks t there (omega (arith, size, length-top t, long)) (λ zero. omega (arith, zero, is.kind))
+
+pub lacks_opcode : (file out : List ℕ) (at op len : ℕ) → FrontStands file at out op len → op ≢ 6 → LacksChunk file at
+lacks_opcode file out at op len front other = λ t g there is.
+    let only = front.only in
+    other (sym front.op_is ∙ sym (ap (λ (u : Top). u.op) (only t there)) ∙ is.kind)
+
+-- ---- the length of the compression in a front
+
+pub front_name : (file out : List ℕ) (at op len value end : ℕ) → FrontStands file at out op len → length out ≡ 49 → NumberAt 4 out 37 value end → text_length (first_top (drop at file)).content 28 ≡ value
+front_name file out at op len value end front size there =
+    let rest = drop at file in
+    let more = drop (length out) rest in
+    let all : rest ≡ out ++ more = sym (take-append-drop (length out) rest) ∙ ap (λ (l : List ℕ). l ++ more) (sym front.front) in
+    let field = there.field in
+    let behind : drop 37 rest ≡ le 4 value ++ (drop end out ++ more) = ap (drop 37) all ∙ drop-append-le 37 out more (omega (arith, size)) ∙ ap (λ (l : List ℕ). l ++ more) field.spelled_there ∙ append_assoc (le 4 value) (drop end out) more in
+    let long = front.long in
+    let parts : declared_length rest ≡ 28 + (len - 28) = omega (arith, front.len_is, long, size) in
+    let cut : drop 28 (take (declared_length rest) (drop 9 rest)) ≡ take (len - 28) (drop 37 rest) =
+    ap (λ (n : ℕ). drop 28 (take n (drop 9 rest))) parts ∙ drop-take 28 (len - 28) (drop 9 rest) ∙ ap (take (len - 28)) (drop-drop 28 9 rest) in
+    let four : take 4 (take (len - 28) (drop 37 rest)) ≡ take 4 (drop 37 rest) = take-take 4 (len - 28) (drop 37 rest) (omega (arith, long, size)) in
+    ap (λ (l : List ℕ). number (take 4 l)) cut ∙ ap number four ∙ ap (λ (l : List ℕ). number (take 4 l)) behind ∙ ap number (take_at (le 4 value) (drop end out ++ more) 4 (length-le 4 value)) ∙ number-le 4 value there.fits
+
+pub front_size : (file out : List ℕ) (at op len : ℕ) → FrontStands file at out op len → length (first_top (drop at file)).content ≡ len
+front_size file out at op len front = let b = there_begun file at (first_top (drop at file)) front.there in sym b.1 ∙ front.len_is
+
+pub lacks_name : (file out : List ℕ) (at op len value end : ℕ) → FrontStands file at out op len → length out ≡ 49 → NumberAt 4 out 37 value end → len < 40 + value → LacksChunk file at
+lacks_name file out at op len value end front size there short = λ t g here is.
+    let only = front.only in
+    let same = only t here in
+    let own = subst (λ (u : Top). IsChunk u g) same is in
+    omega (arith, chunk_long (first_top (drop at file)) g own, name_length (first_top (drop at file)) g own, front_name file out at op len value end front size there, front_size file out at op len front, short)
+
+pub none_named : (file out : List ℕ) (at op len value end : ℕ) (t : Top) (g : ChunkFields) → FrontStands file at out op len → length out ≡ 49 → NumberAt 4 out 37 value end → IsThere file at t → IsChunk t g → g.compression ≡ [] → value ≡ 0
+none_named file out at op len value end t g front size there here is plain =
+    let only = front.only in
+    let own = subst (λ (u : Top). IsChunk u g) (only t here) is in
+    let none : length g.compression ≡ 0 = ap length plain in
+    omega (arith, none, name_length (first_top (drop at file)) g own, front_name file out at op len value end front size there)
+
+-- ---- a compression that is read
+
+name_bytes : (file : List ℕ) (at n : ℕ) (t : Top) → IsThere file at t → 32 + n ≤ length t.content → take n (drop (at + 41) file) ≡ take n (drop 32 t.content)
+name_bytes file at n t there long =
+    let stands = there.stands in
+    let head = t.op ∷ le 8 (length t.content) in
+    let head_size : length head ≡ 9 = omega (arith, length-le 8 (length t.content)) in
+    let whole : drop at file ≡ head ++ (t.content ++ stands.rest) = stands.there ∙ ap (λ (l : List ℕ). t.op ∷ l) (append_assoc (le 8 (length t.content)) t.content stands.rest) in
+    let nine : drop (at + 9) file ≡ t.content ++ stands.rest = sym (drop-drop 9 at file) ∙ ap (drop 9) whole ∙ drop_at head (t.content ++ stands.rest) 9 head_size in
+    let same : at + 41 ≡ at + 9 + 32 = omega arith in
+    let after : drop (at + 41) file ≡ drop 32 t.content ++ stands.rest = ap (λ (k : ℕ). drop k file) same ∙ sym (drop-drop 32 (at + 9) file) ∙ ap (drop 32) nine ∙ drop-append-le 32 t.content stands.rest (omega (arith, long)) in
+    ap (take n) after ∙ take-append-le n (drop 32 t.content) stands.rest (omega (arith, length-drop 32 t.content, long))
+
+name_read : (file name : List ℕ) (at n : ℕ) (t : Top) → IsThere file at t → text_length t.content 28 ≡ n → 40 + n ≤ length t.content → name ≡ take n (drop (at + 41) file) → text_bytes t.content 28 ≡ name
+name_read file name at n t there size long same = ap (λ (k : ℕ). take k (drop 32 t.content)) size ∙ sym (name_bytes file at n t there (omega (arith, long))) ∙ sym same
+
+pub packed_at : (file name : List ℕ) (at n : ℕ) (t : Top) → IsThere file at t → t.op ≡ 6 → text_length t.content 28 ≡ n → 40 + n ≤ length t.content → n ≢ 0 → name ≡ take n (drop (at + 41) file) → length name ≡ n → PackedAt file at name
+packed_at file name at n t there kind size long some same name_size = record {
+  chunk = t;
+  there = there;
+  kind = kind;
+  named = name_read file name at n t there size long same;
+  some = λ none. some (sym name_size ∙ ap length none);
+}
+
+pub lacks_text : (file name : List ℕ) (at n : ℕ) (t : Top) → IsThere file at t → text_length t.content 28 ≡ n → 40 + n ≤ length t.content → name ≡ take n (drop (at + 41) file) → (IsUtf8 name → ⊥) → LacksChunk file at
+lacks_text file name at n t there size long same bad = λ u g here is.
+    let own = subst (λ (v : Top). IsChunk v g) (same_there file at u t here there) is in
+    bad (subst IsUtf8 (sym (name_is t g own) ∙ name_read file name at n t there size long same) (name_utf8 t g own))
+
+pub pack_checked : (file : List ℕ) (at : ℕ) (result : Result Unit ReplayRefused) → PackRefused file at result → ChunkChecked file at result
+pack_checked file at (Ok it) refused = tt
+pack_checked file at (Err why) refused = refused

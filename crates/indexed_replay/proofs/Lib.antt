@@ -1,0 +1,10 @@
+pub mod Headed
+pub mod Messaging
+pub mod Adding
+pub mod Wanting
+pub mod Listing
+pub mod Chunking
+pub mod Naming
+pub mod Gathered
+pub mod Firsts
+pub mod Ordering

@@ -1,0 +1,134 @@
+-- What a Message Index adds, and why it adds nothing.
+use Rattle.std.proofs.Common.{◌≡◌, ℕ, ◌+◌, ◌≤◌, List, ◌++◌, length, drop, Result, Ok, Err, refl, sym, ap, subst, ◌∙◌, arith}
+use Rattle.mcap_model.specs.declared.replay.Range.{Range}
+use Rattle.mcap_model.specs.declared.replay.Shown.{Shown}
+use Rattle.mcap_model.specs.Places.{At, Has}
+use Rattle.mcap_model.specs.Tops.{Top, top_bytes, declared_length}
+use Rattle.mcap_model.specs.Made.{top}
+use Rattle.mcap_model.specs.Fields.{ChannelFields, IsChannel, IsMessageIndex, ChunkIndexFields}
+use Rattle.mcap_model.specs.Plain.{asked_topic}
+use Rattle.mcap_model.specs.Led.{IsThere, LedByIndex}
+use Rattle.rec_index.specs.Records.{ShowsMessageIndex}
+use Rattle.mcap_model.proofs.Readings.{length-top}
+use Rattle.summary_read.specs.Reached.{DeclaresPast}
+use Rattle.indexed_replay.specs.declared.answers.ReplayRefused.{ReplayRefused}
+use Rattle.indexed_replay.specs.declared.answers.ReplayRefused.TheVariants as refusals
+use Rattle.indexed_replay.specs.declared.answers.NotIndexed.{NotIndexed}
+use Rattle.indexed_replay.specs.declared.answers.NotIndexed.TheVariants as lacks
+use Rattle.indexed_replay.specs.declared.spots.Spot.{Spot}
+use Rattle.indexed_replay.specs.declared.spots.Request.{Request}
+use Rattle.indexed_replay.specs.Reaching.{Names, LeadsTo, LacksIndex, LacksMessage, LacksChannel, Breaks, no_index, no_message, PassesLimit, at_index, at_message}
+use Rattle.indexed_replay.specs.Replaying.{IsReason}
+use Rattle.indexed_replay.specs.Steps.{Adds, led_as, IsListed, EntryRefused, EntriesShown, entries_cost}
+use Rattle.indexed_replay.specs.Lists.{Wanted, Undeclared, Knows, HasTimely, IsShownBy, ContentRefused, at_entry, no_channel, ContentShown, IsLedBy, ListRefused, ListShown, ListCost}
+use Rattle.indexed_replay.proofs.Headed.{there_begun}
+use Rattle.indexed_replay.proofs.Adding.{adds_none, adds_same, same_there}
+use Rattle.indexed_replay.proofs.Wanting.{list_once}
+
+-- ---- a content
+
+pub content_shown : (file : List ℕ) (request : Request) (spot : Spot) (entries : List (ℕ × ℕ)) (shown : List Shown × List Shown) (result : Result Unit ReplayRefused) → Wanted request.tables.now.channels spot.channel (asked_topic request.topic)
+    → EntriesShown file request.range spot entries shown result → ContentShown file request spot entries shown result
+content_shown file request spot entries shown (Ok it) wanted adds =
+    adds_same (IsListed file request.range spot entries) (IsShownBy file request spot entries) shown.0 shown.1 adds
+    (λ s listed. record { listed = listed; wanted = subst (λ (c : ℕ). Wanted request.tables.now.channels c (asked_topic request.topic)) (sym listed.channel_is) wanted })
+    (λ s is. is.listed)
+content_shown file request spot entries shown (Err why) wanted refused = at_entry why refused.0 refused.1 refused.2 refused.3
+
+pub content_none : (file : List ℕ) (request : Request) (spot : Spot) (entries : List (ℕ × ℕ)) (old : List Shown) → (Wanted request.tables.now.channels spot.channel (asked_topic request.topic) → ⊥) → Adds (IsShownBy file request spot entries) old old
+content_none file request spot entries old unwanted =
+    adds_none (IsShownBy file request spot entries) old
+    (λ s is. let listed = is.listed in unwanted (subst (λ (c : ℕ). Wanted request.tables.now.channels c (asked_topic request.topic)) listed.channel_is is.wanted))
+
+pub content_lacks : (file : List ℕ) (request : Request) (spot : Spot) (entries : List (ℕ × ℕ)) (why : NotIndexed) → (why ≡ lacks.NoChannel spot.channel) × HasTimely request.range entries × Undeclared request.tables.now.channels spot.channel
+    → ContentRefused file request spot entries (refusals.NotIndexed why)
+content_lacks file request spot entries why (is, timely, none) = subst (λ (w : NotIndexed). ContentRefused file request spot entries (refusals.NotIndexed w)) (sym is) (no_channel timely none)
+
+-- ---- a Message Index
+
+module _ (file : List ℕ) (request : Request) (spot : Spot) (content : List ℕ) (entries : List (ℕ × ℕ)) (there : IsThere file spot.list (top 7 content)) (shows : ShowsMessageIndex content spot.channel entries) where
+  is_index : IsMessageIndex (top 7 content) spot.channel entries
+  is_index = record { kind = refl; layout = shows }
+
+  led : (s : Shown) → IsShownBy file request spot entries s → IsLedBy file request spot s
+  led s is =
+      let listed = is.listed in
+      record {
+        led = record {
+          list = top 7 content;
+          entries = entries;
+          there = there;
+          is = subst (λ (c : ℕ). IsMessageIndex (top 7 content) c entries) (sym listed.channel_is) is_index;
+          entry = listed.entry;
+          in_range = listed.in_range;
+          message = listed.stands;
+        };
+        wanted = is.wanted;
+      }
+
+  listed : (s : Shown) → IsLedBy file request spot s → IsShownBy file request spot entries s
+  listed s is =
+      let by = is.led in
+      let same = same_there file spot.list by.list (top 7 content) by.there there in
+      let once = list_once (top 7 content) s.channel spot.channel by.entries entries (subst (λ (t : Top). IsMessageIndex t s.channel by.entries) same by.is) is_index in
+      record {
+        listed = record {
+          entry = subst (λ (l : List (ℕ × ℕ)). Has {X = ℕ × ℕ} l (s.log_time, s.place.inner)) once.1 by.entry;
+          in_range = by.in_range;
+          channel_is = once.0;
+          stands = by.message;
+        };
+        wanted = is.wanted;
+      }
+
+  leads : (f : ChunkIndexFields) (entry : ℕ × ℕ) → Names file request.range f spot.channel spot.list → Has {X = ℕ × ℕ} entries entry → Rattle.mcap_model.specs.Scan.InRange request.range entry.0 → LeadsTo file request.range f spot.channel spot.list entry
+  leads f entry names has in_range = record { names = names; list = top 7 content; entries = entries; there = there; is = is_index; entry_there = has; in_range = in_range }
+
+  entry_reason : (why : ReplayRefused) (f : ChunkIndexFields) (entry : ℕ × ℕ) → f.offset ≡ spot.chunk → LeadsTo file request.range f spot.channel spot.list entry → EntryRefused file spot entry why → IsReason file request.range why
+  entry_reason (refusals.Fault faults) f entry place to refused = tt
+  entry_reason (refusals.NotIndexed why) f entry place to refused = absurd refused
+  entry_reason (refusals.Flaw rule offset) f entry place to (nine, at, lacking) =
+      subst (λ (r : ℕ). Breaks file request.range r offset) (sym nine) (subst (λ (o : ℕ). Breaks file request.range 9 o) (sym at)
+      (no_message f spot.channel spot.list entry to (subst (λ (o : ℕ). LacksMessage file o spot.channel entry) (sym place) lacking)))
+  entry_reason (refusals.Compressed offset name) f entry place to refused = absurd refused
+  entry_reason (refusals.Limit offset) f entry place to (at, past) = at_message f spot.channel spot.list offset entry to (at ∙ ap (λ (o : ℕ). o + 49 + entry.1) (sym place)) past
+  entry_reason refusals.Memory f entry place to refused = tt
+
+  content_reason : (why : ReplayRefused) → Knows file request.tables.now.channels → ContentRefused file request spot entries why → ListRefused file request spot why
+  content_reason why knows (at_entry w entry has in_range refused) = λ f place names. entry_reason w f entry place (leads f entry names has in_range) refused
+  content_reason why knows (no_channel timely none) = λ f place names. record {
+    index = f;
+    offset = spot.list;
+    entry = timely.0;
+    leads = leads f timely.0 names timely.1 timely.2;
+    start = knows.start;
+    summary = knows.summary;
+    has = knows.has;
+    none = λ n t at g is. let covers = knows.covers in let (k, d, here, same) = covers t spot.channel g (n, at) is in none k d here same;
+  }
+
+  pub list_shown : (shown : List Shown × List Shown) (result : Result Unit ReplayRefused) → Knows file request.tables.now.channels → ContentShown file request spot entries shown result → ListShown file request spot shown result
+  list_shown shown (Ok it) knows adds = adds_same (IsShownBy file request spot entries) (IsLedBy file request spot) shown.0 shown.1 adds led listed
+  list_shown shown (Err why) knows refused = content_reason why knows refused
+
+pub lacks_reason : (file : List ℕ) (request : Request) (spot : Spot) → LacksIndex file spot.channel spot.list → ListRefused file request spot (refusals.Flaw 12 spot.list)
+lacks_reason file request spot none = λ f place names. no_index f spot.channel spot.list names none
+
+pub limit_reason : (file : List ℕ) (request : Request) (spot : Spot) (offset : ℕ) → (offset ≡ spot.list) × DeclaresPast (drop offset file) → ListRefused file request spot (refusals.Limit offset)
+limit_reason file request spot offset (at, past) = λ f place names. at_index f spot.channel offset (subst (λ (o : ℕ). Names file request.range f spot.channel o) (sym at) names) past
+
+-- ---- what is asked for
+
+pub record_size : (file : List ℕ) (at : ℕ) (t : Top) → IsThere file at t → 9 + declared_length (drop at file) ≡ length (top_bytes t)
+record_size file at t there = let b = there_begun file at t there in omega (arith, b.1, length-top t)
+
+pub cost_front : (file : List ℕ) (range : Range) (spot : Spot) (cost before now : ℕ) → ListCost file range spot cost → now ≤ before + (9 + declared_length (drop spot.list file)) → now ≤ before + cost
+cost_front file range spot cost before now is few = let all = is.cost_is in omega (arith, all, few, record_size file spot.list is.list is.there)
+
+pub cost_content : (file : List ℕ) (range : Range) (spot : Spot) (content : List ℕ) (cost before mid now : ℕ) (is : ListCost file range spot cost) → IsThere file spot.list (top 7 content) → mid ≤ before + (9 + declared_length (drop spot.list file))
+    → (ShowsMessageIndex content spot.channel is.entries → now ≤ mid + entries_cost file range spot.chunk is.entries) → now ≤ before + cost
+cost_content file range spot content cost before mid now is there few more =
+    let all = is.cost_is in
+    let same = same_there file spot.list is.list (top 7 content) is.there there in
+    let shows = subst (λ (t : Top). IsMessageIndex t spot.channel is.entries) same is.is in
+    omega (arith, all, few, record_size file spot.list is.list is.there, more shows.layout)

@@ -1,0 +1,52 @@
+use Rattle.std.proofs.Common.{◌≡◌, ℕ, List, ◌++◌, ◌∷◌, [], ◌+◌, ◌≤◌, length, take, sum, refl, sym, ap, subst, ◌∙◌, arith}
+use Rattle.std.proofs.lemmas.List.{take_all}
+use Rattle.indexed_replay.specs.Steps.{Adds}
+use Rattle.indexed_replay.specs.Lists.{ListCost}
+use Rattle.indexed_replay.specs.Chunks.{spot_of, IsLedAmong, NamesCost}
+use Rattle.indexed_replay.proofs.Naming.{named_none, named_more, zip_next, zip_taken, sum_joined, sum_taken}
+use Rattle.indexed_replay.proofs.chunks.show_names.Goals as goal
+
+pub names-init : goal.names-init
+names-init g c = record {
+  stays = record { bytes = refl; known = refl };
+  still = refl;
+  shows = λ file told size knows. named_none file c.args.request.now c.args.index.now.chunk_start_offset c.args.index.now.message_index_offsets c.args.shown.now.items;
+  asks = λ file costs told size are. omega arith;
+}
+
+-- what was asked for with one Message Index more
+asked_more : (costs : List ℕ) (front : List ℕ) (last before mid now : ℕ) → costs ≡ front ++ last ∷ [] → mid ≤ before + sum front → now ≤ mid + last → now ≤ before + sum costs
+asked_more costs front last before mid now joined first more = omega (arith, ap sum joined, sum_joined front last, first, more)
+
+pub returns-in-Err-clause-told : goal.returns-in-Err-clause-told
+returns-in-Err-clause-told g c = λ file told size knows reached.
+    let i = c.names.invariant in
+    c.in-Err.ensures.told file (i.stays.bytes ∙ told) size knows (Rattle.rec_index.specs.Parsed.chunk_index_fields c.args.index.now) refl (record { reached = reached; named = (c.names.i, c.item-channel.ensures) })
+
+pub returns-in-Err-clause-asks : goal.returns-in-Err-clause-asks
+returns-in-Err-clause-asks g c = λ file costs told size are.
+    let i = c.names.invariant in
+    let R : ℕ × ℕ → ℕ → Type 0 = λ p cost. ListCost file c.args.request.now.range (spot_of c.args.index.now.chunk_start_offset p) cost in
+    let last = zip_next R c.args.index.now.message_index_offsets c.names.i (c.names.i + 1) c.item-channel.result (take (c.names.i + 1) costs) c.item-channel.ensures (omega arith) (zip_taken R (c.names.i + 1) c.args.index.now.message_index_offsets costs are) in
+    let all = asked_more (take (c.names.i + 1) costs) last.front last.last (g.T.Store.state c.args.store.now).asked (g.T.Store.state c.names.store).asked (g.T.Store.state c.show_list.new.store).asked last.joined (i.asks file last.front told size last.zipped) (c.in-Err.ensures.asks file last.last (i.stays.bytes ∙ told) size last.is) in
+    omega (arith, all, sum_taken (c.names.i + 1) costs)
+
+pub names-preserved : goal.names-preserved
+names-preserved g c =
+    let i = c.names.invariant in
+    let e = c.in-Ok.ensures in
+    record {
+      stays = record { bytes = e.stays.bytes ∙ i.stays.bytes; known = e.stays.known ∙ i.stays.known };
+      still = e.cause ∙ i.still;
+      shows = λ file told size knows. named_more file c.args.request.now c.args.index.now.chunk_start_offset c.args.index.now.message_index_offsets c.names.i (c.names.i + 1) c.item-channel.result c.args.shown.now.items c.names.shown.items c.show_list.new.shown.items c.item-channel.ensures (omega arith) (i.shows file told size knows) (e.told file (i.stays.bytes ∙ told) size knows);
+      asks = λ file costs told size are.
+          let R : ℕ × ℕ → ℕ → Type 0 = λ p cost. ListCost file c.args.request.now.range (spot_of c.args.index.now.chunk_start_offset p) cost in
+          let last = zip_next R c.args.index.now.message_index_offsets c.names.i (c.names.i + 1) c.item-channel.result costs c.item-channel.ensures (omega arith) are in
+          asked_more costs last.front last.last (g.T.Store.state c.args.store.now).asked (g.T.Store.state c.names.store).asked (g.T.Store.state c.show_list.new.store).asked last.joined (i.asks file last.front told size last.zipped) (e.asks file last.last (i.stays.bytes ∙ told) size last.is);
+    }
+
+pub returns-clause-told : goal.returns-clause-told
+returns-clause-told g c = λ file told size knows.
+    let i = c.names.invariant in
+    let whole = take_all c.names.i c.args.index.now.message_index_offsets (omega arith) in
+    subst (λ (l : List (ℕ × ℕ)). Adds (IsLedAmong file c.args.request.now c.args.index.now.chunk_start_offset l) c.args.shown.now.items c.names.shown.items) whole (i.shows file told size knows)

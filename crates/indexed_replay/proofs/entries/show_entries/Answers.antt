@@ -1,0 +1,31 @@
+use Rattle.std.proofs.Common.{◌+◌, ◌≤◌, sym, ◌∙◌, arith}
+use Rattle.indexed_replay.specs.Steps.{Stays, entries_cost}
+use Rattle.indexed_replay.proofs.Adding.{listed_more, listed_skip, cost_next, cost_skip, cost_all}
+use Rattle.indexed_replay.proofs.entries.show_entries.Goals as goal
+
+pub entries-preserved-then-not-is_within : goal.entries-preserved-then-not-is_within
+entries-preserved-then-not-is_within g c =
+    let i = c.entries.invariant in
+    record {
+      stays = i.stays;
+      still = i.still;
+      shows = λ file told size. listed_skip file c.args.range c.args.spot c.args.entries.now c.entries.i (c.entries.i + 1) c.item-entry.result c.args.shown.now.items c.entries.shown.items c.item-entry.ensures (omega arith) (sym c.if-not-is_within.ensures) (i.shows file told size);
+      asks = λ file told size. cost_skip file c.args.range c.args.spot.chunk c.args.entries.now c.entries.i (c.entries.i + 1) c.item-entry.result (g.T.Store.state c.args.store.now).asked (g.T.Store.state c.entries.store).asked c.item-entry.ensures (omega arith) (i.asks file told size);
+    }
+
+pub returns-in-Err-clause-asks : goal.returns-in-Err-clause-asks
+returns-in-Err-clause-asks g c = λ file told size.
+    let i = c.entries.invariant in
+    let next : (g.T.Store.state c.show_entry.new.store).asked ≤ (g.T.Store.state c.args.store.now).asked + entries_cost file c.args.range c.args.spot.chunk (Rattle.std.proofs.Common.take (c.entries.i + 1) c.args.entries.now) = cost_next file c.args.range c.args.spot.chunk c.args.entries.now c.entries.i (c.entries.i + 1) c.item-entry.result (g.T.Store.state c.args.store.now).asked (g.T.Store.state c.entries.store).asked (g.T.Store.state c.show_entry.new.store).asked c.item-entry.ensures (omega arith) (sym c.if-not-is_within.ensures) (i.asks file told size) (c.in-Err.ensures.asks file (i.stays.bytes ∙ told) size) in
+    cost_all file c.args.range c.args.spot.chunk c.args.entries.now (c.entries.i + 1) (g.T.Store.state c.args.store.now).asked (g.T.Store.state c.show_entry.new.store).asked next
+
+pub entries-preserved : goal.entries-preserved
+entries-preserved g c =
+    let i = c.entries.invariant in
+    let e = c.in-Ok.ensures in
+    record {
+      stays = record { bytes = e.stays.bytes ∙ i.stays.bytes; known = e.stays.known ∙ i.stays.known };
+      still = e.cause ∙ i.still;
+      shows = λ file told size. listed_more file c.args.range c.args.spot c.args.entries.now c.entries.i (c.entries.i + 1) c.item-entry.result c.args.shown.now.items c.entries.shown.items c.show_entry.new.shown.items c.item-entry.ensures (omega arith) (sym c.if-not-is_within.ensures) (i.shows file told size) (e.told file (i.stays.bytes ∙ told) size);
+      asks = λ file told size. cost_next file c.args.range c.args.spot.chunk c.args.entries.now c.entries.i (c.entries.i + 1) c.item-entry.result (g.T.Store.state c.args.store.now).asked (g.T.Store.state c.entries.store).asked (g.T.Store.state c.show_entry.new.store).asked c.item-entry.ensures (omega arith) (sym c.if-not-is_within.ensures) (i.asks file told size) (e.asks file (i.stays.bytes ∙ told) size);
+    }

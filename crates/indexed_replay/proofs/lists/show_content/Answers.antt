@@ -1,0 +1,30 @@
+use Rattle.std.proofs.Common.{ℕ, List, ◌≤◌, ◌+◌, ◌∙◌, subst}
+use Rattle.std.proofs.lemmas.Bool.{both_ways}
+use Rattle.indexed_replay.specs.Steps.{EntriesShown, entries_cost}
+use Rattle.indexed_replay.specs.Lists.{ContentRefused}
+use Rattle.indexed_replay.proofs.Wanting.{index_once}
+use Rattle.indexed_replay.proofs.Listing.{content_shown, content_none, content_lacks}
+use Rattle.indexed_replay.proofs.lists.show_content.Goals as goal
+
+pub unreachable-requires : goal.unreachable-requires
+unreachable-requires g c = c.in-Err.ensures.none c.args.spot.channel c.requires.is.0 c.requires.is.1
+
+pub returns-then-is_wanted-clause-told : goal.returns-then-is_wanted-clause-told
+returns-then-is_wanted-clause-told g c = λ file entries told size declare shows.
+    let same = (index_once c.args.content.now c.in-Ok.index.channel_id c.args.spot.channel c.in-Ok.index.entries entries c.in-Ok.ensures.shown shows).1 in
+    content_shown file c.args.request.now c.args.spot entries (c.args.shown.now.items, c.show_entries.new.shown.items) c.show_entries.result ((c.is_wanted.ensures declare).0 c.if-is_wanted.true)
+    (subst (λ (l : List (ℕ × ℕ)). EntriesShown file c.args.request.now.range c.args.spot l (c.args.shown.now.items, c.show_entries.new.shown.items) c.show_entries.result) same (c.show_entries.ensures.told file told size))
+
+pub returns-then-is_wanted-clause-asks : goal.returns-then-is_wanted-clause-asks
+returns-then-is_wanted-clause-asks g c = λ file entries told size shows.
+    let same = (index_once c.args.content.now c.in-Ok.index.channel_id c.args.spot.channel c.in-Ok.index.entries entries c.in-Ok.ensures.shown shows).1 in
+    subst (λ (l : List (ℕ × ℕ)). (g.T.Store.state c.show_entries.new.store).asked ≤ (g.T.Store.state c.args.store.now).asked + entries_cost file c.args.request.now.range c.args.spot.chunk l) same (c.show_entries.ensures.asks file told size)
+
+pub returns-in-Ok-check_channel-clause-told : goal.returns-in-Ok-check_channel-clause-told
+returns-in-Ok-check_channel-clause-told g c = λ file entries told size declare shows.
+    content_none file c.args.request.now c.args.spot entries c.args.shown.now.items (λ w. both_ways c.is_wanted.result c.if-is_wanted.false ((c.is_wanted.ensures declare).1 w))
+
+pub returns-in-Err-check_channel-clause-told : goal.returns-in-Err-check_channel-clause-told
+returns-in-Err-check_channel-clause-told g c = λ file entries told size declare shows.
+    let same = (index_once c.args.content.now c.in-Ok.index.channel_id c.args.spot.channel c.in-Ok.index.entries entries c.in-Ok.ensures.shown shows).1 in
+    content_lacks file c.args.request.now c.args.spot entries c.in-Err-check_channel.why (let e = c.in-Err-check_channel.ensures in (e.0, subst (λ (l : List (ℕ × ℕ)). Rattle.indexed_replay.specs.Lists.HasTimely c.args.request.now.range l) same e.1, e.2))

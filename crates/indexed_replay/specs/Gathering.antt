@@ -1,0 +1,74 @@
+-- What the Chunk Indexes of a summary add to a replay, and the Channels that are known.
+use Rattle.std.specs.Prelude.{◌≡◌, ℕ, ◌+◌, ◌<◌, ◌≤◌, List, length, sum, Option, Some, Result, Ok, Err}
+use Rattle.std.specs.List.{AllZip}
+use Rattle.mcap_io.specs.Stores.{StoreState}
+use Rattle.mcap_model.specs.declared.replay.Range.{Range}
+use Rattle.mcap_model.specs.declared.replay.Shown.{Shown}
+use Rattle.mcap_model.specs.declared.table.Declared.{Declared}
+use Rattle.mcap_model.specs.Places.{At, Has}
+use Rattle.mcap_model.specs.Tops.{Top}
+use Rattle.mcap_model.specs.Made.{top}
+use Rattle.mcap_model.specs.Fields.{ChannelFields, IsChannel, ChunkIndexFields, IsChunkIndex}
+use Rattle.mcap_model.specs.Plain.{DeclareChannels}
+use Rattle.mcap_model.specs.Led.{Meets}
+use Rattle.indexed_replay.specs.declared.answers.ReplayRefused.{ReplayRefused}
+use Rattle.indexed_replay.specs.declared.spots.Request.{Request}
+use Rattle.indexed_replay.specs.Reaching.{HasChunkIndex}
+use Rattle.indexed_replay.specs.Replaying.{IsReason}
+use Rattle.indexed_replay.specs.Steps.{Adds}
+use Rattle.indexed_replay.specs.Lists.{Knows}
+use Rattle.indexed_replay.specs.Chunks.{IsLedAmong, ChunkCost}
+
+-- ---- channels
+
+-- among the first so many records this is the first Channel of that id, and has that topic
+pub record IsFirst (tops : List Top) (count id : ℕ) (topic : List ℕ) : Type 0 where
+  pub place : ℕ
+  pub within : place < count
+  pub top : Top
+  pub shown : ChannelFields
+  pub at : At tops place top
+  pub is : IsChannel top id shown
+  pub first : (n : ℕ) (t : Top) (f : ChannelFields) → n < place → At tops n t → IsChannel t id f → ⊥
+  pub topic_is : shown.topic ≡ topic
+
+-- the first Channels of the ids among the first so many records
+pub record FirstChannels (tops : List Top) (count : ℕ) (channels : List Declared) : Type 0 where
+  pub declare : DeclareChannels channels
+  pub first : (k : ℕ) (d : Declared) (f : ChannelFields) → At channels k d → IsChannel (top 4 d.content) d.id f → IsFirst tops count d.id f.topic
+  pub covers : (n : ℕ) (t : Top) (id : ℕ) (f : ChannelFields) → n < count → At tops n t → IsChannel t id f → (k : ℕ) × (d : Declared) × At channels k d × (d.id ≡ id)
+
+-- with the Channel at that place they are those up to there
+abbrev pub TakesChannel : List Top → ℕ → List Declared → List Declared → Type 0
+TakesChannel tops i old new = FirstChannels tops i old → FirstChannels tops (i + 1) new
+
+-- ---- chunks
+
+-- one of the Chunk Indexes, which meets the range, leads to the message
+pub record IsLedFrom (file : List ℕ) (request : Request) (tops : List Top) (s : Shown) : Type 0 where
+  pub index : Top
+  pub shown : ChunkIndexFields
+  pub there : Has tops index
+  pub is : IsChunkIndex index shown
+  pub meets : Meets request.range shown
+  pub led : IsLedAmong file request shown.offset shown.indexes s
+
+-- each of these records that is a Chunk Index stands in the summary
+abbrev pub AreIndexed : List ℕ → List Top → Type 0
+AreIndexed file tops = (n : ℕ) (t : Top) (f : ChunkIndexFields) → At tops n t → IsChunkIndex t f → HasChunkIndex file f
+
+abbrev pub AllShown : List ℕ → Request → List Top → (List Shown × List Shown) → Result Unit ReplayRefused → Type 0
+AllShown file request tops shown (Ok it) = Adds (IsLedFrom file request tops) shown.0 shown.1
+AllShown file request tops shown (Err why) = AreIndexed file tops → IsReason file request.range why
+
+abbrev pub Gathers : Option (List ℕ) → Request → List Top → (List Shown × List Shown) → Result Unit ReplayRefused → Type 0
+Gathers told request tops shown result = (file : List ℕ) → told ≡ Some file → length file ≡ request.len → Knows file request.tables.now.channels → AllShown file request tops shown result
+
+-- ---- what is asked for
+
+-- so much of the chunk of that Chunk Index, where it meets the range
+abbrev pub CostsUpTo : List ℕ → Range → Top → ℕ → Type 0
+CostsUpTo file range t cost = (f : ChunkIndexFields) → IsChunkIndex t f → Meets range f → ChunkCost file range f cost
+
+abbrev pub AsksAll : Request → List Top → StoreState → StoreState → Type 0
+AsksAll request tops old new = (file : List ℕ) (costs : List ℕ) → old.bytes ≡ Some file → length file ≡ request.len → AllZip (CostsUpTo file request.range) tops costs → new.asked ≤ old.asked + sum costs

@@ -1,0 +1,104 @@
+-- What a Message Index adds to a replay.
+use Rattle.std.specs.Prelude.{◌≡◌, ℕ, ◌+◌, ◌≤◌, List, length, Option, Some, Result, Ok, Err}
+use Rattle.mcap_io.specs.Stores.{StoreState}
+use Rattle.rec_index.specs.Records.{ShowsMessageIndex}
+use Rattle.mcap_model.specs.declared.replay.Range.{Range}
+use Rattle.mcap_model.specs.declared.replay.Shown.{Shown}
+use Rattle.mcap_model.specs.declared.table.Declared.{Declared}
+use Rattle.mcap_model.specs.Places.{At, Has}
+use Rattle.mcap_model.specs.Tops.{Top, top_bytes}
+use Rattle.mcap_model.specs.Fields.{ChannelFields, IsChannel, IsMessageIndex, ChunkIndexFields}
+use Rattle.mcap_model.specs.Made.{top}
+use Rattle.mcap_model.specs.Plain.{DeclareChannels, asked_topic}
+use Rattle.mcap_model.specs.Scan.{InRange, OnTopic}
+use Rattle.mcap_model.specs.Led.{HasSummary, FirstTopic, IsThere, LedByIndex}
+use Rattle.indexed_replay.specs.declared.answers.ReplayRefused.{ReplayRefused}
+use Rattle.indexed_replay.specs.declared.answers.ReplayRefused.TheVariants as refusals
+use Rattle.indexed_replay.specs.declared.answers.NotIndexed.TheVariants as lacks
+use Rattle.indexed_replay.specs.declared.spots.Spot.{Spot}
+use Rattle.indexed_replay.specs.declared.spots.Request.{Request}
+use Rattle.indexed_replay.specs.Reaching.{Names}
+use Rattle.indexed_replay.specs.Replaying.{IsReason}
+use Rattle.indexed_replay.specs.Steps.{Adds, led_as, IsListed, EntryRefused, entries_cost}
+
+-- ---- channels
+
+-- the channel was declared, and has the topic that is asked for, if any
+pub record Wanted (channels : List Declared) (channel : ℕ) (topic : Option (List ℕ)) : Type 0 where
+  pub place : ℕ
+  pub declared : Declared
+  pub shown : ChannelFields
+  pub at : At channels place declared
+  pub id_is : declared.id ≡ channel
+  pub is : IsChannel (top 4 declared.content) channel shown
+  pub on_topic : OnTopic topic shown.topic
+
+-- none of that id was declared
+abbrev pub Undeclared : List Declared → ℕ → Type 0
+Undeclared channels channel = (k : ℕ) (d : Declared) → At channels k d → d.id ≡ channel → ⊥
+
+-- these are the first Channels of the ids of the summary
+pub record Knows (file : List ℕ) (channels : List Declared) : Type 0 where
+  pub start : ℕ
+  pub summary : List Top
+  pub has : HasSummary file start summary
+  pub declare : DeclareChannels channels
+  pub first : (k : ℕ) (d : Declared) (f : ChannelFields) → At channels k d → IsChannel (top 4 d.content) d.id f → FirstTopic summary d.id f.topic
+  pub covers : (t : Top) (id : ℕ) (f : ChannelFields) → Has summary t → IsChannel t id f → (k : ℕ) × (d : Declared) × At channels k d × (d.id ≡ id)
+
+-- ---- entries
+
+abbrev pub HasTimely : Range → List (ℕ × ℕ) → Type 0
+HasTimely range entries = (entry : ℕ × ℕ) × Has entries entry × InRange range entry.0
+
+-- ---- a Message Index of some content
+
+-- one of its entries leads to the message, whose channel is wanted
+pub record IsShownBy (file : List ℕ) (request : Request) (spot : Spot) (entries : List (ℕ × ℕ)) (s : Shown) : Type 0 where
+  pub listed : IsListed file request.range spot entries s
+  pub wanted : Wanted request.tables.now.channels s.channel (asked_topic request.topic)
+
+-- why its messages aren't shown: an entry in the range leads nowhere, or there is one and no Channel
+pub data ContentRefused (file : List ℕ) (request : Request) (spot : Spot) (entries : List (ℕ × ℕ)) : ReplayRefused → Type 0 where
+  at_entry : (why : ReplayRefused) (entry : ℕ × ℕ) → Has entries entry → InRange request.range entry.0 → EntryRefused file spot entry why → ContentRefused file request spot entries why
+  no_channel : HasTimely request.range entries → Undeclared request.tables.now.channels spot.channel → ContentRefused file request spot entries (refusals.NotIndexed (lacks.NoChannel spot.channel))
+
+abbrev pub ContentShown : List ℕ → Request → Spot → List (ℕ × ℕ) → (List Shown × List Shown) → Result Unit ReplayRefused → Type 0
+ContentShown file request spot entries shown (Ok it) = Adds (IsShownBy file request spot entries) shown.0 shown.1
+ContentShown file request spot entries shown (Err why) = ContentRefused file request spot entries why
+
+abbrev pub ShowsContent : Option (List ℕ) → Request → Spot → List ℕ → (List Shown × List Shown) → Result Unit ReplayRefused → Type 0
+ShowsContent told request spot content shown result = (file : List ℕ) (entries : List (ℕ × ℕ)) → told ≡ Some file → length file ≡ request.len → DeclareChannels request.tables.now.channels → ShowsMessageIndex content spot.channel entries
+    → ContentShown file request spot entries shown result
+
+abbrev pub AsksContent : Request → Spot → List ℕ → StoreState → StoreState → Type 0
+AsksContent request spot content old new = (file : List ℕ) (entries : List (ℕ × ℕ)) → old.bytes ≡ Some file → length file ≡ request.len → ShowsMessageIndex content spot.channel entries → new.asked ≤ old.asked + entries_cost file request.range spot.chunk entries
+
+-- ---- a Message Index
+
+-- the Message Index leads to the message, whose channel is wanted
+pub record IsLedBy (file : List ℕ) (request : Request) (spot : Spot) (s : Shown) : Type 0 where
+  pub led : LedByIndex file request.range spot.chunk spot.list (led_as s)
+  pub wanted : Wanted request.tables.now.channels s.channel (asked_topic request.topic)
+
+-- why its messages aren't shown, where a Chunk Index that is reached names it
+abbrev pub ListRefused : List ℕ → Request → Spot → ReplayRefused → Type 0
+ListRefused file request spot why = (f : ChunkIndexFields) → f.offset ≡ spot.chunk → Names file request.range f spot.channel spot.list → IsReason file request.range why
+
+abbrev pub ListShown : List ℕ → Request → Spot → (List Shown × List Shown) → Result Unit ReplayRefused → Type 0
+ListShown file request spot shown (Ok it) = Adds (IsLedBy file request spot) shown.0 shown.1
+ListShown file request spot shown (Err why) = ListRefused file request spot why
+
+abbrev pub Shows : Option (List ℕ) → Request → Spot → (List Shown × List Shown) → Result Unit ReplayRefused → Type 0
+Shows told request spot shown result = (file : List ℕ) → told ≡ Some file → length file ≡ request.len → Knows file request.tables.now.channels → ListShown file request spot shown result
+
+-- what its reading asks for: all of it, and the messages in the range
+pub record ListCost (file : List ℕ) (range : Range) (spot : Spot) (cost : ℕ) : Type 0 where
+  pub list : Top
+  pub entries : List (ℕ × ℕ)
+  pub there : IsThere file spot.list list
+  pub is : IsMessageIndex list spot.channel entries
+  pub cost_is : cost ≡ length (top_bytes list) + entries_cost file range spot.chunk entries
+
+abbrev pub AsksList : Request → Spot → StoreState → StoreState → Type 0
+AsksList request spot old new = (file : List ℕ) (cost : ℕ) → old.bytes ≡ Some file → length file ≡ request.len → ListCost file request.range spot cost → new.asked ≤ old.asked + cost

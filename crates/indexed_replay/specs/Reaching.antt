@@ -1,0 +1,130 @@
+-- What a replay by the index reaches of a file: the Chunk Indexes of its summary that meet a range, the Message Indexes that
+-- they name, and the messages to which these lead. Why such a file isn't indexed, and where a rule fails on what is reached.
+use Rattle.std.specs.Prelude.{◌≡◌, ◌≢◌, ◌⊎◌, ℕ, ◌+◌, List, [], length, drop, Some}
+use Rattle.mcap_wire.specs.Reading.{text_bytes}
+use Rattle.mcap_model.specs.declared.replay.Range.{Range}
+use Rattle.mcap_model.specs.Places.{Has, Each}
+use Rattle.mcap_model.specs.Tops.{Top}
+use Rattle.mcap_model.specs.Fields.{ChannelFields, IsChannel, MessageFields, IsMessage, ChunkFields, IsChunk, IsMessageIndex, ChunkIndexFields, IsChunkIndex, StatisticsFields, IsStatistics}
+use Rattle.mcap_model.specs.Scan.{InRange}
+use Rattle.mcap_model.specs.Led.{HasSummary, IsThere, Meets}
+use Rattle.summary_read.specs.Reached.{HasNoSummary, Fails, Passes, DeclaresPast}
+use Rattle.summary_read.specs.Parts.{of_kind, first_of_kind}
+use Rattle.indexed_replay.specs.declared.answers.NotIndexed.{NotIndexed}
+use Rattle.indexed_replay.specs.declared.answers.NotIndexed.TheVariants as lacks
+
+-- ---- what is reached
+
+-- a Chunk Index of the summary shows these fields
+pub record HasChunkIndex (file : List ℕ) (f : ChunkIndexFields) : Type 0 where
+  pub start : ℕ
+  pub summary : List Top
+  pub has : HasSummary file start summary
+  pub index : Top
+  pub indexed : Has summary index
+  pub is : IsChunkIndex index f
+
+-- and it meets the range
+pub record IsReached (file : List ℕ) (range : Range) (f : ChunkIndexFields) : Type 0 where
+  pub indexed : HasChunkIndex file f
+  pub meets : Meets range f
+
+-- its map has this offset for that channel
+pub record Names (file : List ℕ) (range : Range) (f : ChunkIndexFields) (channel offset : ℕ) : Type 0 where
+  pub reached : IsReached file range f
+  pub named : Has {X = ℕ × ℕ} f.indexes (channel, offset)
+
+-- there stands a Message Index of that channel, with this log time and offset, and the log time lies in the range
+pub record LeadsTo (file : List ℕ) (range : Range) (f : ChunkIndexFields) (channel offset : ℕ) (entry : ℕ × ℕ) : Type 0 where
+  pub names : Names file range f channel offset
+  pub list : Top
+  pub entries : List (ℕ × ℕ)
+  pub there : IsThere file offset list
+  pub is : IsMessageIndex list channel entries
+  pub entry_there : Has {X = ℕ × ℕ} entries entry
+  pub in_range : InRange range entry.0
+
+-- ---- what isn't there
+
+-- no Chunk stands at that offset
+abbrev pub LacksChunk : List ℕ → ℕ → Type 0
+LacksChunk file offset = (t : Top) (g : ChunkFields) → IsThere file offset t → IsChunk t g → ⊥
+
+-- no Message Index of that channel does
+abbrev pub LacksIndex : List ℕ → ℕ → ℕ → Type 0
+LacksIndex file channel offset = (t : Top) (entries : List (ℕ × ℕ)) → IsThere file offset t → IsMessageIndex t channel entries → ⊥
+
+-- no message of that channel and of the entry's log time stands at the entry's offset behind the first 49 bytes of a chunk
+abbrev pub LacksMessage : List ℕ → ℕ → ℕ → ℕ × ℕ → Type 0
+LacksMessage file chunk channel entry = (t : Top) (m : MessageFields) → IsThere file (chunk + 49 + entry.1) t → IsMessage t channel m → m.log_time ≡ entry.0 → ⊥
+
+-- ---- where a rule fails
+
+-- The rule of that number fails at that offset: on the ends of the file or on its summary; where a Chunk Index leads to no
+-- Chunk, or to no Message Index of a channel (V12, at the offset that it names); or at a Message Index with an entry in
+-- the range that leads to no such message (V9).
+pub data Breaks (file : List ℕ) (range : Range) : ℕ → ℕ → Type 0 where
+  at_loading : (rule offset : ℕ) → Fails file rule offset → Breaks file range rule offset
+  no_chunk : (f : ChunkIndexFields) → IsReached file range f → LacksChunk file f.offset → Breaks file range 12 f.offset
+  no_index : (f : ChunkIndexFields) (channel offset : ℕ) → Names file range f channel offset → LacksIndex file channel offset → Breaks file range 12 offset
+  no_message : (f : ChunkIndexFields) (channel offset : ℕ) (entry : ℕ × ℕ) → LeadsTo file range f channel offset entry → LacksMessage file f.offset channel entry → Breaks file range 9 offset
+
+-- The chunk of a Chunk Index that is reached stands at that offset, and has this compression, which isn't empty: the
+-- text behind two times, the size and the CRC.
+pub record IsPacked (file : List ℕ) (range : Range) (offset : ℕ) (name : List ℕ) : Type 0 where
+  pub index : ChunkIndexFields
+  pub reached : IsReached file range index
+  pub place : index.offset ≡ offset
+  pub chunk : Top
+  pub there : IsThere file offset chunk
+  pub kind : chunk.op ≡ 6
+  pub named : text_bytes chunk.content 28 ≡ name
+  pub some : name ≢ []
+
+-- A limit is passed on the ends of the file or in its summary; or a Message Index that is named, or a record to which an
+-- entry leads, declares a content past the limit.
+pub data PassesLimit (file : List ℕ) (range : Range) : ℕ → Type 0 where
+  at_loading : (offset : ℕ) → Passes file offset → PassesLimit file range offset
+  at_index : (f : ChunkIndexFields) (channel offset : ℕ) → Names file range f channel offset → DeclaresPast (drop offset file) → PassesLimit file range offset
+  at_message : (f : ChunkIndexFields) (channel list offset : ℕ) (entry : ℕ × ℕ) → LeadsTo file range f channel list entry → offset ≡ f.offset + 49 + entry.1 → DeclaresPast (drop offset file) → PassesLimit file range offset
+
+-- ---- why a file isn't indexed
+
+-- the summary states another number of chunks than it has Chunk Indexes
+pub record CountsDiffer (file : List ℕ) (stated found : ℕ) : Type 0 where
+  pub start : ℕ
+  pub summary : List Top
+  pub has : HasSummary file start summary
+  pub statistics : Top
+  pub first : first_of_kind 11 summary ≡ Some statistics
+  pub shown : StatisticsFields
+  pub is : IsStatistics statistics shown
+  pub stated_is : stated ≡ shown.chunks
+  pub found_is : found ≡ length (of_kind 8 summary)
+  pub differ : stated ≢ found
+
+-- the map of a Chunk Index is empty, and one of its times isn't 0
+pub record NamesNone (file : List ℕ) (range : Range) (chunk : ℕ) : Type 0 where
+  pub index : ChunkIndexFields
+  pub reached : IsReached file range index
+  pub place : index.offset ≡ chunk
+  pub none : index.indexes ≡ []
+  pub timed : (index.start ≡ 0) × (index.end ≡ 0) → ⊥
+
+-- the summary has no Channel of the id of a Message Index with an entry in the range
+pub record LacksChannel (file : List ℕ) (range : Range) (id : ℕ) : Type 0 where
+  pub index : ChunkIndexFields
+  pub offset : ℕ
+  pub entry : ℕ × ℕ
+  pub leads : LeadsTo file range index id offset entry
+  pub start : ℕ
+  pub summary : List Top
+  pub has : HasSummary file start summary
+  pub none : Each (λ u. (f : ChannelFields) → IsChannel u id f → ⊥) summary
+
+abbrev pub IsNotIndexed : List ℕ → Range → NotIndexed → Type 0
+IsNotIndexed file range lacks.NoSummary = HasNoSummary file
+IsNotIndexed file range lacks.NoStatistics = (start : ℕ) × (summary : List Top) × HasSummary file start summary × Each (λ t. t.op ≢ 11) summary
+IsNotIndexed file range (lacks.ChunkCount stated found) = CountsDiffer file stated found
+IsNotIndexed file range (lacks.NoMessageIndex chunk) = NamesNone file range chunk
+IsNotIndexed file range (lacks.NoChannel id) = LacksChannel file range id

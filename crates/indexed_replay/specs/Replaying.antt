@@ -1,0 +1,99 @@
+-- What a replay by the index comes to.
+use Rattle.std.specs.Prelude.{◌≡◌, ℕ, ◌+◌, ◌≤◌, List, Option, Some, Result, Ok, Err}
+use Rattle.mcap_io.specs.Outside.{RisesOnce}
+use Rattle.mcap_io.specs.Stores.{StoreState}
+use Rattle.mcap_model.specs.declared.replay.Range.{Range}
+use Rattle.mcap_model.specs.declared.replay.Replayed.{Replayed}
+use Rattle.mcap_model.specs.Tops.{Top}
+use Rattle.mcap_model.specs.Kept.{reading_limits, at_end, Halts}
+use Rattle.mcap_model.specs.Scan.{Seen, Scan, Replay}
+use Rattle.mcap_model.specs.Showing.{Shows}
+use Rattle.mcap_model.specs.Valid.{IsFullyIndexed}
+use Rattle.mcap_model.specs.Led.{LedReplay, AskedBound}
+use Rattle.summary_read.specs.Reached.{HasNoSummary}
+use Rattle.indexed_replay.specs.declared.answers.ReplayRefused.{ReplayRefused}
+use Rattle.indexed_replay.specs.declared.answers.ReplayRefused.TheVariants as refusals
+use Rattle.indexed_replay.specs.declared.answers.NotIndexed.{NotIndexed}
+use Rattle.indexed_replay.specs.declared.answers.NotIndexed.TheVariants as lacks
+use Rattle.indexed_replay.specs.Reaching.{IsNotIndexed, Breaks, IsPacked, PassesLimit}
+
+-- ---- what is answered
+
+-- why a replay is refused
+abbrev pub IsReason : List ℕ → Range → ReplayRefused → Type 0
+IsReason file range (refusals.Fault faults) = Unit {0}
+IsReason file range (refusals.NotIndexed why) = IsNotIndexed file range why
+IsReason file range (refusals.Flaw rule offset) = Breaks file range rule offset
+IsReason file range (refusals.Compressed offset name) = IsPacked file range offset name
+IsReason file range (refusals.Limit offset) = PassesLimit file range offset
+IsReason file range refusals.Memory = Unit {0}
+
+-- the messages to which the indexes lead are shown
+pub record IsLed (file : List ℕ) (range : Range) (topic : Option (List ℕ)) (played : Replayed) : Type 0 where
+  pub shown : List Seen
+  pub replay : LedReplay file range topic shown
+  pub shows : Shows played shown
+
+abbrev pub FileIsLed : List ℕ → Range → Option (List ℕ) → Result Replayed ReplayRefused → Type 0
+FileIsLed file range topic (Ok played) = IsLed file range topic played
+FileIsLed file range topic (Err why) = IsReason file range why
+
+-- where the store tells its bytes, these are the file
+abbrev pub Plays : Option (List ℕ) → Range → Option (List ℕ) → Result Replayed ReplayRefused → Type 0
+Plays told range topic result = (file : List ℕ) → told ≡ Some file → FileIsLed file range topic result
+
+-- ---- files without a summary
+
+abbrev pub SaysNotIndexed : NotIndexed → Type 0
+SaysNotIndexed lacks.NoSummary = Unit {0}
+SaysNotIndexed lacks.NoStatistics = ⊥
+SaysNotIndexed (lacks.ChunkCount stated found) = ⊥
+SaysNotIndexed (lacks.NoMessageIndex chunk) = ⊥
+SaysNotIndexed (lacks.NoChannel id) = ⊥
+
+-- the answer is that there is no summary, unless the store failed or memory lacked
+abbrev pub SaysNoSummary : Result Replayed ReplayRefused → Type 0
+SaysNoSummary (Ok played) = ⊥
+SaysNoSummary (Err (refusals.Fault faults)) = Unit {0}
+SaysNoSummary (Err (refusals.NotIndexed why)) = SaysNotIndexed why
+SaysNoSummary (Err (refusals.Flaw rule offset)) = ⊥
+SaysNoSummary (Err (refusals.Compressed offset name)) = ⊥
+SaysNoSummary (Err (refusals.Limit offset)) = ⊥
+SaysNoSummary (Err refusals.Memory) = Unit {0}
+
+abbrev pub TellsNoSummary : Option (List ℕ) → Result Replayed ReplayRefused → Type 0
+TellsNoSummary told result = (file : List ℕ) → told ≡ Some file → HasNoSummary file → SaysNoSummary result
+
+-- ---- fully indexed files
+
+-- the messages of the scan are replayed, unless the store failed, a limit is passed or memory lacked
+abbrev pub IsScanReplayed : Range → Option (List ℕ) → List Seen → Result Replayed ReplayRefused → Type 0
+IsScanReplayed range topic messages (Ok played) = (shown : List Seen) × Replay range topic messages shown × Shows played shown
+IsScanReplayed range topic messages (Err (refusals.Fault faults)) = Unit {0}
+IsScanReplayed range topic messages (Err (refusals.NotIndexed why)) = ⊥
+IsScanReplayed range topic messages (Err (refusals.Flaw rule offset)) = ⊥
+IsScanReplayed range topic messages (Err (refusals.Compressed offset name)) = ⊥
+IsScanReplayed range topic messages (Err (refusals.Limit offset)) = Unit {0}
+IsScanReplayed range topic messages (Err refusals.Memory) = Unit {0}
+
+-- a fully indexed file that is read to its Data End is replayed as its scan is
+abbrev pub PlaysScan : Option (List ℕ) → Range → Option (List ℕ) → Result Replayed ReplayRefused → Type 0
+PlaysScan told range topic result = (file : List ℕ) (tops : List Top) (end : ℕ) (messages : List Seen) → told ≡ Some file → IsFullyIndexed file → Halts reading_limits file tops (at_end end) → Scan tops messages
+    → IsScanReplayed range topic messages result
+
+-- and of it no more is asked for
+abbrev pub AsksLed : Range → StoreState → StoreState → Type 0
+AsksLed range old new = (file : List ℕ) (tops : List Top) (end bound : ℕ) → old.bytes ≡ Some file → IsFullyIndexed file → Halts reading_limits file tops (at_end end) → AskedBound file range bound
+    → new.asked ≤ old.asked + bound
+
+-- ---- faults
+
+-- a fault comes where the store failed, and has the count; otherwise the count stands still
+abbrev pub ReplayCause : {P : Type 0} → ℕ → ℕ → Result P ReplayRefused → Type 0
+ReplayCause before now (Ok played) = now ≡ before
+ReplayCause before now (Err (refusals.Fault faults)) = RisesOnce before now × (faults ≡ now)
+ReplayCause before now (Err (refusals.NotIndexed why)) = now ≡ before
+ReplayCause before now (Err (refusals.Flaw rule offset)) = now ≡ before
+ReplayCause before now (Err (refusals.Compressed offset name)) = now ≡ before
+ReplayCause before now (Err (refusals.Limit offset)) = now ≡ before
+ReplayCause before now (Err refusals.Memory) = now ≡ before

@@ -1,0 +1,181 @@
+-- The steps of a replay by the index.
+use Rattle.std.specs.Prelude.{◌≡◌, ℕ, ◌+◌, ◌-◌, ◌≤◌, List, [], ◌++◌, length, take, drop, sum_by, Bool, true, false, if◌then◌else◌, Option, Some, None, Result, Ok, Err, Vec}
+use Rattle.mcap_io.specs.Stores.{StoreState}
+use Rattle.mcap_io.specs.declared.outside.Failed.{Failed}
+use Rattle.mcap_wire.specs.declared.faults.Head.{Head}
+use Rattle.rec_index.specs.Records.{ShowsMessageIndex}
+use Rattle.mcap_model.specs.declared.replay.Place.{Place}
+use Rattle.mcap_model.specs.declared.replay.Range.{Range}
+use Rattle.mcap_model.specs.declared.replay.Shown.{Shown}
+use Rattle.mcap_model.specs.declared.table.Declared.{Declared}
+use Rattle.mcap_model.specs.Places.{At, Has}
+use Rattle.mcap_model.specs.Tops.{Top, top_bytes, opcode, declared_length, first_top}
+use Rattle.mcap_model.specs.Fields.{ChannelFields, IsChannel, IsMessageIndex, ChunkIndexFields}
+use Rattle.mcap_model.specs.Made.{top}
+use Rattle.mcap_model.specs.Plain.{is_within, DeclareChannels}
+use Rattle.mcap_model.specs.Scan.{Seen, InRange, OnTopic}
+use Rattle.mcap_model.specs.Led.{HasSummary, FirstTopic, IsThere, IsInChunk, LedByIndex}
+use Rattle.summary_read.specs.Reached.{DeclaresPast}
+use Rattle.indexed_replay.specs.declared.answers.ReplayRefused.{ReplayRefused}
+use Rattle.indexed_replay.specs.declared.answers.ReplayRefused.TheVariants as refusals
+use Rattle.indexed_replay.specs.declared.spots.Spot.{Spot}
+use Rattle.indexed_replay.specs.Reaching.{LacksIndex, LacksMessage}
+
+-- ---- stores
+
+-- the bytes and the length that the store tells stay
+pub record Stays (old new : StoreState) : Type 0 where
+  pub bytes : new.bytes ≡ old.bytes
+  pub known : new.known ≡ old.known
+
+-- ---- the front of a record
+
+-- A record of that opcode and of that length of content stands there, and no other. It begins with these bytes.
+pub record FrontStands (file : List ℕ) (at : ℕ) (out : List ℕ) (op len : ℕ) : Type 0 where
+  pub front : out ≡ take (length out) (drop at file)
+  pub long : length out ≤ 9 + len
+  pub whole : at + 9 + len ≤ length file
+  pub op_is : opcode (drop at file) ≡ op
+  pub len_is : declared_length (drop at file) ≡ len
+  pub there : IsThere file at (first_top (drop at file))
+  pub only : (t : Top) → IsThere file at t → t ≡ first_top (drop at file)
+
+-- no record of so many bytes and of a valid opcode stands there
+abbrev pub LacksRecord : List ℕ → ℕ → ℕ → Type 0
+LacksRecord file at size = (t : Top) → IsThere file at t → size ≤ length (top_bytes t) → (t.op ≡ 0 → ⊥) → ⊥
+
+abbrev pub FrontIs : List ℕ → ℕ → List ℕ → Result (Option Head) Failed → Type 0
+FrontIs file at out (Ok (Some head)) = FrontStands file at out head.op head.len
+FrontIs file at out (Ok None) = LacksRecord file at (length out)
+FrontIs file at out (Err why) = Unit {0}
+
+-- the record lies within so many bytes, and has at least so many
+abbrev pub IsInside : ℕ → ℕ → ℕ → Result (Option Head) Failed → Type 0
+IsInside len at size (Ok (Some head)) = (at + 9 + head.len ≤ len) × (size ≤ 9 + head.len)
+IsInside len at size (Ok None) = Unit {0}
+IsInside len at size (Err why) = Unit {0}
+
+-- where the store tells a file of that length
+abbrev pub TellsFront : Option (List ℕ) → ℕ → ℕ → List ℕ → Result (Option Head) Failed → Type 0
+TellsFront told len at out result = (file : List ℕ) → told ≡ Some file → length file ≡ len → FrontIs file at out result
+
+-- ---- a message
+
+-- a message that is shown, without a topic
+abbrev pub led_as : Shown → Seen
+led_as s = record { place = s.place; channel = s.channel; topic = []; message = record { sequence = s.sequence; log_time = s.log_time; publish_time = s.publish_time; payload = s.payload } }
+
+abbrev pub place_in : ℕ → ℕ → Place
+place_in chunk inner = record { top = chunk; inner = inner }
+
+-- an entry of that channel leads to the message
+pub record IsFound (file : List ℕ) (chunk channel : ℕ) (entry : ℕ × ℕ) (s : Shown) : Type 0 where
+  pub place : s.place ≡ place_in chunk entry.1
+  pub channel_is : s.channel ≡ channel
+  pub time : s.log_time ≡ entry.0
+  pub stands : IsInChunk file chunk (led_as s)
+
+abbrev pub MessageIs : List ℕ → ℕ → ℕ → ℕ × ℕ → Result (Option Shown) ReplayRefused → Type 0
+MessageIs file chunk channel entry (Ok (Some s)) = IsFound file chunk channel entry s
+MessageIs file chunk channel entry (Ok None) = LacksMessage file chunk channel entry
+MessageIs file chunk channel entry (Err (refusals.Fault faults)) = Unit {0}
+MessageIs file chunk channel entry (Err (refusals.NotIndexed why)) = ⊥
+MessageIs file chunk channel entry (Err (refusals.Flaw rule offset)) = ⊥
+MessageIs file chunk channel entry (Err (refusals.Compressed offset name)) = ⊥
+MessageIs file chunk channel entry (Err (refusals.Limit offset)) = (offset ≡ chunk + 49 + entry.1) × DeclaresPast (drop offset file)
+MessageIs file chunk channel entry (Err refusals.Memory) = Unit {0}
+
+abbrev pub TellsMessage : Option (List ℕ) → ℕ → ℕ → ℕ → ℕ × ℕ → Result (Option Shown) ReplayRefused → Type 0
+TellsMessage told len chunk channel entry result = (file : List ℕ) → told ≡ Some file → length file ≡ len → MessageIs file chunk channel entry result
+
+-- what the reading of a message asks for: 31 bytes, and the payload that its head declares
+abbrev pub message_cost : List ℕ → ℕ → ℕ
+message_cost file at = 31 + (declared_length (drop at file) - 22)
+
+abbrev pub AsksMessage : ℕ → ℕ → StoreState → StoreState → Type 0
+AsksMessage len at old new = (file : List ℕ) → old.bytes ≡ Some file → length file ≡ len → new.asked ≤ old.asked + message_cost file at
+
+-- ---- what is added
+
+-- just the messages with that property are added
+pub record Adds (P : Shown → Type 0) (old new : List Shown) : Type 0 where
+  pub more : List Shown
+  pub added : new ≡ old ++ more
+  pub are : (s : Shown) → Has more s → P s
+  pub all : (s : Shown) → P s → Has more s
+
+-- ---- the entries of a Message Index
+
+-- why the message of an entry isn't shown
+abbrev pub EntryRefused : List ℕ → Spot → ℕ × ℕ → ReplayRefused → Type 0
+EntryRefused file spot entry (refusals.Fault faults) = Unit {0}
+EntryRefused file spot entry (refusals.NotIndexed why) = ⊥
+EntryRefused file spot entry (refusals.Flaw rule offset) = (rule ≡ 9) × (offset ≡ spot.list) × LacksMessage file spot.chunk spot.channel entry
+EntryRefused file spot entry (refusals.Compressed offset name) = ⊥
+EntryRefused file spot entry (refusals.Limit offset) = (offset ≡ spot.chunk + 49 + entry.1) × DeclaresPast (drop offset file)
+EntryRefused file spot entry refusals.Memory = Unit {0}
+
+abbrev pub EntryShown : List ℕ → Spot → ℕ × ℕ → List Shown → List Shown → Result Unit ReplayRefused → Type 0
+EntryShown file spot entry old new (Ok it) = Adds (IsFound file spot.chunk spot.channel entry) old new
+EntryShown file spot entry old new (Err why) = EntryRefused file spot entry why
+
+abbrev pub TellsEntry : Option (List ℕ) → ℕ → Spot → ℕ × ℕ → (List Shown × List Shown) → Result Unit ReplayRefused → Type 0
+TellsEntry told len spot entry shown result = (file : List ℕ) → told ≡ Some file → length file ≡ len → EntryShown file spot entry shown.0 shown.1 result
+
+-- one of the entries is in the range and leads to the message
+pub record IsListed (file : List ℕ) (range : Range) (spot : Spot) (entries : List (ℕ × ℕ)) (s : Shown) : Type 0 where
+  pub entry : Has {X = ℕ × ℕ} entries (s.log_time, s.place.inner)
+  pub in_range : InRange range s.log_time
+  pub channel_is : s.channel ≡ spot.channel
+  pub stands : IsInChunk file spot.chunk (led_as s)
+
+abbrev pub EntriesShown : List ℕ → Range → Spot → List (ℕ × ℕ) → (List Shown × List Shown) → Result Unit ReplayRefused → Type 0
+EntriesShown file range spot entries shown (Ok it) = Adds (IsListed file range spot entries) shown.0 shown.1
+EntriesShown file range spot entries shown (Err why) = (entry : ℕ × ℕ) × Has entries entry × InRange range entry.0 × EntryRefused file spot entry why
+
+abbrev pub TellsEntries : Option (List ℕ) → ℕ → Range → Spot → List (ℕ × ℕ) → (List Shown × List Shown) → Result Unit ReplayRefused → Type 0
+TellsEntries told len range spot entries shown result = (file : List ℕ) → told ≡ Some file → length file ≡ len → EntriesShown file range spot entries shown result
+
+-- what the reading of the messages in the range asks for
+abbrev pub entry_cost : List ℕ → Range → ℕ → ℕ × ℕ → ℕ
+entry_cost file range chunk entry = if is_within range entry.0 then message_cost file (chunk + 49 + entry.1) else 0
+
+abbrev pub entries_cost : List ℕ → Range → ℕ → List (ℕ × ℕ) → ℕ
+entries_cost file range chunk entries = sum_by (entry_cost file range chunk) entries
+
+abbrev pub AsksEntries : ℕ → Range → ℕ → List (ℕ × ℕ) → StoreState → StoreState → Type 0
+AsksEntries len range chunk entries old new = (file : List ℕ) → old.bytes ≡ Some file → length file ≡ len → new.asked ≤ old.asked + entries_cost file range chunk entries
+
+-- ---- a Message Index
+
+-- the content of the Message Index that stands there, or none does
+abbrev pub ListIs : {Y : Type 0} → List ℕ → ℕ → Result (Option (Vec ℕ Y)) ReplayRefused → Type 0
+ListIs file at (Ok (Some content)) = IsThere file at (top 7 content.items)
+ListIs file at (Ok None) = (t : Top) → IsThere file at t → t.op ≡ 7 → ⊥
+ListIs file at (Err (refusals.Fault faults)) = Unit {0}
+ListIs file at (Err (refusals.NotIndexed why)) = ⊥
+ListIs file at (Err (refusals.Flaw rule offset)) = ⊥
+ListIs file at (Err (refusals.Compressed offset name)) = ⊥
+ListIs file at (Err (refusals.Limit offset)) = (offset ≡ at) × DeclaresPast (drop offset file)
+ListIs file at (Err refusals.Memory) = Unit {0}
+
+abbrev pub TellsList : {Y : Type 0} → Option (List ℕ) → ℕ → ℕ → Result (Option (Vec ℕ Y)) ReplayRefused → Type 0
+TellsList told len at result = (file : List ℕ) → told ≡ Some file → length file ≡ len → ListIs file at result
+
+-- the content of the Message Index of that channel that stands there, or none does
+abbrev pub IndexIs : {Y : Type 0} → List ℕ → Spot → Result (Option (Vec ℕ Y)) ReplayRefused → Type 0
+IndexIs file spot (Ok (Some content)) = IsThere file spot.list (top 7 content.items) × ((entries : List (ℕ × ℕ)) × ShowsMessageIndex content.items spot.channel entries)
+IndexIs file spot (Ok None) = LacksIndex file spot.channel spot.list
+IndexIs file spot (Err (refusals.Fault faults)) = Unit {0}
+IndexIs file spot (Err (refusals.NotIndexed why)) = ⊥
+IndexIs file spot (Err (refusals.Flaw rule offset)) = ⊥
+IndexIs file spot (Err (refusals.Compressed offset name)) = ⊥
+IndexIs file spot (Err (refusals.Limit offset)) = (offset ≡ spot.list) × DeclaresPast (drop offset file)
+IndexIs file spot (Err refusals.Memory) = Unit {0}
+
+abbrev pub TellsIndex : {Y : Type 0} → Option (List ℕ) → ℕ → Spot → Result (Option (Vec ℕ Y)) ReplayRefused → Type 0
+TellsIndex told len spot result = (file : List ℕ) → told ≡ Some file → length file ≡ len → IndexIs file spot result
+
+-- no more is asked for than the record there has
+abbrev pub AsksRecord : ℕ → ℕ → StoreState → StoreState → Type 0
+AsksRecord len at old new = (file : List ℕ) → old.bytes ≡ Some file → length file ≡ len → new.asked ≤ old.asked + (9 + declared_length (drop at file))

@@ -1,0 +1,48 @@
+//! The front of a record that stands at an offset of a store.
+ghost use Rattle.std.specs.Prelude.{◌≤◌, length};
+ghost use Rattle.mcap_io.specs.Outside.{HasCause};
+ghost use Rattle.summary_read.specs.Steps.{Takes};
+ghost use Rattle.indexed_replay.specs.Steps.{IsInside, TellsFront};
+
+use mcap_io::{Failed, Store};
+use mcap_wire::{Head, take_head};
+
+/// Reads the first bytes of the record at that offset of a store of that length, and gives its head. None stands there
+/// where the record has fewer bytes, or isn't whole, or its opcode is 0.
+pub(crate) fn read_front<T: Store>(
+    store: &mut T,
+    len: u64,
+    at: u64,
+    out: &mut [u8],
+) -> Result<Option<Head>, Failed>
+    requires known { len ≤ (T.state store.old).known }
+    requires head { 9 ≤ length out.old }
+    ensures told { TellsFront (T.state store.old).bytes len at out.new result }
+    ensures inside { IsInside len at (length out.old) result }
+    ensures cause { HasCause (T.state store.old).faults (T.state store.new).faults result }
+    ensures takes { Takes (T.state store.old) (T.state store.new) (length out.old) }
+{
+    let size = out.len() as u64;
+    if at > len {
+        return Ok(None);
+    }
+    let rest = len - at;
+    if rest < size {
+        return Ok(None);
+    }
+    match store.read_at(at, out) {
+        Ok(()) => {}
+        Err(Failed) => return Err(Failed),
+    }
+    let head = match take_head(out, 0) {
+        Ok(head) => head,
+        Err(_) => return Ok(None),
+    };
+    if head.len > rest - 9 {
+        return Ok(None);
+    }
+    if head.len < size - 9 {
+        return Ok(None);
+    }
+    return Ok(Some(head));
+}

@@ -1,0 +1,16 @@
+//! Replay of a file by its index: only the summary, the Message Indexes of the chunks that meet a range of log times, and
+//! the messages in the range are read.
+#![tactic(auto)]
+
+mod answers;
+mod channels;
+mod chunks;
+mod entries;
+mod finishing;
+mod fronts;
+mod gathering;
+mod lists;
+mod messages;
+mod spots;
+
+pub use answers::{NotIndexed, ReplayRefused};
