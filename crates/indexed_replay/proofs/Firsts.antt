@@ -78,17 +78,17 @@ module _ (tops : List Top) (i : ℕ) (t : Top) (id : ℕ) (f : ChannelFields) (a
     first = λ k d g at_d is_d. either old k d at_d (λ e. IsChannel (top 4 e.content) e.id g → IsFirst tops (i + 1) e.id g.topic)
         (λ j there own. let first = were.first in longer tops i (i + 1) d.id g.topic (omega arith) (first j d g there own))
         (λ own.
-          let once = shows_once (top 4 (channel_text id f)) id id f g (record { kind = refl; layout = channel_shows }) own in
-          record {
-            place = i;
-            within = omega arith;
-            top = t;
-            shown = f;
-            at = at;
-            is = is;
-            first = λ n u h less at_u is_u. let covers = were.covers in let (k', d', there', same') = covers n u id h less at_u is_u in none k' d' there' same';
-            topic_is = ap (λ (h : ChannelFields). h.topic) once.1;
-          })
+        let once = shows_once (top 4 (channel_text id f)) id id f g (record { kind = refl; layout = channel_shows }) own in
+        record {
+          place = i;
+          within = omega arith;
+          top = t;
+          shown = f;
+          at = at;
+          is = is;
+          first = λ n u h less at_u is_u. let covers = were.covers in let (k', d', there', same') = covers n u id h less at_u is_u in none k' d' there' same';
+          topic_is = ap (λ (h : ChannelFields). h.topic) once.1;
+        })
         is_d;
     covers = covered old (old ++ added ∷ []) were (λ k d here. at_kept old (added ∷ []) k d here) (length old, added, at_last old added [], refl);
   })

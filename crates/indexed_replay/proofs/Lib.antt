@@ -8,3 +8,6 @@ pub mod Naming
 pub mod Gathered
 pub mod Firsts
 pub mod Ordering
+pub mod Summed
+pub mod Playing
+pub mod Ending

@@ -124,12 +124,12 @@ stays_from k (x ∷ xs) pairs = by (same_place x k) refl (stays_from k xs (skip_
     by false is skipped kept = record {
       rises = pairs_cons Before k (dedup_from same_place x xs)
           (λ n s at.
-            let next = strictly k x (pairs_at NotBehind (k ∷ (x ∷ xs)) pairs 0 1 k x (omega arith) refl refl) is in
-            let are = kept.are in
-            elim (first_or x xs s (are s (n, at))) [
-              | inl head ↦ subst (λ (z : Shown). Before k z) (sym head) next
-              | inr there ↦ still_before k x s next (pairs_at NotBehind (k ∷ (x ∷ xs)) pairs 1 (suc (suc there.0)) x s (omega arith) refl there.1)
-            ])
+          let next = strictly k x (pairs_at NotBehind (k ∷ (x ∷ xs)) pairs 0 1 k x (omega arith) refl refl) is in
+          let are = kept.are in
+          elim (first_or x xs s (are s (n, at))) [
+            | inl head ↦ subst (λ (z : Shown). Before k z) (sym head) next
+            | inr there ↦ still_before k x s next (pairs_at NotBehind (k ∷ (x ∷ xs)) pairs 1 (suc (suc there.0)) x s (omega arith) refl there.1)
+          ])
           kept.rises;
       are = λ s has. elim (first_or k (dedup_from same_place x xs) s has) [
         | inl head ↦ (0, ap Rattle.std.specs.Prelude.Some (sym head))

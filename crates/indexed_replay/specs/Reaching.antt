@@ -84,7 +84,7 @@ pub record IsPacked (file : List ℕ) (range : Range) (offset : ℕ) (name : Lis
 -- A limit is passed on the ends of the file or in its summary; or a Message Index that is named, or a record to which an
 -- entry leads, declares a content past the limit.
 pub data PassesLimit (file : List ℕ) (range : Range) : ℕ → Type 0 where
-  at_loading : (offset : ℕ) → Passes file offset → PassesLimit file range offset
+  while_loading : (offset : ℕ) → Passes file offset → PassesLimit file range offset
   at_index : (f : ChunkIndexFields) (channel offset : ℕ) → Names file range f channel offset → DeclaresPast (drop offset file) → PassesLimit file range offset
   at_message : (f : ChunkIndexFields) (channel list offset : ℕ) (entry : ℕ × ℕ) → LeadsTo file range f channel list entry → offset ≡ f.offset + 49 + entry.1 → DeclaresPast (drop offset file) → PassesLimit file range offset
 

@@ -1,7 +1,6 @@
 -- What a replay by the index comes to.
-use Rattle.std.specs.Prelude.{◌≡◌, ℕ, ◌+◌, ◌≤◌, List, Option, Some, Result, Ok, Err}
+use Rattle.std.specs.Prelude.{◌≡◌, ℕ, List, Option, Some, Result, Ok, Err}
 use Rattle.mcap_io.specs.Outside.{RisesOnce}
-use Rattle.mcap_io.specs.Stores.{StoreState}
 use Rattle.mcap_model.specs.declared.replay.Range.{Range}
 use Rattle.mcap_model.specs.declared.replay.Replayed.{Replayed}
 use Rattle.mcap_model.specs.Tops.{Top}
@@ -9,7 +8,7 @@ use Rattle.mcap_model.specs.Kept.{reading_limits, at_end, Halts}
 use Rattle.mcap_model.specs.Scan.{Seen, Scan, Replay}
 use Rattle.mcap_model.specs.Showing.{Shows}
 use Rattle.mcap_model.specs.Valid.{IsFullyIndexed}
-use Rattle.mcap_model.specs.Led.{LedReplay, AskedBound}
+use Rattle.mcap_model.specs.Led.{LedReplay}
 use Rattle.summary_read.specs.Reached.{HasNoSummary}
 use Rattle.indexed_replay.specs.declared.answers.ReplayRefused.{ReplayRefused}
 use Rattle.indexed_replay.specs.declared.answers.ReplayRefused.TheVariants as refusals
@@ -66,25 +65,14 @@ TellsNoSummary told result = (file : List ℕ) → told ≡ Some file → HasNoS
 
 -- ---- fully indexed files
 
--- the messages of the scan are replayed, unless the store failed, a limit is passed or memory lacked
 abbrev pub IsScanReplayed : Range → Option (List ℕ) → List Seen → Result Replayed ReplayRefused → Type 0
 IsScanReplayed range topic messages (Ok played) = (shown : List Seen) × Replay range topic messages shown × Shows played shown
-IsScanReplayed range topic messages (Err (refusals.Fault faults)) = Unit {0}
-IsScanReplayed range topic messages (Err (refusals.NotIndexed why)) = ⊥
-IsScanReplayed range topic messages (Err (refusals.Flaw rule offset)) = ⊥
-IsScanReplayed range topic messages (Err (refusals.Compressed offset name)) = ⊥
-IsScanReplayed range topic messages (Err (refusals.Limit offset)) = Unit {0}
-IsScanReplayed range topic messages (Err refusals.Memory) = Unit {0}
+IsScanReplayed range topic messages (Err why) = Unit {0}
 
--- a fully indexed file that is read to its Data End is replayed as its scan is
+-- what is played of a fully indexed file that is read to its Data End is the replay of its scan
 abbrev pub PlaysScan : Option (List ℕ) → Range → Option (List ℕ) → Result Replayed ReplayRefused → Type 0
 PlaysScan told range topic result = (file : List ℕ) (tops : List Top) (end : ℕ) (messages : List Seen) → told ≡ Some file → IsFullyIndexed file → Halts reading_limits file tops (at_end end) → Scan tops messages
     → IsScanReplayed range topic messages result
-
--- and of it no more is asked for
-abbrev pub AsksLed : Range → StoreState → StoreState → Type 0
-AsksLed range old new = (file : List ℕ) (tops : List Top) (end bound : ℕ) → old.bytes ≡ Some file → IsFullyIndexed file → Halts reading_limits file tops (at_end end) → AskedBound file range bound
-    → new.asked ≤ old.asked + bound
 
 -- ---- faults
 

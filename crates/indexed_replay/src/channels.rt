@@ -12,12 +12,7 @@ use summary_read::Loaded;
 const HEAD_LENGTH: usize = 9;
 
 // Takes the Channel at that place, if none of its id was taken.
-fn take_channel(
-    alloc: Global,
-    tables: &mut Tables,
-    loaded: &Loaded,
-    i: usize,
-) -> Result<(), Memory>
+fn take_channel(alloc: Global, tables: &mut Tables, loaded: &Loaded, i: usize) -> Result<(), Memory>
     requires { i < length loaded.now.channels }
     ensures { OnOk result (TakesChannel loaded.now.channels i tables.old.channels tables.new.channels) }
 {

@@ -11,6 +11,11 @@ mod fronts;
 mod gathering;
 mod lists;
 mod messages;
+mod replaying;
 mod spots;
 
 pub use answers::{NotIndexed, ReplayRefused};
+pub use replaying::replay_indexed;
+
+#[cfg(test)]
+mod tests;

@@ -12,6 +12,7 @@ pub(crate) struct Spot {
 
 /// What is asked for of a store of that length: a range of log times, and a topic, if one is given. The tables have the
 /// first Channel of each id of the summary.
+#[derive(Drop)]
 pub(crate) struct Request<'a> {
     pub len: u64,
     pub range: Range,

@@ -9,5 +9,5 @@ invariant-names g l = record {
   stays : Stays (g.T.Store.state l.fn.store) (g.T.Store.state l.store);
   still : (g.T.Store.state l.store).faults ≡ (g.T.Store.state l.fn.store).faults;
   shows : (file : List ℕ) → (g.T.Store.state l.fn.store).bytes ≡ Some file → length file ≡ l.request.len → Knows file l.request.tables.now.channels → Adds (IsLedAmong file l.request l.index.chunk_start_offset (take l.i l.index.message_index_offsets)) l.fn.shown.items l.shown.items;
-  asks : (file : List ℕ) (costs : List ℕ) → (g.T.Store.state l.fn.store).bytes ≡ Some file → length file ≡ l.request.len → NamesCost file l.request.range l.index.chunk_start_offset (take l.i l.index.message_index_offsets) costs → (g.T.Store.state l.store).asked ≤ (g.T.Store.state l.fn.store).asked + sum costs
+  asks : (file : List ℕ) (costs : List ℕ) → (g.T.Store.state l.fn.store).bytes ≡ Some file → length file ≡ l.request.len → NamesCost file l.request.range l.index.chunk_start_offset (take l.i l.index.message_index_offsets) costs → (g.T.Store.state l.store).asked ≤ (g.T.Store.state l.fn.store).asked + sum costs;
 }

@@ -7,5 +7,5 @@ invariant-entries g l = record {
   stays : Stays (g.T.Store.state l.fn.store) (g.T.Store.state l.store);
   still : (g.T.Store.state l.store).faults ≡ (g.T.Store.state l.fn.store).faults;
   shows : (file : List ℕ) → (g.T.Store.state l.fn.store).bytes ≡ Some file → length file ≡ l.len → Adds (IsListed file l.range l.spot (take l.i l.entries)) l.fn.shown.items l.shown.items;
-  asks : (file : List ℕ) → (g.T.Store.state l.fn.store).bytes ≡ Some file → length file ≡ l.len → (g.T.Store.state l.store).asked ≤ (g.T.Store.state l.fn.store).asked + entries_cost file l.range l.spot.chunk (take l.i l.entries)
+  asks : (file : List ℕ) → (g.T.Store.state l.fn.store).bytes ≡ Some file → length file ≡ l.len → (g.T.Store.state l.store).asked ≤ (g.T.Store.state l.fn.store).asked + entries_cost file l.range l.spot.chunk (take l.i l.entries);
 }

@@ -10,5 +10,5 @@ invariant-chunks g l = record {
   stays : Stays (g.T.Store.state l.fn.store) (g.T.Store.state l.store);
   still : (g.T.Store.state l.store).faults ≡ (g.T.Store.state l.fn.store).faults;
   shows : (file : List ℕ) → (g.T.Store.state l.fn.store).bytes ≡ Some file → length file ≡ l.request.len → Knows file l.request.tables.now.channels → Adds (IsLedFrom file l.request (take l.i l.loaded.chunk_indexes)) l.fn.shown.items l.shown.items;
-  asks : (file : List ℕ) (costs : List ℕ) → (g.T.Store.state l.fn.store).bytes ≡ Some file → length file ≡ l.request.len → AllZip (CostsUpTo file l.request.range) (take l.i l.loaded.chunk_indexes) costs → (g.T.Store.state l.store).asked ≤ (g.T.Store.state l.fn.store).asked + sum costs
+  asks : (file : List ℕ) (costs : List ℕ) → (g.T.Store.state l.fn.store).bytes ≡ Some file → length file ≡ l.request.len → AllZip (CostsUpTo file l.request.range) (take l.i l.loaded.chunk_indexes) costs → (g.T.Store.state l.store).asked ≤ (g.T.Store.state l.fn.store).asked + sum costs;
 }

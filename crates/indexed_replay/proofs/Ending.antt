@@ -1,0 +1,108 @@
+-- What a replay comes to by its steps.
+use Rattle.std.proofs.Common.{◌≡◌, ℕ, zero, suc, ◌+◌, ◌-◌, ◌^◌, ◌≤◌, Option, Some, None, Result, Ok, Err, List, [], ◌∷◌, ◌++◌, length, drop, refl, sym, ap, subst, inl, inr, ◌⊎◌, ◌∙◌, sum, arith}
+use Rattle.std.specs.Prelude.{◌≢◌, filter, ◌==◌, slice_get}
+use Rattle.std.proofs.lemmas.Bool.{eq-eqb}
+use Rattle.std.proofs.lemmas.List.{length-append, length-drop, length-take-le, drop_at}
+use Rattle.mcap_wire.specs.Layout.{magic, part}
+use Rattle.mcap_wire.proofs.Framing.{records_apart}
+use Rattle.rec_data.specs.Fields.{FooterFields}
+use Rattle.rec_data.specs.Records.{ShowsFooter}
+use Rattle.rec_data.proofs.Contents.{footer_decided}
+use Rattle.mcap_model.specs.declared.replay.Range.{Range}
+use Rattle.mcap_model.specs.declared.replay.Replayed.{Replayed}
+use Rattle.mcap_model.specs.Places.{At, Has, Each}
+use Rattle.mcap_model.specs.Tops.{Top, top_bytes, spelled, declared_length}
+use Rattle.mcap_model.specs.Kept.{reading_limits, at_end, Halts}
+use Rattle.mcap_model.specs.Scan.{Seen, Scan}
+use Rattle.mcap_model.specs.Valid.{IsFullyIndexed}
+use Rattle.mcap_model.specs.Led.{HasSummary, IsThere}
+use Rattle.mcap_model.proofs.Places.{at_none}
+use Rattle.mcap_model.proofs.Lists.{filter_has}
+use Rattle.mcap_model.proofs.Readings.{length-top}
+use Rattle.mcap_model.proofs.Leading.{led_replays_are_scans}
+use Rattle.summary_read.specs.declared.refusals.LoadRefused.{LoadRefused}
+use Rattle.summary_read.specs.declared.refusals.LoadRefused.TheVariants as load_refusals
+use Rattle.summary_read.specs.Reached.{StartsAt}
+use Rattle.summary_read.specs.Parts.{Parts, IsLoaded, of_kind}
+use Rattle.summary_read.specs.Loading.{IsRefused, AskedFor}
+use Rattle.indexed_replay.specs.declared.answers.NotIndexed.{NotIndexed}
+use Rattle.indexed_replay.specs.declared.answers.NotIndexed.TheVariants as lacks
+use Rattle.indexed_replay.specs.declared.answers.ReplayRefused.{ReplayRefused}
+use Rattle.indexed_replay.specs.Reaching.{IsNotIndexed, at_loading, while_loading}
+use Rattle.indexed_replay.specs.Replaying.{IsReason, FileIsLed, IsScanReplayed}
+use Rattle.indexed_replay.specs.Played.{CountsJudged, refused_by}
+use Rattle.indexed_replay.proofs.Headed.{there_begun}
+use Rattle.indexed_replay.proofs.Summed.{footer_size, loaded_summary}
+
+-- ---- refusals
+
+pub load_reason : (file : List ℕ) (range : Range) (why : LoadRefused) → IsRefused file why → IsReason file range (refused_by why)
+load_reason file range (load_refusals.Fault faults) is = tt
+load_reason file range load_refusals.NoSummary is = is
+load_reason file range (load_refusals.Grammar offset rule) is = at_loading rule offset is.0
+load_reason file range (load_refusals.Limit offset) is = while_loading offset is.0
+load_reason file range load_refusals.Memory is = tt
+
+none_first : (xs : List Top) → slice_get (of_kind 11 xs) 0 ≡ None → Each (λ t. t.op ≢ 11) xs
+none_first xs none n t at = λ kind. by (of_kind 11 xs) none (filter_has (λ (u : Top). u.op == 11) xs n t at (eq-eqb t.op 11 kind))
+  where
+    by : (l : List Top) → slice_get l 0 ≡ None → Has l t → ⊥
+    by [] is has = at_none has.0 t has.1
+    by (x ∷ l) is has = cc
+
+pub counts_reason : (file : List ℕ) (range : Range) (p : Parts) (why : NotIndexed) → IsLoaded file p → CountsJudged p (Err why) → IsNotIndexed file range why
+counts_reason file range p lacks.NoSummary l judged = absurd judged
+counts_reason file range p lacks.NoStatistics l judged = let listed = l.listed in ((p.footer).summary_start, l.tops, loaded_summary file p l, none_first l.tops (sym listed.statistics ∙ judged))
+counts_reason file range p (lacks.ChunkCount stated found) l judged =
+    let listed = l.listed in
+    record {
+      start = (p.footer).summary_start;
+      summary = l.tops;
+      has = loaded_summary file p l;
+      statistics = judged.statistics;
+      first = sym listed.statistics ∙ judged.first;
+      shown = judged.shown;
+      is = judged.is;
+      stated_is = judged.stated_is;
+      found_is = judged.found_is ∙ ap length listed.chunk_indexes;
+      differ = judged.differ;
+    }
+counts_reason file range p (lacks.NoMessageIndex chunk) l judged = absurd judged
+counts_reason file range p (lacks.NoChannel id) l judged = absurd judged
+
+-- ---- fully indexed files
+
+pub scan_replayed : (file : List ℕ) (tops : List Top) (end : ℕ) (messages : List Seen) (range : Range) (topic : Option (List ℕ)) (result : Result Replayed ReplayRefused) → IsFullyIndexed file → Halts reading_limits file tops (at_end end) → Scan tops messages
+    → FileIsLed file range topic result → IsScanReplayed range topic messages result
+scan_replayed file tops end messages range topic (Ok played) full halts scan led = (led.shown, (led_replays_are_scans file tops end messages range full halts scan topic led.shown).0 led.replay, led.shows)
+scan_replayed file tops end messages range topic (Err why) full halts scan led = tt
+
+-- ---- what is asked for
+
+start_once : (file : List ℕ) (start other : ℕ) (summary : List Top) → HasSummary file start summary → StartsAt file other → (other ≡ start) × (start + 37 ≤ length file)
+start_once file start other summary has starts =
+    let foot = has.footer in
+    let f = starts.footer in
+    let ends = starts.ends in
+    let size = footer_size foot start has.offsets has.crc has.is in
+    let other_size = footer_size ends.top f.summary_start f.summary_offset_start f.summary_crc ends.is in
+    let foot_size : length (top_bytes ends.top) ≡ 29 = omega (arith, length-top ends.top, other_size) in
+    let last : drop (length file - 37) file ≡ top_bytes ends.top ++ ends.last = ap (drop (length file - 37)) ends.split ∙ drop_at ends.before (top_bytes ends.top ++ ends.last) (length file - 37) (omega (arith, ap length ends.split, length-append ends.before (top_bytes ends.top ++ ends.last), length-append (top_bytes ends.top) ends.last, foot_size, ends.size)) in
+    let parts = records_apart (ends.top).op foot.op (ends.top).content foot.content ends.last magic (omega (arith, other_size)) (omega (arith, size)) (sym last ∙ has.last) in
+    let first : FooterFields = record { summary_start = f.summary_start; summary_offset_start = f.summary_offset_start; summary_crc = f.summary_crc } in
+    let second : FooterFields = record { summary_start = start; summary_offset_start = has.offsets; summary_crc = has.crc } in
+    let is = ends.is in
+    let own = has.is in
+    let same = footer_decided foot.content first second (subst (λ (l : List ℕ). ShowsFooter l first) parts.1 is.layout) own.layout in
+    let starts_same : f.summary_start ≡ start = ap (λ (g : FooterFields). g.summary_start) same in
+    let named = starts.named in
+    let before = starts.before in
+    (omega (arith, named, starts_same), omega (arith, named, starts_same, before))
+
+pub asked_loaded : (file : List ℕ) (start : ℕ) (summary : List Top) (header : Top) (before mid now extra : ℕ) → HasSummary file start summary → IsThere file 8 header → AskedFor file before mid → now ≤ mid + extra → now ≤ before + (8 + length (top_bytes header) + 37 + length (spelled summary) + extra)
+asked_loaded file start summary header before mid now extra has there (inl few) more = omega (arith, few, more)
+asked_loaded file start summary header before mid now extra has there (inr (other, starts, few)) more =
+    let once = start_once file start other summary has starts in
+    let begun = there_begun file 8 header there in
+    let part_size : length (part start (length file - 37) file) ≡ length file - 37 - start = length-take-le (length file - 37 - start) (drop start file) (omega (arith, length-drop start file)) in
+    omega (arith, once.0, once.1, begun.1, length-top header, part_size, ap length has.records, few, more)

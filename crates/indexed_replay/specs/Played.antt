@@ -1,0 +1,64 @@
+-- What the steps of a replay come to, from the summary on.
+use Rattle.std.specs.Prelude.{◌≡◌, ◌≢◌, ℕ, ◌+◌, ◌≤◌, List, length, sum, Option, Some, None, Result, Ok, Err}
+use Rattle.std.specs.List.{AllZip}
+use Rattle.mcap_io.specs.Stores.{StoreState}
+use Rattle.mcap_model.specs.declared.replay.Range.{Range}
+use Rattle.mcap_model.specs.declared.replay.Replayed.{Replayed}
+use Rattle.mcap_model.specs.Tops.{Top, top_bytes, spelled}
+use Rattle.mcap_model.specs.Fields.{StatisticsFields, IsStatistics}
+use Rattle.mcap_model.specs.Led.{HasSummary, IsThere}
+use Rattle.summary_read.specs.Parts.{Parts, IsLoaded, of_kind}
+use Rattle.summary_read.specs.declared.refusals.LoadRefused.{LoadRefused}
+use Rattle.summary_read.specs.declared.refusals.LoadRefused.TheVariants as load_refusals
+use Rattle.indexed_replay.specs.declared.answers.NotIndexed.{NotIndexed}
+use Rattle.indexed_replay.specs.declared.answers.NotIndexed.TheVariants as lacks
+use Rattle.indexed_replay.specs.declared.answers.ReplayRefused.{ReplayRefused}
+use Rattle.indexed_replay.specs.declared.answers.ReplayRefused.TheVariants as refusals
+use Rattle.indexed_replay.specs.Replaying.{FileIsLed}
+use Rattle.indexed_replay.specs.Gathering.{CostsUpTo}
+
+-- ---- counts
+
+-- the Statistics states another number of chunks than there are Chunk Indexes
+pub record PartsDiffer (parts : Parts) (stated found : ℕ) : Type 0 where
+  pub statistics : Top
+  pub first : parts.statistics ≡ Some statistics
+  pub shown : StatisticsFields
+  pub is : IsStatistics statistics shown
+  pub stated_is : stated ≡ shown.chunks
+  pub found_is : found ≡ length parts.chunk_indexes
+  pub differ : stated ≢ found
+
+abbrev pub CountsJudged : Parts → Result Unit NotIndexed → Type 0
+CountsJudged parts (Ok it) = Unit {0}
+CountsJudged parts (Err lacks.NoSummary) = ⊥
+CountsJudged parts (Err lacks.NoStatistics) = parts.statistics ≡ None
+CountsJudged parts (Err (lacks.ChunkCount stated found)) = PartsDiffer parts stated found
+CountsJudged parts (Err (lacks.NoMessageIndex chunk)) = ⊥
+CountsJudged parts (Err (lacks.NoChannel id)) = ⊥
+
+-- ---- loading
+
+abbrev pub refused_by : LoadRefused → ReplayRefused
+refused_by (load_refusals.Fault faults) = refusals.Fault faults
+refused_by load_refusals.NoSummary = refusals.NotIndexed lacks.NoSummary
+refused_by (load_refusals.Grammar offset rule) = refusals.Flaw rule offset
+refused_by (load_refusals.Limit offset) = refusals.Limit offset
+refused_by load_refusals.Memory = refusals.Memory
+
+-- ---- what was loaded
+
+-- a file of these parts is played
+abbrev pub PlaysLoaded : Option (List ℕ) → Parts → Range → Option (List ℕ) → Result Replayed ReplayRefused → Type 0
+PlaysLoaded told parts range topic result = (file : List ℕ) → told ≡ Some file → IsLoaded file parts → FileIsLed file range topic result
+
+abbrev pub AsksLoaded : Parts → Range → StoreState → StoreState → Type 0
+AsksLoaded parts range old new = (file : List ℕ) (costs : List ℕ) → old.bytes ≡ Some file → AllZip (CostsUpTo file range) parts.chunk_indexes costs → new.asked ≤ old.asked + sum costs
+
+-- ---- what is asked for
+
+-- Where these are the records of the summary and the Header, and these the costs of the chunks whose times meet the range,
+-- no more is asked for than these, the magic and the Footer with the last magic.
+abbrev pub AsksIndexed : Range → StoreState → StoreState → Type 0
+AsksIndexed range old new = (file : List ℕ) (start : ℕ) (summary : List Top) (header : Top) (costs : List ℕ) → old.bytes ≡ Some file → HasSummary file start summary → IsThere file 8 header → AllZip (CostsUpTo file range) (of_kind 8 summary) costs
+    → new.asked ≤ old.asked + (8 + length (top_bytes header) + 37 + length (spelled summary) + sum costs)

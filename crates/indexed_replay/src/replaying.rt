@@ -1,0 +1,121 @@
+//! The replay of a store by the index of its file.
+ghost use Rattle.std.specs.Prelude.{◌≡◌};
+ghost use Rattle.summary_read.specs.Loading.{Leaves};
+ghost use Rattle.mcap_model.specs.Plain.{asked_topic};
+ghost use Rattle.indexed_replay.specs.Played.{AsksIndexed, AsksLoaded, CountsJudged, PlaysLoaded, refused_by};
+ghost use Rattle.indexed_replay.specs.Replaying.{Plays, PlaysScan, ReplayCause, TellsNoSummary};
+
+use crate::answers::{NotIndexed, ReplayRefused};
+use crate::channels::take_channels;
+use crate::finishing::finish;
+use crate::gathering::gather;
+use crate::spots::Request;
+use mcap_io::{Failed, Store};
+use mcap_model::{Range, Replayed, topics_of};
+use mcap_wire::{Memory, Text};
+use std::alloc::Global;
+use summary_read::{LoadRefused, Loaded, load};
+
+// Whether the summary has a Statistics that states as many chunks as there are Chunk Indexes.
+fn judge_counts(loaded: &Loaded) -> Result<(), NotIndexed>
+    ensures { CountsJudged loaded.now result }
+{
+    let statistics = match loaded.statistics() {
+        Some(statistics) => statistics,
+        None => return Err(NotIndexed::NoStatistics),
+    };
+    let found = loaded.chunk_indexes() as u64;
+    if statistics.chunk_count as u64 != found {
+        return Err(NotIndexed::ChunkCount {
+            stated: statistics.chunk_count,
+            found,
+        });
+    }
+    return Ok(());
+}
+
+// The refusal of a replay where loading is refused.
+fn refuse_load(why: LoadRefused) -> ReplayRefused
+    ensures { result ≡ refused_by why }
+{
+    match why {
+        LoadRefused::Fault { faults } => return ReplayRefused::Fault { faults },
+        LoadRefused::NoSummary => return ReplayRefused::NotIndexed {
+            why: NotIndexed::NoSummary,
+        },
+        LoadRefused::Grammar { offset, rule } => return ReplayRefused::Flaw { rule, offset },
+        LoadRefused::Limit { offset } => return ReplayRefused::Limit { offset },
+        LoadRefused::Memory => return ReplayRefused::Memory,
+    }
+}
+
+// The messages to which the summary leads that was loaded, in their order, with the topics of their channels.
+fn play<T: Store>(
+    alloc: Global,
+    store: &mut T,
+    loaded: &Loaded,
+    range: Range,
+    topic: Option<&Text>,
+) -> Result<Replayed, ReplayRefused>
+    ensures plays { PlaysLoaded (T.state store.old).bytes loaded.now range (asked_topic topic.entry) result }
+    ensures cause { ReplayCause (T.state store.old).faults (T.state store.new).faults result }
+    ensures leaves { Leaves (T.state store.old) (T.state store.new) }
+    ensures asks { AsksLoaded loaded.now range (T.state store.old) (T.state store.new) }
+{
+    let len = match store.len() {
+        Ok(len) => len,
+        Err(Failed) => {
+            return Err(ReplayRefused::Fault {
+                faults: store.faults(),
+            });
+        }
+    };
+    let tables = match take_channels(alloc, loaded) {
+        Ok(tables) => tables,
+        Err(Memory) => return Err(ReplayRefused::Memory),
+    };
+    let request = Request {
+        len,
+        range,
+        tables: &tables,
+        topic,
+    };
+    let mut shown = Vec::new(alloc);
+    match gather(alloc, store, &request, loaded, &mut shown) {
+        Ok(()) => {}
+        Err(why) => return Err(why),
+    }
+    finish(&mut shown);
+    match topics_of(alloc, &tables, &shown) {
+        Ok(topics) => return Ok(Replayed { topics, shown }),
+        Err(Memory) => return Err(ReplayRefused::Memory),
+    }
+}
+
+/// The messages of the range, and of the topic if one is given, to which the indexes of the file lead that the store
+/// holds, in the order of log time and place (MCAP specification, "Summary Section"). Of the file only the ends, the
+/// summary, and of each chunk that meets the range the front, the Message Indexes and the messages in the range are asked
+/// for.
+pub fn replay_indexed<T: Store>(
+    alloc: Global,
+    store: &mut T,
+    range: Range,
+    topic: Option<&Text>,
+) -> Result<Replayed, ReplayRefused>
+    ensures plays { Plays (T.state store.old).bytes range (asked_topic topic.entry) result }
+    ensures unsummed { TellsNoSummary (T.state store.old).bytes result }
+    ensures scanned { PlaysScan (T.state store.old).bytes range (asked_topic topic.entry) result }
+    ensures asks { AsksIndexed range (T.state store.old) (T.state store.new) }
+    ensures cause { ReplayCause (T.state store.old).faults (T.state store.new).faults result }
+    ensures leaves { Leaves (T.state store.old) (T.state store.new) }
+{
+    let loaded = match load(alloc, store) {
+        Ok(loaded) => loaded,
+        Err(why) => return Err(refuse_load(why)),
+    };
+    match judge_counts(&loaded) {
+        Ok(()) => {}
+        Err(why) => return Err(ReplayRefused::NotIndexed { why }),
+    }
+    return play(alloc, store, &loaded, range, topic);
+}
