@@ -29,8 +29,8 @@ use Rattle.indexed_replay.specs.declared.answers.NotIndexed.{NotIndexed}
 use Rattle.indexed_replay.specs.declared.answers.NotIndexed.TheVariants as lacks
 use Rattle.indexed_replay.specs.declared.answers.ReplayRefused.{ReplayRefused}
 use Rattle.indexed_replay.specs.Reaching.{IsNotIndexed, at_loading, while_loading}
-use Rattle.indexed_replay.specs.Replaying.{IsReason, FileIsLed, IsScanReplayed}
-use Rattle.indexed_replay.specs.Played.{CountsJudged, refused_by}
+use Rattle.indexed_replay.specs.Replaying.{IsReason, FileIsLed, IsScanReplayed, PlaysAll}
+use Rattle.indexed_replay.specs.Played.{PartsAgree, CountsJudged, refused_by}
 use Rattle.indexed_replay.proofs.Headed.{there_begun}
 use Rattle.indexed_replay.proofs.Summed.{footer_size, loaded_summary}
 
@@ -106,3 +106,20 @@ asked_loaded file start summary header before mid now extra has there (inr (othe
     let begun = there_begun file 8 header there in
     let part_size : length (part start (length file - 37) file) ≡ length file - 37 - start = length-take-le (length file - 37 - start) (drop start file) (omega (arith, length-drop start file)) in
     omega (arith, once.0, once.1, begun.1, length-top header, part_size, ap length has.records, few, more)
+
+-- ---- how many chunks are stated
+
+pub counts_agree : (file : List ℕ) (p : Parts) (result : Result Replayed ReplayRefused) → IsLoaded file p → PartsAgree p → PlaysAll file result
+counts_agree file p (Ok played) l agrees =
+    let listed = l.listed in
+    record {
+      start = (p.footer).summary_start;
+      summary = l.tops;
+      has = loaded_summary file p l;
+      statistics = agrees.statistics;
+      first = sym listed.statistics ∙ agrees.first;
+      shown = agrees.shown;
+      is = agrees.is;
+      agree = agrees.agree ∙ ap length listed.chunk_indexes;
+    }
+counts_agree file p (Err why) l agrees = tt

@@ -29,8 +29,16 @@ pub record PartsDiffer (parts : Parts) (stated found : ℕ) : Type 0 where
   pub found_is : found ≡ length parts.chunk_indexes
   pub differ : stated ≢ found
 
+-- it states as many
+pub record PartsAgree (parts : Parts) : Type 0 where
+  pub statistics : Top
+  pub first : parts.statistics ≡ Some statistics
+  pub shown : StatisticsFields
+  pub is : IsStatistics statistics shown
+  pub agree : shown.chunks ≡ length parts.chunk_indexes
+
 abbrev pub CountsJudged : Parts → Result Unit NotIndexed → Type 0
-CountsJudged parts (Ok it) = Unit {0}
+CountsJudged parts (Ok it) = PartsAgree parts
 CountsJudged parts (Err lacks.NoSummary) = ⊥
 CountsJudged parts (Err lacks.NoStatistics) = parts.statistics ≡ None
 CountsJudged parts (Err (lacks.ChunkCount stated found)) = PartsDiffer parts stated found

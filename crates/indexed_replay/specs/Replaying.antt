@@ -1,15 +1,17 @@
 -- What a replay by the index comes to.
-use Rattle.std.specs.Prelude.{◌≡◌, ℕ, List, Option, Some, Result, Ok, Err}
+use Rattle.std.specs.Prelude.{◌≡◌, ℕ, List, length, Option, Some, Result, Ok, Err}
 use Rattle.mcap_io.specs.Outside.{RisesOnce}
 use Rattle.mcap_model.specs.declared.replay.Range.{Range}
 use Rattle.mcap_model.specs.declared.replay.Replayed.{Replayed}
 use Rattle.mcap_model.specs.Tops.{Top}
+use Rattle.mcap_model.specs.Fields.{StatisticsFields, IsStatistics}
 use Rattle.mcap_model.specs.Kept.{reading_limits, at_end, Halts}
 use Rattle.mcap_model.specs.Scan.{Seen, Scan, Replay}
 use Rattle.mcap_model.specs.Showing.{Shows}
 use Rattle.mcap_model.specs.Valid.{IsFullyIndexed}
-use Rattle.mcap_model.specs.Led.{LedReplay}
+use Rattle.mcap_model.specs.Led.{HasSummary, LedReplay}
 use Rattle.summary_read.specs.Reached.{HasNoSummary}
+use Rattle.summary_read.specs.Parts.{of_kind, first_of_kind}
 use Rattle.indexed_replay.specs.declared.answers.ReplayRefused.{ReplayRefused}
 use Rattle.indexed_replay.specs.declared.answers.ReplayRefused.TheVariants as refusals
 use Rattle.indexed_replay.specs.declared.answers.NotIndexed.{NotIndexed}
@@ -40,6 +42,27 @@ FileIsLed file range topic (Err why) = IsReason file range why
 -- where the store tells its bytes, these are the file
 abbrev pub Plays : Option (List ℕ) → Range → Option (List ℕ) → Result Replayed ReplayRefused → Type 0
 Plays told range topic result = (file : List ℕ) → told ≡ Some file → FileIsLed file range topic result
+
+-- ---- what is played
+
+-- the first Statistics of the summary states as many chunks as there are Chunk Indexes
+pub record StatesChunks (file : List ℕ) : Type 0 where
+  pub start : ℕ
+  pub summary : List Top
+  pub has : HasSummary file start summary
+  pub statistics : Top
+  pub first : first_of_kind 11 summary ≡ Some statistics
+  pub shown : StatisticsFields
+  pub is : IsStatistics statistics shown
+  pub agree : shown.chunks ≡ length (of_kind 8 summary)
+
+abbrev pub PlaysAll : List ℕ → Result Replayed ReplayRefused → Type 0
+PlaysAll file (Ok played) = StatesChunks file
+PlaysAll file (Err why) = Unit {0}
+
+-- no file is played whose summary lacks the index of a chunk
+abbrev pub TellsChunks : Option (List ℕ) → Result Replayed ReplayRefused → Type 0
+TellsChunks told result = (file : List ℕ) → told ≡ Some file → PlaysAll file result
 
 -- ---- files without a summary
 

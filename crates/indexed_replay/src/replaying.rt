@@ -3,7 +3,7 @@ ghost use Rattle.std.specs.Prelude.{◌≡◌};
 ghost use Rattle.summary_read.specs.Loading.{Leaves};
 ghost use Rattle.mcap_model.specs.Plain.{asked_topic};
 ghost use Rattle.indexed_replay.specs.Played.{AsksIndexed, AsksLoaded, CountsJudged, PlaysLoaded, refused_by};
-ghost use Rattle.indexed_replay.specs.Replaying.{Plays, PlaysScan, ReplayCause, TellsNoSummary};
+ghost use Rattle.indexed_replay.specs.Replaying.{Plays, PlaysScan, ReplayCause, TellsChunks, TellsNoSummary};
 
 use crate::answers::{NotIndexed, ReplayRefused};
 use crate::channels::take_channels;
@@ -103,6 +103,7 @@ pub fn replay_indexed<T: Store>(
     topic: Option<&Text>,
 ) -> Result<Replayed, ReplayRefused>
     ensures plays { Plays (T.state store.old).bytes range (asked_topic topic.entry) result }
+    ensures counted { TellsChunks (T.state store.old).bytes result }
     ensures unsummed { TellsNoSummary (T.state store.old).bytes result }
     ensures scanned { PlaysScan (T.state store.old).bytes range (asked_topic topic.entry) result }
     ensures asks { AsksIndexed range (T.state store.old) (T.state store.new) }

@@ -7,7 +7,7 @@ use Rattle.indexed_replay.specs.Replaying.{IsReason}
 use Rattle.indexed_replay.specs.Gathering.{CostsUpTo}
 use Rattle.summary_read.specs.Parts.{of_kind}
 use Rattle.indexed_replay.proofs.Summed.{loaded_summary, summary_once}
-use Rattle.indexed_replay.proofs.Ending.{load_reason, counts_reason, scan_replayed, asked_loaded}
+use Rattle.indexed_replay.proofs.Ending.{load_reason, counts_reason, counts_agree, scan_replayed, asked_loaded}
 use Rattle.indexed_replay.proofs.replaying.replay_indexed.Goals as goal
 
 pub returns-in-Err-clause-plays : goal.returns-in-Err-clause-plays
@@ -35,3 +35,6 @@ returns-clause-asks g c = λ file start summary header costs told has there are.
     let same = summary_once file start ((c.in-Ok.loaded).footer).summary_start summary loaded.tops has (loaded_summary file c.in-Ok.loaded loaded) in
     let zip = subst (λ (l : List Top). AllZip (CostsUpTo file c.args.range) l costs) (sym listed.chunk_indexes) (subst (λ (l : List Top). AllZip (CostsUpTo file c.args.range) (of_kind 8 l) costs) same are) in
     asked_loaded file start summary header (g.T.Store.state c.args.store.now).asked (g.T.Store.state c.load.new.store).asked (g.T.Store.state c.play.new.store).asked (sum costs) has there (c.in-Ok.ensures.asks file told) (c.play.ensures.asks file costs (c.in-Ok.ensures.leaves.bytes ∙ told) zip)
+
+pub returns-clause-counted : goal.returns-clause-counted
+returns-clause-counted g c = λ file told. counts_agree file c.in-Ok.loaded c.play.result (c.in-Ok.ensures.loads file told).0 c.in-Ok-judge_counts.ensures
