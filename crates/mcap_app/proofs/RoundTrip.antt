@@ -1,7 +1,6 @@
 -- What is recorded is printed.
 use Rattle.std.proofs.Common.{◌≡◌, ◌⊎◌, ℕ, ◌+◌, ◌-◌, ◌^◌, ◌<◌, ◌≤◌, Bool, true, false, if◌then◌else◌, List, [], ◌∷◌, filter, Option, Some, None, refl, sym, ap, subst, inl, inr, ◌∙◌, arith}
 use Rattle.std.specs.List.{AllZip}
-use Rattle.std.proofs.lemmas.Str.{IsUtf8-nil}
 use Rattle.rec_data.specs.declared.owned.Rec.{Rec}
 use Rattle.mcap_io.specs.Outside.{Rose, added, Names, SourceState, WorldState, Told, Opening}
 use Rattle.mcap_model.specs.declared.ends.End.TheVariants as ends
@@ -16,13 +15,15 @@ use Rattle.mcap_model.proofs.Halting.{readings_halt_once}
 use Rattle.recorder.specs.declared.report.Report.{Report}
 use Rattle.recorder.specs.Laws.{AreReadable, ReadsAs}
 use Rattle.recorder.proofs.ReadBack.{recordings_are_read_back}
-use Rattle.mcap_app.specs.declared.cat.Reading.{Reading}
-use Rattle.mcap_app.specs.declared.cat.Reading.TheVariants as readings
-use Rattle.mcap_app.specs.Ran.{Scene, counts_in, AnyRose, CountsKept, world_faults}
-use Rattle.mcap_app.specs.Record.{options_of, Reported, EndsWith, Records}
-use Rattle.mcap_app.specs.Printing.{TellsAll}
-use Rattle.mcap_app.specs.Cat.{all_times, ComesTo, IsReading, IsPrinted, Cats}
-use Rattle.mcap_app.specs.Laws.{IsAllowed, PrintsHistory, RecordingsArePrinted}
+use Rattle.cat_command.specs.declared.cat.Reading.{Reading}
+use Rattle.cat_command.specs.declared.cat.Reading.TheVariants as readings
+use Rattle.command_base.specs.Ran.{Scene, counts_in, AnyRose, CountsKept, world_faults}
+use Rattle.record_command.specs.Record.{Reported, EndsWith, Records}
+use Rattle.mcap_scan.specs.declared.answers.ScanRefused.TheVariants as refusals
+use Rattle.command_base.specs.OneFile.{was_read}
+use Rattle.command_base.specs.Printing.{TellsAll}
+use Rattle.cat_command.specs.Cat.{ComesTo, IsReading, IsPrinted, ending_of}
+use Rattle.mcap_app.specs.Laws.{everything, PrintsHistory, RecordingsArePrinted}
 
 -- ---- the recording
 
@@ -39,24 +40,37 @@ kept_well before now false false is quiet = absurd (quiet (omega (arith, is)))
 -- ---- the printing
 
 -- lines that were read of a file in which a history stands are those of its messages
-lines_of : (file : List ℕ) (history : List Rec) (before now : SourceState) (text : List ℕ) → before.left ≡ Some file → IsPrinted before now text → (reads : ReadsAs file history)
-    → (messages : List Seen) × (shown : List Seen) × AllZip HoldsSeen (filter is_message history) messages × Replay all_times None messages shown × (text ≡ cat_text shown) × Scan reads.tops messages
+lines_of : (file : List ℕ) (history : List Rec) (before now : SourceState) (text : List ℕ) → before.left ≡ Some file → IsPrinted everything before now text → (reads : ReadsAs file history)
+    → (messages : List Seen) × (shown : List Seen) × AllZip HoldsSeen (filter is_message history) messages × Replay everything.range everything.topic messages shown × (text ≡ cat_text shown) × Scan reads.tops messages
 lines_of file history before now text here printed reads =
     let same : printed.tops ≡ reads.tops = (readings_halt_once file printed.tops reads.tops (at_end printed.end) (at_end reads.end) (printed.halts.halts file here) reads.halts).0 in
     let scan : Scan reads.tops printed.messages = subst (λ (ts : List Top). Scan ts printed.messages) same printed.scan in
     (printed.messages, printed.shown, reads.messages_are printed.messages scan, printed.replay, printed.text_is, scan)
 
+-- what was read has lines
+read_lines : (name : List ℕ) (reading : Reading) (text : List ℕ) → ending_of name reading ≡ was_read text → reading ≡ readings.Lines text
+read_lines name readings.Unopened text e = absurd cc
+read_lines name (readings.Lines other) text e = ap readings.Lines (same other text e)
+  where
+    same : (a b : List ℕ) → was_read a ≡ was_read b → a ≡ b
+    same a b e = cc
+read_lines name (readings.Refused (refusals.Fault faults)) text e = absurd cc
+read_lines name (readings.Refused (refusals.Grammar n rule)) text e = absurd cc
+read_lines name (readings.Refused (refusals.Compressed n compression)) text e = absurd cc
+read_lines name (readings.Refused (refusals.Limit n)) text e = absurd cc
+read_lines name (readings.Refused refusals.Memory) text e = absurd cc
+
 -- what a reading that gave lines was of
-read_of : (name file : List ℕ) (world : WorldState) (told : Told) (entries : List Opening) (reading : Reading) (text : List ℕ) → world.told ≡ Some told → told.names name ≡ Some file → IsReading name world entries reading → reading ≡ readings.Lines text
-    → (before : SourceState) × (now : SourceState) × (before.left ≡ Some file) × IsPrinted before now text
+read_of : (name file : List ℕ) (world : WorldState) (told : Told) (entries : List Opening) (reading : Reading) (text : List ℕ) → world.told ≡ Some told → told.names name ≡ Some file → IsReading everything name world entries reading → reading ≡ readings.Lines text
+    → (before : SourceState) × (now : SourceState) × (before.left ≡ Some file) × IsPrinted everything before now text
 read_of name file world told [] reading text here there is lines = absurd (let apart = sym lines ∙ is in cc)
 read_of name file world told (entry ∷ more) reading text here there (inl refused) lines = absurd (let apart = sym lines ∙ refused.1 in cc)
 read_of name file world told (entry ∷ more) reading text here there (inr (keeping, is, under)) lines =
     let now : SourceState = record { left = keeping.left; faults = keeping.faults } in
-    (under.source, now, (under.tells told here).0 ∙ there, subst (λ (x : Reading). ComesTo under.source now x) lines under.comes)
+    (under.source, now, (under.tells told here).0 ∙ there, subst (λ (x : Reading). ComesTo everything under.source now x) lines under.comes)
 
 pub recordings_are_printed : RecordingsArePrinted
-recordings_are_printed chunk out feed old new later last r answer told allowed it here same cats quiet =
+recordings_are_printed options out feed old new later last r answer told allowed text it here same cats quiet =
     let is = it.reported r refl in
     let all = it.whole refl in
     let closed : r.writer.end ≡ ends.Closed = subst (λ (x : Report). x.writer.end ≡ ends.Closed) (same_report all.0 r (sym all.1)) all.2.closed in
@@ -64,16 +78,16 @@ recordings_are_printed chunk out feed old new later last r answer told allowed i
     let counts = it.ran.counts.world ∙ ap (λ (es : List Opening). added old.world.faults (world_faults es)) is.kept_are in
     let well : is.live_kept ≡ true = kept_well old.world.faults new.world.faults is.source_kept is.live_kept (omega (arith, counts)) (λ rose. risen (inl rose)) in
     let left = it.ran.leaves told here in
-    let file = file_of (options_of chunk).file [] is.recorded.history in
+    let file = file_of options.file [] is.recorded.history in
     let held : left.0.names out ≡ Some file = (is.file told left.0 here left.1).whole closed well in
-    let readable : AreReadable (options_of chunk).file = record { profile = IsUtf8-nil; short = omega arith; size = allowed } in
-    let reads : ReadsAs file is.recorded.history = (recordings_are_read_back (options_of chunk) is.given is.back r readable is.recorded closed).0 in
+    let readable : AreReadable options.file = record { profile = text; short = omega (arith, allowed.short); size = allowed.size } in
+    let reads : ReadsAs file is.recorded.history = (recordings_are_read_back options is.given is.back r readable is.recorded closed).0 in
     let tells : later.world.told ≡ Some left.0 = ap (λ (w : WorldState). w.told) same ∙ left.1 in
     elim (cats.decided left.0 file reads.tops (at_end reads.end) tells held reads.halts quiet) [
       | inr five ↦ inr five
       | inl zero_is ↦
-          let printed = cats.whole zero_is in
-          let source = read_of out file later.world left.0 cats.entries cats.reading printed.0 tells held cats.read printed.1 in
+          let (well, printed) = cats.ran.whole zero_is in
+          let source = read_of out file later.world left.0 cats.entries cats.reading printed.0 tells held cats.read (read_lines out cats.reading printed.0 printed.1) in
           let lines = lines_of file is.recorded.history source.0 source.1 printed.0 source.2 source.3 reads in
           inl (
             zero_is,

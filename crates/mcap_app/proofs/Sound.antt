@@ -1,11 +1,11 @@
 -- What is recorded keeps all rules.
 use Rattle.std.proofs.Common.{◌≡◌, ◌⊎◌, ℕ, ◌≤◌, true, List, [], ◌++◌, length, Option, Some, None, refl, sym, ap, subst, inl, inr, ◌∙◌, arith, length-append}
-use Rattle.std.proofs.lemmas.Str.{IsUtf8-nil}
 use Rattle.mcap_wire.specs.Layout.{magic}
 use Rattle.mcap_io.specs.Outside.{added, WorldState, Opening}
 use Rattle.mcap_model.specs.declared.ends.End.TheVariants as ends
 use Rattle.mcap_model.specs.declared.checked.Verdict.{Verdict}
 use Rattle.mcap_model.specs.declared.checked.Verdict.TheVariants as verdicts
+use Rattle.mcap_model.specs.declared.options.FileOptions.{FileOptions}
 use Rattle.mcap_model.specs.Tops.{Top, spelled}
 use Rattle.mcap_model.specs.Kept.{Halt, HaltsAt, Halts, SameHalt, reading_limits, at_end, grammar as breaks, compressed as names, beyond, no_magic, at_data_end, behind_kept}
 use Rattle.mcap_model.specs.File.{file_of}
@@ -32,11 +32,10 @@ use Rattle.recorder.proofs.ReadBack.{recordings_are_read_back}
 use Rattle.recorder.proofs.Validity.{recordings_are_valid}
 use Rattle.file_check.specs.declared.refusals.CheckRefused.TheVariants as refusals
 use Rattle.file_check.specs.Checking.{IsSo, HaltsBefore}
-use Rattle.mcap_app.specs.declared.checking.Judgement.{Judgement}
-use Rattle.mcap_app.specs.declared.checking.Judgement.TheVariants as judgements
-use Rattle.mcap_app.specs.Ran.{world_faults}
-use Rattle.mcap_app.specs.Record.{options_of}
-use Rattle.mcap_app.specs.Check.{verdict_status, Decides}
+use Rattle.check_command.specs.declared.checking.Judgement.{Judgement}
+use Rattle.check_command.specs.declared.checking.Judgement.TheVariants as judgements
+use Rattle.command_base.specs.Ran.{world_faults}
+use Rattle.check_command.specs.Check.{verdict_status, Decides}
 use Rattle.mcap_app.specs.Laws.{IsSaid, RecordingsAreSound}
 use Rattle.mcap_app.proofs.RoundTrip.{calm, kept_well}
 
@@ -84,35 +83,47 @@ no_foot = record { kind = refl; layout = footer_shown (footer_fields 0 0 0) (ome
 no_tail : Each IsTail []
 no_tail k t there = absurd (at_none k t there)
 
+abbrev options_at : List ℕ → Option ℕ → FileOptions
+options_at profile chunk = record { profile = profile; chunk = chunk }
+
+abbrev plain_of : List ℕ → FileOptions
+plain_of profile = options_at profile None
+
 -- it has no Statistics
-plain_unindexed : (history : List Rec) → CanBeWritten (options_of None).file [] history → IsFullyIndexed (file_of (options_of None).file [] history) → ⊥
-plain_unindexed history written (tops, full) =
-    let options = (options_of None).file in
+plain_unindexed : (profile : List ℕ) (history : List Rec) → CanBeWritten (plain_of profile) [] history → IsFullyIndexed (file_of (plain_of profile) [] history) → ⊥
+plain_unindexed profile history written (tops, full) =
+    let options = plain_of profile in
     let stand = standing options [] history written in
     let all = written_tops options [] history in
     let file = file_of options [] history in
     let same : tops ≡ all = whole_files_are_one file tops all full.valid.v4 (whole_of file all (file_spelled options [] history) written.size_fits) in
     let (n, t, at, within, kind) = full.statistics in
-    let (j, is, second) = summary_only (header_top []) (body_tops options [] history) [] (footer_top 0 0 0) 0 0 0 (header_is options [] history stand) (body_right options [] history stand) no_tail no_foot
+    let (j, is, second) = summary_only (header_top profile) (body_tops options [] history) [] (footer_top 0 0 0) 0 0 0 (header_is options [] history stand) (body_right options [] history stand) no_tail no_foot
     11 (λ e. omega (arith, e)) (λ e. omega (arith, e)) (λ e. omega (arith, e)) refl n t (subst (λ (l : List Top). At l n t) same at) kind in
     at_none j t second
 
-unindexed : (chunk : Option ℕ) (history : List Rec) → CanBeWritten (options_of chunk).file [] history → chunk ≡ None → IsFullyIndexed (file_of (options_of chunk).file [] history) → ⊥
-unindexed None history written none full = plain_unindexed history written full
-unindexed (Some size) history written none full = absurd cc
+unindexed_at : (profile : List ℕ) (chunk : Option ℕ) (history : List Rec) → CanBeWritten (options_at profile chunk) [] history → chunk ≡ None → IsFullyIndexed (file_of (options_at profile chunk) [] history) → ⊥
+unindexed_at profile None history written none full = plain_unindexed profile history written full
+unindexed_at profile (Some size) history written none full = absurd cc
+
+unindexed : (options : FileOptions) (history : List Rec) → CanBeWritten options [] history → options.chunk ≡ None → IsFullyIndexed (file_of options [] history) → ⊥
+unindexed options history written none full = unindexed_at options.profile options.chunk history written none full
 
 -- ---- the check
 
 -- a file that is sound, and not fully indexed where there are no chunks
-record IsExact (chunk : Option ℕ) (file : List ℕ) : Type 0 where
-  sound : IsSound (options_of chunk).file file
-  plain : chunk ≡ None → IsFullyIndexed file → ⊥
+record IsExact (options : FileOptions) (file : List ℕ) : Type 0 where
+  sound : IsSound options file
+  plain : options.chunk ≡ None → IsFullyIndexed file → ⊥
 
-said_of : (chunk : Option ℕ) (file : List ℕ) (verdict : Verdict) → IsExact chunk file → IsSo file verdict → IsSaid chunk verdict
-said_of chunk file (verdicts.Indexed n) exact (tops, full, counted) = λ none. let plain = exact.plain in plain none (tops, full)
-said_of None file (verdicts.Plain n) exact so = refl
-said_of (Some size) file (verdicts.Plain n) exact (tops, valid, missing, counted) = absurd (let indexed = exact.sound.indexed in missing (indexed size refl))
-said_of chunk file (verdicts.Flawed rule offset) exact so = flaws_exclude_validity file rule offset so exact.sound.valid
+plain_said : (chunk : Option ℕ) (file : List ℕ) → ((size : ℕ) → chunk ≡ Some size → IsFullyIndexed file) → (IsFullyIndexed file → ⊥) → chunk ≡ None
+plain_said None file indexed missing = refl
+plain_said (Some size) file indexed missing = absurd (missing (indexed size refl))
+
+said_of : (options : FileOptions) (file : List ℕ) (verdict : Verdict) → IsExact options file → IsSo file verdict → IsSaid options.chunk verdict
+said_of options file (verdicts.Indexed n) exact (tops, full, counted) = λ none. let plain = exact.plain in plain none (tops, full)
+said_of options file (verdicts.Plain n) exact (tops, valid, missing, counted) = plain_said options.chunk file exact.sound.indexed missing
+said_of options file (verdicts.Flawed rule offset) exact so = flaws_exclude_validity file rule offset so exact.sound.valid
 
 verdict_ends : (chunk : Option ℕ) (verdict : Verdict) (answer : ℕ) → IsSaid chunk verdict → (answer ≡ verdict_status verdict) ⊎ (answer ≡ 5) → (answer ≡ 0) ⊎ ((answer ≡ 4) ⊎ (answer ≡ 5))
 verdict_ends chunk (verdicts.Indexed n) answer said (inl zero_is) = inl zero_is
@@ -122,17 +133,17 @@ verdict_ends chunk (verdicts.Plain n) answer said (inr five) = inr (inr five)
 verdict_ends chunk (verdicts.Flawed rule offset) answer said why = absurd said
 
 -- the status where the bytes of a sound file decide it
-ends_well : (chunk : Option ℕ) (file : List ℕ) (tops : List Top) (end : ℕ) (judgement : Judgement) (answer : ℕ) → IsExact chunk file → Halts reading_limits file tops (at_end end)
+ends_well : (options : FileOptions) (file : List ℕ) (tops : List Top) (end : ℕ) (judgement : Judgement) (answer : ℕ) → IsExact options file → Halts reading_limits file tops (at_end end)
     → Decides file judgement answer → (answer ≡ 0) ⊎ ((answer ≡ 4) ⊎ (answer ≡ 5))
-ends_well chunk file tops end judgements.Unopened answer exact halts is = absurd is
-ends_well chunk file tops end (judgements.Given verdict) answer exact halts is = verdict_ends chunk verdict answer (said_of chunk file verdict exact is.0) is.1
-ends_well chunk file tops end (judgements.Refused (refusals.Fault faults)) answer exact halts is = absurd is
-ends_well chunk file tops end (judgements.Refused (refusals.Compressed n name)) answer exact halts is = absurd (reads_on file tops end halts (names n name) (λ e. absurd cc) is.0)
-ends_well chunk file tops end (judgements.Refused (refusals.Limit n)) answer exact halts is = inr is.1
-ends_well chunk file tops end (judgements.Refused refusals.Memory) answer exact halts is = inr (inr is)
+ends_well options file tops end judgements.Unopened answer exact halts is = absurd is
+ends_well options file tops end (judgements.Given verdict) answer exact halts is = verdict_ends options.chunk verdict answer (said_of options file verdict exact is.0) is.1
+ends_well options file tops end (judgements.Refused (refusals.Fault faults)) answer exact halts is = absurd is
+ends_well options file tops end (judgements.Refused (refusals.Compressed n name)) answer exact halts is = absurd (reads_on file tops end halts (names n name) (λ e. absurd cc) is.0)
+ends_well options file tops end (judgements.Refused (refusals.Limit n)) answer exact halts is = inr is.1
+ends_well options file tops end (judgements.Refused refusals.Memory) answer exact halts is = inr (inr is)
 
 pub recordings_are_sound : RecordingsAreSound
-recordings_are_sound chunk out feed old new later last r answer told allowed it here same checks quiet =
+recordings_are_sound options out feed old new later last r answer told allowed text it here same checks quiet =
     let is = it.reported r refl in
     let all = it.whole refl in
     let closed : r.writer.end ≡ ends.Closed = subst (λ (x : Report). x.writer.end ≡ ends.Closed) (same_report all.0 r (sym all.1)) all.2.closed in
@@ -140,20 +151,20 @@ recordings_are_sound chunk out feed old new later last r answer told allowed it 
     let counts = it.ran.counts.world ∙ ap (λ (es : List Opening). added old.world.faults (world_faults es)) is.kept_are in
     let well : is.live_kept ≡ true = kept_well old.world.faults new.world.faults is.source_kept is.live_kept (omega (arith, counts)) (λ rose. risen (inl rose)) in
     let left = it.ran.leaves told here in
-    let file = file_of (options_of chunk).file [] is.recorded.history in
+    let file = file_of options.file [] is.recorded.history in
     let held : left.0.names out ≡ Some file = (is.file told left.0 here left.1).whole closed well in
-    let readable : AreReadable (options_of chunk).file = record { profile = IsUtf8-nil; short = omega arith; size = allowed } in
-    let reads : ReadsAs file is.recorded.history = (recordings_are_read_back (options_of chunk) is.given is.back r readable is.recorded closed).0 in
-    let valid = recordings_are_valid (options_of chunk) is.given is.back r readable is.recorded closed in
-    let exact : IsExact chunk file = record { sound = valid.1; plain = unindexed chunk is.recorded.history valid.0 } in
+    let readable : AreReadable options.file = record { profile = text; short = omega (arith, allowed.short); size = allowed.size } in
+    let reads : ReadsAs file is.recorded.history = (recordings_are_read_back options is.given is.back r readable is.recorded closed).0 in
+    let valid = recordings_are_valid options is.given is.back r readable is.recorded closed in
+    let exact : IsExact options.file file = record { sound = valid.1; plain = unindexed options.file is.recorded.history valid.0 } in
     let tells : later.world.told ≡ Some left.0 = ap (λ (w : WorldState). w.told) same ∙ left.1 in
     let decided = checks.decided left.0 file tells held quiet in
-    elim (ends_well chunk file reads.tops reads.end checks.judgement answer exact reads.halts decided) [
+    elim (ends_well options.file file reads.tops reads.end checks.judgement answer exact reads.halts decided) [
       | inr other ↦ inr other
       | inl zero_is ↦
           let given = checks.whole zero_is in
           let so : IsSo file given.0 = (subst (λ (j : Judgement). Decides file j answer) given.1 decided).0 in
-          inl (zero_is, record { verdict = given.0; said = said_of chunk file given.0 exact so; line = given.3 })
+          inl (zero_is, record { verdict = given.0; said = said_of options.file file given.0 exact so; line = given.3 })
     ]
   where
     same_report : (a b : Report) → Some a ≡ Some b → a ≡ b

@@ -1,5 +1,5 @@
 -- Laws of the commands: what is recorded is printed, and keeps all rules.
-use Rattle.std.specs.Prelude.{◌≡◌, ◌⊎◌, ℕ, ◌≤◌, List, filter, refl, Option, Some, None}
+use Rattle.std.specs.Prelude.{◌≡◌, ◌⊎◌, ℕ, List, filter, refl, Option, Some, None, IsUtf8}
 use Rattle.std.specs.List.{AllZip}
 use Rattle.mcap_io.specs.Outside.{SinkState, Told}
 use Rattle.rec_data.specs.declared.owned.Rec.{Rec}
@@ -11,11 +11,16 @@ use Rattle.mcap_model.specs.Scan.{Seen, Scan, Replay}
 use Rattle.mcap_model.specs.Text.{cat_text}
 use Rattle.mcap_model.specs.Laws.{HoldsSeen}
 use Rattle.recorder.specs.declared.report.Report.{Report}
-use Rattle.mcap_app.specs.Printing.{TellsAll}
-use Rattle.mcap_app.specs.Ran.{Scene, counts_in, AnyRose}
-use Rattle.mcap_app.specs.Record.{options_of, Records}
-use Rattle.mcap_app.specs.Cat.{all_times, Cats}
-use Rattle.mcap_app.specs.Check.{verdict_line, FileChecks}
+use Rattle.command_base.specs.Printing.{TellsAll}
+use Rattle.command_base.specs.Ran.{Scene, counts_in, AnyRose}
+use Rattle.recorder.specs.declared.options.RecordOptions.{RecordOptions}
+use Rattle.record_command.specs.Record.{AreAllowed, Records}
+use Rattle.cat_command.specs.Cat.{Selection, Cats}
+use Rattle.check_command.specs.Check.{verdict_line, FileChecks}
+
+-- all messages are asked for
+abbrev pub everything : Selection
+everything = record { range = record { start = 0; end = None }; topic = None }
 
 -- An output took the lines of the messages of a history, in the order of log time and place: these are the messages of a
 -- file's records, which are those of the history, in chunks or not. So their topics and their order are the history's.
@@ -26,19 +31,15 @@ pub record PrintsHistory (history : List Rec) (before now : SinkState) : Type 0 
   pub scan : Scan tops messages
   pub shown : List Seen
   pub are : AllZip HoldsSeen (filter is_message history) messages
-  pub replay : Replay all_times None messages shown
+  pub replay : Replay everything.range everything.topic messages shown
   pub lines : TellsAll before now (cat_text shown)
-
--- a chunk size that the words may give
-abbrev pub IsAllowed : Option ℕ → Type 0
-IsAllowed chunk = (n : ℕ) → chunk ≡ Some n → (1 ≤ n) × (n ≤ 67108864)
 
 -- A recording with the status 0 in a world that tells, and then a printing of its output there, in which no count rises: it
 -- prints the messages of the recording's history, or memory lacked for that.
 abbrev pub RecordingsArePrinted : Type 0
-RecordingsArePrinted = (chunk : Option ℕ) (out feed : List ℕ) (old new later last : Scene) (r : Report) (answer : ℕ) (told : Told) → IsAllowed chunk
-    → (it : Records (options_of chunk) out feed old new (Some r) 0) → old.world.told ≡ Some told
-    → later.world ≡ new.world → Cats out later last answer → (AnyRose (counts_in later) (counts_in last) → ⊥)
+RecordingsArePrinted = (options : RecordOptions) (out feed : List ℕ) (old new later last : Scene) (r : Report) (answer : ℕ) (told : Told) → AreAllowed options → IsUtf8 options.file.profile
+    → (it : Records options out feed old new (Some r) 0) → old.world.told ≡ Some told
+    → later.world ≡ new.world → Cats everything out later last answer → (AnyRose (counts_in later) (counts_in last) → ⊥)
     → ((answer ≡ 0) × PrintsHistory (it.reported r refl).recorded.history later.out last.out) ⊎ (answer ≡ 5)
 
 -- ---- what is recorded keeps all rules
@@ -58,7 +59,7 @@ pub record PrintsSound (chunk : Option ℕ) (before now : SinkState) : Type 0 wh
 -- A recording with the status 0 in a world that tells, and then a check of its output there, in which no count rises: it
 -- finds no flaw and no compression, and prints that; or a limit of reading was met, or memory lacked for the check.
 abbrev pub RecordingsAreSound : Type 0
-RecordingsAreSound = (chunk : Option ℕ) (out feed : List ℕ) (old new later last : Scene) (r : Report) (answer : ℕ) (told : Told) → IsAllowed chunk
-    → Records (options_of chunk) out feed old new (Some r) 0 → old.world.told ≡ Some told
+RecordingsAreSound = (options : RecordOptions) (out feed : List ℕ) (old new later last : Scene) (r : Report) (answer : ℕ) (told : Told) → AreAllowed options → IsUtf8 options.file.profile
+    → Records options out feed old new (Some r) 0 → old.world.told ≡ Some told
     → later.world ≡ new.world → FileChecks out later last answer → (AnyRose (counts_in later) (counts_in last) → ⊥)
-    → ((answer ≡ 0) × PrintsSound chunk later.out last.out) ⊎ ((answer ≡ 4) ⊎ (answer ≡ 5))
+    → ((answer ≡ 0) × PrintsSound options.file.chunk later.out last.out) ⊎ ((answer ≡ 4) ⊎ (answer ≡ 5))

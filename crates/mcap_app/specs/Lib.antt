@@ -1,9 +1,2 @@
-pub mod Answer
-pub mod Cat
-pub mod Check
 pub mod Laws
-pub mod Printing
-pub mod Ran
-pub mod Record
-pub mod Texts
-pub mod Words
+pub mod Runs

@@ -1,151 +1,83 @@
 //! The program: what each command does to the world and to both outputs.
-ghost use Rattle.std.specs.Prelude.{◌≡◌, ◌≤◌, ◌<◌, ◌^◌, ◌↔◌, ℕ, List, [], ◌∷◌, length, Option, None, Some, true, false};
-ghost use Rattle.mcap_app.specs.Words.{AreBad, IsRecord, IsCheck, IsCat};
-ghost use Rattle.mcap_app.specs.Texts.{bad_words, said};
-ghost use Rattle.mcap_app.specs.Printing.{Takes};
-ghost use Rattle.mcap_app.specs.Ran.{scene};
-ghost use Rattle.mcap_app.specs.Record.{options_of, report_text, NamesRecorded, Records};
-ghost use Rattle.mcap_app.specs.Check.{FileChecks};
-ghost use Rattle.mcap_app.specs.Cat.{Cats};
+ghost use Rattle.std.specs.Prelude.{◌≡◌, ◌⊎◌, ◌≤◌, ℕ, [], ◌∷◌, length, None, Some};
+ghost use Rattle.command_words.specs.declared.command.Command.{Command as Wanted};
+ghost use Rattle.command_words.specs.Commands.{AreBad, Derives};
+ghost use Rattle.command_base.specs.Texts.{bad_words, no_memory, said};
+ghost use Rattle.command_base.specs.Printing.{Takes};
+ghost use Rattle.command_base.specs.Ran.{scene};
+ghost use Rattle.mcap_app.specs.Runs.{IsAllowed, Runs, LacksForWords};
 
-use crate::answering::{Outcome, answer, failed_parts, refuse_words};
-use crate::cat::cat_command;
-use crate::checking::check_command;
-use crate::faults::{Counts, has_failed};
-use crate::print::print_report;
-use crate::words::{Command, parse_words};
-use mcap_io::{LiveStore, OpenRefused, Sink, Source, World};
-use mcap_model::FileOptions;
+use cat_command::{print_file, print_indexed};
+use check_command::check_file;
+use command_base::{refuse_for_memory, refuse_words};
+use command_words::{Command, WordsRefused, parse_words};
+use info_command::describe_file;
+use mcap_io::{Sink, World};
 use mcap_wire::Text;
-use recorder::{RecordOptions, Recording, Report, record};
+use record_command::{Ended, record_file};
+use recorder::RecordOptions;
 use std::alloc::Global;
 
-/// From how many bytes on the buffer between a feed and the file is full: 100 MiB.
-const BUFFER_LIMIT: u64 = 104_857_600;
-
-/// How the program ended: its status, and the report of a recording. The status is 0 where all was done, 1 where
-/// the feed or the file breaks a rule or is compressed, 2 for bad words, 3 where the outside failed, 4 where a limit
-/// would be passed and 5 where memory lacked.
-pub struct Ended {
-    pub status: u8,
-    pub report: Option<Report>,
-}
-
-fn unrecorded(feed_failed: bool, out_failed: bool) -> Outcome
-    ensures { result ≡ record { report = None; feed_failed = feed_failed; out_failed = out_failed } }
+// A command that made no report.
+fn unreported(status: u8) -> Ended
+    ensures { result ≡ record { status = status; report = None } }
 {
-    Outcome {
+    Ended {
+        status,
         report: None,
-        feed_failed,
-        out_failed,
     }
 }
 
-// Whether an opening was refused since the outside failed.
-fn is_failed(why: OpenRefused) -> bool
-    ensures failed { result ≡ true → why ≡ OpenRefused.Failed }
-    ensures memory { result ≡ false → why ≡ OpenRefused.Memory }
-{
-    match why {
-        OpenRefused::Failed => true,
-        OpenRefused::Memory => false,
-    }
-}
-
-// Opens both names, records the one into the other, and keeps both.
-fn record_names<W: World>(
+// Does what the command says.
+fn run_command<W: World, O: Sink, E: Sink>(
     alloc: Global,
-    options: &RecordOptions,
-    out: &str,
-    feed: &str,
-    world: &mut W,
-) -> Outcome
-    requires some { 1 ≤ options.now.limit }
-    requires small { options.now.limit ≤ 1073741824 }
-    requires size { (n : ℕ) → options.now.file.chunk ≡ Some n → (1 ≤ n) × (n ≤ 67108864) }
-    requires profile { length options.now.file.profile ≤ 268435456 }
-    requires world_fits { (W.state world.old).faults < 2 ^ 64 }
-    requires inputs_fit { (W.state world.old).input_faults < 2 ^ 64 }
-    requires outputs_fit { (W.state world.old).output_faults < 2 ^ 64 }
-    ensures { NamesRecorded options.now out.now feed.now (W.state world.old) (W.state world.new) result }
-{
-    let source = match world.source(feed) {
-        Ok(source) => source,
-        Err(why) => return unrecorded(is_failed(why), false),
-    };
-    let live = match world.live(out) {
-        Ok(live) => live,
-        Err(why) => {
-            let faults = source.faults();
-            let kept = world.keep_source(feed, source);
-            return unrecorded(has_failed(faults, kept), is_failed(why));
-        }
-    };
-    let Recording {
-        report,
-        feed: source,
-        live,
-    } = record(alloc, options, source, live);
-    let (source_faults, live_faults) = (source.faults(), live.faults());
-    let source_kept = world.keep_source(feed, source);
-    let live_kept = world.keep_live(out, live);
-    Outcome {
-        report,
-        feed_failed: has_failed(source_faults, source_kept),
-        out_failed: has_failed(live_faults, live_kept),
-    }
-}
-
-// Prints the report, if there is one.
-fn print_outcome<O: Sink>(out: &mut O, report: &Option<Report>)
-    ensures { Takes (O.state out.old) (O.state out.new) (report_text report.now) }
-{
-    match report {
-        Some(report) => match print_report(out, report) {
-            Ok(()) => {}
-            Err(_) => {}
-        },
-        None => {}
-    }
-}
-
-// How a recording is made, with chunks of so many bytes, or plain.
-fn options_for(alloc: Global, chunk: Option<u64>) -> RecordOptions
-    ensures { result ≡ options_of chunk }
-{
-    let profile = Text::new(String::new(alloc));
-    RecordOptions {
-        file: FileOptions { profile, chunk },
-        limit: BUFFER_LIMIT,
-    }
-}
-
-// Records the feed under one name into the file under another.
-fn record_command<W: World, O: Sink, E: Sink>(
-    alloc: Global,
-    chunk: Option<u64>,
-    out_name: &str,
-    feed_name: &str,
+    command: Command,
     world: &mut W,
     out: &mut O,
     err: &mut E,
 ) -> Ended
-    requires size { (n : ℕ) → chunk ≡ Some n → (1 ≤ n) × (n ≤ 67108864) }
-    ensures { Records (options_of chunk) out_name.now feed_name.now
+    requires { IsAllowed command }
+    ensures { Runs command
         (scene (W.state world.old) (O.state out.old) (E.state err.old))
         (scene (W.state world.new) (O.state out.new) (E.state err.new))
         result.report result.status }
 {
-    let before = Counts::of(world, out);
-    let options = options_for(alloc, chunk);
-    let outcome = record_names(alloc, &options, out_name, feed_name, world);
-    print_outcome(out, &outcome.report);
-    let now = Counts::of(world, out);
-    let failed = failed_parts(&before, &now, &outcome);
-    let status = answer(alloc, err, out_name, feed_name, &outcome.report, failed);
-    Ended {
-        status,
-        report: outcome.report,
+    match command {
+        Command::Record {
+            out: name,
+            feed,
+            file,
+            limit,
+        } => {
+            let options = RecordOptions { file, limit };
+            return record_file(
+                alloc,
+                &options,
+                name.as_str(),
+                feed.as_str(),
+                world,
+                out,
+                err,
+            );
+        }
+        Command::Info { file } => {
+            return unreported(describe_file(alloc, file.as_str(), world, out, err));
+        }
+        Command::Check { file } => {
+            return unreported(check_file(alloc, file.as_str(), world, out, err));
+        }
+        Command::Cat {
+            file,
+            indexed,
+            range,
+            topic,
+        } => {
+            let (name, topic) = (file.as_str(), topic.as_ref());
+            if indexed {
+                return unreported(print_indexed(alloc, name, range, topic, world, out, err));
+            }
+            return unreported(print_file(alloc, name, range, topic, world, out, err));
+        }
     }
 }
 
@@ -158,65 +90,36 @@ pub fn run<R: AllocGlobal, W: World, O: Sink, E: Sink>(
     out: &mut O,
     err: &mut E,
 ) -> Ended
-    // 2 is the answer exactly to words that are no command.
-    ensures words { (result.status ≡ 2) ↔ AreBad words.now }
+    // 2 is the answer only to words that are no command.
+    ensures two { result.status ≡ 2 → AreBad words.now }
 
-    // These do nothing but complain.
+    // These do nothing but complain: of the words, or of a want of memory for reading them.
     ensures world { AreBad words.now → world.new ≡ world.old }
     ensures out { AreBad words.now → out.new ≡ out.old }
     ensures report { AreBad words.now → result.report ≡ None }
-    ensures err { AreBad words.now → Takes (E.state err.old) (E.state err.new) (said (bad_words ∷ [])) }
+    ensures err { AreBad words.now → ((result.status ≡ 2) × Takes (E.state err.old) (E.state err.new) (said (bad_words ∷ [])))
+        ⊎ ((result.status ≡ 5) × Takes (E.state err.old) (E.state err.new) (said (no_memory ∷ []))) }
 
-    // The words of a recording record.
-    ensures records { (chunk : Option ℕ) (out_name feed_name : List ℕ) → IsRecord words.now chunk out_name feed_name
-        → Records (options_of chunk) out_name feed_name
+    // The words of a command do what it does, or memory lacks for reading them.
+    ensures runs { (command : Wanted) → Derives words.now command
+        → Runs command
+        (scene (W.state world.old) (O.state out.old) (E.state err.old))
+        (scene (W.state world.new) (O.state out.new) (E.state err.new))
+        result.report result.status
+        ⊎ LacksForWords
         (scene (W.state world.old) (O.state out.old) (E.state err.old))
         (scene (W.state world.new) (O.state out.new) (E.state err.new))
         result.report result.status }
-
-    // The words of a check check, and there is no report.
-    ensures checks { (file : List ℕ) → IsCheck words.now file → FileChecks file
-        (scene (W.state world.old) (O.state out.old) (E.state err.old))
-        (scene (W.state world.new) (O.state out.new) (E.state err.new))
-        result.status × (result.report ≡ None) }
-
-    // The words of a printing print, and there is no report.
-    ensures cats { (file : List ℕ) → IsCat words.now file → Cats file
-        (scene (W.state world.old) (O.state out.old) (E.state err.old))
-        (scene (W.state world.new) (O.state out.new) (E.state err.new))
-        result.status × (result.report ≡ None) }
 {
-    match parse_words(words) {
-        Ok(
-            Command::Record {
-                out: name,
-                feed,
-                chunk,
-            },
-        ) => {
-            let (name, feed) = (name.as_str(), feed.as_str());
-            return record_command(rt.alloc(), chunk, name, feed, world, out, err);
-        }
-        Ok(Command::Check { file }) => {
-            let status = check_command(rt.alloc(), file.as_str(), world, out, err);
-            return Ended {
-                status,
-                report: None,
-            };
-        }
-        Ok(Command::Cat { file }) => {
-            let status = cat_command(rt.alloc(), file.as_str(), world, out, err);
-            return Ended {
-                status,
-                report: None,
-            };
-        }
-        Err(_) => {
+    match parse_words(rt.alloc(), words) {
+        Ok(command) => return run_command(rt.alloc(), command, world, out, err),
+        Err(WordsRefused::BadWords) => {
             refuse_words(err);
-            return Ended {
-                status: 2,
-                report: None,
-            };
+            return unreported(2);
+        }
+        Err(WordsRefused::Memory) => {
+            refuse_for_memory(err);
+            return unreported(5);
         }
     }
 }

@@ -12,7 +12,10 @@ mod check;
 mod faults;
 mod files;
 mod flaws;
+mod indexed;
+mod info;
 mod limits;
+mod ranges;
 mod recording;
 mod verdicts;
 
@@ -48,7 +51,8 @@ const RECORD: &[&str] = &["record", "OUT", "F"];
 const PLAIN: &[&str] = &["record", "--plain", "OUT", "F"];
 
 const USAGE: &str = "mcaprec: bad words\nusage: mcaprec\n  \
-    record [--plain] [--chunk N] OUT FEED\n  check FILE\n  cat FILE\n";
+    record [--plain] [--limit N] [--chunk N] [--profile T] OUT FEED\n  info FILE\n  check FILE\n  \
+    cat [--indexed] [--start N] [--end N] [--topic T] FILE\n";
 
 const FEED_FAULT: &str = "mcaprec: \"F\": fault\n";
 

@@ -5,20 +5,20 @@ const CAT: &[&str] = &["cat", "F"];
 
 const ONE_LINE: &str = "10 9 1 1 \"/a\" aa\n";
 
-const LAST_TIME: &[u8] = b"\x05\x16\0\0\0\0\0\0\0\x07\0\x03\0\0\0\
+pub(super) const LAST_TIME: &[u8] = b"\x05\x16\0\0\0\0\0\0\0\x07\0\x03\0\0\0\
     \xff\xff\xff\xff\xff\xff\xff\xff\0\0\0\0\0\0\0\0";
 
 // A Channel with two bytes behind its fields.
 const LONGER_CHANNEL: &[u8] =
     b"\x04\x14\0\0\0\0\0\0\0\x07\0\0\0\x02\0\0\0/a\0\0\0\0\0\0\0\0\x55\x55";
 
-const THIRD: &[u8] = b"\x05\x17\0\0\0\0\0\0\0\x07\0\x04\0\0\0\
+pub(super) const THIRD: &[u8] = b"\x05\x17\0\0\0\0\0\0\0\x07\0\x04\0\0\0\
     \x0b\0\0\0\0\0\0\0\x09\0\0\0\0\0\0\0\xbb";
 
-const FOURTH: &[u8] = b"\x05\x17\0\0\0\0\0\0\0\x07\0\x05\0\0\0\
+pub(super) const FOURTH: &[u8] = b"\x05\x17\0\0\0\0\0\0\0\x07\0\x05\0\0\0\
     \x0a\0\0\0\0\0\0\0\x09\0\0\0\0\0\0\0\xcc";
 
-const BY_TIME: &str = "10 9 7 1 \"/a\" aa\n10 9 7 5 \"/a\" cc\n\
+pub(super) const BY_TIME: &str = "10 9 7 1 \"/a\" aa\n10 9 7 5 \"/a\" cc\n\
     11 9 7 2 \"/a\" aa\n11 9 7 4 \"/a\" bb\n";
 
 const BY_TIME_AND_LAST: &str = "10 9 7 1 \"/a\" aa\n10 9 7 5 \"/a\" cc\n\
@@ -31,7 +31,7 @@ const UNSORTED_INDEX: &[u8] = b"\x07\x26\0\0\0\0\0\0\0\x07\0\x20\0\0\0\
 
 // A Schema 1 of the name "s", and a Footer of a summary that starts at 106: behind 8 bytes of magic, 26 of the Header, 27 of
 // the Channel, 32 of the Message and 13 of the Data End.
-const SUMMARY: &[u8] = b"\x03\x0f\0\0\0\0\0\0\0\x01\0\x01\0\0\0s\0\0\0\0\0\0\0\0\
+pub(super) const SUMMARY: &[u8] = b"\x03\x0f\0\0\0\0\0\0\0\x01\0\x01\0\0\0s\0\0\0\0\0\0\0\0\
     \x02\x14\0\0\0\0\0\0\0\x6a\0\0\0\0\0\0\0\0\0\0\0\0\0\0\0\0\0\0\0\x89MCAP0\r\n";
 
 const BOTH: &str = "10 9 7 1 \"/a\" aa\n11 9 7 2 \"/a\" aa\n";

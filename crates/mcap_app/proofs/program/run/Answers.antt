@@ -1,51 +1,26 @@
--- The status of a command isn't that of bad words, its words aren't bad, and they give one chunk size and two names.
-use Rattle.std.proofs.Common.{List, ℕ, Option, subst}
-use Rattle.mcap_app.specs.declared.words.Command.{Command}
-use Rattle.mcap_app.specs.Words.{IsRecord, Derives}
-use Rattle.mcap_app.specs.Ran.{scene}
-use Rattle.mcap_app.specs.Record.{options_of, Records}
-use Rattle.mcap_app.proofs.Answered.{not_two}
-use Rattle.mcap_app.proofs.Cats.{not_two as cat_not_two}
-use Rattle.mcap_app.proofs.Checks.{not_two as check_not_two}
-use Rattle.mcap_app.proofs.Derived.{derived, records_same}
+-- The words derive the one command that ran, whose numbers are in their ranges and whose status isn't that of bad words.
+use Rattle.std.proofs.Common.{sym, ap, subst, inl, Err}
+use Rattle.command_words.specs.declared.command.Command.{Command}
+use Rattle.command_base.specs.Ran.{scene}
+use Rattle.mcap_app.specs.Runs.{Runs}
+use Rattle.mcap_app.proofs.Running.{allowed, not_two}
 use Rattle.mcap_app.proofs.program.run.Goals as goal
 
-pub returns-in-Ok-Record-clause-words : goal.returns-in-Ok-Record-clause-words
-returns-in-Ok-Record-clause-words g c = (
-  λ two. absurd (not_two _ _ _ _ _ _ _ c.record_command.ensures two),
-  λ bad. absurd (derived _ _ c.in-Ok-Record.ensures.command bad),
-)
+pub run_command-requires-after_bounds : goal.run_command-requires-after_bounds
+run_command-requires-after_bounds g c κs within = allowed c.args.words.now c.in-Ok.command c.in-Ok.ensures.command
 
-pub returns-in-Ok-Record-clause-records : goal.returns-in-Ok-Record-clause-records
-returns-in-Ok-Record-clause-records g c = λ chunk out feed is.
-    let P : Option ℕ → List ℕ → List ℕ → Type 0 = λ n o f. Records (options_of n) o f
+pub returns-in-Ok-clause-two : goal.returns-in-Ok-clause-two
+returns-in-Ok-clause-two g c = λ two. absurd (not_two c.in-Ok.command _ _ _ _ c.run_command.ensures two)
+
+pub returns-in-Ok-clause-runs : goal.returns-in-Ok-clause-runs
+returns-in-Ok-clause-runs g c = λ command derives.
+    inl (subst (λ (x : Command). Runs x
     (scene (g.W.World.state c.args.world.now) (g.O.Sink.state c.args.out.now) (g.E.Sink.state c.args.err.now))
-    (scene (g.W.World.state c.record_command.new.world) (g.O.Sink.state c.record_command.new.out) (g.E.Sink.state c.record_command.new.err))
-    c.record_command.result.report c.record_command.result.status in
-    let words : IsRecord c.args.words.now c.in-Ok-Record.chunk c.in-Ok-Record.name.now c.in-Ok-Record.feed.now =
-    subst (λ (x : Command). Derives c.args.words.now x) c.in-Ok-Record.field-0-is c.in-Ok-Record.ensures.command in
-    let made : P c.in-Ok-Record.chunk c.in-Ok-Record.name.now c.in-Ok-Record.feed.now =
-    subst (λ (o : List ℕ). P c.in-Ok-Record.chunk o c.in-Ok-Record.feed.now) c.as_str-name.ensures.same
-    (subst (λ (f : List ℕ). P c.in-Ok-Record.chunk c.as_str-name.result.now f) c.as_str-feed.ensures.same c.record_command.ensures) in
-    records_same c.args.words.now P c.in-Ok-Record.chunk chunk c.in-Ok-Record.name.now out c.in-Ok-Record.feed.now feed words made is
+    (scene (g.W.World.state c.run_command.new.world) (g.O.Sink.state c.run_command.new.out) (g.E.Sink.state c.run_command.new.err))
+    c.run_command.result.report c.run_command.result.status) (sym (c.in-Ok.ensures.only command derives)) c.run_command.ensures)
 
-pub returns-in-Ok-Check-clause-words : goal.returns-in-Ok-Check-clause-words
-returns-in-Ok-Check-clause-words g c = (
-  λ two. absurd (check_not_two _ _ _ _ c.check_command-status.ensures two),
-  λ bad. absurd (derived _ _ c.in-Ok-Check.ensures.command bad),
-)
+pub returns-in-Err-BadWords-clause-two : goal.returns-in-Err-BadWords-clause-two
+returns-in-Err-BadWords-clause-two g c = λ two. c.in-Err-BadWords.ensures.bad (ap Err c.in-Err-BadWords.field-0-is)
 
-pub returns-in-Ok-Check-clause-err : goal.returns-in-Ok-Check-clause-err
-returns-in-Ok-Check-clause-err g c = λ bad. absurd (derived _ _ c.in-Ok-Check.ensures.command bad)
-
-pub returns-in-Ok-Cat-clause-words : goal.returns-in-Ok-Cat-clause-words
-returns-in-Ok-Cat-clause-words g c = (
-  λ two. absurd (cat_not_two _ _ _ _ c.cat_command-status.ensures two),
-  λ bad. absurd (derived _ _ c.in-Ok-Cat.ensures.command bad),
-)
-
-pub returns-in-Ok-Cat-clause-err : goal.returns-in-Ok-Cat-clause-err
-returns-in-Ok-Cat-clause-err g c = λ bad. absurd (derived _ _ c.in-Ok-Cat.ensures.command bad)
-
-pub returns-in-Err-clause-records : goal.returns-in-Err-clause-records
-returns-in-Err-clause-records g c = λ chunk out feed is. absurd (c.in-Err.ensures.bad.no_record chunk out feed is)
+pub returns-in-Err-BadWords-clause-runs : goal.returns-in-Err-BadWords-clause-runs
+returns-in-Err-BadWords-clause-runs g c = λ command derives. absurd (c.in-Err-BadWords.ensures.bad (ap Err c.in-Err-BadWords.field-0-is) command derives)

@@ -1,0 +1,103 @@
+-- What the endings of a printing by the indexes say of it, and of its file.
+use Rattle.std.proofs.Common.{◌≡◌, ℕ, List, [], ◌∷◌, Bool, Some, refl, sym, ap, subst, inl, inr, ◌∙◌}
+use Rattle.std.proofs.lemmas.Bool.{both_ways}
+use Rattle.mcap_io.specs.Outside.{Told, Opening, WorldState}
+use Rattle.mcap_io.specs.Stores.{StoreState}
+use Rattle.mcap_io.specs.declared.outside.ObjectKind.TheVariants as kinds
+use Rattle.mcap_model.specs.Tops.{Top}
+use Rattle.mcap_model.specs.Kept.{reading_limits, at_end, Halts}
+use Rattle.mcap_model.specs.Scan.{Seen, Scan, Replay}
+use Rattle.mcap_model.specs.Text.{cat_text}
+use Rattle.mcap_model.specs.Valid.{IsFullyIndexed}
+use Rattle.indexed_replay.specs.declared.answers.ReplayRefused.TheVariants as refusals
+use Rattle.cat_command.specs.declared.indexed.Following.{Following}
+use Rattle.cat_command.specs.declared.indexed.Following.TheVariants as followings
+use Rattle.cat_command.specs.declared.indexed.Followed.{Followed}
+use Rattle.command_base.specs.declared.one_file.Faults.{Faults}
+use Rattle.command_base.specs.Printing.{Takes}
+use Rattle.command_base.specs.Ran.{Scene, counts_in, Complains}
+use Rattle.command_base.specs.OneFile.{failing, text_of, HaltsWell, PrintsEnding, ShowsFaults}
+use Rattle.command_base.proofs.OneFile.{one_troubles, one_not_two, reads_one, halts_so, read_halts, failed_halts, lacked_halts}
+use Rattle.cat_command.specs.Cat.{Selection}
+use Rattle.cat_command.specs.Indexed.{now_of, ComesTo, IsFollowed, ending_of, ShowsLed, IndexedCats}
+use Rattle.cat_command.specs.IndexedNames.{NameFollowed}
+
+-- a reading halts by what the file lacks, by a broken rule, a compression or a limit
+well : (file : List ℕ) (following : Following) → HaltsWell (ending_of file following)
+well file followings.Unopened = failed_halts
+well file (followings.Lines text) = read_halts text
+well file (followings.Refused (refusals.Fault faults)) = failed_halts
+well file (followings.Refused (refusals.NotIndexed why)) = halts_so _ (inl refl)
+well file (followings.Refused (refusals.Flaw rule n)) = halts_so _ (inl refl)
+well file (followings.Refused (refusals.Compressed n name)) = halts_so _ (inl refl)
+well file (followings.Refused (refusals.Limit n)) = halts_so _ (inr refl)
+well file (followings.Refused refusals.Memory) = lacked_halts
+
+-- the status is not that of bad words
+pub indexed_not_two : (asked : Selection) (file : List ℕ) (old new : Scene) (answer : ℕ) → IndexedCats asked file old new answer → answer ≡ 2 → ⊥
+indexed_not_two asked file old new answer all two = one_not_two kinds.Store file old new all.entries (ending_of file all.following) answer (well file all.following) all.ran two
+
+-- ---- the bytes decide
+
+shows_so : (asked : Selection) (file bytes : List ℕ) (store now : StoreState) (following : Following) → store.bytes ≡ Some bytes → ComesTo asked store now following → (ending_of file following ≡ failing → ⊥) → ShowsLed asked bytes following
+shows_so asked file bytes store now followings.Unopened here comes other = comes
+shows_so asked file bytes store now (followings.Lines text) here comes other =
+    let led = comes.1.plays bytes here in
+    (led.shown, led.replay, comes.2 led.shown led.shows)
+shows_so asked file bytes store now (followings.Refused why) here comes other = comes.plays bytes here
+
+shows_bytes : (asked : Selection) (file bytes : List ℕ) (world : WorldState) (told : Told) (entries : List Opening) (following : Following) → IsFollowed asked file world entries following → world.told ≡ Some told → told.names file ≡ Some bytes
+    → (ending_of file following ≡ failing → ⊥) → ShowsLed asked bytes following
+shows_bytes asked file bytes world told [] following is here there other = subst (λ (f : Following). ShowsLed asked bytes f) (sym is) tt
+shows_bytes asked file bytes world told (entry ∷ more) following (inl refused) here there other = absurd (other (ap (ending_of file) refused.1))
+shows_bytes asked file bytes world told (entry ∷ more) following (inr (keeping, is, under)) here there other =
+    shows_so asked file bytes under.store (now_of under.store keeping.faults keeping.asked) following ((under.tells told here).0 ∙ there) under.comes other
+
+scan_so : (asked : Selection) (bytes : List ℕ) (tops : List Top) (end : ℕ) (messages : List Seen) (store now : StoreState) (text : List ℕ) → store.bytes ≡ Some bytes → IsFullyIndexed bytes → Halts reading_limits bytes tops (at_end end) → Scan tops messages
+    → ComesTo asked store now (followings.Lines text) → (shown : List Seen) × Replay asked.range asked.topic messages shown × (text ≡ cat_text shown)
+scan_so asked bytes tops end messages store now text here full halts scan comes =
+    let played = comes.1.scanned bytes tops end messages here full halts scan in
+    (played.0, played.1, comes.2 played.0 played.2)
+
+scan_bytes : (asked : Selection) (file bytes : List ℕ) (tops : List Top) (end : ℕ) (messages : List Seen) (world : WorldState) (told : Told) (entries : List Opening) (following : Following) (text : List ℕ) → IsFollowed asked file world entries following
+    → world.told ≡ Some told → told.names file ≡ Some bytes → IsFullyIndexed bytes → Halts reading_limits bytes tops (at_end end) → Scan tops messages → following ≡ followings.Lines text
+    → (shown : List Seen) × Replay asked.range asked.topic messages shown × (text ≡ cat_text shown)
+scan_bytes asked file bytes tops end messages world told [] following text is here there full halts scan lines = absurd (let apart = sym lines ∙ is in cc)
+scan_bytes asked file bytes tops end messages world told (entry ∷ more) following text (inl refused) here there full halts scan lines = absurd (let apart = sym lines ∙ refused.1 in cc)
+scan_bytes asked file bytes tops end messages world told (entry ∷ more) following text (inr (keeping, is, under)) here there full halts scan lines =
+    let now = now_of under.store keeping.faults keeping.asked in
+    scan_so asked bytes tops end messages under.store now text ((under.tells told here).0 ∙ there) full halts scan (subst (λ (f : Following). ComesTo asked under.store now f) lines under.comes)
+
+-- ---- the command
+
+-- what its calls came to
+pub record AreParts (asked : Selection) (file : List ℕ) (old new : Scene) (followed : Followed) (broke : Bool) (faults : Faults) (answer : ℕ) : Type 0 where
+  pub name : NameFollowed asked file old.world new.world followed
+  pub prints : PrintsEnding old.out new.out (ending_of file followed.following) broke
+  pub takes : Takes old.out new.out (text_of (ending_of file followed.following))
+  pub shows : ShowsFaults (counts_in old) (counts_in new) followed.failed broke faults
+  pub told : Complains (one_troubles file (ending_of file followed.following) faults.file faults.printing) old.err new.err answer
+
+-- all that the program promises of a printing by the indexes
+pub printed : (asked : Selection) (file : List ℕ) (old new : Scene) (followed : Followed) (broke : Bool) (faults : Faults) (answer : ℕ) → AreParts asked file old new followed broke faults answer → IndexedCats asked file old new answer
+printed asked file old new followed broke faults answer parts =
+    let ran = reads_one kinds.Store file old new parts.name.entries (ending_of file followed.following) followed.failed broke faults answer (record {
+      name = parts.name.name;
+      sure = parts.name.sure;
+      well = well file followed.following;
+      prints = parts.prints;
+      takes = parts.takes;
+      shows = parts.shows;
+      told = parts.told;
+    }) in
+    record {
+      entries = parts.name.entries;
+      following = followed.following;
+      followed = parts.name.following;
+      ran = ran;
+      decided = λ told bytes here there quiet.
+          let (calm, is) = ran.calm quiet in
+          (shows_bytes asked file bytes old.world told parts.name.entries followed.following parts.name.following here there (λ e. both_ways ran.failed calm (ran.sure e)), is);
+      scanned = λ told bytes tops end messages text here there full halts scan lines.
+          scan_bytes asked file bytes tops end messages old.world told parts.name.entries followed.following text parts.name.following here there full halts scan lines;
+    }

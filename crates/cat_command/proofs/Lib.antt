@@ -1,0 +1,4 @@
+mod IndexedNames
+mod Names
+pub mod Cats
+pub mod Followings

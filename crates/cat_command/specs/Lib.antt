@@ -1,0 +1,4 @@
+pub mod Cat
+pub mod Indexed
+pub mod IndexedNames
+pub mod Names

@@ -1,0 +1,94 @@
+-- What the opening, the check and the keeping of a file's name come to.
+use Rattle.std.proofs.Common.{◌≡◌, ℕ, ◌^◌, ◌<◌, Bool, List, [], ◌∷◌, Result, Err, refl, inl, inr, arith}
+use Rattle.std.specs.Prelude.{true, false}
+use Rattle.std.specs.Option.{option_map}
+use Rattle.mcap_io.specs.Outside.{HasCause, Opens, OpenCause, CountsStand, added, Keeping, Told, opened, with_opening, went_well, WorldState}
+use Rattle.mcap_io.specs.Stores.{StoreState, IsUnused, TellsStore, KeepsStore}
+use Rattle.mcap_io.specs.declared.outside.Failed.{Failed}
+use Rattle.mcap_io.specs.declared.outside.ObjectKind.TheVariants as kinds
+use Rattle.mcap_io.specs.declared.outside.OpenRefused.{OpenRefused}
+use Rattle.mcap_io.specs.declared.outside.OpenRefused.TheVariants as open_refusals
+use Rattle.file_check.specs.declared.refusals.CheckRefused.TheVariants as refusals
+use Rattle.check_command.specs.declared.checking.Judgement.{Judgement}
+use Rattle.check_command.specs.declared.checking.Judgement.TheVariants as judgements
+use Rattle.check_command.specs.declared.checking.Judged.{Judged}
+use Rattle.command_base.specs.Ran.{kept, refused, failed_so}
+use Rattle.command_base.specs.OneFile.{failing}
+use Rattle.command_base.proofs.Counting.{failed_often}
+use Rattle.command_base.proofs.OneFile.{store_input, store_keeping, unopened as name_unopened, unopened_for_memory, same_back, taken_back, read_sure, halted_sure, lacked_sure}
+use Rattle.check_command.specs.Check.{ComesTo, ending_of}
+use Rattle.check_command.specs.Names.{NameJudged}
+
+abbrev pub judged : Judgement → Bool → Judged
+judged judgement broken = record { judgement = judgement; failed = broken }
+
+-- a check that failed has a store that failed
+sure : (file : List ℕ) (store : StoreState) (faults : ℕ) (judgement : Judgement) (well : Bool) → store.faults ≡ 0 → ComesTo store faults judgement → ending_of file judgement ≡ failing → failed_so well faults ≡ true
+sure file store faults judgements.Unopened well unused comes e = absurd comes
+sure file store faults (judgements.Given verdict) well unused comes e = read_sure _ (failed_so well faults) e
+sure file store faults (judgements.Refused (refusals.Fault count)) well unused comes e =
+    let rises = comes.cause.0 in
+    failed_often well faults (λ none. omega (arith, rises.once, none, unused))
+sure file store faults (judgements.Refused (refusals.Compressed n name)) well unused comes e = halted_sure _ (failed_so well faults) e
+sure file store faults (judgements.Refused (refusals.Limit n)) well unused comes e = halted_sure _ (failed_so well faults) e
+sure file store faults (judgements.Refused refusals.Memory) well unused comes e = lacked_sure (failed_so well faults) e
+
+module _ (file : List ℕ) where
+  -- the opening failed
+  pub unopened : (old new : WorldState) (why : OpenRefused) → why ≡ open_refusals.Failed → Opens {T = Unit} old new kinds.Store file (Err why) → CountsStand old new → OpenCause {T = Unit} old.faults new.faults (Err why)
+      → old.input_faults < 2 ^ 64 → old.output_faults < 2 ^ 64 → NameJudged file old new (judged judgements.Unopened true)
+  unopened old new why is opens stand cause inputs_fit outputs_fit = record {
+    entries = refused kinds.Store file ∷ [];
+    judgement = inl (refl, refl);
+    name = name_unopened kinds.Store file old new why is opens stand cause inputs_fit outputs_fit store_input;
+    sure = λ e. refl;
+  }
+
+  -- memory lacked for the opening
+  pub lacked : (old new : WorldState) (why : OpenRefused) → why ≡ open_refusals.Memory → Opens {T = Unit} old new kinds.Store file (Err why) → CountsStand old new → OpenCause {T = Unit} old.faults new.faults (Err why)
+      → old.faults < 2 ^ 64 → old.input_faults < 2 ^ 64 → old.output_faults < 2 ^ 64 → NameJudged file old new (judged (judgements.Refused refusals.Memory) false)
+  lacked old new why is opens stand cause world_fits inputs_fit outputs_fit = record {
+    entries = [];
+    judgement = refl;
+    name = unopened_for_memory kinds.Store file old new why is opens stand cause world_fits inputs_fit outputs_fit;
+    sure = lacked_sure false;
+  }
+
+  -- what was seen of the world at each of the calls: the store was opened, checked, and taken back
+  pub record IsGiven (w0 w1 w2 : WorldState) (store store_now : StoreState) (judgement : Judgement) (result : Result Unit Failed) : Type 0 where
+    pub opens : w1.told ≡ option_map (λ (t : Told). with_opening t (opened kinds.Store file true)) w0.told
+    pub stands : CountsStand w0 w1
+    pub still : w1.faults ≡ w0.faults
+    pub tells : TellsStore w0 file store
+    pub unused : IsUnused store
+    pub comes : ComesTo store store_now.faults judgement
+    pub keeps : KeepsStore w1 w2 file store_now result
+    pub inputs : w2.input_faults ≡ added w1.input_faults store_now.faults
+    pub outputs : w2.output_faults ≡ w1.output_faults
+    pub cause : HasCause w1.faults w2.faults result
+    pub world_fits : w0.faults < 2 ^ 64
+    pub inputs_fit : w0.input_faults < 2 ^ 64
+    pub outputs_fit : w0.output_faults < 2 ^ 64
+
+  pub judged_back : (w0 w1 w2 : WorldState) (store store_now : StoreState) (judgement : Judgement) (result : Result Unit Failed) → IsGiven w0 w1 w2 store store_now judgement result
+      → NameJudged file w0 w2 (judged judgement (failed_so (went_well result) store_now.faults))
+  judged_back w0 w1 w2 store store_now judgement result a =
+      let keeping : Keeping = store_keeping store_now result in
+      record {
+        entries = kept kinds.Store file keeping ∷ [];
+        judgement = inr (keeping, refl, record { store = store; tells = a.tells; unused = a.unused; comes = a.comes });
+        name = taken_back kinds.Store file w0 w1 w2 keeping result (record {
+          same = same_back kinds.Store file w0 w1 w2 keeping a.opens a.keeps;
+          well_is = refl;
+          stands = a.stands;
+          still = a.still;
+          inputs = a.inputs;
+          outputs = a.outputs;
+          cause = a.cause;
+          world_fits = a.world_fits;
+          inputs_fit = a.inputs_fit;
+          outputs_fit = a.outputs_fit;
+          input = store_input;
+        });
+        sure = sure file store store_now.faults judgement (went_well result) a.unused.faults a.comes;
+      }

@@ -1,0 +1,452 @@
+-- What the calls of a command come to that reads one file and prints of it.
+use Rattle.std.proofs.Common.{◌≡◌, ◌⊎◌, ℕ, zero, suc, ◌^◌, ◌<◌, not, Bool, true, false, cond, ◌||◌, ◌==◌, if◌then◌else◌, List, [], ◌∷◌, ◌++◌, Some, None, Result, Err, refl, sym, ap, subst, inl, inr, ◌∙◌, arith}
+use Rattle.std.specs.Option.{option_map}
+use Rattle.std.proofs.lemmas.List.{append-nil}
+use Rattle.std.proofs.lemmas.Bool.{both_ways, ne_eqb}
+use Rattle.mcap_io.specs.Outside.{Rose, RisesOnce, HasCause, Opens, OpenCause, CountsStand, added, SinkState, WorldState, Opening, Keeping, Told, opened, with_opening, went_well, NoneIsOut, Notes}
+use Rattle.mcap_io.proofs.Notes.{noted_in}
+use Rattle.mcap_io.specs.Stores.{StoreState}
+use Rattle.mcap_io.specs.declared.outside.Failed.{Failed}
+use Rattle.mcap_io.specs.declared.outside.ObjectKind.{ObjectKind}
+use Rattle.mcap_io.specs.declared.outside.ObjectKind.TheVariants as kinds
+use Rattle.mcap_io.specs.declared.outside.OpenRefused.{OpenRefused}
+use Rattle.mcap_io.specs.declared.outside.OpenRefused.TheVariants as open_refusals
+use Rattle.command_base.specs.declared.faults.Counts.{Counts}
+use Rattle.command_base.specs.declared.one_file.Faults.{Faults}
+use Rattle.command_base.specs.Printing.{TellsAll, Takes}
+use Rattle.command_base.specs.Texts.{Trouble, bad_words, fault, output_fault, grammar, compressed, limit, output_limit, not_indexed, flaw, no_memory, asked_status, status_of}
+use Rattle.command_base.specs.Ran.{Scene, counts_in, AnyRose, IsCaused, Blames, kept, refused, failed_so, source_faults, live_faults, named_when, troubles_of, Complains}
+use Rattle.command_base.specs.OneFile.{Ending, was_read, halted, failing, lacked, text_of, is_lack, findings_of, ending_status, IsHalt, HaltsWell, files_of, NameRead, PrintsEnding, AskedRose, ShowsFaults, ReadsOne}
+use Rattle.command_base.proofs.Counting.{added_none, kept_adds, kept_well, still_where, blamed, not_risen}
+use Rattle.command_base.proofs.Opened.{tells_more, SameNames, leaves_same}
+use Rattle.command_base.proofs.Blamed.{each_one, some_one}
+
+-- ---- tests
+
+is_false : (b : Bool) → (b ≡ true → ⊥) → b ≡ false
+is_false true none = absurd (none refl)
+is_false false none = refl
+
+is_true : (b : Bool) → (b ≡ false → ⊥) → b ≡ true
+is_true true none = refl
+is_true false none = absurd (none refl)
+
+same_tests : (a b : Bool) → (a ≡ true → b ≡ true) → (b ≡ true → a ≡ true) → a ≡ b
+same_tests true b there back = sym (there refl)
+same_tests false b there back = sym (is_false b (λ is. both_ways false refl (back is)))
+
+either : (a b : Bool) → (a ≡ true) ⊎ (b ≡ true) → (a || b) ≡ true
+either true b some = refl
+either false b (inl is) = absurd cc
+either false b (inr is) = is
+
+which : (a b : Bool) → (a || b) ≡ true → (a ≡ true) ⊎ (b ≡ true)
+which true b some = inl refl
+which false b some = inr some
+
+neither : (a b : Bool) → a ≡ false → b ≡ false → (a || b) ≡ false
+neither true b first second = absurd cc
+neither false b first second = second
+
+-- what holds of each two answers
+each_two : (P : Bool → Bool → Type 0) → P true true → P true false → P false true → P false false → (a b : Bool) → P a b
+each_two P tt_is tf_is ft_is ff_is true true = tt_is
+each_two P tt_is tf_is ft_is ff_is true false = tf_is
+each_two P tt_is tf_is ft_is ff_is false true = ft_is
+each_two P tt_is tf_is ft_is ff_is false false = ff_is
+
+-- ---- the status
+
+abbrev pub one_troubles : List ℕ → Ending → Bool → Bool → List Trouble
+one_troubles file ending broken printing = troubles_of (findings_of ending) (named_when broken file ++ []) printing
+
+-- what the ending asks for besides a want of memory and a fault
+abbrev own : Ending → ℕ
+own (was_read text) = 0
+own (halted trouble) = asked_status trouble
+own failing = 0
+own lacked = 0
+
+abbrev number_of : Ending → Bool → Bool → ℕ
+number_of ending broken printing = cond (is_lack ending) 5 (cond (broken || printing) 3 (own ending))
+
+abbrev IsStatus : List ℕ → Ending → Bool → Bool → Type 0
+IsStatus file ending broken printing = status_of (one_troubles file ending broken printing) ≡ number_of ending broken printing
+
+impossible : (n : ℕ) (A : Type 0) → (n ≡ 1) ⊎ (n ≡ 4) → (n ≡ 2) ⊎ ((n ≡ 3) ⊎ (n ≡ 5)) → A
+impossible n A one other = absurd (elim one [
+  | inl is ↦ elim other [ inl two ↦ omega (arith, is, two) | inr (inl three) ↦ omega (arith, is, three) | inr (inr five) ↦ omega (arith, is, five) ]
+  | inr is ↦ elim other [ inl two ↦ omega (arith, is, two) | inr (inl three) ↦ omega (arith, is, three) | inr (inr five) ↦ omega (arith, is, five) ]
+])
+
+halted_is : (file : List ℕ) (trouble : Trouble) → (asked_status trouble ≡ 1) ⊎ (asked_status trouble ≡ 4) → (a b : Bool) → IsStatus file (halted trouble) a b
+halted_is file bad_words is a b = impossible 2 _ is (inl refl)
+halted_is file (fault name) is a b = impossible 3 _ is (inr (inl refl))
+halted_is file output_fault is a b = impossible 3 _ is (inr (inl refl))
+halted_is file (grammar name n) is a b = each_two (IsStatus file (halted (grammar name n))) refl refl refl refl a b
+halted_is file (compressed name compression n) is a b = each_two (IsStatus file (halted (compressed name compression n))) refl refl refl refl a b
+halted_is file (limit name n) is a b = each_two (IsStatus file (halted (limit name n))) refl refl refl refl a b
+halted_is file (output_limit name) is a b = each_two (IsStatus file (halted (output_limit name))) refl refl refl refl a b
+halted_is file (not_indexed name why) is a b = each_two (IsStatus file (halted (not_indexed name why))) refl refl refl refl a b
+halted_is file (flaw name rule n) is a b = each_two (IsStatus file (halted (flaw name rule n))) refl refl refl refl a b
+halted_is file no_memory is a b = impossible 5 _ is (inr (inr refl))
+
+status_is : (file : List ℕ) (ending : Ending) → HaltsWell ending → (a b : Bool) → IsStatus file ending a b
+status_is file (was_read text) well a b = each_two (IsStatus file (was_read text)) refl refl refl refl a b
+status_is file (halted trouble) well a b = halted_is file trouble (well trouble refl) a b
+status_is file failing well a b = each_two (IsStatus file failing) refl refl refl refl a b
+status_is file lacked well a b = each_two (IsStatus file lacked) refl refl refl refl a b
+
+-- the status is 5, or that of what failed and of the ending
+answered : (file : List ℕ) (ending : Ending) (faults : Faults) (before now : SinkState) (answer : ℕ) → HaltsWell ending → Complains (one_troubles file ending faults.file faults.printing) before now answer
+    → (answer ≡ 5) ⊎ (answer ≡ number_of ending faults.file faults.printing)
+answered file ending faults before now answer well a = elim a.are [
+  | inl due ↦ inr (sym a.status_is ∙ ap status_of due ∙ status_is file ending well faults.file faults.printing)
+  | inr alone ↦ inl (sym a.status_is ∙ ap status_of alone)
+]
+
+own_other : (ending : Ending) (n : ℕ) → HaltsWell ending → own ending ≡ n → (n ≡ 2) ⊎ ((n ≡ 3) ⊎ (n ≡ 5)) → ⊥
+own_other (was_read text) n well e other = elim other [ inl two ↦ omega (arith, e, two) | inr (inl three) ↦ omega (arith, e, three) | inr (inr five) ↦ omega (arith, e, five) ]
+own_other (halted trouble) n well e other = impossible (asked_status trouble) ⊥ (well trouble refl) (subst (λ (k : ℕ). (k ≡ 2) ⊎ ((k ≡ 3) ⊎ (k ≡ 5))) (sym e) other)
+own_other failing n well e other = elim other [ inl two ↦ omega (arith, e, two) | inr (inl three) ↦ omega (arith, e, three) | inr (inr five) ↦ omega (arith, e, five) ]
+own_other lacked n well e other = elim other [ inl two ↦ omega (arith, e, two) | inr (inl three) ↦ omega (arith, e, three) | inr (inr five) ↦ omega (arith, e, five) ]
+
+number_not_two : (lacks some : Bool) (n : ℕ) → (n ≡ 2 → ⊥) → cond lacks 5 (cond some 3 n) ≡ 2 → ⊥
+number_not_two true some n other e = omega (arith, e)
+number_not_two false true n other e = omega (arith, e)
+number_not_two false false n other e = other e
+
+number_three : (lacks some : Bool) (n : ℕ) → (n ≡ 3 → ⊥) → cond lacks 5 (cond some 3 n) ≡ 3 → some ≡ true
+number_three true some n other e = absurd (omega (arith, e))
+number_three false true n other e = refl
+number_three false false n other e = absurd (other e)
+
+three_or : (lacks some : Bool) (n answer : ℕ) → some ≡ true → answer ≡ cond lacks 5 (cond some 3 n) → (answer ≡ 3) ⊎ (answer ≡ 5)
+three_or true some n answer risen is = inr is
+three_or false true n answer risen is = inl is
+three_or false false n answer risen is = absurd cc
+
+-- the status is not that of bad words
+pub one_not_two : (kind : ObjectKind) (file : List ℕ) (old new : Scene) (entries : List Opening) (ending : Ending) (answer : ℕ) → HaltsWell ending → ReadsOne kind file old new entries ending answer → answer ≡ 2 → ⊥
+one_not_two kind file old new entries ending answer well all two =
+    let due : troubles_of (findings_of ending) all.ran.failed all.ran.printing ≡ one_troubles file ending all.faults.file all.faults.printing =
+    ap (λ (l : List (List ℕ)). troubles_of (findings_of ending) l all.ran.printing) all.blame ∙ ap (one_troubles file ending all.faults.file) all.printing_is in
+    let told : Complains (one_troubles file ending all.faults.file all.faults.printing) old.err new.err answer =
+    subst (λ (l : List Trouble). Complains l old.err new.err answer) due all.ran.said in
+    elim (answered file ending all.faults old.err new.err answer well told) [
+      | inl five ↦ omega (arith, five, two)
+      | inr is ↦ number_not_two (is_lack ending) (all.faults.file || all.faults.printing) (own ending) (λ e. own_other ending 2 well e (inl refl)) (sym is ∙ two)
+    ]
+
+-- ---- endings
+
+pub halts_so : (trouble : Trouble) → IsHalt trouble → HaltsWell (halted trouble)
+halts_so trouble is other e = subst IsHalt (same trouble other e) is
+  where
+    same : (a b : Trouble) → halted a ≡ halted b → a ≡ b
+    same a b e = cc
+
+pub read_halts : (text : List ℕ) → HaltsWell (was_read text)
+read_halts text trouble e = absurd cc
+
+pub failed_halts : HaltsWell failing
+failed_halts trouble e = absurd cc
+
+pub lacked_halts : HaltsWell lacked
+lacked_halts trouble e = absurd cc
+
+pub lacked_sure : (broken : Bool) → lacked ≡ failing → broken ≡ true
+lacked_sure broken e = absurd cc
+
+pub read_sure : (text : List ℕ) (broken : Bool) → was_read text ≡ failing → broken ≡ true
+read_sure text broken e = absurd cc
+
+pub halted_sure : (trouble : Trouble) (broken : Bool) → halted trouble ≡ failing → broken ≡ true
+halted_sure trouble broken e = absurd cc
+
+-- ---- the command
+
+-- what its calls came to
+pub record AreParts (kind : ObjectKind) (file : List ℕ) (old new : Scene) (entries : List Opening) (ending : Ending) (broken broke : Bool) (faults : Faults) (answer : ℕ) : Type 0 where
+  pub name : NameRead kind file old.world new.world entries broken
+  -- a reading that failed has a name that is blamed
+  pub sure : ending ≡ failing → broken ≡ true
+  pub well : HaltsWell ending
+  pub prints : PrintsEnding old.out new.out ending broke
+  pub takes : Takes old.out new.out (text_of ending)
+  pub shows : ShowsFaults (counts_in old) (counts_in new) broken broke faults
+  pub told : Complains (one_troubles file ending faults.file faults.printing) old.err new.err answer
+
+-- a write that failed shows in the count
+broke_rose : (before now : SinkState) (ending : Ending) (broke : Bool) → PrintsEnding before now ending broke → broke ≡ true → Rose before.faults now.faults
+broke_rose before now (was_read text) broke (inl all) is = absurd (both_ways broke all.0 is)
+broke_rose before now (was_read text) broke (inr part) is = omega (arith, part.1.rises.once)
+broke_rose before now (halted trouble) broke prints is = absurd (both_ways broke prints.0 is)
+broke_rose before now failing broke prints is = absurd (both_ways broke prints.0 is)
+broke_rose before now lacked broke prints is = absurd (both_ways broke prints.0 is)
+
+some_number : (lacks : Bool) (n : ℕ) → cond lacks 5 (cond true 3 n) ≡ 0 → ⊥
+some_number true n e = omega (arith, e)
+some_number false n e = omega (arith, e)
+
+-- with the status 0 the file was read, and nothing failed
+all_read : (ending : Ending) (broken printing : Bool) → HaltsWell ending → number_of ending broken printing ≡ 0 → (broken ≡ false → ending ≡ failing → ⊥) → (text : List ℕ) × (ending ≡ was_read text) × (broken ≡ false) × (printing ≡ false)
+all_read ending true printing well e calm = absurd (some_number (is_lack ending) (own ending) e)
+all_read ending false true well e calm = absurd (some_number (is_lack ending) (own ending) e)
+all_read (was_read text) false false well e calm = (text, refl, refl, refl)
+all_read (halted trouble) false false well e calm = absurd (elim (well trouble refl) [ inl one ↦ omega (arith, one, e) | inr four ↦ omega (arith, four, e) ])
+all_read failing false false well e calm = absurd (calm refl refl)
+all_read lacked false false well e calm = absurd (omega (arith, e))
+
+all_taken : (before now : SinkState) (ending : Ending) (broke : Bool) (text : List ℕ) → PrintsEnding before now ending broke → ending ≡ was_read text → broke ≡ false → TellsAll before now text
+all_taken before now ending broke text prints is well =
+    let P : Ending → Type 0 = λ e. PrintsEnding before now e broke in
+    elim (subst P is prints) [ inl all ↦ all.1 | inr part ↦ absurd (both_ways broke well part.0) ]
+
+-- where nothing failed the ending decides
+calm_status : (ending : Ending) → (ending ≡ failing → ⊥) → cond (is_lack ending) 5 (own ending) ≡ ending_status ending
+calm_status (was_read text) other = refl
+calm_status (halted trouble) other = refl
+calm_status failing other = absurd (other refl)
+calm_status lacked other = refl
+
+module _ (kind : ObjectKind) (file : List ℕ) (old new : Scene) (entries : List Opening) (ending : Ending) (broken broke : Bool) (faults : Faults) (answer : ℕ) (parts : AreParts kind file old new entries ending broken broke faults answer) where
+  abbrev answer_is : (answer ≡ 5) ⊎ (answer ≡ number_of ending faults.file faults.printing)
+  answer_is = answered file ending faults old.err new.err answer parts.well parts.told
+
+  rose : AskedRose (counts_in old) (counts_in new) → (answer ≡ 3) ⊎ (answer ≡ 5)
+  rose risen =
+      let some : (faults.file || faults.printing) ≡ true = either faults.file faults.printing (elim risen [
+        | inl world ↦ inl (parts.shows.file_told (inr (inl world)))
+        | inr (inl inputs) ↦ inl (parts.shows.file_told (inr (inr inputs)))
+        | inr (inr printing) ↦ inr (parts.shows.printing_told (inr printing))
+      ]) in
+      elim answer_is [
+        | inl five ↦ inr five
+        | inr is ↦ three_or (is_lack ending) (faults.file || faults.printing) (own ending) answer some is
+      ]
+
+  file_rose : faults.file ≡ true → Rose old.world.faults new.world.faults ⊎ Rose old.world.input_faults new.world.input_faults
+  file_rose blamed_is = elim (parts.shows.file_cause blamed_is) [ inl is ↦ parts.name.cause is | inr risen ↦ risen ]
+
+  printing_rose : faults.printing ≡ true → Rose old.out.faults new.out.faults
+  printing_rose blamed_is = elim (parts.shows.printing_cause blamed_is) [ inl is ↦ broke_rose old.out new.out ending broke parts.prints is | inr risen ↦ risen ]
+
+  three : answer ≡ 3 → AskedRose (counts_in old) (counts_in new)
+  three is_three = elim answer_is [
+    | inl five ↦ absurd (omega (arith, five, is_three))
+    | inr is ↦ elim (which faults.file faults.printing (number_three (is_lack ending) (faults.file || faults.printing) (own ending) (λ e. own_other ending 3 parts.well e (inr (inl refl))) (sym is ∙ is_three))) [
+      | inl blamed_is ↦ elim (file_rose blamed_is) [ inl world ↦ inl world | inr inputs ↦ inr (inl inputs) ]
+      | inr blamed_is ↦ inr (inr (printing_rose blamed_is))
+    ]
+  ]
+
+  -- where no count rose nothing failed
+  file_calm : (AnyRose (counts_in old) (counts_in new) → ⊥) → faults.file ≡ false
+  file_calm quiet = is_false faults.file (λ blamed_is. elim (file_rose blamed_is) [ inl world ↦ quiet (inl world) | inr inputs ↦ quiet (inr (inl inputs)) ])
+
+  printing_calm : (AnyRose (counts_in old) (counts_in new) → ⊥) → faults.printing ≡ false
+  printing_calm quiet = is_false faults.printing (λ blamed_is. quiet (inr (inr (inr (printing_rose blamed_is)))))
+
+  -- a part that isn't blamed didn't fail
+  unblamed : faults.file ≡ false → broken ≡ false
+  unblamed well = is_false broken (λ is. both_ways faults.file well (parts.shows.file_told (inl is)))
+
+  calm : (AnyRose (counts_in old) (counts_in new) → ⊥) → (broken ≡ false) × ((answer ≡ ending_status ending) ⊎ (answer ≡ 5))
+  calm quiet =
+      let well = unblamed (file_calm quiet) in
+      let none : (faults.file || faults.printing) ≡ false = neither faults.file faults.printing (file_calm quiet) (printing_calm quiet) in (
+        well,
+        elim answer_is [
+          | inl five ↦ inr five
+          | inr is ↦ inl (is ∙ ap (λ (b : Bool). cond (is_lack ending) 5 (cond b 3 (own ending))) none ∙ calm_status ending (λ e. both_ways broken well (parts.sure e)))
+        ],
+      )
+
+  whole : answer ≡ 0 → (broken ≡ false) × ((text : List ℕ) × (ending ≡ was_read text) × TellsAll old.out new.out text)
+  whole zero_is =
+      let number : number_of ending faults.file faults.printing ≡ 0 = elim answer_is [
+        | inl five ↦ absurd (omega (arith, five, zero_is))
+        | inr is ↦ sym is ∙ zero_is
+      ] in
+      let all = all_read ending faults.file faults.printing parts.well number (λ well e. both_ways broken (unblamed well) (parts.sure e)) in
+      let well : broke ≡ false = is_false broke (λ is. both_ways faults.printing all.3 (parts.shows.printing_told (inl is))) in
+      (unblamed all.2, (all.0, all.1, all_taken old.out new.out ending broke all.0 parts.prints all.1 well))
+
+  blames : Blames (files_of kind file) old.world new.world entries (named_when faults.file file ++ [])
+  blames = record {
+    exact = λ on.
+        let same : faults.file ≡ broken = same_tests faults.file broken (λ blamed_is. elim (parts.shows.file_cause blamed_is) [
+          | inl is ↦ is
+          | inr (inl world) ↦ is_true broken (λ none. not_risen ⊥ old.world.faults new.world.faults on.world (parts.name.world_told none) world)
+          | inr (inr inputs) ↦ is_true broken (λ none. not_risen ⊥ old.world.input_faults new.world.input_faults on.inputs (parts.name.inputs_told none) inputs)
+        ]) (λ is. parts.shows.file_told (inl is)) in
+        ap (λ (b : Bool). named_when b file ++ []) same ∙ sym parts.name.names_are;
+    caused = each_one (IsCaused (files_of kind file) old.world new.world) faults.file file (λ blamed_is. elim (file_rose blamed_is) [ inl world ↦ inl world | inr inputs ↦ inr (inl ((0, refl), inputs)) ]);
+    told = λ on risen none.
+        let well : faults.file ≡ false = is_false faults.file (λ is. some_one faults.file file is none) in
+        elim risen [
+          | inl world ↦ both_ways faults.file well (parts.shows.file_told (inr (inl world)))
+          | inr (inl inputs) ↦ both_ways faults.file well (parts.shows.file_told (inr (inr inputs)))
+          | inr (inr outputs) ↦ not_risen ⊥ old.world.output_faults new.world.output_faults on.outputs parts.name.outputs outputs
+        ];
+  }
+
+  -- all that is promised of the command
+  pub reads_one : ReadsOne kind file old new entries ending answer
+  reads_one = record {
+    ran = record {
+      opened = parts.name.opened;
+      leaves = parts.name.leaves;
+      counts = parts.name.counts;
+      printed = parts.takes;
+      failed = named_when faults.file file ++ [];
+      blames = blames;
+      printing = faults.printing;
+      blames_output = record { caused = printing_rose; told = λ on risen. parts.shows.printing_told (inr risen) };
+      said = parts.told;
+    };
+    failed = broken;
+    names_are = parts.name.names_are;
+    sure = parts.sure;
+    broke = broke;
+    printed = parts.prints;
+    faults = faults;
+    shows = parts.shows;
+    blame = refl;
+    printing_is = refl;
+    rose = rose;
+    three = three;
+    calm = calm;
+    whole = whole;
+  }
+
+-- what holds of counts holds of equal ones
+pub shows_at : (b before n now : Counts) (broken broke : Bool) (faults : Faults) → b ≡ before → n ≡ now → ShowsFaults b n broken broke faults → ShowsFaults before now broken broke faults
+shows_at b before n now broken broke faults same same_now shows =
+    subst (λ (x : Counts). ShowsFaults before x broken broke faults) same_now (subst (λ (x : Counts). ShowsFaults x n broken broke faults) same shows)
+
+-- ---- the file's name
+
+-- an object of an input
+pub record IsInput (kind : ObjectKind) : Type 0 where
+  pub inputs : (n : ℕ) → source_faults kind n ≡ n
+  pub outputs : (n : ℕ) → live_faults kind n ≡ 0
+
+pub source_input : IsInput kinds.Source
+source_input = record { inputs = λ n. refl; outputs = λ n. refl }
+
+pub store_input : IsInput kinds.Store
+store_input = record { inputs = λ n. refl; outputs = λ n. refl }
+
+module _ (kind : ObjectKind) (file : List ℕ) where
+  -- the opening failed
+  opening_failed : (old new : WorldState) → new.told ≡ option_map (λ (t : Told). with_opening t (refused kind file)) old.told → CountsStand old new → RisesOnce old.faults new.faults
+      → old.input_faults < 2 ^ 64 → old.output_faults < 2 ^ 64 → IsInput kind → NameRead kind file old new (refused kind file ∷ []) true
+  opening_failed old new opens stand rises inputs_fit outputs_fit input =
+      let entries : List Opening = refused kind file ∷ [] in
+      let same : SameNames old new entries = λ told here. (with_opening told (refused kind file), tells_more old.told new.told (refused kind file) told opens here, refl, refl) in
+      record {
+        opened = inl (refl, refl);
+        leaves = leaves_same old new entries same;
+        counts = record {
+          world = rises.once;
+          inputs = omega (arith, added_none old.input_faults new.input_faults inputs_fit stand.inputs, input.inputs 0);
+          outputs = omega (arith, added_none old.output_faults new.output_faults outputs_fit stand.outputs, input.outputs 0);
+        };
+        names_are = refl;
+        cause = λ is. inl (omega (arith, rises.once));
+        world_told = λ is. absurd cc;
+        inputs_told = λ is. stand.inputs;
+        outputs = stand.outputs;
+      }
+
+  pub unopened : (old new : WorldState) (why : OpenRefused) → why ≡ open_refusals.Failed → Opens {T = Unit} old new kind file (Err why) → CountsStand old new → OpenCause {T = Unit} old.faults new.faults (Err why)
+      → old.input_faults < 2 ^ 64 → old.output_faults < 2 ^ 64 → IsInput kind → NameRead kind file old new (refused kind file ∷ []) true
+  unopened old new open_refusals.Failed is opens stand cause inputs_fit outputs_fit input = opening_failed old new opens stand cause inputs_fit outputs_fit input
+  unopened old new open_refusals.Memory is opens stand cause inputs_fit outputs_fit input = absurd cc
+
+  -- memory lacked for the opening
+  lacked_so : (old new : WorldState) → new.told ≡ old.told → CountsStand old new → new.faults ≡ old.faults
+      → old.faults < 2 ^ 64 → old.input_faults < 2 ^ 64 → old.output_faults < 2 ^ 64 → NameRead kind file old new [] false
+  lacked_so old new told_on stand still world_fits inputs_fit outputs_fit =
+      let same : SameNames old new [] = λ told here. (told, told_on ∙ here, sym (append-nil told.log), refl) in
+      record {
+        opened = tt;
+        leaves = leaves_same old new [] same;
+        counts = record { world = added_none old.faults new.faults world_fits still; inputs = added_none old.input_faults new.input_faults inputs_fit stand.inputs; outputs = added_none old.output_faults new.output_faults outputs_fit stand.outputs };
+        names_are = refl;
+        cause = λ is. absurd cc;
+        world_told = λ is. still;
+        inputs_told = λ is. stand.inputs;
+        outputs = stand.outputs;
+      }
+
+  pub unopened_for_memory : (old new : WorldState) (why : OpenRefused) → why ≡ open_refusals.Memory → Opens {T = Unit} old new kind file (Err why) → CountsStand old new → OpenCause {T = Unit} old.faults new.faults (Err why)
+      → old.faults < 2 ^ 64 → old.input_faults < 2 ^ 64 → old.output_faults < 2 ^ 64 → NameRead kind file old new [] false
+  unopened_for_memory old new open_refusals.Failed is opens stand cause world_fits inputs_fit outputs_fit = absurd cc
+  unopened_for_memory old new open_refusals.Memory is opens stand cause world_fits inputs_fit outputs_fit = lacked_so old new opens stand cause world_fits inputs_fit outputs_fit
+
+  -- an object without a failure never failed
+  never : (well : Bool) (faults : ℕ) → failed_so well faults ≡ false → faults ≡ 0
+  never true zero is = refl
+  never true (suc n) is = absurd (both_ways (not (suc n == 0)) is (ap not (ne_eqb (suc n) 0 (λ none. omega (arith, none)))))
+  never false faults is = absurd cc
+
+  -- what was seen of the world at each of the calls: the object was opened, and taken back
+  pub record IsTakenBack (w0 w1 w2 : WorldState) (keeping : Keeping) (result : Result Unit Failed) : Type 0 where
+    pub same : SameNames w0 w2 (kept kind file keeping ∷ [])
+    pub well_is : keeping.well ≡ went_well result
+    pub stands : CountsStand w0 w1
+    pub still : w1.faults ≡ w0.faults
+    pub inputs : w2.input_faults ≡ added w1.input_faults keeping.faults
+    pub outputs : w2.output_faults ≡ w1.output_faults
+    pub cause : HasCause w1.faults w2.faults result
+    pub world_fits : w0.faults < 2 ^ 64
+    pub inputs_fit : w0.input_faults < 2 ^ 64
+    pub outputs_fit : w0.output_faults < 2 ^ 64
+    pub input : IsInput kind
+
+  pub taken_back : (w0 w1 w2 : WorldState) (keeping : Keeping) (result : Result Unit Failed) → IsTakenBack w0 w1 w2 keeping result → NameRead kind file w0 w2 (kept kind file keeping ∷ []) (failed_so keeping.well keeping.faults)
+  taken_back w0 w1 w2 keeping result a =
+      let inputs_are : w2.input_faults ≡ added w0.input_faults keeping.faults = a.inputs ∙ ap (λ (n : ℕ). added n keeping.faults) a.stands.inputs in
+      let same_outputs : w2.output_faults ≡ w0.output_faults = a.outputs ∙ a.stands.outputs in
+      let failures : w2.faults ≡ added w1.faults (if keeping.well then 0 else 1) =
+      kept_adds w1.faults w2.faults result (omega (arith, a.still, a.world_fits)) a.cause ∙ ap (λ (b : Bool). added w1.faults (if b then 0 else 1)) (sym a.well_is) in
+      record {
+        opened = inr (keeping, refl, refl);
+        leaves = leaves_same w0 w2 (kept kind file keeping ∷ []) a.same;
+        counts = record {
+          world = omega (arith, a.still, failures);
+          inputs = omega (arith, inputs_are, a.input.inputs keeping.faults);
+          outputs = omega (arith, same_outputs, a.outputs_fit, a.input.outputs keeping.faults);
+        };
+        names_are = refl;
+        cause = λ is. blamed w0.faults w1.faults w2.faults w2.faults w0.input_faults w2.input_faults keeping.faults result (omega (arith, a.still)) a.cause (omega arith) a.inputs_fit inputs_are
+            (subst (λ (b : Bool). failed_so b keeping.faults ≡ true) a.well_is is);
+        world_told = λ is. still_where w1.faults w2.faults result a.cause (sym a.well_is ∙ kept_well keeping.well keeping.faults is) ∙ a.still;
+        inputs_told = λ is. omega (arith, inputs_are, never keeping.well keeping.faults is, a.inputs_fit);
+        outputs = same_outputs;
+      }
+
+  none_last : NoneIsOut kind file []
+  none_last k d within = absurd (omega (arith, within))
+
+  -- the entry of an object that was opened last is the one in which its keeping is noted
+  noted_last : (log new : List Opening) (keeping : Keeping) → Notes (log ++ opened kind file true ∷ []) new kind file keeping → new ≡ log ++ kept kind file keeping ∷ []
+  noted_last log new keeping notes =
+      noted_in (log ++ opened kind file true ∷ []) new log [] (opened kind file true) kind file keeping
+      (record { there = refl; out = record { kind_is = refl; name_is = refl; given = refl; out = refl }; newest = none_last }) notes
+
+  -- a world goes on telling that an object is taken back, and its names hold what they held
+  abbrev pub KeepsSo : WorldState → WorldState → Keeping → Type 0
+  KeepsSo old new keeping = (told : Told) → old.told ≡ Some told → (now : Told) × (new.told ≡ Some now) × (now.names ≡ told.names) × Notes told.log now.log kind file keeping
+
+  pub same_back : (w0 w1 w2 : WorldState) (keeping : Keeping) → w1.told ≡ option_map (λ (t : Told). with_opening t (opened kind file true)) w0.told → KeepsSo w1 w2 keeping → SameNames w0 w2 (kept kind file keeping ∷ [])
+  same_back w0 w1 w2 keeping opens keeps = λ told here.
+      let back = keeps (with_opening told (opened kind file true)) (tells_more w0.told w1.told (opened kind file true) told opens here) in
+      (back.0, back.1, noted_last told.log back.0.log keeping back.3, back.2)
+
+-- what a world notes of a store that is taken back
+abbrev pub store_keeping : StoreState → Result Unit Failed → Keeping
+store_keeping store result = record { well = went_well result; faults = store.faults; left = None; asked = store.asked }

@@ -1,0 +1,4 @@
+pub mod OneFile
+pub mod Printing
+pub mod Ran
+pub mod Texts

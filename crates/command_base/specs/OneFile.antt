@@ -1,0 +1,122 @@
+-- What a command does that reads one file and prints of it: how the reading ended, what is printed and told of that, and
+-- which parts are blamed.
+use Rattle.std.specs.Prelude.{◌≡◌, ◌⊎◌, ℕ, List, [], ◌∷◌, ◌++◌, Bool, true, false}
+use Rattle.mcap_io.specs.Outside.{Rose, SinkState, WorldState, Opening}
+use Rattle.mcap_io.specs.declared.outside.ObjectKind.{ObjectKind}
+use Rattle.command_base.specs.declared.faults.Counts.{Counts}
+use Rattle.command_base.specs.declared.one_file.Faults.{Faults}
+use Rattle.command_base.specs.Printing.{TellsAll, TellsPart}
+use Rattle.command_base.specs.Texts.{Trouble, asked_status}
+use Rattle.command_base.specs.Ran.{Scene, counts_in, AnyRose, Files, wanted, AreOpened, Leaves, CountsKept, named_when, failed_names, Findings, Ran}
+
+-- ---- the reading
+
+-- How the reading of a file ended: it was read, and this is printed of it; it can't be, for that trouble; its opening or its
+-- object failed; or memory lacked.
+pub data Ending : Type 0 where
+  was_read : List ℕ → Ending
+  halted : Trouble → Ending
+  failing : Ending
+  lacked : Ending
+
+-- the text for standard output
+abbrev pub text_of : Ending → List ℕ
+text_of (was_read text) = text
+text_of (halted trouble) = []
+text_of failing = []
+text_of lacked = []
+
+-- the trouble that it is, and whether it is a want of memory
+abbrev pub troubles_in : Ending → List Trouble
+troubles_in (was_read text) = []
+troubles_in (halted trouble) = trouble ∷ []
+troubles_in failing = []
+troubles_in lacked = []
+
+abbrev pub is_lack : Ending → Bool
+is_lack (was_read text) = false
+is_lack (halted trouble) = false
+is_lack failing = false
+is_lack lacked = true
+
+-- what there is to tell of it besides faults
+abbrev pub findings_of : Ending → Findings
+findings_of ending = record { halts = troubles_in ending; limits = []; lacked = is_lack ending }
+
+-- the status that it asks for
+abbrev pub ending_status : Ending → ℕ
+ending_status (was_read text) = 0
+ending_status (halted trouble) = asked_status trouble
+ending_status failing = 3
+ending_status lacked = 5
+
+-- what halts a reading is a file that breaks a rule, that isn't as it is wanted, or that passes a limit
+abbrev pub IsHalt : Trouble → Type 0
+IsHalt trouble = (asked_status trouble ≡ 1) ⊎ (asked_status trouble ≡ 4)
+
+abbrev pub HaltsWell : Ending → Type 0
+HaltsWell ending = (trouble : Trouble) → ending ≡ halted trouble → IsHalt trouble
+
+-- ---- the file
+
+-- the one name, opened as an object of that kind
+abbrev pub files_of : ObjectKind → List ℕ → Files
+files_of kind file = record { kind = kind; inputs = file ∷ []; outputs = [] }
+
+-- what became of the file's name: it was opened and taken back, or not, and failed or not
+pub record NameRead (kind : ObjectKind) (file : List ℕ) (old new : WorldState) (entries : List Opening) (failed : Bool) : Type 0 where
+  pub opened : AreOpened (wanted (files_of kind file)) entries
+  pub leaves : Leaves old new entries
+  pub counts : CountsKept old new entries
+  pub names_are : failed_names entries ≡ named_when failed file ++ []
+  pub cause : failed ≡ true → Rose old.faults new.faults ⊎ Rose old.input_faults new.input_faults
+  pub world_told : failed ≡ false → new.faults ≡ old.faults
+  pub inputs_told : failed ≡ false → new.input_faults ≡ old.input_faults
+  pub outputs : new.output_faults ≡ old.output_faults
+
+-- ---- standard output
+
+-- all of the text was taken, or a first part where the output failed; it is as it was where nothing is printed
+abbrev pub PrintsEnding : SinkState → SinkState → Ending → Bool → Type 0
+PrintsEnding before now (was_read text) broke = ((broke ≡ false) × TellsAll before now text) ⊎ ((broke ≡ true) × TellsPart before now text)
+PrintsEnding before now (halted trouble) broke = (broke ≡ false) × (now ≡ before)
+PrintsEnding before now failing broke = (broke ≡ false) × (now ≡ before)
+PrintsEnding before now lacked broke = (broke ≡ false) × (now ≡ before)
+
+-- ---- faults
+
+-- a count of what the command asks has risen: of the world, of its inputs, or of standard output
+abbrev pub AskedRose : Counts → Counts → Type 0
+AskedRose before now = Rose before.world now.world ⊎ (Rose before.inputs now.inputs ⊎ Rose before.printing now.printing)
+
+-- Which parts failed: those that told it, and those of a count that rose. Each has its cause.
+pub record ShowsFaults (before now : Counts) (failed broke : Bool) (faults : Faults) : Type 0 where
+  pub file_told : (failed ≡ true) ⊎ (Rose before.world now.world ⊎ Rose before.inputs now.inputs) → faults.file ≡ true
+  pub file_cause : faults.file ≡ true → (failed ≡ true) ⊎ (Rose before.world now.world ⊎ Rose before.inputs now.inputs)
+  pub printing_told : (broke ≡ true) ⊎ Rose before.printing now.printing → faults.printing ≡ true
+  pub printing_cause : faults.printing ≡ true → (broke ≡ true) ⊎ Rose before.printing now.printing
+
+-- ---- the command
+
+-- What a command did to the world and to both outputs that opened the one name, and whose reading of it ended so.
+pub record ReadsOne (kind : ObjectKind) (file : List ℕ) (old new : Scene) (entries : List Opening) (ending : Ending) (status : ℕ) : Type 0 where
+  -- standard output takes the text, and standard error the troubles
+  pub ran : Ran (files_of kind file) old new entries (text_of ending) (findings_of ending) status
+  -- what failed: the opening, the keeping or the object of the file; and a write
+  pub failed : Bool
+  pub names_are : failed_names entries ≡ named_when failed file ++ []
+  pub sure : ending ≡ failing → failed ≡ true
+  pub broke : Bool
+  pub printed : PrintsEnding old.out new.out ending broke
+  -- the file and standard output are blamed for these, and for a count that rose
+  pub faults : Faults
+  pub shows : ShowsFaults (counts_in old) (counts_in new) failed broke faults
+  pub blame : ran.failed ≡ named_when faults.file file ++ []
+  pub printing_is : ran.printing ≡ faults.printing
+  -- a count that rose is answered, also one that stands at the end of its type; and 3 is the answer only to such a count
+  pub rose : AskedRose (counts_in old) (counts_in new) → (status ≡ 3) ⊎ (status ≡ 5)
+  pub three : status ≡ 3 → AskedRose (counts_in old) (counts_in new)
+  -- unless a count rises, the file didn't fail, and the ending decides the status, or memory lacked
+  pub calm : (AnyRose (counts_in old) (counts_in new) → ⊥) → (failed ≡ false) × ((status ≡ ending_status ending) ⊎ (status ≡ 5))
+  -- the status 0 says that the file was read without a failure, and that all of the text was taken
+  pub whole : status ≡ 0 → (failed ≡ false) × ((text : List ℕ) × (ending ≡ was_read text) × TellsAll old.out new.out text)

@@ -1,0 +1,102 @@
+-- What the program says on standard error, a line for each trouble; and the status that it ends with.
+use Rattle.std.specs.Prelude.{ℕ, List, [], ◌∷◌, ◌++◌, codes, decimal, Bool, ◌==◌, find, unwrap_or, Option, Some, None}
+use Rattle.std.specs.List.{flat_map, list_any}
+use Rattle.json.specs.Print.{quoted}
+use Rattle.command_base.specs.declared.complaint.Complaint.{Complaint}
+use Rattle.command_base.specs.declared.complaint.Complaint.TheVariants as complaints
+use Rattle.command_base.specs.declared.complaint.Unindexed.{Unindexed}
+use Rattle.command_base.specs.declared.complaint.Unindexed.TheVariants as unindexed
+use Rattle.mcap_model.specs.Kept.{Halt, at_end, grammar as breaks, compressed as names, beyond}
+
+-- ---- standard error
+
+-- a trouble that the program complains of
+pub data Trouble : Type 0 where
+  bad_words : Trouble
+  fault : List ℕ → Trouble
+  output_fault : Trouble
+  grammar : List ℕ → ℕ → Trouble
+  compressed : List ℕ → List ℕ → ℕ → Trouble
+  limit : List ℕ → ℕ → Trouble
+  -- what was to be written under that name passes a limit
+  output_limit : List ℕ → Trouble
+  -- it lacks what a reading by its indexes wants
+  not_indexed : List ℕ → Unindexed → Trouble
+  -- the rule of that number fails at that offset
+  flaw : List ℕ → ℕ → ℕ → Trouble
+  no_memory : Trouble
+
+-- the trouble of a complaint
+abbrev pub trouble_of : Complaint → Trouble
+trouble_of complaints.BadWords = bad_words
+trouble_of (complaints.Fault name) = fault name.now
+trouble_of complaints.OutputFault = output_fault
+trouble_of (complaints.Grammar name n) = grammar name.now n
+trouble_of (complaints.Compressed name compression n) = compressed name.now compression.now n
+trouble_of (complaints.Limit name n) = limit name.now n
+trouble_of (complaints.OutputLimit name) = output_limit name.now
+trouble_of (complaints.NotIndexed name why) = not_indexed name.now why
+trouble_of (complaints.Flaw name rule n) = flaw name.now rule n
+trouble_of complaints.NoMemory = no_memory
+
+-- that of a complaint that there may be
+abbrev pub complained : Option Complaint → List Trouble
+complained None = []
+complained (Some complaint) = trouble_of complaint ∷ []
+
+abbrev pub usage : List ℕ
+usage = codes "usage: mcaprec\n  record [--plain] [--limit N] [--chunk N] [--profile T] OUT FEED\n  info FILE\n  check FILE\n  cat [--indexed] [--start N] [--end N] [--topic T] FILE\n"
+
+-- the words for what a file lacks
+abbrev pub unindexed_text : Unindexed → List ℕ
+unindexed_text unindexed.NoSummary = codes "no summary"
+unindexed_text unindexed.NoStatistics = codes "no statistics"
+unindexed_text unindexed.ChunkCount = codes "chunk count"
+unindexed_text unindexed.NoMessageIndex = codes "no message index"
+unindexed_text unindexed.NoChannel = codes "no channel"
+
+unfoldable pub line_of : Trouble → List ℕ
+line_of bad_words = codes "mcaprec: bad words\n" ++ usage
+line_of (fault name) = codes "mcaprec: " ++ (quoted name ++ codes ": fault\n")
+line_of output_fault = codes "mcaprec: output: fault\n"
+line_of (grammar name n) = codes "mcaprec: " ++ (quoted name ++ (codes ": grammar at " ++ (decimal n ++ codes "\n")))
+line_of (compressed name compression n) = codes "mcaprec: " ++ (quoted name ++ (codes ": compressed " ++ (quoted compression
+    ++ (codes " at " ++ (decimal n ++ codes "\n")))))
+line_of (limit name n) = codes "mcaprec: " ++ (quoted name ++ (codes ": limit at " ++ (decimal n ++ codes "\n")))
+line_of (output_limit name) = codes "mcaprec: " ++ (quoted name ++ codes ": limit\n")
+line_of (not_indexed name why) = codes "mcaprec: " ++ (quoted name ++ (codes ": not indexed: " ++ (unindexed_text why ++ codes "\n")))
+line_of (flaw name rule n) = codes "mcaprec: " ++ (quoted name ++ (codes ": flaw V" ++ (decimal rule ++ (codes " at " ++ (decimal n ++ codes "\n")))))
+line_of no_memory = codes "mcaprec: no memory\n"
+
+abbrev pub said : List Trouble → List ℕ
+said troubles = flat_map line_of troubles
+
+-- ---- the status
+
+-- the status that a trouble asks for
+abbrev pub asked_status : Trouble → ℕ
+asked_status bad_words = 2
+asked_status (fault name) = 3
+asked_status output_fault = 3
+asked_status (grammar name n) = 1
+asked_status (compressed name compression n) = 1
+asked_status (limit name n) = 4
+asked_status (output_limit name) = 4
+asked_status (not_indexed name why) = 1
+asked_status (flaw name rule n) = 1
+asked_status no_memory = 5
+
+-- one of the troubles asks for the status
+abbrev pub is_asked : List Trouble → ℕ → Bool
+is_asked troubles status = list_any (λ t. asked_status t == status) troubles
+
+-- the first of 2, 5, 3, 4 and 1 that is asked for, or 0
+abbrev pub status_of : List Trouble → ℕ
+status_of troubles = unwrap_or (find (is_asked troubles) (2 ∷ 5 ∷ 3 ∷ 4 ∷ 1 ∷ [])) 0
+
+-- that of where the reading of a file halts
+abbrev pub halt_status : Halt → ℕ
+halt_status (at_end n) = 0
+halt_status (breaks n rule) = 1
+halt_status (names n name) = 1
+halt_status (beyond n) = 4

@@ -1,0 +1,59 @@
+-- What the words of a command make of its run.
+use Rattle.std.proofs.Common.{◌≡◌, ◌⊎◌, ℕ, ◌≤◌, Bool, true, false, List, length, Option, Some, None, refl, sym, ap, subst, inl, inr, ◌∙◌, arith, unwrap_or}
+use Rattle.mcap_model.specs.declared.options.FileOptions.{FileOptions}
+use Rattle.command_words.specs.declared.command.Command.{Command}
+use Rattle.command_words.specs.declared.command.Command.TheVariants as commands
+use Rattle.command_words.specs.Commands.{GivesNumber, SizesChunks, Derives}
+use Rattle.recorder.specs.declared.report.Report.{Report}
+use Rattle.recorder.specs.declared.options.RecordOptions.{RecordOptions}
+use Rattle.command_base.specs.Ran.{Scene}
+use Rattle.record_command.proofs.Answered.{not_two as record_not_two}
+use Rattle.info_command.proofs.Tellings.{not_two as info_not_two}
+use Rattle.check_command.proofs.Checks.{not_two as check_not_two}
+use Rattle.cat_command.proofs.Cats.{not_two as cat_not_two}
+use Rattle.cat_command.proofs.Followings.{indexed_not_two}
+use Rattle.mcap_app.specs.Runs.{IsAllowed, Runs}
+
+-- no command has the status of bad words
+pub not_two : (command : Command) (old new : Scene) (report : Option Report) (status : ℕ) → Runs command old new report status → status ≡ 2 → ⊥
+not_two (commands.Record out feed file limit) old new report status runs two = record_not_two _ _ _ _ _ _ _ runs two
+not_two (commands.Info file) old new report status runs two = info_not_two _ _ _ _ runs.0 two
+not_two (commands.Check file) old new report status runs two = check_not_two _ _ _ _ runs.0 two
+not_two (commands.Cat file true range topic) old new report status runs two = indexed_not_two _ _ _ _ _ runs.0 two
+not_two (commands.Cat file false range topic) old new report status runs two = cat_not_two _ _ _ _ _ runs.0 two
+
+-- ---- ranges
+
+-- a number that is given, or else the usual one, lies in its range
+in_range : (least most usual : ℕ) (values : List (List ℕ)) (given : Option ℕ) → GivesNumber least most values given → least ≤ usual → usual ≤ most → (least ≤ unwrap_or given usual) × (unwrap_or given usual ≤ most)
+in_range least most usual values None gives low high = (low, high)
+in_range least most usual values (Some n) gives low high = let number = gives.2 in (number.above, number.below)
+
+chunk_in_range : (is_plain : Bool) (values : List (List ℕ)) (size chunk : Option ℕ) → SizesChunks is_plain size chunk → GivesNumber 1 67108864 values size → (n : ℕ) → chunk ≡ Some n → (1 ≤ n) × (n ≤ 67108864)
+chunk_in_range true values None chunk sizes gives n is = absurd (apart (sym is ∙ sizes))
+  where
+    apart : Some n ≡ None → ⊥
+    apart e = cc
+chunk_in_range true values (Some size) chunk sizes gives n is = absurd sizes
+chunk_in_range false values size chunk sizes gives n is =
+    let usual = in_range 1 67108864 786432 values size gives (omega arith) (omega arith) in
+    let same : unwrap_or size 786432 ≡ n = one (sym sizes ∙ is) in
+    (subst (λ (k : ℕ). 1 ≤ k) same usual.0, subst (λ (k : ℕ). k ≤ 67108864) same usual.1)
+  where
+    one : {a b : ℕ} → Some a ≡ Some b → a ≡ b
+    one e = cc
+
+-- words give numbers in their ranges
+pub allowed : (words : List (List ℕ)) (command : Command) → Derives words command → IsAllowed command
+allowed words (commands.Record out feed file limit) derives =
+    let is = derives.behind in
+    let limits = in_range 1 1073741824 104857600 _ is.size is.sized (omega arith) (omega arith) in
+    record {
+      some = omega (arith, is.limited, limits.0);
+      small = omega (arith, is.limited, limits.1);
+      size = chunk_in_range is.options.chunk.is_plain _ is.options.chunk.size file.chunk is.options.chunk.sizes is.options.chunk.sized;
+      short = is.options.profile.short;
+    }
+allowed words (commands.Info file) derives = tt
+allowed words (commands.Check file) derives = tt
+allowed words (commands.Cat file indexed range topic) derives = tt

@@ -1,0 +1,36 @@
+-- What the program does, command by command.
+use Rattle.std.specs.Prelude.{◌≡◌, ℕ, List, [], ◌∷◌, true, false, Option, None}
+use Rattle.command_words.specs.declared.command.Command.{Command}
+use Rattle.command_words.specs.declared.command.Command.TheVariants as commands
+use Rattle.recorder.specs.declared.report.Report.{Report}
+use Rattle.command_base.specs.Texts.{no_memory, said}
+use Rattle.command_base.specs.Printing.{Takes}
+use Rattle.command_base.specs.Ran.{Scene}
+use Rattle.record_command.specs.Record.{AreAllowed, Records}
+use Rattle.info_command.specs.Info.{Describes}
+use Rattle.check_command.specs.Check.{FileChecks}
+use Rattle.cat_command.specs.Cat.{selection, Cats}
+use Rattle.cat_command.specs.Indexed.{IndexedCats}
+
+-- the numbers and texts of a recording are in their ranges
+abbrev pub IsAllowed : Command → Type 0
+IsAllowed (commands.Record out feed file limit) = AreAllowed (record { file = file; limit = limit })
+IsAllowed (commands.Info file) = Unit {0}
+IsAllowed (commands.Check file) = Unit {0}
+IsAllowed (commands.Cat file indexed range topic) = Unit {0}
+
+-- only a recording has a report
+abbrev pub Runs : Command → Scene → Scene → Option Report → ℕ → Type 0
+Runs (commands.Record out feed file limit) old new report status = Records (record { file = file; limit = limit }) out feed old new report status
+Runs (commands.Info file) old new report status = Describes file old new status × (report ≡ None)
+Runs (commands.Check file) old new report status = FileChecks file old new status × (report ≡ None)
+Runs (commands.Cat file false range topic) old new report status = Cats (selection range topic) file old new status × (report ≡ None)
+Runs (commands.Cat file true range topic) old new report status = IndexedCats (selection range topic) file old new status × (report ≡ None)
+
+-- memory lacked for reading the words, and nothing else was done
+pub record LacksForWords (old new : Scene) (report : Option Report) (status : ℕ) : Type 0 where
+  pub status_is : status ≡ 5
+  pub world : new.world ≡ old.world
+  pub out : new.out ≡ old.out
+  pub told : Takes old.err new.err (said (no_memory ∷ []))
+  pub none : report ≡ None
