@@ -105,9 +105,10 @@ session_lines='feed 1 accepted=5 refused=0 passed=0 end
 file records=8 blocks=0 bytes=411 closed'
 usage='mcaprec: bad words
 usage: mcaprec
-  record [--plain] [--chunk N] OUT FEED
+  record [--plain] [--limit N] [--chunk N] [--profile T] OUT FEED
+  info FILE
   check FILE
-  cat FILE'
+  cat [--indexed] [--start N] [--end N] [--topic T] FILE'
 
 "$root/mcaprec" >/dev/null </dev/null
 compare 'the status without words' 2 $?
@@ -247,6 +248,43 @@ expect_absent folder-out.mcap
 expect 3 '' 'mcaprec: "missing.mcap": fault' mcaprec cat missing.mcap
 # shellcheck disable=SC2016  # the inner shell is to expand it
 expect 3 '' 'mcaprec: output: fault' sh -c 'mcaprec cat "$1" >/dev/full' sh session-out.mcap
+
+# ---- by the indexes, and by topic
+
+later='1010 1000 1 2 "/imu" 7b227a223a392e377d
+1020 1010 1 3 "/imu" -'
+expect 0 "$session_messages" '' mcaprec cat --indexed session-chunks.mcap
+expect 0 "$later" '' mcaprec cat --topic /imu --start 1010 session-chunks.mcap
+expect 0 "$later" '' mcaprec cat session-chunks.mcap --indexed --start=1010 --topic=/imu
+expect 0 '1005 1005 2 1 "/log" 7374617274' '' mcaprec cat --indexed --start 1001 --end 1010 -- session-chunks.mcap
+expect 0 '' '' mcaprec cat --indexed --start 1031 session-chunks.mcap
+expect 0 '5 9 1 3 "/imu" 77
+10 9 1 1 "/imu" aa
+11 9 1 2 "/imu" bb
+12 9 2 1 "/log" -
+20 9 2 2 "/log" 71' '' mcaprec cat --indexed "$other"
+expect 1 '' 'mcaprec: "session-out.mcap": not indexed: no summary' mcaprec cat --indexed session-out.mcap
+expect 1 '' 'mcaprec: "none.mcap": flaw V17 at 0' mcaprec cat --indexed none.mcap
+expect 3 '' 'mcaprec: "folder": fault' mcaprec cat --indexed folder
+expect 3 '' 'mcaprec: "missing.mcap": fault' mcaprec cat --indexed missing.mcap
+expect 2 '' "$usage" mcaprec cat --start session-chunks.mcap
+expect 2 '' "$usage" mcaprec cat --top /imu session-chunks.mcap
+
+# ---- what a file holds
+
+one_told='{"attachments":0,"channels":[{"count":1,"encoding":"","id":1,"schema":0,"topic":"/a"}],"chunks":1,"compression":[""],"end":10,"library":"mcaprec 1","messages":1,"metadata":0,"profile":"","schemas":[],"start":10}'
+session_told='{"attachments":0,"channels":[{"count":3,"encoding":"json","id":1,"schema":1,"topic":"/imu"},{"count":2,"encoding":"","id":2,"schema":0,"topic":"/log"}],"chunks":1,"compression":[""],"end":1030,"library":"mcaprec 1","messages":5,"metadata":0,"profile":"drone","schemas":[{"encoding":"jsonschema","id":1,"name":"Imu"}],"start":1000}'
+expect 0 "$one_told" '' mcaprec info "$one"
+expect 0 'feed 1 accepted=5 refused=0 passed=0 end
+file records=8 blocks=1 bytes=992 closed' '' mcaprec record --limit 1 --profile drone drone.mcap "$session"
+expect 0 "$session_told" '' mcaprec info drone.mcap
+expect 1 '' 'mcaprec: "session-out.mcap": not indexed: no summary' mcaprec info session-out.mcap
+expect 1 '' 'mcaprec: "none.mcap": grammar at 0' mcaprec info none.mcap
+expect 3 '' 'mcaprec: "folder": fault' mcaprec info folder
+expect 3 '' 'mcaprec: "missing.mcap": fault' mcaprec info missing.mcap
+# shellcheck disable=SC2016  # the inner shell is to expand it
+expect 3 '' 'mcaprec: output: fault' sh -c 'mcaprec info "$1" >/dev/full' sh "$one"
+expect 2 '' "$usage" mcaprec info
 
 # ---- checks
 
