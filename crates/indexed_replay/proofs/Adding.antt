@@ -2,7 +2,7 @@
 use Rattle.std.proofs.Common.{◌≡◌, ◌⊎◌, ℕ, zero, suc, ◌+◌, ◌<◌, ◌≤◌, Bool, true, false, cond, List, [], ◌∷◌, ◌++◌, length, take, drop, refl, sym, ap, subst, inl, inr, ◌∙◌, append_assoc, arith}
 use Rattle.std.specs.Prelude.{sum_by}
 use Rattle.std.proofs.lemmas.Bool.{both_ways, cases_lt}
-use Rattle.std.proofs.lemmas.List.{take-append-drop, append-nil, take_all, length-append}
+use Rattle.std.proofs.lemmas.List.{take-append-drop, append-nil}
 use Rattle.std.proofs.lemmas.List.Sums.{sum_by-append}
 use Rattle.std.proofs.lemmas.Option.{same_Some}
 use Rattle.rec_data.specs.Fields.{MessageFields}
@@ -15,7 +15,7 @@ use Rattle.mcap_model.specs.Fields.{IsMessage}
 use Rattle.mcap_model.specs.Plain.{is_within}
 use Rattle.mcap_model.specs.Scan.{InRange}
 use Rattle.mcap_model.specs.Led.{IsThere, IsInChunk}
-use Rattle.mcap_model.proofs.Places.{at_none, at_kept, at_within}
+use Rattle.mcap_model.proofs.Places.{at_none, at_kept}
 use Rattle.mcap_model.proofs.Lists.{at_either, at_second, has_taken, at_taken}
 use Rattle.mcap_model.proofs.Maps.{message_once}
 use Rattle.mcap_model.proofs.Replays.{range_decided}

@@ -2,11 +2,11 @@
 use Rattle.std.proofs.Common.{◌≡◌, ℕ, ◌+◌, ◌-◌, ◌^◌, ◌<◌, ◌≤◌, List, [], ◌∷◌, ◌++◌, length, take, drop, Result, Ok, Err, refl, sym, ap, subst, ◌∙◌, append_assoc, arith}
 use Rattle.std.specs.Prelude.{◌≢◌, IsUtf8}
 use Rattle.std.proofs.lemmas.List.{take-append-drop, take-append-le, drop-append-le, drop-drop, drop-take, take-take, take_at, drop_at, length-append, length-drop}
-use Rattle.mcap_wire.specs.Layout.{le, number, string, prefixed}
+use Rattle.mcap_wire.specs.Layout.{le, number, prefixed}
 use Rattle.mcap_wire.specs.Reading.{NumberAt, text_length, text_bytes}
 use Rattle.mcap_wire.proofs.Numbers.{length-le, number-le}
 use Rattle.rec_index.specs.Fields.{ChunkFields}
-use Rattle.mcap_model.specs.Tops.{Top, top_bytes, declared_length, first_top}
+use Rattle.mcap_model.specs.Tops.{Top, declared_length, first_top}
 use Rattle.mcap_model.specs.Fields.{IsChunk}
 use Rattle.mcap_model.specs.Led.{IsThere}
 use Rattle.mcap_model.proofs.Readings.{length-top}

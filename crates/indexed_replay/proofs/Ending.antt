@@ -1,6 +1,6 @@
 -- What a replay comes to by its steps.
-use Rattle.std.proofs.Common.{◌≡◌, ℕ, zero, suc, ◌+◌, ◌-◌, ◌^◌, ◌≤◌, Option, Some, None, Result, Ok, Err, List, [], ◌∷◌, ◌++◌, length, drop, refl, sym, ap, subst, inl, inr, ◌⊎◌, ◌∙◌, sum, arith}
-use Rattle.std.specs.Prelude.{◌≢◌, filter, ◌==◌, slice_get}
+use Rattle.std.proofs.Common.{◌≡◌, ℕ, ◌+◌, ◌-◌, ◌≤◌, Option, None, Result, Ok, Err, List, [], ◌∷◌, ◌++◌, length, drop, sym, ap, subst, inl, inr, ◌∙◌, arith}
+use Rattle.std.specs.Prelude.{◌≢◌, ◌==◌, slice_get}
 use Rattle.std.proofs.lemmas.Bool.{eq-eqb}
 use Rattle.std.proofs.lemmas.List.{length-append, length-drop, length-take-le, drop_at}
 use Rattle.mcap_wire.specs.Layout.{magic, part}
@@ -10,8 +10,8 @@ use Rattle.rec_data.specs.Records.{ShowsFooter}
 use Rattle.rec_data.proofs.Contents.{footer_decided}
 use Rattle.mcap_model.specs.declared.replay.Range.{Range}
 use Rattle.mcap_model.specs.declared.replay.Replayed.{Replayed}
-use Rattle.mcap_model.specs.Places.{At, Has, Each}
-use Rattle.mcap_model.specs.Tops.{Top, top_bytes, spelled, declared_length}
+use Rattle.mcap_model.specs.Places.{Has, Each}
+use Rattle.mcap_model.specs.Tops.{Top, top_bytes, spelled}
 use Rattle.mcap_model.specs.Kept.{reading_limits, at_end, Halts}
 use Rattle.mcap_model.specs.Scan.{Seen, Scan}
 use Rattle.mcap_model.specs.Valid.{IsFullyIndexed}

@@ -12,9 +12,8 @@ use Rattle.mcap_model.specs.Places.{At}
 use Rattle.mcap_model.specs.Tops.{Top}
 use Rattle.mcap_model.specs.Made.{top}
 use Rattle.mcap_model.specs.Fields.{IsChannel}
-use Rattle.mcap_model.specs.Plain.{DeclareChannels}
-use Rattle.mcap_model.proofs.Places.{at_none, at_within, at_last, at_kept}
-use Rattle.mcap_model.proofs.Lists.{at_either, at_second}
+use Rattle.mcap_model.proofs.Places.{at_none, at_last, at_kept}
+use Rattle.mcap_model.proofs.Lists.{at_either}
 use Rattle.mcap_model.proofs.Maps.{shows_once}
 use Rattle.indexed_replay.specs.Gathering.{IsFirst, FirstChannels}
 

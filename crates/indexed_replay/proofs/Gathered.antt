@@ -1,10 +1,10 @@
 -- What the Chunk Indexes of a summary add.
-use Rattle.std.proofs.Common.{◌≡◌, ◌⊎◌, ℕ, suc, ◌+◌, ◌≤◌, List, [], ◌∷◌, ◌++◌, take, sum, refl, sym, ap, subst, inl, inr, ◌∙◌, arith}
+use Rattle.std.proofs.Common.{◌≡◌, ℕ, suc, ◌≤◌, List, take, subst, inl, inr, arith}
 use Rattle.mcap_wire.proofs.Contents.{shows_decided}
 use Rattle.rec_index.specs.Fields.{ChunkIndexFields}
 use Rattle.rec_index.specs.Records.{chunk_index_kinds, chunk_index_values}
 use Rattle.mcap_model.specs.declared.replay.Shown.{Shown}
-use Rattle.mcap_model.specs.Places.{At, Has}
+use Rattle.mcap_model.specs.Places.{At}
 use Rattle.mcap_model.specs.Tops.{Top}
 use Rattle.mcap_model.specs.Fields.{IsChunkIndex}
 use Rattle.mcap_model.specs.Led.{Meets}

@@ -1,13 +1,13 @@
 -- What a Message Index adds, and why it adds nothing.
-use Rattle.std.proofs.Common.{◌≡◌, ℕ, ◌+◌, ◌≤◌, List, ◌++◌, length, drop, Result, Ok, Err, refl, sym, ap, subst, ◌∙◌, arith}
+use Rattle.std.proofs.Common.{◌≡◌, ℕ, ◌+◌, ◌≤◌, List, length, drop, Result, Ok, Err, refl, sym, ap, subst, ◌∙◌, arith}
 use Rattle.mcap_model.specs.declared.replay.Range.{Range}
 use Rattle.mcap_model.specs.declared.replay.Shown.{Shown}
-use Rattle.mcap_model.specs.Places.{At, Has}
+use Rattle.mcap_model.specs.Places.{Has}
 use Rattle.mcap_model.specs.Tops.{Top, top_bytes, declared_length}
 use Rattle.mcap_model.specs.Made.{top}
-use Rattle.mcap_model.specs.Fields.{ChannelFields, IsChannel, IsMessageIndex, ChunkIndexFields}
+use Rattle.mcap_model.specs.Fields.{IsMessageIndex, ChunkIndexFields}
 use Rattle.mcap_model.specs.Plain.{asked_topic}
-use Rattle.mcap_model.specs.Led.{IsThere, LedByIndex}
+use Rattle.mcap_model.specs.Led.{IsThere}
 use Rattle.rec_index.specs.Records.{ShowsMessageIndex}
 use Rattle.mcap_model.proofs.Readings.{length-top}
 use Rattle.summary_read.specs.Reached.{DeclaresPast}
@@ -17,9 +17,9 @@ use Rattle.indexed_replay.specs.declared.answers.NotIndexed.{NotIndexed}
 use Rattle.indexed_replay.specs.declared.answers.NotIndexed.TheVariants as lacks
 use Rattle.indexed_replay.specs.declared.spots.Spot.{Spot}
 use Rattle.indexed_replay.specs.declared.spots.Request.{Request}
-use Rattle.indexed_replay.specs.Reaching.{Names, LeadsTo, LacksIndex, LacksMessage, LacksChannel, Breaks, no_index, no_message, PassesLimit, at_index, at_message}
+use Rattle.indexed_replay.specs.Reaching.{Names, LeadsTo, LacksIndex, LacksMessage, Breaks, no_index, no_message, at_index, at_message}
 use Rattle.indexed_replay.specs.Replaying.{IsReason}
-use Rattle.indexed_replay.specs.Steps.{Adds, led_as, IsListed, EntryRefused, EntriesShown, entries_cost}
+use Rattle.indexed_replay.specs.Steps.{Adds, IsListed, EntryRefused, EntriesShown, entries_cost}
 use Rattle.indexed_replay.specs.Lists.{Wanted, Undeclared, Knows, HasTimely, IsShownBy, ContentRefused, at_entry, no_channel, ContentShown, IsLedBy, ListRefused, ListShown, ListCost}
 use Rattle.indexed_replay.proofs.Headed.{there_begun}
 use Rattle.indexed_replay.proofs.Adding.{adds_none, adds_same, same_there}

@@ -2,13 +2,13 @@
 use Rattle.std.proofs.Common.{◌≡◌, ◌⊎◌, ℕ, ◌+◌, ◌-◌, ◌^◌, ◌<◌, ◌≤◌, List, [], ◌∷◌, ◌++◌, length, take, drop, refl, sym, ap, subst, inl, inr, ◌∙◌, append_assoc, arith}
 use Rattle.std.specs.Prelude.{◌≢◌}
 use Rattle.std.proofs.lemmas.Bool.{le-leb}
-use Rattle.std.proofs.lemmas.List.{take-append-drop, drop-append-le, drop-drop, take_at, take_all, length-append, length-drop}
+use Rattle.std.proofs.lemmas.List.{take-append-drop, drop-append-le, drop-drop, take_at, take_all, length-drop}
 use Rattle.mcap_wire.specs.Layout.{content_limit}
 use Rattle.rec_data.specs.Fields.{MessageFields}
 use Rattle.rec_data.specs.Records.{message_text, ShowsMessage}
 use Rattle.rec_data.proofs.Contents.{length-message_text}
 use Rattle.mcap_model.specs.declared.replay.Shown.{Shown}
-use Rattle.mcap_model.specs.Tops.{Top, top_bytes, opcode, declared_length, first_top, has_head}
+use Rattle.mcap_model.specs.Tops.{Top, first_top}
 use Rattle.mcap_model.specs.Fields.{IsMessage}
 use Rattle.mcap_model.specs.Led.{IsThere}
 use Rattle.mcap_model.proofs.Readings.{length-top}

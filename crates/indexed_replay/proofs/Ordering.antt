@@ -1,5 +1,5 @@
 -- Messages in their order, each once.
-use Rattle.std.proofs.Common.{◌≡◌, ◌⊎◌, ℕ, zero, suc, ◌+◌, ◌-◌, ◌<◌, ◌≤◌, Bool, true, false, cond, List, [], ◌∷◌, length, get_or, refl, sym, ap, subst, inl, inr, ◌∙◌, arith}
+use Rattle.std.proofs.Common.{◌≡◌, ◌⊎◌, ℕ, zero, suc, ◌+◌, ◌-◌, ◌<◌, Bool, true, false, cond, List, [], ◌∷◌, length, get_or, refl, sym, ap, subst, inl, inr, ◌∙◌, arith}
 use Rattle.std.specs.Prelude.{AllPairs, ◌==◌, ◌&&◌, IsPermutation}
 use Rattle.std.specs.Bool.{Decides}
 use Rattle.std.specs.List.{dedup, dedup_from}
@@ -8,7 +8,7 @@ use Rattle.std.proofs.lemmas.Bool.Decides.{Decides-eqb, Decides-and}
 use Rattle.std.proofs.lemmas.List.Sorted.{Contains-permutation, IsPermutation-sym}
 use Rattle.std.proofs.lemmas.Option.{same_Some}
 use Rattle.mcap_model.specs.declared.replay.Shown.{Shown}
-use Rattle.mcap_model.specs.Places.{At, Has}
+use Rattle.mcap_model.specs.Places.{Has}
 use Rattle.mcap_model.specs.Scan.{ComesBefore}
 use Rattle.mcap_model.specs.Plain.{NotBehind, InOrder}
 use Rattle.mcap_model.proofs.Places.{at_none}

@@ -1,10 +1,9 @@
 -- The messages that are played are those to which the summary leads.
 use Rattle.std.proofs.Common.{◌≡◌, ◌⊎◌, ℕ, zero, suc, ◌+◌, ◌<◌, ◌≤◌, true, List, [], ◌∷◌, ◌++◌, map, length, Option, refl, sym, ap, subst, inl, inr, ◌∙◌, arith}
-use Rattle.std.specs.Prelude.{AllPairs, filter, ◌==◌}
+use Rattle.std.specs.Prelude.{◌==◌}
 use Rattle.std.specs.List.{AllZip}
-use Rattle.std.proofs.lemmas.Bool.{eqb-true, eq-eqb}
+use Rattle.std.proofs.lemmas.Bool.{eq-eqb}
 use Rattle.mcap_model.specs.declared.replay.Place.{Place}
-use Rattle.mcap_model.specs.declared.replay.Range.{Range}
 use Rattle.mcap_model.specs.declared.replay.Shown.{Shown}
 use Rattle.mcap_model.specs.declared.replay.Topic.{Topic}
 use Rattle.mcap_model.specs.declared.replay.Replayed.{Replayed}
@@ -12,25 +11,20 @@ use Rattle.mcap_model.specs.declared.table.Declared.{Declared}
 use Rattle.mcap_model.specs.Places.{At, Has}
 use Rattle.mcap_model.specs.Tops.{Top}
 use Rattle.mcap_model.specs.Made.{top}
-use Rattle.mcap_model.specs.Fields.{ChannelFields, IsChannel, ChunkIndexFields, IsChunkIndex}
+use Rattle.mcap_model.specs.Fields.{ChannelFields, IsChannel}
 use Rattle.mcap_model.specs.Scan.{Seen, InRange, OnTopic, IsAsked, ComesBefore}
-use Rattle.mcap_model.specs.Showing.{shown_as, topic_as, TopicsOf, Shows}
-use Rattle.mcap_model.specs.Plain.{asked_topic, IsNamed, DeclareChannels, AreDeclared, HaveTopics, AreNamed}
-use Rattle.mcap_model.specs.Led.{HasSummary, FirstTopic, IsInChunk, LedByIndex, LedByChunk, LedBySummary, Led, LedReplay}
-use Rattle.mcap_model.proofs.Places.{at_none, at_one}
+use Rattle.mcap_model.specs.Showing.{shown_as, topic_as}
+use Rattle.mcap_model.specs.Plain.{asked_topic, IsNamed, AreDeclared, AreNamed}
+use Rattle.mcap_model.specs.Led.{HasSummary, FirstTopic, IsInChunk, Led}
 use Rattle.mcap_model.proofs.Lists.{pairs_at, pairs_from, filter_passed, filter_has}
 use Rattle.mcap_model.proofs.NamedTopics.{zip_front, zip_back}
-use Rattle.mcap_model.proofs.Maps.{shows_once}
-use Rattle.indexed_replay.specs.declared.spots.Spot.{Spot}
 use Rattle.indexed_replay.specs.declared.spots.Request.{Request}
 use Rattle.summary_read.specs.Parts.{of_kind}
-use Rattle.indexed_replay.specs.Reaching.{HasChunkIndex}
 use Rattle.indexed_replay.specs.Replaying.{IsLed}
 use Rattle.indexed_replay.specs.Steps.{Adds, led_as}
-use Rattle.indexed_replay.specs.Lists.{Wanted, Knows, IsLedBy}
-use Rattle.indexed_replay.specs.Chunks.{spot_of, IsLedAmong}
+use Rattle.indexed_replay.specs.Lists.{Wanted, Knows}
 use Rattle.indexed_replay.specs.Gathering.{IsLedFrom, AreIndexed}
-use Rattle.indexed_replay.specs.Finishing.{same_place, IsOrdered}
+use Rattle.indexed_replay.specs.Finishing.{IsOrdered}
 use Rattle.indexed_replay.proofs.Adding.{in_chunk_once}
 use Rattle.indexed_replay.proofs.Naming.{zip_all}
 use Rattle.indexed_replay.proofs.Ordering.{same_decided}

@@ -1,7 +1,7 @@
 -- Which channels are wanted.
-use Rattle.std.proofs.Common.{◌≡◌, ℕ, List, Option, refl, sym, ap, subst, ◌∙◌}
+use Rattle.std.proofs.Common.{◌≡◌, ℕ, List, Option, refl, sym, subst, ◌∙◌}
 use Rattle.rec_data.specs.Fields.{ChannelFields}
-use Rattle.rec_data.specs.Records.{ShowsChannel, channel_kinds, channel_values}
+use Rattle.rec_data.specs.Records.{ShowsChannel}
 use Rattle.rec_index.specs.Records.{ShowsMessageIndex, message_index_kinds, message_index_values}
 use Rattle.mcap_wire.proofs.Contents.{shows_decided}
 use Rattle.mcap_model.specs.declared.table.Declared.{Declared}

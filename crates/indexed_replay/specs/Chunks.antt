@@ -7,8 +7,8 @@ use Rattle.mcap_model.specs.declared.replay.Range.{Range}
 use Rattle.mcap_model.specs.declared.replay.Shown.{Shown}
 use Rattle.mcap_model.specs.Places.{Has}
 use Rattle.mcap_model.specs.Tops.{Top}
-use Rattle.mcap_model.specs.Fields.{ChunkFields, IsChunk, ChunkIndexFields, IsChunkIndex}
-use Rattle.mcap_model.specs.Led.{IsThere, Meets}
+use Rattle.mcap_model.specs.Fields.{ChunkFields, IsChunk, ChunkIndexFields}
+use Rattle.mcap_model.specs.Led.{IsThere}
 use Rattle.indexed_replay.specs.declared.answers.ReplayRefused.{ReplayRefused}
 use Rattle.indexed_replay.specs.declared.answers.ReplayRefused.TheVariants as refusals
 use Rattle.indexed_replay.specs.declared.spots.Spot.{Spot}

@@ -1,6 +1,6 @@
 -- What a replay by the index reaches of a file: the Chunk Indexes of its summary that meet a range, the Message Indexes that
 -- they name, and the messages to which these lead. Why such a file isn't indexed, and where a rule fails on what is reached.
-use Rattle.std.specs.Prelude.{◌≡◌, ◌≢◌, ◌⊎◌, ℕ, ◌+◌, List, [], length, drop, Some}
+use Rattle.std.specs.Prelude.{◌≡◌, ◌≢◌, ℕ, ◌+◌, List, [], length, drop, Some}
 use Rattle.mcap_wire.specs.Reading.{text_bytes}
 use Rattle.mcap_model.specs.declared.replay.Range.{Range}
 use Rattle.mcap_model.specs.Places.{Has, Each}

@@ -1,5 +1,5 @@
 -- The steps of a replay by the index.
-use Rattle.std.specs.Prelude.{◌≡◌, ℕ, ◌+◌, ◌-◌, ◌≤◌, List, [], ◌++◌, length, take, drop, sum_by, Bool, true, false, if◌then◌else◌, Option, Some, None, Result, Ok, Err, Vec}
+use Rattle.std.specs.Prelude.{◌≡◌, ℕ, ◌+◌, ◌-◌, ◌≤◌, List, [], ◌++◌, length, take, drop, sum_by, if◌then◌else◌, Option, Some, None, Result, Ok, Err, Vec}
 use Rattle.mcap_io.specs.Stores.{StoreState}
 use Rattle.mcap_io.specs.declared.outside.Failed.{Failed}
 use Rattle.mcap_wire.specs.declared.faults.Head.{Head}
@@ -7,14 +7,12 @@ use Rattle.rec_index.specs.Records.{ShowsMessageIndex}
 use Rattle.mcap_model.specs.declared.replay.Place.{Place}
 use Rattle.mcap_model.specs.declared.replay.Range.{Range}
 use Rattle.mcap_model.specs.declared.replay.Shown.{Shown}
-use Rattle.mcap_model.specs.declared.table.Declared.{Declared}
-use Rattle.mcap_model.specs.Places.{At, Has}
+use Rattle.mcap_model.specs.Places.{Has}
 use Rattle.mcap_model.specs.Tops.{Top, top_bytes, opcode, declared_length, first_top}
-use Rattle.mcap_model.specs.Fields.{ChannelFields, IsChannel, IsMessageIndex, ChunkIndexFields}
 use Rattle.mcap_model.specs.Made.{top}
-use Rattle.mcap_model.specs.Plain.{is_within, DeclareChannels}
-use Rattle.mcap_model.specs.Scan.{Seen, InRange, OnTopic}
-use Rattle.mcap_model.specs.Led.{HasSummary, FirstTopic, IsThere, IsInChunk, LedByIndex}
+use Rattle.mcap_model.specs.Plain.{is_within}
+use Rattle.mcap_model.specs.Scan.{Seen, InRange}
+use Rattle.mcap_model.specs.Led.{IsThere, IsInChunk}
 use Rattle.summary_read.specs.Reached.{DeclaresPast}
 use Rattle.indexed_replay.specs.declared.answers.ReplayRefused.{ReplayRefused}
 use Rattle.indexed_replay.specs.declared.answers.ReplayRefused.TheVariants as refusals

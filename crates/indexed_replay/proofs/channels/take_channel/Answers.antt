@@ -1,4 +1,4 @@
-use Rattle.std.proofs.Common.{◌≡◌, ℕ, ◌≤◌, List, [], ◌∷◌, ◌++◌, length, drop, refl, sym, ap, subst, ◌∙◌, arith}
+use Rattle.std.proofs.Common.{◌≡◌, ℕ, ◌≤◌, List, [], ◌∷◌, ◌++◌, length, drop, sym, ap, subst, ◌∙◌}
 use Rattle.rec_data.specs.Parsed.{channel_fields}
 use Rattle.rec_data.specs.Records.{channel_text}
 use Rattle.indexed_replay.proofs.Firsts.{known_channel, new_channel, framed_content}

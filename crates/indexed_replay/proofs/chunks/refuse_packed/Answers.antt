@@ -1,4 +1,4 @@
-use Rattle.std.proofs.Common.{◌≡◌, ℕ, List, Vec, Global, length, refl, sym, ap, subst, ◌∙◌, arith}
+use Rattle.std.proofs.Common.{◌≡◌, ℕ, Vec, Global, length, refl, ap, ◌∙◌, arith}
 use Rattle.std.proofs.lemmas.Bool.{false≢true}
 use Rattle.indexed_replay.proofs.Chunking.{packed_at, lacks_text}
 use Rattle.indexed_replay.proofs.chunks.refuse_packed.Goals as goal

@@ -1,8 +1,8 @@
-use Rattle.std.proofs.Common.{◌≡◌, ℕ, List, ◌++◌, ◌∷◌, [], ◌+◌, ◌≤◌, length, take, sum, refl, sym, ap, subst, ◌∙◌, arith}
+use Rattle.std.proofs.Common.{◌≡◌, ℕ, List, ◌++◌, ◌∷◌, [], ◌+◌, ◌≤◌, take, sum, refl, ap, subst, ◌∙◌, arith}
 use Rattle.std.proofs.lemmas.List.{take_all}
 use Rattle.indexed_replay.specs.Steps.{Adds}
 use Rattle.indexed_replay.specs.Lists.{ListCost}
-use Rattle.indexed_replay.specs.Chunks.{spot_of, IsLedAmong, NamesCost}
+use Rattle.indexed_replay.specs.Chunks.{spot_of, IsLedAmong}
 use Rattle.indexed_replay.proofs.Naming.{named_none, named_more, zip_next, zip_taken, sum_joined, sum_taken}
 use Rattle.indexed_replay.proofs.chunks.show_names.Goals as goal
 

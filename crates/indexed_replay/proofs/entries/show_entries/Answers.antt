@@ -1,5 +1,5 @@
 use Rattle.std.proofs.Common.{◌+◌, ◌≤◌, sym, ◌∙◌, arith}
-use Rattle.indexed_replay.specs.Steps.{Stays, entries_cost}
+use Rattle.indexed_replay.specs.Steps.{entries_cost}
 use Rattle.indexed_replay.proofs.Adding.{listed_more, listed_skip, cost_next, cost_skip, cost_all}
 use Rattle.indexed_replay.proofs.entries.show_entries.Goals as goal
 

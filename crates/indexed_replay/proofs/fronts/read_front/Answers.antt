@@ -1,4 +1,4 @@
-use Rattle.std.proofs.Common.{◌≡◌, sym, ◌∙◌, arith}
+use Rattle.std.proofs.Common.{arith}
 use Rattle.mcap_model.proofs.Readings.{length-top}
 use Rattle.indexed_replay.proofs.Headed.{front_stands, past_end, head_apart, there_begun}
 use Rattle.indexed_replay.proofs.fronts.read_front.Goals as goal

@@ -1,4 +1,4 @@
-use Rattle.std.proofs.Common.{ℕ, List, subst}
+use Rattle.std.proofs.Common.{ℕ, subst}
 use Rattle.std.proofs.lemmas.Bool.{eqb-true, eq-eqb}
 use Rattle.rec_index.specs.Records.{ShowsMessageIndex}
 use Rattle.indexed_replay.proofs.Wanting.{index_once}

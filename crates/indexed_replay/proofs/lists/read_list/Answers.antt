@@ -1,4 +1,4 @@
-use Rattle.std.proofs.Common.{◌≡◌, ℕ, length, subst, ◌∙◌, arith}
+use Rattle.std.proofs.Common.{◌∙◌, arith}
 use Rattle.mcap_model.proofs.Readings.{length-top}
 use Rattle.indexed_replay.proofs.Headed.{front_whole}
 use Rattle.indexed_replay.proofs.lists.read_list.Goals as goal

@@ -1,4 +1,4 @@
-use Rattle.std.proofs.Common.{ℕ, List, ◌≤◌, ◌+◌, ◌∙◌, subst}
+use Rattle.std.proofs.Common.{ℕ, List, ◌≤◌, ◌+◌, subst}
 use Rattle.std.proofs.lemmas.Bool.{both_ways}
 use Rattle.indexed_replay.specs.Steps.{EntriesShown, entries_cost}
 use Rattle.indexed_replay.specs.Lists.{ContentRefused}

@@ -1,7 +1,5 @@
 use Rattle.std.proofs.Common.{Global, ◌≡◌, ℕ, List, ◌≤◌, ◌+◌, ◌∙◌, sym, subst}
 use Rattle.rec_index.specs.Records.{ShowsMessageIndex}
-use Rattle.mcap_model.specs.Made.{top}
-use Rattle.mcap_model.specs.Led.{IsThere}
 use Rattle.indexed_replay.specs.declared.answers.ReplayRefused.{ReplayRefused}
 use Rattle.indexed_replay.specs.declared.answers.ReplayRefused.TheVariants as refusals
 use Rattle.indexed_replay.specs.declared.spots.Spot.{Spot}
