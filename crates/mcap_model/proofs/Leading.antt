@@ -44,7 +44,7 @@ ended_longer (x ∷ xs) (suc n) zero few ended = absurd (omega (arith, few))
 ended_longer (x ∷ xs) (suc n) (suc k) few (inl here) = inl here
 ended_longer (x ∷ xs) (suc n) (suc k) few (inr more) = inr (ended_longer xs n k (omega (arith, few)) more)
 
-ended_front : (xs ys : List Top) → HasDataEnd xs → HasDataEnd (xs ++ ys)
+pub ended_front : (xs ys : List Top) → HasDataEnd xs → HasDataEnd (xs ++ ys)
 ended_front [] ys ended = absurd ended
 ended_front (x ∷ xs) ys (inl here) = inl here
 ended_front (x ∷ xs) ys (inr more) = inr (ended_front xs ys more)
@@ -60,7 +60,7 @@ at_while {X} test (y ∷ ys) n x at = by (test y) refl n (subst (λ (l : List X)
     by true is zero there more = (there, λ k z none. absurd (at_none k z none))
     by true is (suc n) there more = let behind = more n there in (behind.0, each_cons (λ z. test z ≡ true) y (take n ys) is behind.1)
 
-at_dropped : {X : Type 0} (xs : List X) (n p : ℕ) (x : X) → At (drop n xs) p x → (m : ℕ) → m ≡ n + p → At xs m x
+pub at_dropped : {X : Type 0} (xs : List X) (n p : ℕ) (x : X) → At (drop n xs) p x → (m : ℕ) → m ≡ n + p → At xs m x
 at_dropped {X} xs zero p x at m is = let same : p ≡ m = omega (arith, is) in subst (λ (k : ℕ). At xs k x) same at
 at_dropped [] (suc n) p x at m is = absurd (at_none p x at)
 at_dropped (y ∷ xs) (suc n) p x at zero is = absurd (omega (arith, is))
@@ -95,7 +95,7 @@ spelled_once xs ys short_xs short_ys same = elim (one_follows xs ys [] [] (all_s
 regroup : (m f b s e : List ℕ) → m ++ ((f ++ (b ++ s)) ++ e) ≡ (m ++ f) ++ (b ++ (s ++ e))
 regroup m f b s e = simp append_assoc refl
 
-from_there : (file : List ℕ) (tops : List Top) (n : ℕ) (t : Top) → IsWhole file tops → At tops n t → (rest : List ℕ) × (drop (offset_of tops n) file ≡ top_bytes t ++ rest)
+pub from_there : (file : List ℕ) (tops : List Top) (n : ℕ) (t : Top) → IsWhole file tops → At tops n t → (rest : List ℕ) × (drop (offset_of tops n) file ≡ top_bytes t ++ rest)
 from_there file tops n t whole at =
     let front = spelled (take n tops) in
     let (more, all) = cut_flat top_bytes tops n t at in
@@ -105,34 +105,34 @@ from_there file tops n t whole at =
           ∙ drop_at (magic ++ front) (top_bytes t ++ (spelled more ++ magic)) (offset_of tops n) size,
     )
 
-there_same : (file : List ℕ) (offset : ℕ) (t u : Top) (rest : List ℕ) → drop offset file ≡ top_bytes t ++ rest → length t.content < 2 ^ 64 → IsThere file offset u → u ≡ t
+pub there_same : (file : List ℕ) (offset : ℕ) (t u : Top) (rest : List ℕ) → drop offset file ≡ top_bytes t ++ rest → length t.content < 2 ^ 64 → IsThere file offset u → u ≡ t
 there_same file offset t u rest is short there =
     let stands = there.stands in
     let parts = records_apart u.op t.op u.content t.content stands.rest rest there.short short (sym stands.there ∙ is) in
     ap (λ (o : ℕ). top_of o u.content) parts.0 ∙ ap (top_of t.op) parts.1
 
-is_there : (file : List ℕ) (offset : ℕ) (t : Top) (rest : List ℕ) → drop offset file ≡ top_bytes t ++ rest → length t.content < 2 ^ 64 → IsThere file offset t
+pub is_there : (file : List ℕ) (offset : ℕ) (t : Top) (rest : List ℕ) → drop offset file ≡ top_bytes t ++ rest → length t.content < 2 ^ 64 → IsThere file offset t
 is_there file offset t rest is short = record { stands = record { rest = rest; there = is }; short = short }
 
 -- ---- the ends of a fully indexed file
 
-record Ends (tops : List Top) : Type 0 where
-  before : List Top
-  foot : Top
-  joined : tops ≡ before ++ foot ∷ []
-  start : ℕ
-  offsets : ℕ
-  crc : ℕ
-  is : IsFooter foot start offsets crc
-  end : ℕ
-  top : Top
-  at : At tops end top
-  kind : top.op ≡ 15
-  first : HasDataEnd (take end tops) → ⊥
-  there : start ≡ offset_of tops (suc end)
-  inside : end < length before
+pub record Ends (tops : List Top) : Type 0 where
+  pub before : List Top
+  pub foot : Top
+  pub joined : tops ≡ before ++ foot ∷ []
+  pub start : ℕ
+  pub offsets : ℕ
+  pub crc : ℕ
+  pub is : IsFooter foot start offsets crc
+  pub end : ℕ
+  pub top : Top
+  pub at : At tops end top
+  pub kind : top.op ≡ 15
+  pub first : HasDataEnd (take end tops) → ⊥
+  pub there : start ≡ offset_of tops (suc end)
+  pub inside : end < length before
 
-ends_of : (file : List ℕ) (tops : List Top) → FullyIndexed file tops → Ends tops
+pub ends_of : (file : List ℕ) (tops : List Top) → FullyIndexed file tops → Ends tops
 ends_of file tops full =
     let valid = full.valid in
     let (before, foot, joined, footer, none) = valid.v17 in
@@ -173,10 +173,10 @@ ends_of file tops full =
     apart : (foot top : Top) → foot.op ≡ 2 → top.op ≡ 15 → foot ≡ top → ⊥
     apart foot top two fifteen same = omega (arith, two, fifteen, ap (λ (x : Top). x.op) same)
 
-abbrev summary_of : {tops : List Top} → Ends tops → List Top
+abbrev pub summary_of : {tops : List Top} → Ends tops → List Top
 summary_of e = drop (suc e.end) e.before
 
-abbrev front_of : {tops : List Top} → Ends tops → List Top
+abbrev pub front_of : {tops : List Top} → Ends tops → List Top
 front_of e = take (suc e.end) e.before
 
 footer_size : (foot : Top) (start offsets crc : ℕ) → IsFooter foot start offsets crc → length foot.content ≡ 20
@@ -185,7 +185,7 @@ footer_size foot start offsets crc is =
     let row = is.layout in
     ap length row.spelled_there ∙ length-footer_text f
 
-in_before : (tops : List Top) (e : Ends tops) (n : ℕ) (t : Top) → At tops n t → t.op ≢ 2 → At e.before n t
+pub in_before : (tops : List Top) (e : Ends tops) (n : ℕ) (t : Top) → At tops n t → t.op ≢ 2 → At e.before n t
 in_before tops e n t at other = elim (at_either e.before (e.foot ∷ []) n t (subst (λ (l : List Top). At l n t) e.joined at)) [
   | inl first ↦ first
   | inr (k, there, last) ↦ absurd (none k last)
@@ -196,14 +196,14 @@ in_before tops e n t at other = elim (at_either e.before (e.foot ∷ []) n t (su
     none (suc k) last = at_none k t last
 
 -- behind a Data End, and no Footer
-in_summary : (tops : List Top) (e : Ends tops) (n : ℕ) (t : Top) → At tops n t → HasDataEnd (take n tops) → t.op ≢ 2 → Has (summary_of e) t
+pub in_summary : (tops : List Top) (e : Ends tops) (n : ℕ) (t : Top) → At tops n t → HasDataEnd (take n tops) → t.op ≢ 2 → Has (summary_of e) t
 in_summary tops e n t at ended other = elim (cases_lt e.end n) [
   | inl behind ↦ (n - suc e.end, at_behind e.before (suc e.end) n t (omega (arith, behind)) (in_before tops e n t at other))
   | inr before ↦ absurd (let first = e.first in first (ended_longer tops n e.end before ended))
 ]
 
 -- a record of the summary stands in the file
-from_summary : (tops : List Top) (e : Ends tops) (i : ℕ) (t : Top) → At (summary_of e) i t → (n : ℕ) × At tops n t
+pub from_summary : (tops : List Top) (e : Ends tops) (i : ℕ) (t : Top) → At (summary_of e) i t → (n : ℕ) × At tops n t
 from_summary tops e i t at =
     let n = suc e.end + i in
     (n, subst (λ (l : List Top). At l n t) (sym e.joined) (at_kept e.before (e.foot ∷ []) n t (at_dropped e.before (suc e.end) i t at n refl)))
@@ -211,7 +211,7 @@ from_summary tops e i t at =
 regroup_ends : (m f s b e : List ℕ) → m ++ (((f ++ s) ++ (b ++ [])) ++ e) ≡ (m ++ f) ++ (s ++ (b ++ e))
 regroup_ends m f s b e = simp (append_assoc, append-nil) refl
 
-whole_bytes : (file : List ℕ) (tops : List Top) → IsWhole file tops → (e : Ends tops) → file ≡ (magic ++ spelled (front_of e)) ++ (spelled (summary_of e) ++ (top_bytes e.foot ++ magic))
+pub whole_bytes : (file : List ℕ) (tops : List Top) → IsWhole file tops → (e : Ends tops) → file ≡ (magic ++ spelled (front_of e)) ++ (spelled (summary_of e) ++ (top_bytes e.foot ++ magic))
 whole_bytes file tops whole e =
     let cut : spelled e.before ≡ spelled (front_of e) ++ spelled (summary_of e) =
     ap spelled (sym (take-append-drop (suc e.end) e.before)) ∙ flat_map-append top_bytes (front_of e) (summary_of e) in
@@ -219,14 +219,14 @@ whole_bytes file tops whole e =
     ap spelled e.joined ∙ flat_map-append top_bytes e.before (e.foot ∷ []) ∙ ap (λ (l : List ℕ). l ++ (top_bytes e.foot ++ [])) cut in
     whole.split ∙ ap (λ (l : List ℕ). magic ++ (l ++ magic)) all ∙ regroup_ends magic (spelled (front_of e)) (spelled (summary_of e)) (top_bytes e.foot) magic
 
-start_is : (tops : List Top) (e : Ends tops) → e.start ≡ length (magic ++ spelled (front_of e))
+pub start_is : (tops : List Top) (e : Ends tops) → e.start ≡ length (magic ++ spelled (front_of e))
 start_is tops e =
     let inside = e.inside in
     let same : take (suc e.end) tops ≡ front_of e = ap (take (suc e.end)) e.joined ∙ take-append-le (suc e.end) e.before (e.foot ∷ []) (omega (arith, inside)) in
     let size : length (spelled (take (suc e.end) tops)) ≡ length (spelled (front_of e)) = ap (λ (l : List Top). length (spelled l)) same in
     omega (arith, e.there, size, length-append magic (spelled (front_of e)))
 
-summary_there : (file : List ℕ) (tops : List Top) → IsWhole file tops → (e : Ends tops) → HasSummary file e.start (summary_of e)
+pub summary_there : (file : List ℕ) (tops : List Top) → IsWhole file tops → (e : Ends tops) → HasSummary file e.start (summary_of e)
 summary_there file tops whole e =
     let all = whole_bytes file tops whole e in
     let front = magic ++ spelled (front_of e) in
@@ -270,10 +270,10 @@ summary_once file tops whole e start summary has =
 -- ---- a chunk's records
 
 -- the records of a chunk that stands at that place of the file
-record Opened (file : List ℕ) (tops : List Top) (c : ℕ) (chunk : Top) (g : ChunkFields) : Type 0 where
-  times : TimesAre (inner_tops chunk) g.start g.end
-  behind : (j : ℕ) (u : Top) → At (inner_tops chunk) j u → (rest : List ℕ) × (drop (offset_of tops c + 49 + offset_among (inner_tops chunk) j) file ≡ top_bytes u ++ rest)
-  short : AreShort (inner_tops chunk)
+pub record Opened (file : List ℕ) (tops : List Top) (c : ℕ) (chunk : Top) (g : ChunkFields) : Type 0 where
+  pub times : TimesAre (inner_tops chunk) g.start g.end
+  pub behind : (j : ℕ) (u : Top) → At (inner_tops chunk) j u → (rest : List ℕ) × (drop (offset_of tops c + 49 + offset_among (inner_tops chunk) j) file ≡ top_bytes u ++ rest)
+  pub short : AreShort (inner_tops chunk)
 
 -- what stands in a chunk without a compression in front of its records
 chunk_head : ChunkFields → List ℕ
@@ -300,7 +300,7 @@ chunk_split chunk g is plain =
 regroup_chunk : (h a b s e f : List ℕ) → (h ++ ((a ++ (b ++ s)) ++ e)) ++ f ≡ (h ++ a) ++ (b ++ (s ++ (e ++ f)))
 regroup_chunk h a b s e f = simp append_assoc refl
 
-opened : (file : List ℕ) (tops : List Top) (c : ℕ) (chunk : Top) (g : ChunkFields) → Valid file tops → At tops c chunk → IsChunk chunk g → Opened file tops c chunk g
+pub opened : (file : List ℕ) (tops : List Top) (c : ℕ) (chunk : Top) (g : ChunkFields) → Valid file tops → At tops c chunk → IsChunk chunk g → Opened file tops c chunk g
 opened file tops c chunk g valid at is =
     let v8 = valid.v8 in
     let all_plain = valid.plain in
@@ -470,7 +470,7 @@ few_bytes : (more : List Top) (rest : List ℕ) → magic ≡ spelled more ++ re
 few_bytes [] rest left = refl
 few_bytes (t ∷ ts) rest left = let size : 8 ≡ length (spelled (t ∷ ts) ++ rest) = ap length left in absurd (omega (arith, size, length-append (spelled (t ∷ ts)) rest, length-append (top_bytes t) (spelled ts), length-top t))
 
-section_first : (file : List ℕ) (tops section : List Top) (end : ℕ) → IsWhole file tops → Halts reading_limits file section (at_end end) → (more : List Top) × (tops ≡ section ++ more) × HasDataEnd section
+pub section_first : (file : List ℕ) (tops section : List Top) (end : ℕ) → IsWhole file tops → Halts reading_limits file section (at_end end) → (more : List Top) × (tops ≡ section ++ more) × HasDataEnd section
 section_first file tops section end whole halts =
     let (rest, stands, ended) = ends_there file section (at_end end) end halts.there refl in
     let kept = halts.kept in
@@ -483,7 +483,7 @@ section_first file tops section end whole halts =
           ([], sym (behind.longer ∙ ap (λ (l : List Top). tops ++ l) none ∙ append-nil tops) ∙ sym (append-nil section), ended)
     ]
 
-ended_before : (before : List Top) (t : Top) → t.op ≡ 8 → V3 before t → V5 before t → HasDataEnd before
+pub ended_before : (before : List Top) (t : Top) → t.op ≡ 8 → V3 before t → V5 before t → HasDataEnd before
 ended_before [] t eight v3 v5 = absurd (omega (arith, eight, v3.kind))
 ended_before (x ∷ xs) t eight v3 v5 = elim v5.1 [
   | inl ended ↦ ended
@@ -507,7 +507,7 @@ seen_by a b place channel topic message = cc
 
 -- ---- what a fully indexed file leads to
 
-named_of : (tops : List Top) (k : ℕ) (f : ChunkIndexFields) (key offset : ℕ) → NamesIndexes tops k f → Has {X = ℕ × ℕ} f.indexes (key, offset) → (entries : List (ℕ × ℕ)) × IsNamed tops k key offset entries
+pub named_of : (tops : List Top) (k : ℕ) (f : ChunkIndexFields) (key offset : ℕ) → NamesIndexes tops k f → Has {X = ℕ × ℕ} f.indexes (key, offset) → (entries : List (ℕ × ℕ)) × IsNamed tops k key offset entries
 named_of tops k f key offset (inl none) has = absurd (at_none has.0 (key, offset) (subst (λ (l : List (ℕ × ℕ)). At {X = ℕ × ℕ} l has.0 (key, offset)) none has.1))
 named_of tops k f key offset (inr all) has = all.0 key offset has
 
@@ -567,7 +567,7 @@ module _ (file : List ℕ) (tops : List Top) (full : FullyIndexed file tops) (se
   index_there : (c p : ℕ) (top : Top) → At (indexes_behind tops c) p top → At tops (suc (c + p)) top
   index_there c p top at = at_dropped tops (suc c) p top (at_while is_index (drop (suc c) tops) p top at).0 (suc (c + p)) (omega arith)
 
-  index_right : (c p : ℕ) (chunk top : Top) (channel : ℕ) (entries : List (ℕ × ℕ)) → At tops c chunk → chunk.op ≡ 6 → At (indexes_behind tops c) p top → IsMessageIndex top channel entries → AreEntries (inner_tops chunk) channel entries
+  pub index_right : (c p : ℕ) (chunk top : Top) (channel : ℕ) (entries : List (ℕ × ℕ)) → At tops c chunk → chunk.op ≡ 6 → At (indexes_behind tops c) p top → IsMessageIndex top channel entries → AreEntries (inner_tops chunk) channel entries
   index_right c p chunk top channel entries at six at_index is =
       let passed = (at_while is_index (drop (suc c) tops) p top at_index).1 in
       let v = valid in
@@ -579,7 +579,7 @@ module _ (file : List ℕ) (tops : List Top) (full : FullyIndexed file tops) (se
       of channel entries is
 
   -- where it stands in the file
-  index_stands : (c p offset : ℕ) (top : Top) → At (indexes_behind tops c) p top → offset ≡ offset_of tops (suc c + p) → (rest : List ℕ) × (drop offset file ≡ top_bytes top ++ rest) × (length top.content < 2 ^ 64)
+  pub index_stands : (c p offset : ℕ) (top : Top) → At (indexes_behind tops c) p top → offset ≡ offset_of tops (suc c + p) → (rest : List ℕ) × (drop offset file ≡ top_bytes top ++ rest) × (length top.content < 2 ^ 64)
   index_stands c p offset top at is =
       let n = suc (c + p) in
       let there = index_there c p top at in
