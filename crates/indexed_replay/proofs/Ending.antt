@@ -1,13 +1,9 @@
 -- What a replay comes to by its steps.
-use Rattle.std.proofs.Common.{◌≡◌, ℕ, ◌+◌, ◌-◌, ◌≤◌, Option, None, Result, Ok, Err, List, [], ◌∷◌, ◌++◌, length, drop, sym, ap, subst, inl, inr, ◌∙◌, arith}
+use Rattle.std.proofs.Common.{◌≡◌, ℕ, ◌+◌, ◌-◌, ◌^◌, ◌<◌, ◌≤◌, Option, None, Result, Ok, Err, List, [], ◌∷◌, length, drop, sym, ap, inl, inr, ◌∙◌, arith}
 use Rattle.std.specs.Prelude.{◌≢◌, ◌==◌, slice_get}
 use Rattle.std.proofs.lemmas.Bool.{eq-eqb}
-use Rattle.std.proofs.lemmas.List.{length-append, length-drop, length-take-le, drop_at}
-use Rattle.mcap_wire.specs.Layout.{magic, part}
-use Rattle.mcap_wire.proofs.Framing.{records_apart}
-use Rattle.rec_data.specs.Fields.{FooterFields}
-use Rattle.rec_data.specs.Records.{ShowsFooter}
-use Rattle.rec_data.proofs.Contents.{footer_decided}
+use Rattle.std.proofs.lemmas.List.{length-drop, length-take-le}
+use Rattle.mcap_wire.specs.Layout.{part}
 use Rattle.mcap_model.specs.declared.replay.Range.{Range}
 use Rattle.mcap_model.specs.declared.replay.Replayed.{Replayed}
 use Rattle.mcap_model.specs.Places.{Has, Each}
@@ -19,7 +15,7 @@ use Rattle.mcap_model.specs.Led.{HasSummary, IsThere}
 use Rattle.mcap_model.proofs.Places.{at_none}
 use Rattle.mcap_model.proofs.Lists.{filter_has}
 use Rattle.mcap_model.proofs.Readings.{length-top}
-use Rattle.mcap_model.proofs.Leading.{led_replays_are_scans}
+use Rattle.mcap_model.proofs.Leading.{section_first, led_replays_are_scans}
 use Rattle.summary_read.specs.declared.refusals.LoadRefused.{LoadRefused}
 use Rattle.summary_read.specs.declared.refusals.LoadRefused.TheVariants as load_refusals
 use Rattle.summary_read.specs.Reached.{StartsAt}
@@ -32,7 +28,8 @@ use Rattle.indexed_replay.specs.Reaching.{IsNotIndexed, at_loading, while_loadin
 use Rattle.indexed_replay.specs.Replaying.{IsReason, FileIsLed, IsScanReplayed, PlaysAll}
 use Rattle.indexed_replay.specs.Played.{PartsAgree, CountsJudged, refused_by}
 use Rattle.indexed_replay.proofs.Headed.{there_begun}
-use Rattle.indexed_replay.proofs.Summed.{footer_size, loaded_summary}
+use Rattle.indexed_replay.proofs.Full.{none_refuses}
+use Rattle.indexed_replay.proofs.Summed.{loaded_summary, start_same}
 
 -- ---- refusals
 
@@ -72,29 +69,19 @@ counts_reason file range p (lacks.NoChannel id) l judged = absurd judged
 
 -- ---- fully indexed files
 
-pub scan_replayed : (file : List ℕ) (tops : List Top) (end : ℕ) (messages : List Seen) (range : Range) (topic : Option (List ℕ)) (result : Result Replayed ReplayRefused) → IsFullyIndexed file → Halts reading_limits file tops (at_end end) → Scan tops messages
+pub scan_replayed : (file : List ℕ) (tops : List Top) (end : ℕ) (messages : List Seen) (range : Range) (topic : Option (List ℕ)) (result : Result Replayed ReplayRefused) → length file < 2 ^ 64 → IsFullyIndexed file → Halts reading_limits file tops (at_end end) → Scan tops messages
     → FileIsLed file range topic result → IsScanReplayed range topic messages result
-scan_replayed file tops end messages range topic (Ok played) full halts scan led = (led.shown, (led_replays_are_scans file tops end messages range full halts scan topic led.shown).0 led.replay, led.shows)
-scan_replayed file tops end messages range topic (Err why) full halts scan led = tt
+scan_replayed file tops end messages range topic (Ok played) few full halts scan led = (led.shown, (led_replays_are_scans file tops end messages range full halts scan topic led.shown).0 led.replay, led.shows)
+scan_replayed file tops end messages range topic (Err why) few (all, full) halts scan is =
+    let valid = full.valid in
+    let (more, joined, ended) = section_first file all tops end valid.v4 halts in
+    none_refuses file all full tops more joined ended messages scan range few topic why is
 
 -- ---- what is asked for
 
 start_once : (file : List ℕ) (start other : ℕ) (summary : List Top) → HasSummary file start summary → StartsAt file other → (other ≡ start) × (start + 37 ≤ length file)
 start_once file start other summary has starts =
-    let foot = has.footer in
-    let f = starts.footer in
-    let ends = starts.ends in
-    let size = footer_size foot start has.offsets has.crc has.is in
-    let other_size = footer_size ends.top f.summary_start f.summary_offset_start f.summary_crc ends.is in
-    let foot_size : length (top_bytes ends.top) ≡ 29 = omega (arith, length-top ends.top, other_size) in
-    let last : drop (length file - 37) file ≡ top_bytes ends.top ++ ends.last = ap (drop (length file - 37)) ends.split ∙ drop_at ends.before (top_bytes ends.top ++ ends.last) (length file - 37) (omega (arith, ap length ends.split, length-append ends.before (top_bytes ends.top ++ ends.last), length-append (top_bytes ends.top) ends.last, foot_size, ends.size)) in
-    let parts = records_apart (ends.top).op foot.op (ends.top).content foot.content ends.last magic (omega (arith, other_size)) (omega (arith, size)) (sym last ∙ has.last) in
-    let first : FooterFields = record { summary_start = f.summary_start; summary_offset_start = f.summary_offset_start; summary_crc = f.summary_crc } in
-    let second : FooterFields = record { summary_start = start; summary_offset_start = has.offsets; summary_crc = has.crc } in
-    let is = ends.is in
-    let own = has.is in
-    let same = footer_decided foot.content first second (subst (λ (l : List ℕ). ShowsFooter l first) parts.1 is.layout) own.layout in
-    let starts_same : f.summary_start ≡ start = ap (λ (g : FooterFields). g.summary_start) same in
+    let starts_same = start_same file start summary starts.footer has starts.ends in
     let named = starts.named in
     let before = starts.before in
     (omega (arith, named, starts_same), omega (arith, named, starts_same, before))

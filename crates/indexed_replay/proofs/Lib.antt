@@ -10,4 +10,7 @@ pub mod Firsts
 pub mod Ordering
 pub mod Summed
 pub mod Playing
+pub mod Counted
+pub mod Sound
+pub mod Full
 pub mod Ending

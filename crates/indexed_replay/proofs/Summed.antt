@@ -19,6 +19,8 @@ use Rattle.mcap_model.proofs.Readings.{all_short, one_follows, length-top}
 use Rattle.mcap_model.proofs.Flaws.{none_spelled}
 use Rattle.mcap_model.proofs.Maps.{shows_once}
 use Rattle.mcap_model.specs.declared.table.Declared.{Declared}
+use Rattle.rec_data.specs.declared.footer.Footer.{Footer}
+use Rattle.summary_read.specs.Reached.{EndsIn}
 use Rattle.summary_read.specs.Parts.{Parts, IsLoaded, of_kind}
 use Rattle.indexed_replay.specs.Lists.{Knows}
 use Rattle.indexed_replay.specs.Gathering.{FirstChannels}
@@ -82,6 +84,22 @@ summary_once file a b xs ys one other =
     let same = footer_decided food.content first second (subst (λ (l : List ℕ). ShowsFooter l first) parts.1 is.layout) other_is.layout in
     let starts : a ≡ b = ap (λ (f : FooterFields). f.summary_start) same in
     spelled_once xs ys one.short other.short (sym one.records ∙ ap (λ (n : ℕ). part n (length file - 37) file) starts ∙ other.records)
+
+-- the Footer in front of the last eight bytes names it
+pub start_same : (file : List ℕ) (start : ℕ) (summary : List Top) (f : Footer) → HasSummary file start summary → EndsIn file f → f.summary_start ≡ start
+start_same file start summary f has ends =
+    let foot = has.footer in
+    let size = footer_size foot start has.offsets has.crc has.is in
+    let other_size = footer_size ends.top f.summary_start f.summary_offset_start f.summary_crc ends.is in
+    let foot_size : length (top_bytes ends.top) ≡ 29 = omega (arith, length-top ends.top, other_size) in
+    let last : drop (length file - 37) file ≡ top_bytes ends.top ++ ends.last = ap (drop (length file - 37)) ends.split ∙ drop_at ends.before (top_bytes ends.top ++ ends.last) (length file - 37) (omega (arith, ap length ends.split, length-append ends.before (top_bytes ends.top ++ ends.last), length-append (top_bytes ends.top) ends.last, foot_size, ends.size)) in
+    let parts = records_apart (ends.top).op foot.op (ends.top).content foot.content ends.last magic (omega (arith, other_size)) (omega (arith, size)) (sym last ∙ has.last) in
+    let first : FooterFields = record { summary_start = f.summary_start; summary_offset_start = f.summary_offset_start; summary_crc = f.summary_crc } in
+    let second : FooterFields = record { summary_start = start; summary_offset_start = has.offsets; summary_crc = has.crc } in
+    let is = ends.is in
+    let own = has.is in
+    let same = footer_decided foot.content first second (subst (λ (l : List ℕ). ShowsFooter l first) parts.1 is.layout) own.layout in
+    ap (λ (g : FooterFields). g.summary_start) same
 
 -- ---- its first Channels
 

@@ -90,9 +90,15 @@ TellsNoSummary told result = (file : List ℕ) → told ≡ Some file → HasNoS
 
 abbrev pub IsScanReplayed : Range → Option (List ℕ) → List Seen → Result Replayed ReplayRefused → Type 0
 IsScanReplayed range topic messages (Ok played) = (shown : List Seen) × Replay range topic messages shown × Shows played shown
-IsScanReplayed range topic messages (Err why) = Unit {0}
+IsScanReplayed range topic messages (Err (refusals.Fault faults)) = Unit {0}
+IsScanReplayed range topic messages (Err (refusals.NotIndexed why)) = ⊥
+IsScanReplayed range topic messages (Err (refusals.Flaw rule offset)) = ⊥
+IsScanReplayed range topic messages (Err (refusals.Compressed offset name)) = ⊥
+IsScanReplayed range topic messages (Err (refusals.Limit offset)) = Unit {0}
+IsScanReplayed range topic messages (Err refusals.Memory) = Unit {0}
 
--- what is played of a fully indexed file that is read to its Data End is the replay of its scan
+-- Of a fully indexed file that is read to its Data End the replay of its scan is played, unless the store failed, a limit
+-- is passed or memory lacked.
 abbrev pub PlaysScan : Option (List ℕ) → Range → Option (List ℕ) → Result Replayed ReplayRefused → Type 0
 PlaysScan told range topic result = (file : List ℕ) (tops : List Top) (end : ℕ) (messages : List Seen) → told ≡ Some file → IsFullyIndexed file → Halts reading_limits file tops (at_end end) → Scan tops messages
     → IsScanReplayed range topic messages result

@@ -1,5 +1,6 @@
 //! The replay of a store by the index of its file.
-ghost use Rattle.std.specs.Prelude.{◌≡◌};
+ghost use Rattle.std.specs.Prelude.{◌≡◌, ◌≤◌, Ok};
+ghost use Rattle.mcap_io.specs.Stores.{TellsLength};
 ghost use Rattle.summary_read.specs.Loading.{Leaves};
 ghost use Rattle.mcap_model.specs.Plain.{asked_topic};
 ghost use Rattle.indexed_replay.specs.Played.{AsksIndexed, AsksLoaded, CountsJudged, PlaysLoaded, refused_by};
@@ -49,27 +50,23 @@ fn refuse_load(why: LoadRefused) -> ReplayRefused
     }
 }
 
-// The messages to which the summary leads that was loaded, in their order, with the topics of their channels.
+// The messages to which the summary leads that was loaded of a store of that length, in their order, with the topics of
+// their channels.
 fn play<T: Store>(
     alloc: Global,
     store: &mut T,
     loaded: &Loaded,
+    len: u64,
     range: Range,
     topic: Option<&Text>,
 ) -> Result<Replayed, ReplayRefused>
+    requires known { len ≤ (T.state store.old).known }
+    requires measured { TellsLength (T.state store.old).bytes (Ok len) }
     ensures plays { PlaysLoaded (T.state store.old).bytes loaded.now range (asked_topic topic.entry) result }
     ensures cause { ReplayCause (T.state store.old).faults (T.state store.new).faults result }
     ensures leaves { Leaves (T.state store.old) (T.state store.new) }
     ensures asks { AsksLoaded loaded.now range (T.state store.old) (T.state store.new) }
 {
-    let len = match store.len() {
-        Ok(len) => len,
-        Err(Failed) => {
-            return Err(ReplayRefused::Fault {
-                faults: store.faults(),
-            });
-        }
-    };
     let tables = match take_channels(alloc, loaded) {
         Ok(tables) => tables,
         Err(Memory) => return Err(ReplayRefused::Memory),
@@ -110,6 +107,14 @@ pub fn replay_indexed<T: Store>(
     ensures cause { ReplayCause (T.state store.old).faults (T.state store.new).faults result }
     ensures leaves { Leaves (T.state store.old) (T.state store.new) }
 {
+    let len = match store.len() {
+        Ok(len) => len,
+        Err(Failed) => {
+            return Err(ReplayRefused::Fault {
+                faults: store.faults(),
+            });
+        }
+    };
     let loaded = match load(alloc, store) {
         Ok(loaded) => loaded,
         Err(why) => return Err(refuse_load(why)),
@@ -118,5 +123,5 @@ pub fn replay_indexed<T: Store>(
         Ok(()) => {}
         Err(why) => return Err(ReplayRefused::NotIndexed { why }),
     }
-    return play(alloc, store, &loaded, range, topic);
+    return play(alloc, store, &loaded, len, range, topic);
 }

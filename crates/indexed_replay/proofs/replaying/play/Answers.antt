@@ -1,4 +1,4 @@
-use Rattle.std.proofs.Common.{List, sym, subst, ◌∙◌}
+use Rattle.std.proofs.Common.{List, sym, subst}
 use Rattle.mcap_model.specs.declared.replay.Shown.{Shown}
 use Rattle.mcap_model.specs.Plain.{AreNamed}
 use Rattle.indexed_replay.proofs.Summed.{knows, loaded_summary}
@@ -7,19 +7,17 @@ use Rattle.indexed_replay.proofs.replaying.play.Goals as goal
 
 pub returns-in-Err-gather-clause-plays : goal.returns-in-Err-gather-clause-plays
 returns-in-Err-gather-clause-plays g c = λ file told loaded.
-    let told_1 = c.in-Ok.ensures.bytes ∙ told in
-    let size = sym (c.in-Ok.ensures.tells file told) in
-    let known = knows file c.args.loaded.now loaded c.in-Ok-take_channels.tables.channels c.in-Ok-take_channels.ensures in
+    let size = sym (c.requires.measured file told) in
+    let known = knows file c.args.loaded.now loaded c.in-Ok.tables.channels c.in-Ok.ensures in
     let listed = loaded.listed in
-    c.in-Err-gather.ensures.told file told_1 size known (are_indexed file ((c.args.loaded.now).footer).summary_start loaded.tops (c.args.loaded.now).chunk_indexes (loaded_summary file c.args.loaded.now loaded) listed.chunk_indexes)
+    c.in-Err-gather.ensures.told file told size known (are_indexed file ((c.args.loaded.now).footer).summary_start loaded.tops (c.args.loaded.now).chunk_indexes (loaded_summary file c.args.loaded.now loaded) listed.chunk_indexes)
 
 pub returns-in-Ok-topics_of-clause-plays : goal.returns-in-Ok-topics_of-clause-plays
 returns-in-Ok-topics_of-clause-plays g c = λ file told loaded.
-    let told_1 = c.in-Ok.ensures.bytes ∙ told in
-    let size = sym (c.in-Ok.ensures.tells file told) in
-    let known = knows file c.args.loaded.now loaded c.in-Ok-take_channels.tables.channels c.in-Ok-take_channels.ensures in
+    let size = sym (c.requires.measured file told) in
+    let known = knows file c.args.loaded.now loaded c.in-Ok.tables.channels c.in-Ok.ensures in
     let listed = loaded.listed in
-    let adds = c.in-Ok-gather.ensures.told file told_1 size known in
+    let adds = c.in-Ok-gather.ensures.told file told size known in
     let same = c.deref.ensures.value in
-    let named = subst (λ (l : List Shown). AreNamed c.in-Ok-take_channels.tables.channels l c.in-Ok-topics_of.topics.items) same c.in-Ok-topics_of.ensures in
+    let named = subst (λ (l : List Shown). AreNamed c.in-Ok.tables.channels l c.in-Ok-topics_of.topics.items) same c.in-Ok-topics_of.ensures in
     added_led file _ ((c.args.loaded.now).footer).summary_start loaded.tops (c.args.loaded.now).chunk_indexes c.new-shown.result.items c.gather.new.shown.items (record { topics = c.in-Ok-topics_of.topics; shown = c.finish.new.shown }) adds c.new-shown.ensures.items (loaded_summary file c.args.loaded.now loaded) listed.chunk_indexes known c.finish.ensures named
