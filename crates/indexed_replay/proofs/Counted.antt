@@ -111,10 +111,17 @@ index_offsets (t ∷ ts) each =
     let (os, zip) = index_offsets ts (λ n u at. each (suc n) u at) in
     (f.offset ∷ os, ((f, is, refl), zip))
 
-offset_once : (t : Top) (f g : ChunkIndexFields) → IsChunkIndex t f → IsChunkIndex t g → f.offset ≡ g.offset
-offset_once t f g one other =
+abbrev index_made : ℕ → ℕ → ℕ → ℕ → List (ℕ × ℕ) → ℕ → List ℕ → ℕ → ℕ → ChunkIndexFields
+index_made start end offset size indexes indexes_size compression compressed uncompressed = record { start = start; end = end; offset = offset; size = size; indexes = indexes; indexes_size = indexes_size; compression = compression; compressed = compressed; uncompressed = uncompressed }
+
+index_by : (f g : ChunkIndexFields) → f.start ≡ g.start → f.end ≡ g.end → f.offset ≡ g.offset → f.size ≡ g.size → f.indexes ≡ g.indexes → f.indexes_size ≡ g.indexes_size → f.compression ≡ g.compression → f.compressed ≡ g.compressed → f.uncompressed ≡ g.uncompressed
+    → index_made f.start f.end f.offset f.size f.indexes f.indexes_size f.compression f.compressed f.uncompressed ≡ index_made g.start g.end g.offset g.size g.indexes g.indexes_size g.compression g.compressed g.uncompressed
+index_by f g start end offset size indexes indexes_size compression compressed uncompressed = cc
+
+pub chunk_index_once : (t : Top) (f g : ChunkIndexFields) → IsChunkIndex t f → IsChunkIndex t g → f ≡ g
+chunk_index_once t f g one other =
     let same = shows_decided chunk_index_kinds t.content (chunk_index_values f) (chunk_index_values g) one.layout other.layout in
-    cc same
+    index_by f g (cc same) (cc same) (cc same) (cc same) (cc same) (cc same) (cc same) (cc same) (cc same)
 
 -- the second is of another chunk
 abbrev Differ : Top → Top → Type 0
@@ -214,7 +221,7 @@ module _ (file : List ℕ) (tops : List Top) (full : FullyIndexed file tops) (en
       let (i, at_i) = index_there back.place back.top h in
       let (p, at_p, (f, is_f, p_is)) = zip_front HasOffset indexes os i h.top zip at_i in
       let front_same : take back.place tops ≡ take back.place front = ap (take back.place) is.joined ∙ take_first front (is.end ∷ is.behind) back.place back.top back.here in
-      let same : p ≡ o = p_is ∙ offset_once h.top f h.shown is_f h.is ∙ of.offset ∙ ap offset_behind front_same ∙ sym back.is in
+      let same : p ≡ o = p_is ∙ ap (λ (x : ChunkIndexFields). x.offset) (chunk_index_once h.top f h.shown is_f h.is) ∙ of.offset ∙ ap offset_behind front_same ∙ sym back.is in
       (i, subst (λ (q : ℕ). At os i q) same at_p)) in
       omega (arith, offsets_size 8 front, AllZip-long HasOffset indexes os zip, no_more os (chunk_offsets 8 front) os_apart some_chunk, no_more (chunk_offsets 8 front) os (offsets_apart 8 front) some_index)
 

@@ -41,14 +41,14 @@ flat_has tops c j chunk u at six here five =
     (length front + n, subst (λ (l : List Top). At l (length front + n) u) (sym all) (at_second front (flattened chunk ++ flat more) n u (at_kept (flattened chunk) (flat more) n u there)))
 
 -- the chunk that a Chunk Index leads to
-record OfChunk (file : List ℕ) (tops : List Top) (f : ChunkIndexFields) : Type 0 where
-  place : ℕ
-  index : Top
-  at : At tops place index
-  is : IsChunkIndex index f
-  right : ChunkIndexIsRight tops place f
-  there : IsThere file f.offset right.chunk
-  plain : (right.shown).compression ≡ []
+pub record OfChunk (file : List ℕ) (tops : List Top) (f : ChunkIndexFields) : Type 0 where
+  pub place : ℕ
+  pub index : Top
+  pub at : At tops place index
+  pub is : IsChunkIndex index f
+  pub right : ChunkIndexIsRight tops place f
+  pub there : IsThere file f.offset right.chunk
+  pub plain : (right.shown).compression ≡ []
 
 -- the message that an entry leads to
 record OfEntry (file : List ℕ) (tops : List Top) (f : ChunkIndexFields) (channel : ℕ) (entry : ℕ × ℕ) : Type 0 where
@@ -73,7 +73,7 @@ module _ (file : List ℕ) (tops : List Top) (full : FullyIndexed file tops) (se
   summary_is : (start : ℕ) (summary : List Top) → HasSummary file start summary → summary ≡ summary_of e
   summary_is start summary has = let ends = e in summary_once file start ends.start summary (summary_of ends) has (summary_there file tops whole ends)
 
-  of_chunk : (f : ChunkIndexFields) → HasChunkIndex file f → OfChunk file tops f
+  pub of_chunk : (f : ChunkIndexFields) → HasChunkIndex file f → OfChunk file tops f
   of_chunk f h =
       let (i, at_i) = subst (λ (l : List Top). Has l h.index) (summary_is h.start h.summary h.has) h.indexed in
       let (n, at) = from_summary tops e i h.index at_i in

@@ -13,4 +13,7 @@ pub mod Playing
 pub mod Counted
 pub mod Sound
 pub mod Full
+pub mod Weighed
+pub mod Costing
+pub mod Bounded
 pub mod Ending

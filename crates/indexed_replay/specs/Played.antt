@@ -6,7 +6,9 @@ use Rattle.mcap_model.specs.declared.replay.Range.{Range}
 use Rattle.mcap_model.specs.declared.replay.Replayed.{Replayed}
 use Rattle.mcap_model.specs.Tops.{Top, top_bytes, spelled}
 use Rattle.mcap_model.specs.Fields.{StatisticsFields, IsStatistics}
-use Rattle.mcap_model.specs.Led.{HasSummary, IsThere}
+use Rattle.mcap_model.specs.Kept.{reading_limits, at_end, Halts}
+use Rattle.mcap_model.specs.Valid.{IsFullyIndexed}
+use Rattle.mcap_model.specs.Led.{HasSummary, IsThere, AskedBound}
 use Rattle.summary_read.specs.Parts.{Parts, IsLoaded, of_kind}
 use Rattle.summary_read.specs.declared.refusals.LoadRefused.{LoadRefused}
 use Rattle.summary_read.specs.declared.refusals.LoadRefused.TheVariants as load_refusals
@@ -70,3 +72,8 @@ AsksLoaded parts range old new = (file : List ℕ) (costs : List ℕ) → old.by
 abbrev pub AsksIndexed : Range → StoreState → StoreState → Type 0
 AsksIndexed range old new = (file : List ℕ) (start : ℕ) (summary : List Top) (header : Top) (costs : List ℕ) → old.bytes ≡ Some file → HasSummary file start summary → IsThere file 8 header → AllZip (CostsUpTo file range) (of_kind 8 summary) costs
     → new.asked ≤ old.asked + (8 + length (top_bytes header) + 37 + length (spelled summary) + sum costs)
+
+-- Of a fully indexed file that is read to its Data End no more is asked for than these, and of each chunk whose times meet
+-- the range its first 49 bytes, its Message Indexes and its messages in the range.
+abbrev pub AsksBound : Range → StoreState → StoreState → Type 0
+AsksBound range old new = (file : List ℕ) (tops : List Top) (end bound : ℕ) → old.bytes ≡ Some file → IsFullyIndexed file → Halts reading_limits file tops (at_end end) → AskedBound file range bound → new.asked ≤ old.asked + bound

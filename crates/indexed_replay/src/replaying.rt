@@ -3,7 +3,7 @@ ghost use Rattle.std.specs.Prelude.{◌≡◌, ◌≤◌, Ok};
 ghost use Rattle.mcap_io.specs.Stores.{TellsLength};
 ghost use Rattle.summary_read.specs.Loading.{Leaves};
 ghost use Rattle.mcap_model.specs.Plain.{asked_topic};
-ghost use Rattle.indexed_replay.specs.Played.{AsksIndexed, AsksLoaded, CountsJudged, PlaysLoaded, refused_by};
+ghost use Rattle.indexed_replay.specs.Played.{AsksBound, AsksIndexed, AsksLoaded, CountsJudged, PlaysLoaded, refused_by};
 ghost use Rattle.indexed_replay.specs.Replaying.{Plays, PlaysScan, ReplayCause, TellsChunks, TellsNoSummary};
 
 use crate::answers::{NotIndexed, ReplayRefused};
@@ -104,6 +104,7 @@ pub fn replay_indexed<T: Store>(
     ensures unsummed { TellsNoSummary (T.state store.old).bytes result }
     ensures scanned { PlaysScan (T.state store.old).bytes range (asked_topic topic.entry) result }
     ensures asks { AsksIndexed range (T.state store.old) (T.state store.new) }
+    ensures bounded { AsksBound range (T.state store.old) (T.state store.new) }
     ensures cause { ReplayCause (T.state store.old).faults (T.state store.new).faults result }
     ensures leaves { Leaves (T.state store.old) (T.state store.new) }
 {

@@ -8,6 +8,7 @@ use Rattle.indexed_replay.specs.Replaying.{IsReason}
 use Rattle.indexed_replay.specs.Gathering.{CostsUpTo}
 use Rattle.summary_read.specs.Parts.{of_kind}
 use Rattle.indexed_replay.proofs.Summed.{loaded_summary, summary_once}
+use Rattle.indexed_replay.proofs.Bounded.{asked_bound}
 use Rattle.indexed_replay.proofs.Ending.{load_reason, counts_reason, counts_agree, scan_replayed, asked_loaded}
 use Rattle.indexed_replay.proofs.replaying.replay_indexed.Goals as goal
 
@@ -25,6 +26,10 @@ returns-in-Err-load-clause-asks g c = λ file start summary header costs told ha
     let few = asked_loaded file start summary header (g.T.Store.state c.len.new.self).asked (g.T.Store.state c.load.new.store).asked (g.T.Store.state c.load.new.store).asked (sum costs) has there (c.in-Err-load.ensures.asks file (c.in-Ok.ensures.bytes ∙ told)) (omega arith) in
     omega (arith, few, c.in-Ok.ensures.asked)
 
+pub returns-in-Err-load-clause-bounded : goal.returns-in-Err-load-clause-bounded
+returns-in-Err-load-clause-bounded g c = λ file tops end bound told full halts asked.
+    asked_bound file tops end bound (g.T.Store.state c.args.store.now).asked (g.T.Store.state c.load.new.store).asked c.args.range full halts asked (λ start summary header costs. returns-in-Err-load-clause-asks g c file start summary header costs told)
+
 pub returns-in-Err-judge_counts-clause-plays : goal.returns-in-Err-judge_counts-clause-plays
 returns-in-Err-judge_counts-clause-plays g c = λ file told. counts_reason file c.args.range c.in-Ok-load.loaded c.in-Err-judge_counts.why (c.in-Ok-load.ensures.loads file (c.in-Ok.ensures.bytes ∙ told)).0 c.in-Err-judge_counts.ensures
 
@@ -38,6 +43,10 @@ pub returns-in-Err-judge_counts-clause-asks : goal.returns-in-Err-judge_counts-c
 returns-in-Err-judge_counts-clause-asks g c = λ file start summary header costs told has there are.
     let few = asked_loaded file start summary header (g.T.Store.state c.len.new.self).asked (g.T.Store.state c.load.new.store).asked (g.T.Store.state c.load.new.store).asked (sum costs) has there (c.in-Ok-load.ensures.asks file (c.in-Ok.ensures.bytes ∙ told)) (omega arith) in
     omega (arith, few, c.in-Ok.ensures.asked)
+
+pub returns-in-Err-judge_counts-clause-bounded : goal.returns-in-Err-judge_counts-clause-bounded
+returns-in-Err-judge_counts-clause-bounded g c = λ file tops end bound told full halts asked.
+    asked_bound file tops end bound (g.T.Store.state c.args.store.now).asked (g.T.Store.state c.load.new.store).asked c.args.range full halts asked (λ start summary header costs. returns-in-Err-judge_counts-clause-asks g c file start summary header costs told)
 
 pub returns-clause-scanned : goal.returns-clause-scanned
 returns-clause-scanned g c = λ file tops end messages told full halts scan.
@@ -54,6 +63,10 @@ returns-clause-asks g c = λ file start summary header costs told has there are.
     let zip = subst (λ (l : List Top). AllZip (CostsUpTo file c.args.range) l costs) (sym listed.chunk_indexes) (subst (λ (l : List Top). AllZip (CostsUpTo file c.args.range) (of_kind 8 l) costs) same are) in
     let few = asked_loaded file start summary header (g.T.Store.state c.len.new.self).asked (g.T.Store.state c.load.new.store).asked (g.T.Store.state c.play.new.store).asked (sum costs) has there (c.in-Ok-load.ensures.asks file now) (c.play.ensures.asks file costs (c.in-Ok-load.ensures.leaves.bytes ∙ now) zip) in
     omega (arith, few, c.in-Ok.ensures.asked)
+
+pub returns-clause-bounded : goal.returns-clause-bounded
+returns-clause-bounded g c = λ file tops end bound told full halts asked.
+    asked_bound file tops end bound (g.T.Store.state c.args.store.now).asked (g.T.Store.state c.play.new.store).asked c.args.range full halts asked (λ start summary header costs. returns-clause-asks g c file start summary header costs told)
 
 pub returns-clause-counted : goal.returns-clause-counted
 returns-clause-counted g c = λ file told. counts_agree file c.in-Ok-load.loaded c.play.result (c.in-Ok-load.ensures.loads file (c.in-Ok.ensures.bytes ∙ told)).0 c.in-Ok-judge_counts.ensures

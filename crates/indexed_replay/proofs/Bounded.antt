@@ -1,0 +1,106 @@
+-- How much is asked for of a fully indexed file.
+use Rattle.std.proofs.Common.{◌≡◌, ℕ, suc, ◌+◌, ◌≤◌, List, [], ◌∷◌, ◌++◌, length, drop, sum, refl, sym, ap, subst, inl, inr, ◌∙◌, arith}
+use Rattle.std.specs.Prelude.{◌==◌, filter}
+use Rattle.std.specs.List.{AllZip}
+use Rattle.mcap_model.specs.declared.replay.Range.{Range}
+use Rattle.mcap_model.specs.Places.{Each}
+use Rattle.mcap_model.specs.Tops.{Top, top_bytes, spelled, inner_tops}
+use Rattle.mcap_model.specs.Fields.{ChunkIndexFields, IsChunkIndex}
+use Rattle.mcap_model.specs.Rules.{HasDataEnd}
+use Rattle.mcap_model.specs.Kept.{reading_limits, at_end, Halts}
+use Rattle.mcap_model.specs.Scan.{Seen, Scan}
+use Rattle.mcap_model.specs.Whole.{offset_of, offset_among, indexes_behind, IsNamed, NamesIndexes}
+use Rattle.mcap_model.specs.Valid.{FullyIndexed, IsFullyIndexed}
+use Rattle.mcap_model.specs.Led.{HasSummary, IsThere, is_timely, Meets, ChunkCosts, AskedBound}
+use Rattle.mcap_model.proofs.Lists.{filter_passed}
+use Rattle.mcap_model.proofs.Flat.{good_lists_are_scanned}
+use Rattle.mcap_model.proofs.Leading.{there_same, is_there, opened, section_first, index_right, index_stands}
+use Rattle.summary_read.specs.Parts.{of_kind}
+use Rattle.indexed_replay.specs.Reaching.{HasChunkIndex}
+use Rattle.indexed_replay.specs.Chunks.{NamesCost, ChunkCost}
+use Rattle.indexed_replay.specs.Gathering.{CostsUpTo}
+use Rattle.indexed_replay.proofs.Naming.{sum_is}
+use Rattle.indexed_replay.proofs.Counted.{chunk_index_once}
+use Rattle.indexed_replay.proofs.Weighed.{weights_fit}
+use Rattle.indexed_replay.proofs.Full.{OfChunk, of_chunk}
+use Rattle.indexed_replay.proofs.Costing.{names_differ, top_size, timely_size, spelled_size, timely_sum, entry_places, OneSpent, spent}
+
+-- ---- chunks
+
+module _ (file : List ℕ) (tops : List Top) (full : FullyIndexed file tops) (section more : List Top) (joined : tops ≡ section ++ more) (ended : HasDataEnd section) (messages : List Seen) (scan : Scan section messages) (range : Range) where
+  one_spent : (f : ChunkIndexFields) (c : OfChunk file tops f) (x : ℕ × ℕ) (entries : List (ℕ × ℕ)) → IsNamed tops (c.right).k x.0 x.1 entries → OneSpent file range f.offset (indexes_behind tops (c.right).k) (inner_tops (c.right).chunk) x
+  one_spent f c x entries named =
+      let right = c.right in
+      let of = right.is in
+      let six = of.is in
+      let (rest, stands, short) = index_stands file tops full section more joined ended messages scan range right.k named.place x.1 named.top named.at named.there in
+      let are = index_right file tops full section more joined ended messages scan range right.k named.place right.chunk named.top x.0 entries of.at six.kind named.at named.is in
+      let chunk = opened file tops right.k right.chunk right.shown full.valid of.at of.is in
+      let behind = chunk.behind in
+      let all_short = chunk.short in
+      record {
+        place = named.place;
+        top = named.top;
+        entries = entries;
+        at = named.at;
+        is = named.is;
+        there = is_there file x.1 named.top rest stands short;
+        places = entry_places file range f.offset (inner_tops right.chunk)
+            (λ j u at.
+            let (after, here) = behind j u at in
+            let place : f.offset + 49 + offset_among (inner_tops right.chunk) j ≡ offset_of tops right.k + 49 + offset_among (inner_tops right.chunk) j = omega (arith, of.offset) in
+            is_there file (f.offset + 49 + offset_among (inner_tops right.chunk) j) u after (ap (λ (o : ℕ). drop o file) place ∙ here) (all_short j u at))
+            x.0 entries are.are are.once;
+      }
+
+  -- of a chunk no more is asked for than its costs
+  chunk_costs : (f : ChunkIndexFields) (cost : ℕ) → OfChunk file tops f → Meets range f → ChunkCosts file range f cost → ChunkCost file range f cost
+  chunk_costs f cost c meets costs =
+      let right = c.right in
+      let of = right.is in
+      let there = c.there in
+      let stands = there.stands in
+      let same = there_same file f.offset right.chunk costs.chunk stands.rest stands.there there.short costs.there in
+      let met = costs.met in
+      let total : cost ≡ 49 + f.indexes_size + length (spelled (filter (is_timely range) (inner_tops right.chunk))) = met meets ∙ ap (λ (t : Top). 49 + f.indexes_size + length (spelled (filter (is_timely range) (inner_tops t)))) same in
+      let (parts, are, few) = by right.names in
+      record { chunk = right.chunk; shown = right.shown; there = there; is = of.is; plain = c.plain; costs = parts; are = are; enough = omega (arith, few, total) }
+    where
+      by : NamesIndexes tops (c.right).k f → (costs : List ℕ) × NamesCost file range f.offset f.indexes costs × (sum costs ≤ f.indexes_size + length (spelled (filter (is_timely range) (inner_tops (c.right).chunk))))
+      by (inl none) = ([], subst (λ (l : List (ℕ × ℕ)). NamesCost file range f.offset l []) (sym none) tt, omega arith)
+      by (inr all) =
+          let indexes = indexes_behind tops (c.right).k in
+          let records = inner_tops (c.right).chunk in
+          let s = spent file range f.offset indexes records f.indexes (names_differ c.index f c.is) (λ x has. let (entries, named) = all.0 x.0 x.1 has in one_spent f c x entries named) in
+          let lists = weights_fit top_size indexes s.lists s.lists_apart in
+          let inner = weights_fit (timely_size range) records s.inner s.inner_apart in
+          (s.costs, s.are, omega (arith, sum_is s.costs, s.few, lists, inner, spelled_size indexes, timely_sum range records, all.2))
+
+  costs_up : (ts : List Top) (fs : List ChunkIndexFields) (costs : List ℕ) → AllZip IsChunkIndex ts fs → AllZip (ChunkCosts file range) fs costs → Each (λ t. (f : ChunkIndexFields) → IsChunkIndex t f → HasChunkIndex file f) ts → AllZip (CostsUpTo file range) ts costs
+  costs_up [] [] [] zip are has = tt
+  costs_up [] [] (cost ∷ costs) zip are has = absurd are
+  costs_up [] (f ∷ fs) costs zip are has = absurd zip
+  costs_up (t ∷ ts) [] costs zip are has = absurd zip
+  costs_up (t ∷ ts) (f ∷ fs) [] zip are has = absurd are
+  costs_up (t ∷ ts) (f ∷ fs) (cost ∷ costs) zip are has = (
+    λ g is meets.
+        let same = chunk_index_once t f g zip.0 is in
+        let there = of_chunk file tops full section more joined ended messages scan range g (has 0 t refl g is) in
+        chunk_costs g cost there meets (subst (λ (h : ChunkIndexFields). ChunkCosts file range h cost) same are.0),
+    costs_up ts fs costs zip.1 are.1 (λ n u at. has (suc n) u at),
+  )
+
+-- ---- files
+
+pub asked_bound : (file : List ℕ) (tops : List Top) (end bound before now : ℕ) (range : Range) → IsFullyIndexed file → Halts reading_limits file tops (at_end end) → AskedBound file range bound
+    → ((start : ℕ) (summary : List Top) (header : Top) (costs : List ℕ) → HasSummary file start summary → IsThere file 8 header → AllZip (CostsUpTo file range) (of_kind 8 summary) costs → now ≤ before + (8 + length (top_bytes header) + 37 + length (spelled summary) + sum costs))
+    → now ≤ before + bound
+asked_bound file tops end bound before now range (all, full) halts asked few =
+    let valid = full.valid in
+    let (more, joined, ended) = section_first file all tops end valid.v4 halts in
+    let kept = halts.kept in
+    let (messages, scan, once) = good_lists_are_scanned reading_limits tops kept.good in
+    let costs = costs_up file all full tops more joined ended messages scan range (of_kind 8 asked.summary) asked.indexes asked.costs asked.are_indexes asked.are_costs (λ n t at f is.
+    record { start = asked.start; summary = asked.summary; has = asked.has; index = t; indexed = (filter_passed (λ (u : Top). u.op == 8) asked.summary n t at).0; is = is }) in
+    let least = few asked.start asked.summary asked.header asked.costs asked.has asked.first costs in
+    omega (arith, least, asked.sum_is)
