@@ -6,8 +6,7 @@ use Rattle.mcap_io.specs.Stores.{StoreState}
 use Rattle.mcap_io.specs.declared.outside.ObjectKind.TheVariants as kinds
 use Rattle.mcap_model.specs.Tops.{Top}
 use Rattle.mcap_model.specs.Kept.{reading_limits, at_end, Halts}
-use Rattle.mcap_model.specs.Scan.{Seen, Scan, Replay}
-use Rattle.mcap_model.specs.Text.{cat_text}
+use Rattle.mcap_model.specs.Scan.{Seen, Scan}
 use Rattle.mcap_model.specs.Valid.{IsFullyIndexed}
 use Rattle.indexed_replay.specs.declared.answers.ReplayRefused.TheVariants as refusals
 use Rattle.cat_command.specs.declared.indexed.Following.{Following}
@@ -19,7 +18,7 @@ use Rattle.command_base.specs.Ran.{Scene, counts_in, Complains}
 use Rattle.command_base.specs.OneFile.{failing, text_of, HaltsWell, PrintsEnding, ShowsFaults}
 use Rattle.command_base.proofs.OneFile.{one_troubles, one_not_two, reads_one, halts_so, read_halts, failed_halts, lacked_halts}
 use Rattle.cat_command.specs.Cat.{Selection}
-use Rattle.cat_command.specs.Indexed.{now_of, ComesTo, IsFollowed, ending_of, ShowsLed, IndexedCats}
+use Rattle.cat_command.specs.Indexed.{now_of, ComesTo, IsFollowed, ending_of, ShowsLed, ShowsScan, IndexedCats}
 use Rattle.cat_command.specs.IndexedNames.{NameFollowed}
 
 -- a reading halts by what the file lacks, by a broken rule, a compression or a limit
@@ -53,20 +52,24 @@ shows_bytes asked file bytes world told (entry ∷ more) following (inl refused)
 shows_bytes asked file bytes world told (entry ∷ more) following (inr (keeping, is, under)) here there other =
     shows_so asked file bytes under.store (now_of under.store keeping.faults keeping.asked) following ((under.tells told here).0 ∙ there) under.comes other
 
-scan_so : (asked : Selection) (bytes : List ℕ) (tops : List Top) (end : ℕ) (messages : List Seen) (store now : StoreState) (text : List ℕ) → store.bytes ≡ Some bytes → IsFullyIndexed bytes → Halts reading_limits bytes tops (at_end end) → Scan tops messages
-    → ComesTo asked store now (followings.Lines text) → (shown : List Seen) × Replay asked.range asked.topic messages shown × (text ≡ cat_text shown)
-scan_so asked bytes tops end messages store now text here full halts scan comes =
-    let played = comes.1.scanned bytes tops end messages here full halts scan in
-    (played.0, played.1, comes.2 played.0 played.2)
+module _ (asked : Selection) (file bytes : List ℕ) (tops : List Top) (end : ℕ) (messages : List Seen) (full : IsFullyIndexed bytes) (halts : Halts reading_limits bytes tops (at_end end)) (scan : Scan tops messages) where
+  scan_so : (store now : StoreState) (following : Following) → store.bytes ≡ Some bytes → ComesTo asked store now following → ShowsScan asked messages following
+  scan_so store now followings.Unopened here comes = tt
+  scan_so store now (followings.Lines text) here comes =
+      let played = comes.1.scanned bytes tops end messages here full halts scan in
+      (played.0, played.1, comes.2 played.0 played.2)
+  scan_so store now (followings.Refused (refusals.Fault faults)) here comes = tt
+  scan_so store now (followings.Refused (refusals.NotIndexed why)) here comes = comes.scanned bytes tops end messages here full halts scan
+  scan_so store now (followings.Refused (refusals.Flaw rule n)) here comes = comes.scanned bytes tops end messages here full halts scan
+  scan_so store now (followings.Refused (refusals.Compressed n name)) here comes = comes.scanned bytes tops end messages here full halts scan
+  scan_so store now (followings.Refused (refusals.Limit n)) here comes = tt
+  scan_so store now (followings.Refused refusals.Memory) here comes = tt
 
-scan_bytes : (asked : Selection) (file bytes : List ℕ) (tops : List Top) (end : ℕ) (messages : List Seen) (world : WorldState) (told : Told) (entries : List Opening) (following : Following) (text : List ℕ) → IsFollowed asked file world entries following
-    → world.told ≡ Some told → told.names file ≡ Some bytes → IsFullyIndexed bytes → Halts reading_limits bytes tops (at_end end) → Scan tops messages → following ≡ followings.Lines text
-    → (shown : List Seen) × Replay asked.range asked.topic messages shown × (text ≡ cat_text shown)
-scan_bytes asked file bytes tops end messages world told [] following text is here there full halts scan lines = absurd (let apart = sym lines ∙ is in cc)
-scan_bytes asked file bytes tops end messages world told (entry ∷ more) following text (inl refused) here there full halts scan lines = absurd (let apart = sym lines ∙ refused.1 in cc)
-scan_bytes asked file bytes tops end messages world told (entry ∷ more) following text (inr (keeping, is, under)) here there full halts scan lines =
-    let now = now_of under.store keeping.faults keeping.asked in
-    scan_so asked bytes tops end messages under.store now text ((under.tells told here).0 ∙ there) full halts scan (subst (λ (f : Following). ComesTo asked under.store now f) lines under.comes)
+  scan_bytes : (world : WorldState) (told : Told) (entries : List Opening) (following : Following) → IsFollowed asked file world entries following → world.told ≡ Some told → told.names file ≡ Some bytes → ShowsScan asked messages following
+  scan_bytes world told [] following is here there = subst (λ (f : Following). ShowsScan asked messages f) (sym is) tt
+  scan_bytes world told (entry ∷ more) following (inl refused) here there = subst (λ (f : Following). ShowsScan asked messages f) (sym refused.1) tt
+  scan_bytes world told (entry ∷ more) following (inr (keeping, is, under)) here there =
+      scan_so under.store (now_of under.store keeping.faults keeping.asked) following ((under.tells told here).0 ∙ there) under.comes
 
 -- ---- the command
 
@@ -98,6 +101,6 @@ printed asked file old new followed broke faults answer parts =
       decided = λ told bytes here there quiet.
           let (calm, is) = ran.calm quiet in
           (shows_bytes asked file bytes old.world told parts.name.entries followed.following parts.name.following here there (λ e. both_ways ran.failed calm (ran.sure e)), is);
-      scanned = λ told bytes tops end messages text here there full halts scan lines.
-          scan_bytes asked file bytes tops end messages old.world told parts.name.entries followed.following text parts.name.following here there full halts scan lines;
+      scanned = λ told bytes tops end messages here there full halts scan.
+          scan_bytes asked file bytes tops end messages full halts scan old.world told parts.name.entries followed.following parts.name.following here there;
     }

@@ -32,6 +32,7 @@ lacking asked store now played is = record {
   unsummed = λ file here none. tt;
   scanned = λ file tops end messages here full halts scan. tt;
   asks = is.asks;
+  bounded = is.bounded;
   cause = is.cause;
 }
 

@@ -16,7 +16,7 @@ use Rattle.indexed_replay.specs.declared.answers.ReplayRefused.TheVariants as re
 use Rattle.indexed_replay.specs.declared.answers.NotIndexed.{NotIndexed}
 use Rattle.indexed_replay.specs.declared.answers.NotIndexed.TheVariants as lacks
 use Rattle.indexed_replay.specs.Replaying.{IsReason, Plays, TellsChunks, TellsNoSummary, PlaysScan, ReplayCause}
-use Rattle.indexed_replay.specs.Played.{AsksIndexed}
+use Rattle.indexed_replay.specs.Played.{AsksIndexed, AsksBound}
 use Rattle.cat_command.specs.declared.indexed.Following.{Following}
 use Rattle.cat_command.specs.declared.indexed.Following.TheVariants as followings
 use Rattle.command_base.specs.declared.complaint.Unindexed.{Unindexed}
@@ -42,6 +42,8 @@ pub record Replays (asked : Selection) (store now : StoreState) (answer : Result
   pub scanned : PlaysScan store.bytes asked.range asked.topic answer
   -- of the file no more is asked for than its ends, its summary, and what the indexes lead to
   pub asks : AsksIndexed asked.range store now
+  -- and of a fully indexed file no more than the Message Indexes and the messages in the range besides
+  pub bounded : AsksBound asked.range store now
   pub cause : ReplayCause store.faults now.faults answer
 
 -- the lines of the messages that were replayed
@@ -96,6 +98,17 @@ ShowsLed asked bytes followings.Unopened = ⊥
 ShowsLed asked bytes (followings.Lines text) = (shown : List Seen) × LedReplay bytes asked.range asked.topic shown × (text ≡ cat_text shown)
 ShowsLed asked bytes (followings.Refused why) = IsReason bytes asked.range why
 
+-- the lines are those of the messages of a scan that are asked for; or the store failed, a limit is passed or memory lacked
+abbrev pub ShowsScan : Selection → List Seen → Following → Type 0
+ShowsScan asked messages followings.Unopened = Unit {0}
+ShowsScan asked messages (followings.Lines text) = (shown : List Seen) × Replay asked.range asked.topic messages shown × (text ≡ cat_text shown)
+ShowsScan asked messages (followings.Refused (refusals.Fault faults)) = Unit {0}
+ShowsScan asked messages (followings.Refused (refusals.NotIndexed why)) = ⊥
+ShowsScan asked messages (followings.Refused (refusals.Flaw rule offset)) = ⊥
+ShowsScan asked messages (followings.Refused (refusals.Compressed offset name)) = ⊥
+ShowsScan asked messages (followings.Refused (refusals.Limit offset)) = Unit {0}
+ShowsScan asked messages (followings.Refused refusals.Memory) = Unit {0}
+
 -- ---- the command
 
 -- what `cat --indexed` does
@@ -109,7 +122,6 @@ pub record IndexedCats (asked : Selection) (file : List ℕ) (old new : Scene) (
   -- where the world tells, the bytes under the name decide, unless a count rises
   pub decided : (told : Told) (bytes : List ℕ) → old.world.told ≡ Some told → told.names file ≡ Some bytes
       → (AnyRose (counts_in old) (counts_in new) → ⊥) → ShowsLed asked bytes following × ((status ≡ ending_status (ending_of file following)) ⊎ (status ≡ 5))
-  -- and of a fully indexed file the lines are those of the messages of its scan
-  pub scanned : (told : Told) (bytes : List ℕ) (tops : List Top) (end : ℕ) (messages : List Seen) (text : List ℕ) → old.world.told ≡ Some told → told.names file ≡ Some bytes
-      → IsFullyIndexed bytes → Halts reading_limits bytes tops (at_end end) → Scan tops messages → following ≡ followings.Lines text
-      → (shown : List Seen) × Replay asked.range asked.topic messages shown × (text ≡ cat_text shown)
+  -- and a fully indexed file that is read to its Data End is printed as its scan is
+  pub scanned : (told : Told) (bytes : List ℕ) (tops : List Top) (end : ℕ) (messages : List Seen) → old.world.told ≡ Some told → told.names file ≡ Some bytes
+      → IsFullyIndexed bytes → Halts reading_limits bytes tops (at_end end) → Scan tops messages → ShowsScan asked messages following

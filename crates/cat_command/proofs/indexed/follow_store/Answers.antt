@@ -4,4 +4,4 @@ use Rattle.cat_command.proofs.indexed.follow_store.Goals as goal
 pub returns-in-Ok-new : goal.returns-in-Ok-new
 returns-in-Ok-new g c =
     let p = c.in-Ok.ensures in
-    (c.in-Ok.replayed, record { plays = p.plays; counted = p.counted; unsummed = p.unsummed; scanned = p.scanned; asks = p.asks; cause = p.cause }, c.in-Ok-new.ensures)
+    (c.in-Ok.replayed, record { plays = p.plays; counted = p.counted; unsummed = p.unsummed; scanned = p.scanned; asks = p.asks; bounded = p.bounded; cause = p.cause }, c.in-Ok-new.ensures)
