@@ -27,10 +27,9 @@ const PACKED_BACK: &[u8] = b"\x08\x44\0\0\0\0\0\0\0\x0a\0\0\0\0\0\0\0\x0a\0\0\0\
 // A file of one message whose chunk is compressed, at 34.
 pub(super) fn packed_file(alloc: Global) -> Result<Vec<u8>, AllocError> {
     let packed = chunk(alloc, b"zstd", &[CHANNEL, FIRST])?;
-    joined(
-        alloc,
-        &[&ONE[..34], &packed, DATA_END, &ONE[186..278], PACKED_BACK],
-    )
+    let front = joined(alloc, &[&ONE[..34]])?;
+    let summary = joined(alloc, &[&ONE[186..278]])?;
+    joined(alloc, &[&front, &packed, DATA_END, &summary, PACKED_BACK])
 }
 
 #[test]
