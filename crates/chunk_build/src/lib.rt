@@ -12,8 +12,3 @@ pub use building::Mark;
 pub use chunker::Chunker;
 pub use framed::{framed_of, mark_of_bytes};
 pub use index_table::{IndexTable, TimeAt};
-
-#[cfg(test)]
-mod table_tests;
-#[cfg(test)]
-mod tests;

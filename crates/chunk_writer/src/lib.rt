@@ -13,9 +13,7 @@ mod scribe;
 mod tape;
 
 pub use entry::Entry;
+pub use limits::keep_limit;
 pub use phase::Phase;
 pub use scribe::Scribe;
 pub use tape::{Finished, Taken, Tape, Written};
-
-#[cfg(test)]
-mod tests;

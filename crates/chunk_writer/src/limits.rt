@@ -10,7 +10,7 @@ const MOST_BLOCKS: u64 = 4_294_967_295;
 const MOST_BYTES: u64 = 1_099_511_627_776;
 
 /// Whether a piece with so many blocks may be appended behind so many blocks and bytes.
-pub(crate) fn keep_limit(blocks: u64, bytes: u64, more: u64, piece: &[u8]) -> Result<(), Stop>
+pub fn keep_limit(blocks: u64, bytes: u64, more: u64, piece: &[u8]) -> Result<(), Stop>
     requires few { blocks ≤ 4294967295 }
     requires small { bytes ≤ 1099511627776 }
     requires one { more ≤ 1 }

@@ -10,6 +10,3 @@ mod verbs;
 
 pub use command::{Command, WordsRefused};
 pub use parse::parse_words;
-
-#[cfg(test)]
-mod tests;

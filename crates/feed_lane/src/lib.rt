@@ -14,6 +14,3 @@ mod section;
 pub use feed::publish_feed;
 pub use pass::Pass;
 pub use report::{Accepted, Cause, DeclaredAt, FeedEnd, FeedReport, Refused};
-
-#[cfg(test)]
-mod tests;

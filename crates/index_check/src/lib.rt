@@ -26,6 +26,3 @@ pub use spots::{Naming, Spot, Spots};
 pub use summary_crc::is_crc_right;
 pub use summary_places::SummaryPlaces;
 pub use tally::{IdCounts, Tally};
-
-#[cfg(test)]
-mod tests;

@@ -14,7 +14,7 @@ use Rattle.mcap_model.specs.Valid.{FullyIndexed, IsFullyIndexed}
 use Rattle.mcap_model.specs.Led.{HasSummary, IsThere, is_timely, Meets, ChunkCosts, AskedBound}
 use Rattle.mcap_model.proofs.Lists.{filter_passed}
 use Rattle.mcap_model.proofs.Flat.{good_lists_are_scanned}
-use Rattle.mcap_model.proofs.Leading.{there_same, is_there, opened, section_first, index_right, index_stands}
+use Rattle.mcap_laws.proofs.Leading.{there_same, is_there, opened, section_first, index_right, index_stands}
 use Rattle.summary_read.specs.Parts.{of_kind}
 use Rattle.indexed_replay.specs.Reaching.{HasChunkIndex}
 use Rattle.indexed_replay.specs.Chunks.{NamesCost, ChunkCost}

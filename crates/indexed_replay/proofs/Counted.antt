@@ -24,7 +24,7 @@ use Rattle.mcap_model.proofs.Lists.{at_either, take_first, take_second, each_con
 use Rattle.mcap_model.proofs.Readings.{length-top}
 use Rattle.mcap_model.proofs.Distinct.{any_has}
 use Rattle.mcap_model.proofs.NamedTopics.{zip_front, zip_back}
-use Rattle.mcap_model.proofs.Leading.{Ends, ends_of, summary_of, in_before, in_summary, at_dropped, ended_before}
+use Rattle.mcap_laws.proofs.Leading.{Ends, ends_of, summary_of, in_before, in_summary, at_dropped, ended_before}
 use Rattle.summary_read.specs.Parts.{of_kind}
 
 -- ---- numbers

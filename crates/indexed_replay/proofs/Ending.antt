@@ -15,7 +15,7 @@ use Rattle.mcap_model.specs.Led.{HasSummary, IsThere}
 use Rattle.mcap_model.proofs.Places.{at_none}
 use Rattle.mcap_model.proofs.Lists.{filter_has}
 use Rattle.mcap_model.proofs.Readings.{length-top}
-use Rattle.mcap_model.proofs.Leading.{section_first, led_replays_are_scans}
+use Rattle.mcap_laws.proofs.Leading.{section_first, led_replays_are_scans}
 use Rattle.summary_read.specs.declared.refusals.LoadRefused.{LoadRefused}
 use Rattle.summary_read.specs.declared.refusals.LoadRefused.TheVariants as load_refusals
 use Rattle.summary_read.specs.Reached.{StartsAt}

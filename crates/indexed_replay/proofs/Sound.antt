@@ -15,7 +15,7 @@ use Rattle.mcap_model.proofs.Places.{at_none, at_within, at_kept, at_last}
 use Rattle.mcap_model.proofs.Lists.{cut_flat}
 use Rattle.mcap_model.proofs.Readings.{Begun, top_of, all_short, one_follows, begun, length-top}
 use Rattle.mcap_model.proofs.Flaws.{flaws_exclude_validity}
-use Rattle.mcap_model.proofs.Leading.{Ends, ends_of, summary_of, front_of, whole_bytes, start_is, summary_there, at_dropped}
+use Rattle.mcap_laws.proofs.Leading.{Ends, ends_of, summary_of, front_of, whole_bytes, start_is, summary_there, at_dropped}
 use Rattle.summary_read.specs.Reached.{HasNoSummary, EndsIn, StartsAt, summary_part, BreaksFirst, breaks_4, breaks_5, breaks_6, FailsInside, Fails, at_end, by_start, inside}
 use Rattle.indexed_replay.proofs.Summed.{footer_size, start_same}
 

@@ -16,6 +16,3 @@ mod spots;
 
 pub use answers::{NotIndexed, ReplayRefused};
 pub use replaying::replay_indexed;
-
-#[cfg(test)]
-mod tests;

@@ -12,6 +12,3 @@ pub use record_command::{Ended, print_report};
 pub use recorder::{
     Accepted, Cause, DeclaredAt, FeedEnd, FeedReport, Refused, Report, WriterReport,
 };
-
-#[cfg(test)]
-mod tests;

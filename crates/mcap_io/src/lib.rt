@@ -35,8 +35,3 @@ pub use store_part::read_part;
 pub use store_source::StoreSource;
 pub use stretch::{read_up_to, write_all_of};
 pub use writer::WriterSink;
-
-#[cfg(test)]
-mod callers;
-#[cfg(test)]
-mod tests;

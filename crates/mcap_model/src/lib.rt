@@ -9,7 +9,6 @@ mod chunks;
 mod contents;
 mod ends;
 mod inner;
-pub mod laws;
 mod options;
 mod plain;
 mod refusals;
@@ -37,6 +36,3 @@ pub use table::Table;
 pub use tables::{Ruling, Tables};
 pub use topics::topics_of;
 pub use tops::{Judged, judge, judge_first};
-
-#[cfg(test)]
-mod tests;

@@ -12,8 +12,3 @@ pub use answers::{ScanRefused, Step, Top};
 pub use lent::Lent;
 pub use reader::Reader;
 pub use scanner::Scanner;
-
-#[cfg(test)]
-mod callers;
-#[cfg(test)]
-mod tests;

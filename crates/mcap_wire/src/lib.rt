@@ -37,6 +37,3 @@ pub use texts::Text;
 pub use writing::{
     put_bytes, put_bytes32, put_bytes64, put_head, put_text, put_u8, put_u16, put_u32, put_u64,
 };
-
-#[cfg(test)]
-mod tests;

@@ -23,6 +23,3 @@ pub use opcodes::{ATTACHMENT, CHANNEL, DATA_END, FOOTER, HEADER, MESSAGE, METADA
 pub use owned::{Rec, RecRefused};
 pub use schema::{Schema, SchemaDef};
 pub use section::DataEnd;
-
-#[cfg(test)]
-mod tests;

@@ -22,6 +22,3 @@ pub use opcodes::{
 };
 pub use summary_offset::SummaryOffset;
 pub use summary_statistics::Statistics;
-
-#[cfg(test)]
-mod tests;

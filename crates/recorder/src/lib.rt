@@ -14,6 +14,3 @@ pub use feed_lane::{Accepted, Cause, DeclaredAt, FeedEnd, FeedReport, Refused};
 pub use options::RecordOptions;
 pub use recording::{Recording, record};
 pub use report::{Report, WriterReport};
-
-#[cfg(test)]
-mod tests;

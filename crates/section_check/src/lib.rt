@@ -10,6 +10,3 @@ mod reading;
 mod record_counts;
 
 pub use reading::{SectionRefused, read_section};
-
-#[cfg(test)]
-mod tests;

@@ -21,6 +21,4 @@ mod told;
 
 pub use judging::judge_summary;
 pub use refusals::SummaryRefused;
-
-#[cfg(test)]
-mod tests;
+pub use repeats::are_repeated;

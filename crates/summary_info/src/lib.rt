@@ -13,6 +13,3 @@ mod schemas;
 
 pub use info::info_text;
 pub use refusals::InfoRefused;
-
-#[cfg(test)]
-mod tests;

@@ -13,6 +13,3 @@ pub use loaded::Loaded;
 pub use loading::load;
 pub use records::breaks;
 pub use refusals::LoadRefused;
-
-#[cfg(test)]
-mod tests;

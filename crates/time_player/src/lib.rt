@@ -14,6 +14,3 @@ pub use line::add_line;
 pub use lines::cat_text;
 pub use printer::Printer;
 pub use replaying::replay_scan;
-
-#[cfg(test)]
-mod tests;

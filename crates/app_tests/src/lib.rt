@@ -1,0 +1,5 @@
+//! Whole runs of the program over a world in memory.
+#![tactic(auto)]
+
+#[cfg(test)]
+mod runs;

@@ -1,5 +1,0 @@
-use Rattle.mcap_model.proofs.WrittenChunks.{chunks_are_written}
-use Rattle.mcap_model.proofs.laws.chunks_are_written.Goals as goal
-
-pub returns : goal.returns
-returns c = chunks_are_written

@@ -1,5 +1,0 @@
-use Rattle.mcap_model.proofs.Leading.{indexes_lead_to_the_scan}
-use Rattle.mcap_model.proofs.laws.indexes_lead_to_the_scan.Goals as goal
-
-pub returns : goal.returns
-returns c = indexes_lead_to_the_scan

@@ -1,5 +1,0 @@
-use Rattle.mcap_model.proofs.Readings.{kept_once}
-use Rattle.mcap_model.proofs.laws.kept_is_one.Goals as goal
-
-pub returns : goal.returns
-returns c = kept_once

@@ -1,5 +1,0 @@
-use Rattle.mcap_model.proofs.Pieces.{pieces_make_files}
-use Rattle.mcap_model.proofs.laws.pieces_make_files.Goals as goal
-
-pub returns : goal.returns
-returns c = pieces_make_files

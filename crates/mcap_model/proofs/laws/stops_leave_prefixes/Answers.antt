@@ -1,5 +1,0 @@
-use Rattle.mcap_model.proofs.Pieces.{stops_leave_prefixes}
-use Rattle.mcap_model.proofs.laws.stops_leave_prefixes.Goals as goal
-
-pub returns : goal.returns
-returns c = stops_leave_prefixes

@@ -1,0 +1,15 @@
+//! What the lowest crates do on small cases: the outside, numbers and texts as bytes, and the records.
+#![tactic(auto)]
+
+#[cfg(test)]
+mod callers;
+#[cfg(test)]
+mod data_records;
+#[cfg(test)]
+mod index_records;
+#[cfg(test)]
+mod outside;
+#[cfg(test)]
+mod owned_records;
+#[cfg(test)]
+mod wire;
