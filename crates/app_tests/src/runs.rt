@@ -1,4 +1,5 @@
 //! Whole runs over a world in memory.
+use crate::same::{holds, same};
 use mcap_app::*;
 use mcap_io::{FailingWrite, Kept, MemorySink, MemoryWorld, ObjectKind, Plan};
 use mcap_wire::Text;
@@ -165,13 +166,13 @@ fn expect(
     wanted: &Wanted<'_>,
 ) -> Result<Ran, Fail> {
     let ran = run_in_memory(rt, words, feed, failing)?;
-    assert_eq!(rt; ran.out.bytes(), wanted.out.as_bytes());
-    assert_eq!(rt; ran.err.bytes(), wanted.err.as_bytes());
-    assert_eq!(rt; ran.status, wanted.status);
-    assert_eq!(rt; ran.report.is_some(), wanted.has_report);
-    assert!(rt; ran.world.bytes("OUT") == Some(wanted.file));
-    assert!(rt; ran.world.bytes("F") == Some(feed));
-    assert!(rt; ran.world.bytes("other") == Some(b"kept"));
+    same(rt, &ran.out.bytes(), &wanted.out.as_bytes());
+    same(rt, &ran.err.bytes(), &wanted.err.as_bytes());
+    same(rt, &ran.status, &wanted.status);
+    same(rt, &ran.report.is_some(), &wanted.has_report);
+    holds(rt, ran.world.bytes("OUT") == Some(wanted.file));
+    holds(rt, ran.world.bytes("F") == Some(feed));
+    holds(rt, ran.world.bytes("other") == Some(b"kept"));
     Ok(ran)
 }
 
@@ -272,7 +273,7 @@ fn other_words_are_refused_and_nothing_is_opened(rt: HostRuntime) -> Result<(), 
     ];
     for words in table {
         let ran = expect(&rt, words, ONE, NOTHING, &unwritten(2, "", USAGE))?;
-        assert_eq!(rt; (ran.world.openings(), ran.world.keepings()), (0, 0));
+        same(&rt, &(ran.world.openings(), ran.world.keepings()), &(0, 0));
     }
     let failing = Failing {
         err: &[FailingWrite { call: 0, taken: 4 }],

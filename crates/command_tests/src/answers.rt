@@ -1,4 +1,5 @@
 //! What is said of a recording's report, and the status that this gives.
+use crate::same::{same, same_at};
 use mcap_io::{FailingWrite, MemorySink};
 use mcap_model::{End, Stop};
 use record_command::{Failures, answer};
@@ -104,8 +105,8 @@ fn what_messages_were_refused_for_is_told(rt: HostRuntime) -> Result<(), Fail> {
         let report = Some(report_of(alloc, FeedEnd::Done, &refused, end)?);
         let mut err = MemorySink::new(alloc, Vec::new(alloc));
         let status = answer(alloc, &mut err, "OUT", "F", &report, NO_FAILURE);
-        assert_eq!(rt; status, want, "row {row}");
-        assert_eq!(rt; err.bytes(), text.as_bytes(), "row {row}");
+        same_at(&rt, &status, &want, &row);
+        same_at(&rt, &err.bytes(), &text.as_bytes(), &row);
     }
     Ok(())
 }
@@ -138,8 +139,8 @@ fn a_want_of_memory_is_told_last_and_in_one_write(rt: HostRuntime) -> Result<(),
         let report = Some(report_of(alloc, FeedEnd::Memory, &[], End::Closed)?);
         let mut err = MemorySink::new(alloc, Vec::from_slice(alloc, failing)?);
         let status = answer(alloc, &mut err, "OUT", "F", &report, failed);
-        assert_eq!(rt; status, 5, "row {row}");
-        assert_eq!(rt; err.bytes(), want.as_bytes(), "row {row}");
+        same_at(&rt, &status, &5, &row);
+        same_at(&rt, &err.bytes(), &want.as_bytes(), &row);
     }
     Ok(())
 }
@@ -150,7 +151,7 @@ fn a_report_that_is_missing_though_nothing_failed_is_a_want_of_memory(
 ) -> Result<(), Fail> {
     let mut err = MemorySink::new(rt.alloc(), Vec::new(rt.alloc()));
     let status = answer(rt.alloc(), &mut err, "OUT", "F", &None, NO_FAILURE);
-    assert_eq!(rt; status, 5);
-    assert_eq!(rt; err.bytes(), "mcaprec: no memory\n".as_bytes());
+    same(&rt, &status, &5);
+    same(&rt, &err.bytes(), &"mcaprec: no memory\n".as_bytes());
     Ok(())
 }

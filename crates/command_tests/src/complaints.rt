@@ -1,4 +1,5 @@
 //! The lines of complaints, and the statuses that they give.
+use crate::same::{same, same_at};
 use command_base::{Complaint, Unindexed, say, status};
 use std::test::Fail;
 
@@ -62,8 +63,8 @@ fn what_an_index_lacks_is_said(rt: HostRuntime) -> Result<(), Fail> {
     ];
     for (complaint, want) in table {
         let text = say(rt.alloc(), &[complaint])?;
-        assert_eq!(rt; text.as_slice(), want.as_bytes());
-        assert_eq!(rt; status(&[complaint]), 1);
+        same(&rt, &text.as_slice(), &want.as_bytes());
+        same(&rt, &status(&[complaint]), &1);
     }
     Ok(())
 }
@@ -93,7 +94,7 @@ fn complaints_are_said_in_their_order(rt: HostRuntime) -> Result<(), Fail> {
     ];
     for (complaints, want) in table {
         let text = say(rt.alloc(), complaints)?;
-        assert_eq!(rt; text.as_slice(), want.as_bytes());
+        same(&rt, &text.as_slice(), &want.as_bytes());
     }
     Ok(())
 }
@@ -116,6 +117,6 @@ fn statuses_come_in_the_order_2_5_3_4_1(rt: HostRuntime) {
         (&[Complaint::NoMemory, Complaint::BadWords], 2),
     ];
     for (row, (complaints, want)) in table.into_iter().enumerate() {
-        assert_eq!(rt; status(complaints), want, "row {row}");
+        same_at(&rt, &status(complaints), &want, &row);
     }
 }

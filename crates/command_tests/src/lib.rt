@@ -8,4 +8,6 @@ mod complaints;
 #[cfg(test)]
 mod report_lines;
 #[cfg(test)]
+mod same;
+#[cfg(test)]
 mod words;

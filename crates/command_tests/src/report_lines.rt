@@ -1,5 +1,6 @@
 //! The lines of reports.
-use mcap_io::{FailingWrite, MemorySink};
+use crate::same::{holds, same};
+use mcap_io::{FailingWrite, MemorySink, Sink};
 use mcap_model::{End, Stop};
 use mcap_wire::Text;
 use record_command::print_report;
@@ -63,7 +64,7 @@ fn feeds_are_numbered_and_the_file_comes_last(rt: HostRuntime) -> Result<(), Fai
         writer: CLOSED,
     };
     let mut sink = MemorySink::new(rt.alloc(), Vec::new(rt.alloc()));
-    assert!(rt; print_report(&mut sink, &report).is_ok());
+    holds(&rt, print_report(&mut sink, &report).is_ok());
     let want = "feed 1 accepted=2 refused=1 passed=3 end\n\
         feed 2 accepted=0 refused=0 passed=0 end\n\
         feed 3 accepted=0 refused=0 passed=0 grammar 34\n\
@@ -73,7 +74,7 @@ fn feeds_are_numbered_and_the_file_comes_last(rt: HostRuntime) -> Result<(), Fai
         feed 7 accepted=0 refused=0 passed=0 memory\n\
         feed 8 accepted=0 refused=0 passed=0 ended\n\
         file records=0 blocks=0 bytes=84 closed\n";
-    assert_eq!(rt; sink.bytes(), want.as_bytes());
+    same(&rt, &sink.bytes(), &want.as_bytes());
     Ok(())
 }
 
@@ -112,8 +113,8 @@ fn the_file_says_how_it_ended(rt: HostRuntime) -> Result<(), Fail> {
             writer,
         };
         let mut sink = MemorySink::new(rt.alloc(), Vec::new(rt.alloc()));
-        assert!(rt; print_report(&mut sink, &report).is_ok());
-        assert_eq!(rt; sink.bytes(), want.as_bytes());
+        holds(&rt, print_report(&mut sink, &report).is_ok());
+        same(&rt, &sink.bytes(), &want.as_bytes());
     }
     Ok(())
 }
@@ -129,9 +130,9 @@ fn nothing_is_written_after_a_line_that_failed(rt: HostRuntime) -> Result<(), Fa
     };
     let failing = vec![in rt.alloc(); FailingWrite { call: 1, taken: 6 }]?;
     let mut sink = MemorySink::new(rt.alloc(), failing);
-    assert!(rt; print_report(&mut sink, &report).is_err());
+    holds(&rt, print_report(&mut sink, &report).is_err());
     let want = "feed 1 accepted=0 refused=0 passed=0 end\nfeed 2";
-    assert_eq!(rt; sink.bytes(), want.as_bytes());
-    assert_eq!(rt; sink.faults(), 1);
+    same(&rt, &sink.bytes(), &want.as_bytes());
+    same(&rt, &sink.faults(), &1);
     Ok(())
 }

@@ -1,4 +1,5 @@
 //! Words, good and bad.
+use crate::same::{same, same_at};
 use command_words::{Command, WordsRefused, parse_words};
 use mcap_model::{FileOptions, Range};
 use mcap_wire::Text;
@@ -95,14 +96,14 @@ fn said_of(alloc: Global, words: &[&str]) -> Result<String, Fail> {
 
 fn all_said(rt: &(impl AllocGlobal + Abort), table: &[(&[&str], &str)]) -> Result<(), Fail> {
     for (row, (words, want)) in table.iter().enumerate() {
-        assert_eq!(rt; said_of(rt.alloc(), words)?.as_str(), *want, "row {row}");
+        same_at(rt, &said_of(rt.alloc(), words)?.as_str(), &*want, &row);
     }
     Ok(())
 }
 
 fn all_bad(rt: &(impl AllocGlobal + Abort), table: &[&[&str]]) -> Result<(), Fail> {
     for (row, words) in table.iter().enumerate() {
-        assert_eq!(rt; said_of(rt.alloc(), words)?.as_str(), "bad", "row {row}");
+        same_at(rt, &said_of(rt.alloc(), words)?.as_str(), &"bad", &row);
     }
     Ok(())
 }
@@ -125,8 +126,12 @@ fn with_profile(alloc: Global, length: u32, joined: bool) -> Result<String, Fail
 fn a_profile_has_at_most_65535_bytes(rt: HostRuntime) -> Result<(), Fail> {
     for joined in [false, true] {
         let most = with_profile(rt.alloc(), 65_535, joined)?;
-        assert_eq!(rt; most.len(), 65_585);
-        assert_eq!(rt; with_profile(rt.alloc(), 65_536, joined)?.as_str(), "bad");
+        same(&rt, &most.len(), &65_585);
+        same(
+            &rt,
+            &with_profile(rt.alloc(), 65_536, joined)?.as_str(),
+            &"bad",
+        );
     }
     Ok(())
 }

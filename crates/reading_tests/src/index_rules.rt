@@ -1,4 +1,5 @@
 //! The judges of the rules on indexes, over the records of small files.
+use crate::same::holds;
 use index_check::{
     Attachments, ChunkMessages, Chunks, IdCounts, Ids, MetadataList, Order, SummaryPlaces, Tally,
     has_indexes, is_crc_right, is_index_right,
@@ -68,26 +69,26 @@ fn is_right(
 #[test]
 fn an_index_has_the_entries_of_its_channel(rt: HostRuntime) -> Result<(), Fail> {
     let alloc = rt.alloc();
-    assert!(rt; is_right(alloc, &[], 1, &[(10, 27), (11, 59)])?);
-    assert!(rt; is_right(alloc, &[2], 1, &[(11, 59), (10, 27)])?);
-    assert!(rt; is_right(alloc, &[1], 0, &[(12, 90)])?);
-    assert!(rt; is_right(alloc, &[1], 2, &[])?);
-    assert!(rt; !is_right(alloc, &[1], 1, &[(10, 27), (11, 59)])?);
-    assert!(rt; !is_right(alloc, &[], 1, &[(10, 27)])?);
-    assert!(rt; !is_right(alloc, &[], 1, &[(10, 27), (11, 58)])?);
-    assert!(rt; !is_right(alloc, &[], 1, &[(10, 27), (10, 27)])?);
-    assert!(rt; !is_right(alloc, &[], 1, &[(12, 27), (11, 59)])?);
-    assert!(rt; !is_right(alloc, &[], 0, &[])?);
-    assert!(rt; !is_right(alloc, &[], 2, &[(10, 27)])?);
+    holds(&rt, is_right(alloc, &[], 1, &[(10, 27), (11, 59)])?);
+    holds(&rt, is_right(alloc, &[2], 1, &[(11, 59), (10, 27)])?);
+    holds(&rt, is_right(alloc, &[1], 0, &[(12, 90)])?);
+    holds(&rt, is_right(alloc, &[1], 2, &[])?);
+    holds(&rt, !is_right(alloc, &[1], 1, &[(10, 27), (11, 59)])?);
+    holds(&rt, !is_right(alloc, &[], 1, &[(10, 27)])?);
+    holds(&rt, !is_right(alloc, &[], 1, &[(10, 27), (11, 58)])?);
+    holds(&rt, !is_right(alloc, &[], 1, &[(10, 27), (10, 27)])?);
+    holds(&rt, !is_right(alloc, &[], 1, &[(12, 27), (11, 59)])?);
+    holds(&rt, !is_right(alloc, &[], 0, &[])?);
+    holds(&rt, !is_right(alloc, &[], 2, &[(10, 27)])?);
     Ok(())
 }
 
 #[test]
 fn a_chunk_has_an_index_for_each_channel_or_none(rt: HostRuntime) -> Result<(), Fail> {
     let messages = messages_of(rt.alloc(), &CHUNKED[83..142])?;
-    assert!(rt; has_indexes(&messages, &ids_of(rt.alloc(), &[])?));
-    assert!(rt; has_indexes(&messages, &ids_of(rt.alloc(), &[2, 1])?));
-    assert!(rt; !has_indexes(&messages, &ids_of(rt.alloc(), &[2])?));
+    holds(&rt, has_indexes(&messages, &ids_of(rt.alloc(), &[])?));
+    holds(&rt, has_indexes(&messages, &ids_of(rt.alloc(), &[2, 1])?));
+    holds(&rt, !has_indexes(&messages, &ids_of(rt.alloc(), &[2])?));
     Ok(())
 }
 
@@ -105,8 +106,8 @@ fn chunks_of_file(alloc: Global) -> Result<Chunks, Fail> {
 fn an_index_of_a_chunk_repeats_it(rt: HostRuntime) -> Result<(), Fail> {
     let mut chunks = chunks_of_file(rt.alloc())?;
     let index = ChunkIndex::parse(&CHUNKED[287..361])?;
-    assert!(rt; chunks.take_index(&index));
-    assert!(rt; !chunks.take_index(&index));
+    holds(&rt, chunks.take_index(&index));
+    holds(&rt, !chunks.take_index(&index));
     for at in [0usize, 8, 16, 24, 36, 38, 46, 58, 66] {
         let mut content = Vec::from_slice(rt.alloc(), &CHUNKED[287..361])?;
         if let Some(byte) = content.get_mut(at) {
@@ -114,7 +115,7 @@ fn an_index_of_a_chunk_repeats_it(rt: HostRuntime) -> Result<(), Fail> {
         }
         let index = ChunkIndex::parse(&content)?;
         let mut chunks = chunks_of_file(rt.alloc())?;
-        assert!(rt; chunks.take_index(&index) == (at == 36));
+        holds(&rt, chunks.take_index(&index) == (at == 36));
     }
     Ok(())
 }
@@ -155,13 +156,13 @@ fn is_of_attachment(
 #[test]
 fn an_index_of_an_attachment_repeats_it(rt: HostRuntime) -> Result<(), Fail> {
     let alloc = rt.alloc();
-    assert!(rt; is_of_attachment(alloc, 34, 50, (5, 6), 3, "a")?);
-    assert!(rt; !is_of_attachment(alloc, 35, 50, (5, 6), 3, "a")?);
-    assert!(rt; !is_of_attachment(alloc, 34, 51, (5, 6), 3, "a")?);
-    assert!(rt; !is_of_attachment(alloc, 34, 50, (6, 6), 3, "a")?);
-    assert!(rt; !is_of_attachment(alloc, 34, 50, (5, 5), 3, "a")?);
-    assert!(rt; !is_of_attachment(alloc, 34, 50, (5, 6), 4, "a")?);
-    assert!(rt; !is_of_attachment(alloc, 34, 50, (5, 6), 3, "b")?);
+    holds(&rt, is_of_attachment(alloc, 34, 50, (5, 6), 3, "a")?);
+    holds(&rt, !is_of_attachment(alloc, 35, 50, (5, 6), 3, "a")?);
+    holds(&rt, !is_of_attachment(alloc, 34, 51, (5, 6), 3, "a")?);
+    holds(&rt, !is_of_attachment(alloc, 34, 50, (6, 6), 3, "a")?);
+    holds(&rt, !is_of_attachment(alloc, 34, 50, (5, 5), 3, "a")?);
+    holds(&rt, !is_of_attachment(alloc, 34, 50, (5, 6), 4, "a")?);
+    holds(&rt, !is_of_attachment(alloc, 34, 50, (5, 6), 3, "b")?);
     Ok(())
 }
 
@@ -183,10 +184,10 @@ fn is_of_metadata(alloc: Global, offset: u64, length: u64, name: &str) -> Result
 #[test]
 fn an_index_of_metadata_repeats_it(rt: HostRuntime) -> Result<(), Fail> {
     let alloc = rt.alloc();
-    assert!(rt; is_of_metadata(alloc, 34, 18, "m")?);
-    assert!(rt; !is_of_metadata(alloc, 33, 18, "m")?);
-    assert!(rt; !is_of_metadata(alloc, 34, 17, "m")?);
-    assert!(rt; !is_of_metadata(alloc, 34, 18, "n")?);
+    holds(&rt, is_of_metadata(alloc, 34, 18, "m")?);
+    holds(&rt, !is_of_metadata(alloc, 33, 18, "m")?);
+    holds(&rt, !is_of_metadata(alloc, 34, 17, "m")?);
+    holds(&rt, !is_of_metadata(alloc, 34, 18, "n")?);
     Ok(())
 }
 
@@ -202,27 +203,27 @@ fn is_in_place(alloc: Global, before: &[u8], op: u8) -> Result<bool, Fail> {
 #[test]
 fn records_of_one_kind_stand_together(rt: HostRuntime) -> Result<(), Fail> {
     let alloc = rt.alloc();
-    assert!(rt; is_in_place(alloc, &[], 14)?);
-    assert!(rt; is_in_place(alloc, &[4, 4], 4)?);
-    assert!(rt; is_in_place(alloc, &[4, 11], 8)?);
-    assert!(rt; is_in_place(alloc, &[4, 14], 14)?);
-    assert!(rt; !is_in_place(alloc, &[4, 11], 4)?);
-    assert!(rt; !is_in_place(alloc, &[4, 11], 11)?);
-    assert!(rt; !is_in_place(alloc, &[4, 14], 8)?);
+    holds(&rt, is_in_place(alloc, &[], 14)?);
+    holds(&rt, is_in_place(alloc, &[4, 4], 4)?);
+    holds(&rt, is_in_place(alloc, &[4, 11], 8)?);
+    holds(&rt, is_in_place(alloc, &[4, 14], 14)?);
+    holds(&rt, !is_in_place(alloc, &[4, 11], 4)?);
+    holds(&rt, !is_in_place(alloc, &[4, 11], 11)?);
+    holds(&rt, !is_in_place(alloc, &[4, 14], 8)?);
     Ok(())
 }
 
 #[test]
 fn the_crc_of_a_summary_ends_in_the_footer(rt: HostRuntime) -> Result<(), Fail> {
     let footer = Footer::parse(&CHUNKED[448..468])?;
-    assert!(rt; is_crc_right(&CHUNKED[186..464], &footer));
-    assert!(rt; !is_crc_right(&CHUNKED[186..463], &footer));
+    holds(&rt, is_crc_right(&CHUNKED[186..464], &footer));
+    holds(&rt, !is_crc_right(&CHUNKED[186..463], &footer));
     let unchecked = Footer {
         summary_start: 186,
         summary_offset_start: 361,
         summary_crc: 0,
     };
-    assert!(rt; is_crc_right(&CHUNKED[186..463], &unchecked));
+    holds(&rt, is_crc_right(&CHUNKED[186..463], &unchecked));
     Ok(())
 }
 
@@ -261,13 +262,13 @@ fn are_statistics_right(
 #[test]
 fn statistics_count_the_data_section(rt: HostRuntime) -> Result<(), Fail> {
     let alloc = rt.alloc();
-    assert!(rt; are_statistics_right(alloc, 1, 1, 10, 1, (0, 0))?);
-    assert!(rt; are_statistics_right(alloc, 1, 1, 10, 1, (0, 1))?);
-    assert!(rt; !are_statistics_right(alloc, 2, 1, 10, 1, (0, 0))?);
-    assert!(rt; !are_statistics_right(alloc, 1, 2, 10, 1, (0, 0))?);
-    assert!(rt; !are_statistics_right(alloc, 1, 1, 9, 1, (0, 0))?);
-    assert!(rt; !are_statistics_right(alloc, 1, 1, 10, 2, (0, 0))?);
-    assert!(rt; !are_statistics_right(alloc, 1, 1, 10, 1, (1, 1))?);
+    holds(&rt, are_statistics_right(alloc, 1, 1, 10, 1, (0, 0))?);
+    holds(&rt, are_statistics_right(alloc, 1, 1, 10, 1, (0, 1))?);
+    holds(&rt, !are_statistics_right(alloc, 2, 1, 10, 1, (0, 0))?);
+    holds(&rt, !are_statistics_right(alloc, 1, 2, 10, 1, (0, 0))?);
+    holds(&rt, !are_statistics_right(alloc, 1, 1, 9, 1, (0, 0))?);
+    holds(&rt, !are_statistics_right(alloc, 1, 1, 10, 2, (0, 0))?);
+    holds(&rt, !are_statistics_right(alloc, 1, 1, 10, 1, (1, 1))?);
     Ok(())
 }
 
@@ -293,12 +294,12 @@ fn are_starts_named(
 
 #[test]
 fn a_footer_names_the_summary(rt: HostRuntime) -> Result<(), Fail> {
-    assert!(rt; are_starts_named(186, 439, Some(361), 186, 361));
-    assert!(rt; are_starts_named(186, 439, None, 186, 5));
-    assert!(rt; are_starts_named(106, 106, None, 0, 0));
-    assert!(rt; are_starts_named(106, 106, None, 106, 0));
-    assert!(rt; !are_starts_named(186, 439, Some(361), 187, 361));
-    assert!(rt; !are_starts_named(186, 439, Some(361), 0, 361));
-    assert!(rt; !are_starts_named(186, 439, Some(361), 186, 362));
+    holds(&rt, are_starts_named(186, 439, Some(361), 186, 361));
+    holds(&rt, are_starts_named(186, 439, None, 186, 5));
+    holds(&rt, are_starts_named(106, 106, None, 0, 0));
+    holds(&rt, are_starts_named(106, 106, None, 106, 0));
+    holds(&rt, !are_starts_named(186, 439, Some(361), 187, 361));
+    holds(&rt, !are_starts_named(186, 439, Some(361), 0, 361));
+    holds(&rt, !are_starts_named(186, 439, Some(361), 186, 362));
     Ok(())
 }

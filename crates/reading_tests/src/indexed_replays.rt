@@ -1,4 +1,5 @@
 //! Replays of a small file by its index, how much they ask for, and why others are refused.
+use crate::same::holds;
 use indexed_replay::{NotIndexed, ReplayRefused, replay_indexed};
 use mcap_io::{MemoryStore, QuietStore, Store};
 use mcap_model::{Range, Replayed};
@@ -91,11 +92,11 @@ fn the_message_of_one_chunk(rt: HostRuntime) -> Result<(), Fail> {
     };
     let topic = Text::copied(alloc, "/a")?;
     match replay_indexed(alloc, &mut store, range, Some(&topic)) {
-        Ok(played) => assert!(rt; is_that_message(&played)),
-        Err(_) => assert!(rt; false),
+        Ok(played) => holds(&rt, is_that_message(&played)),
+        Err(_) => holds(&rt, false),
     }
     // the ends and the summary, the chunk's front, its Message Index and the message
-    assert!(rt; store.asked() == 324 + 49 + 31 + 32);
+    holds(&rt, store.asked() == 324 + 49 + 31 + 32);
     Ok(())
 }
 
@@ -111,7 +112,7 @@ fn ranges_and_topics(rt: HostRuntime) -> Result<(), Fail> {
         (0, Some(11), 1, 436),
     ] {
         let range = Range { start, end };
-        assert!(rt; count_shown(alloc, range, None)? == (shown, asked));
+        holds(&rt, count_shown(alloc, range, None)? == (shown, asked));
     }
     let other = Text::copied(alloc, "/b")?;
     let range = Range {
@@ -119,46 +120,50 @@ fn ranges_and_topics(rt: HostRuntime) -> Result<(), Fail> {
         end: None,
     };
     // no message is read on another topic
-    assert!(rt; count_shown(alloc, range, Some(&other))? == (0, 404));
+    holds(&rt, count_shown(alloc, range, Some(&other))? == (0, 404));
     Ok(())
 }
 
 #[test]
 fn refusals_say_why(rt: HostRuntime) -> Result<(), Fail> {
     let alloc = rt.alloc();
-    assert!(rt;
+    holds(
+        &rt,
         matches!(
             refusal(alloc, plain(), (0, 0x89), &[])?,
             Some(ReplayRefused::NotIndexed {
                 why: NotIndexed::NoSummary
             })
-        )
+        ),
     );
     // another opcode in place of the message's
-    assert!(rt;
+    holds(
+        &rt,
         matches!(
             refusal(alloc, chunked(), (110, 3), &[])?,
             Some(ReplayRefused::Flaw {
                 rule: 9,
                 offset: 142
             })
-        )
+        ),
     );
     // another opcode in place of the Message Index's
-    assert!(rt;
+    holds(
+        &rt,
         matches!(
             refusal(alloc, chunked(), (142, 9), &[])?,
             Some(ReplayRefused::Flaw {
                 rule: 12,
                 offset: 142
             })
-        )
+        ),
     );
-    assert!(rt;
+    holds(
+        &rt,
         matches!(
             refusal(alloc, chunked(), (0, 0x89), &[5])?,
             Some(ReplayRefused::Fault { faults: 1 })
-        )
+        ),
     );
     Ok(())
 }

@@ -14,6 +14,8 @@ mod plain_scans;
 #[cfg(test)]
 mod replays;
 #[cfg(test)]
+mod same;
+#[cfg(test)]
 mod scans;
 #[cfg(test)]
 mod sections;

@@ -1,4 +1,5 @@
 //! What is loaded of a small file, and why others are refused.
+use crate::same::holds;
 use mcap_io::{MemoryStore, QuietStore, Store};
 use std::alloc::Global;
 use std::test::Fail;
@@ -55,54 +56,62 @@ fn the_summary_of_one_chunk(rt: HostRuntime) -> Result<(), Fail> {
     let mut store = QuietStore::new(Vec::from_slice(rt.alloc(), CHUNKED)?);
     match load(rt.alloc(), &mut store) {
         Ok(it) => {
-            assert!(rt; it.header().library == "mcaprec 1");
-            assert!(rt; it.footer().summary_start == 186);
-            assert!(rt; it.statistics().is_some());
-            assert!(rt; it.schemas() == 0 && it.channels() == 1 && it.chunk_indexes() == 1);
-            assert!(rt; it.attachment_indexes() == 0 && it.metadata_indexes() == 0);
-            assert!(rt; it.summary_offsets() == 3);
+            holds(&rt, it.header().library == "mcaprec 1");
+            holds(&rt, it.footer().summary_start == 186);
+            holds(&rt, it.statistics().is_some());
+            holds(
+                &rt,
+                it.schemas() == 0 && it.channels() == 1 && it.chunk_indexes() == 1,
+            );
+            holds(
+                &rt,
+                it.attachment_indexes() == 0 && it.metadata_indexes() == 0,
+            );
+            holds(&rt, it.summary_offsets() == 3);
             if it.channels() == 1 {
-                assert!(rt; it.channel(0).topic == "/a");
+                holds(&rt, it.channel(0).topic == "/a");
             }
             if it.chunk_indexes() == 1 {
-                assert!(rt; it.chunk_index(0).chunk_start_offset == 34);
+                holds(&rt, it.chunk_index(0).chunk_start_offset == 34);
             }
             if it.summary_offsets() == 3 {
-                assert!(rt; it.summary_offset(2).group_start == 278);
+                holds(&rt, it.summary_offset(2).group_start == 278);
             }
         }
-        Err(_) => assert!(rt; false),
+        Err(_) => holds(&rt, false),
     }
     // 37 at the end, 17 at the front, the Header's content and the summary
-    assert!(rt; store.asked() == 37 + 17 + 17 + 253);
+    holds(&rt, store.asked() == 37 + 17 + 17 + 253);
     Ok(())
 }
 
 #[test]
 fn a_refusal_says_where_and_why(rt: HostRuntime) -> Result<(), Fail> {
     let alloc = rt.alloc();
-    assert!(rt; is_refused(alloc, PLAIN, &[], LoadRefused::NoSummary)?);
-    assert!(rt;
+    holds(&rt, is_refused(alloc, PLAIN, &[], LoadRefused::NoSummary)?);
+    holds(
+        &rt,
         is_refused(
             alloc,
             &PLAIN[..30],
             &[],
             LoadRefused::Grammar {
                 offset: 0,
-                rule: 17
-            }
-        )?
+                rule: 17,
+            },
+        )?,
     );
-    assert!(rt;
+    holds(
+        &rt,
         is_refused(
             alloc,
             &CHUNKED[..475],
             &[],
             LoadRefused::Grammar {
                 offset: 467,
-                rule: 2
-            }
-        )?
+                rule: 2,
+            },
+        )?,
     );
     for (at, byte, offset, rule) in [
         (0, 0, 0, 1),
@@ -115,22 +124,29 @@ fn a_refusal_says_where_and_why(rt: HostRuntime) -> Result<(), Fail> {
         (449, 2, 439, 11),
         (475, 0, 468, 2),
     ] {
-        assert!(rt; is_refused_with(alloc, at, byte, LoadRefused::Grammar { offset, rule })?);
+        holds(
+            &rt,
+            is_refused_with(alloc, at, byte, LoadRefused::Grammar { offset, rule })?,
+        );
     }
-    assert!(rt; is_refused_with(alloc, 190, 0x20, LoadRefused::Limit { offset: 186 })?);
+    holds(
+        &rt,
+        is_refused_with(alloc, 190, 0x20, LoadRefused::Limit { offset: 186 })?,
+    );
     Ok(())
 }
 
 #[test]
 fn a_failing_call_is_a_fault(rt: HostRuntime) -> Result<(), Fail> {
     for call in [0, 1, 2, 3, 4] {
-        assert!(rt;
+        holds(
+            &rt,
             is_refused(
                 rt.alloc(),
                 CHUNKED,
                 &[call],
-                LoadRefused::Fault { faults: 1 }
-            )?
+                LoadRefused::Fault { faults: 1 },
+            )?,
         );
     }
     Ok(())

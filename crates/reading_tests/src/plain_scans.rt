@@ -1,4 +1,5 @@
 //! What the plain scan and the plain replay show.
+use crate::same::{holds, same};
 use mcap_model::{PlainRefused, Range, Replayed, Shown, replay_plain, scan_plain};
 use mcap_wire::Text;
 use std::alloc::Global;
@@ -134,18 +135,19 @@ fn messages_are_shown_in_scan_order(rt: HostRuntime) -> Result<(), Fail> {
         payload: 0xaa,
     };
     let plain = scan_plain(rt.alloc(), PLAIN)?;
-    assert!(rt; shows(&plain, &[line], &[(1, "/a")]));
+    holds(&rt, shows(&plain, &[line], &[(1, "/a")]));
     line.top = 34;
     line.inner = 27;
     let chunked = scan_plain(rt.alloc(), CHUNKED)?;
-    assert!(rt; shows(&chunked, &[line], &[(1, "/a")]));
+    holds(&rt, shows(&chunked, &[line], &[(1, "/a")]));
     let many = scan_plain(rt.alloc(), MANY)?;
-    assert!(rt;
+    holds(
+        &rt,
         shows(
             &many,
             &[FIRST, SECOND, THIRD, FOURTH],
-            &[(1, "/a"), (2, "/b")]
-        )
+            &[(1, "/a"), (2, "/b")],
+        ),
     );
     Ok(())
 }
@@ -167,8 +169,8 @@ fn a_refusal_says_where_and_why(rt: HostRuntime) {
     ];
     for (bytes, expected) in cases {
         match scan_plain(rt.alloc(), bytes) {
-            Ok(_) => assert!(rt; false),
-            Err(why) => assert_eq!(rt; why, expected),
+            Ok(_) => holds(&rt, false),
+            Err(why) => same(&rt, &why, &expected),
         }
     }
 }
@@ -185,12 +187,13 @@ fn a_replay_keeps_file_order_at_equal_times(rt: HostRuntime) -> Result<(), Fail>
         },
         None,
     )?;
-    assert!(rt;
+    holds(
+        &rt,
         shows(
             &every,
             &[SECOND, THIRD, FIRST, FOURTH],
-            &[(1, "/a"), (2, "/b")]
-        )
+            &[(1, "/a"), (2, "/b")],
+        ),
     );
     let part = replay_plain(
         rt.alloc(),
@@ -201,7 +204,10 @@ fn a_replay_keeps_file_order_at_equal_times(rt: HostRuntime) -> Result<(), Fail>
         },
         None,
     )?;
-    assert!(rt; shows(&part, &[SECOND, THIRD, FIRST], &[(1, "/a"), (2, "/b")]));
+    holds(
+        &rt,
+        shows(&part, &[SECOND, THIRD, FIRST], &[(1, "/a"), (2, "/b")]),
+    );
     let late = replay_plain(
         rt.alloc(),
         &all,
@@ -211,7 +217,7 @@ fn a_replay_keeps_file_order_at_equal_times(rt: HostRuntime) -> Result<(), Fail>
         },
         None,
     )?;
-    assert!(rt; shows(&late, &[FIRST, FOURTH], &[(1, "/a"), (2, "/b")]));
+    holds(&rt, shows(&late, &[FIRST, FOURTH], &[(1, "/a"), (2, "/b")]));
     let asked = Text::copied(rt.alloc(), "/b")?;
     let topic = replay_plain(
         rt.alloc(),
@@ -222,6 +228,6 @@ fn a_replay_keeps_file_order_at_equal_times(rt: HostRuntime) -> Result<(), Fail>
         },
         Some(&asked),
     )?;
-    assert!(rt; shows(&topic, &[THIRD, FIRST], &[(2, "/b")]));
+    holds(&rt, shows(&topic, &[THIRD, FIRST], &[(2, "/b")]));
     Ok(())
 }

@@ -1,4 +1,5 @@
 //! What a replay gives of small files, how it is refused, and what is printed.
+use crate::same::{holds, holds_at, same, same_at};
 use mcap_io::{Failed, FailingWrite, MemorySink, MemorySource, QuietSource, Short, Source};
 use mcap_model::{Place, PlainRefused, Range, Replayed, Shown, Topic, replay_plain, scan_plain};
 use mcap_scan::ScanRefused;
@@ -202,13 +203,13 @@ fn messages_come_by_log_time_and_place(rt: HostRuntime) -> Result<(), Fail> {
     for (range, topic, text) in cases {
         let mut source = quiet(alloc, MIXED)?;
         let found = play(alloc, &mut source, range, topic)?;
-        assert_eq!(rt; found, lines(alloc, text)?);
-        assert_eq!(rt; source.rest(), b"left".as_slice());
+        same(&rt, &found, &lines(alloc, text)?);
+        same(&rt, &source.rest(), &b"left".as_slice());
         let mut slow = Slow {
             source: quiet(alloc, MIXED)?,
         };
         let slowly = play(alloc, &mut slow, range, topic)?;
-        assert_eq!(rt; slowly, lines(alloc, text)?, "slowly");
+        same_at(&rt, &slowly, &lines(alloc, text)?, &"slowly");
     }
     Ok(())
 }
@@ -226,7 +227,7 @@ fn ranges_without_messages_give_no_lines(rt: HostRuntime) -> Result<(), Fail> {
     for (start, end) in ranges {
         let mut source = quiet(alloc, MIXED)?;
         let found = play(alloc, &mut source, Range { start, end }, None)?;
-        assert_eq!(rt; found, lines(alloc, "")?, "from {start}");
+        same_at(&rt, &found, &lines(alloc, "")?, &start);
     }
     Ok(())
 }
@@ -245,7 +246,7 @@ fn a_replay_is_that_of_the_plain_scan(rt: HostRuntime) -> Result<(), Fail> {
             let mut source = quiet(alloc, bytes)?;
             let found = play(alloc, &mut source, range, topic)?;
             let plain = play_plainly(alloc, bytes, range, topic)?;
-            assert_eq!(rt; found, plain, "of {what}");
+            same_at(&rt, &found, &plain, &what);
         }
     }
     Ok(())
@@ -260,10 +261,10 @@ fn a_failing_read_is_a_fault(rt: HostRuntime) -> Result<(), Fail> {
         let mut source = MemorySource::new(Vec::from_slice(alloc, MIXED)?, failing);
         let found = play(alloc, &mut source, EVER, None)?;
         if read < 17 {
-            assert_eq!(rt; found, Outcome::Fault(1), "at {read}");
-            assert_eq!(rt; source.faults(), 1, "at {read}");
+            same_at(&rt, &found, &Outcome::Fault(1), &read);
+            same_at(&rt, &source.faults(), &1, &read);
         } else {
-            assert_eq!(rt; found, lines(alloc, ALL)?);
+            same(&rt, &found, &lines(alloc, ALL)?);
         }
     }
     Ok(())
@@ -309,10 +310,10 @@ fn long_lines_are_printed_in_pieces(rt: HostRuntime) -> Result<(), Fail> {
     let alloc = rt.alloc();
     let mut printer = Printer::new(alloc, long_messages(alloc)?)?;
     let mut sink = MemorySink::new(alloc, Vec::new(alloc));
-    assert!(rt; printer.print(alloc, &mut sink).is_ok());
-    assert!(rt; sink.bytes() == long_lines(alloc)?.as_slice());
-    assert!(rt; printer.print(alloc, &mut sink).is_ok());
-    assert_eq!(rt; sink.bytes().len(), 120_045, "nothing is left");
+    holds(&rt, printer.print(alloc, &mut sink).is_ok());
+    holds(&rt, sink.bytes() == long_lines(alloc)?.as_slice());
+    holds(&rt, printer.print(alloc, &mut sink).is_ok());
+    same_at(&rt, &sink.bytes().len(), &120_045, &"nothing is left");
     Ok(())
 }
 
@@ -327,8 +328,8 @@ fn a_failing_write_ends_the_printing(rt: HostRuntime) -> Result<(), Fail> {
         let mut printer = Printer::new(alloc, long_messages(alloc)?)?;
         let mut sink = MemorySink::new(alloc, failing);
         let ended = printer.print(alloc, &mut sink);
-        assert_eq!(rt; ended, Err(Short { taken: printed - 5 }));
-        assert!(rt; sink.bytes() == text.as_slice(), "at {call}");
+        same(&rt, &ended, &Err(Short { taken: printed - 5 }));
+        holds_at(&rt, sink.bytes() == text.as_slice(), &call);
     }
     Ok(())
 }
@@ -343,6 +344,6 @@ fn without_messages_nothing_is_written(rt: HostRuntime) -> Result<(), Fail> {
     let failing = vec![in alloc; FailingWrite { call: 0, taken: 0 }]?;
     let mut printer = Printer::new(alloc, none)?;
     let mut sink = MemorySink::new(alloc, failing);
-    assert!(rt; printer.print(alloc, &mut sink).is_ok());
+    holds(&rt, printer.print(alloc, &mut sink).is_ok());
     Ok(())
 }

@@ -1,5 +1,6 @@
 //! What a scanner gives, where and why it halts, and what it leaves unread.
 use crate::callers::count_records;
+use crate::same::{holds, holds_at, same, same_at};
 use mcap_io::{Failed, MemorySource, QuietSource, Source};
 use mcap_model::{PlainRefused, scan_plain};
 use mcap_scan::{Lent, ScanRefused, Scanner, Step, Top};
@@ -489,15 +490,12 @@ fn scans_halt_where_they_should_and_read_no_further(rt: HostRuntime) -> Result<(
     let alloc = rt.alloc();
     for (what, bytes, count, offset, why, left) in CASES {
         let found = Outcome { count, offset, why };
-        assert!(rt;
-            is_that_of_the_plain_scan(alloc, bytes, found),
-            "plainly, {what}"
-        );
+        holds_at(&rt, is_that_of_the_plain_scan(alloc, bytes, found), &what);
         let expected = Some(found);
         for how in [How::Lent, How::Copied, How::Slowly] {
             let (outcome, unread) = ends_of(alloc, bytes, how)?;
-            assert_eq!(rt; outcome, expected, "at {what}");
-            assert_eq!(rt; unread, left, "behind {what}");
+            same_at(&rt, &outcome, &expected, &what);
+            same_at(&rt, &unread, &left, &what);
         }
     }
     Ok(())
@@ -532,15 +530,17 @@ fn each_prefix_of_a_file_gives_its_whole_records(rt: HostRuntime) -> Result<(), 
         if 298 <= len {
             expected.why = Why::End;
         }
-        assert_eq!(rt; scan(&mut scanner), Some(expected), "at {len}");
-        assert!(rt;
+        same_at(&rt, &scan(&mut scanner), &Some(expected), &len);
+        holds_at(
+            &rt,
             is_that_of_the_plain_scan(alloc, &TWO_CHUNKS[..len], expected),
-            "plainly, {len}"
+            &len,
         );
-        assert_eq!(rt;
-            scanner.into_source().rest().len(),
-            len.saturating_sub(298),
-            "behind {len}"
+        same_at(
+            &rt,
+            &scanner.into_source().rest().len(),
+            &len.saturating_sub(298),
+            &len,
         );
     }
     Ok(())
@@ -558,14 +558,15 @@ fn records_are_lent_and_copied_in_order(rt: HostRuntime) -> Result<(), Fail> {
         (15, 84, &PLAIN[93..97]),
     ];
     for (kind, place, bytes) in records {
-        assert_eq!(rt;
-            lent.advance(),
-            Step::Record {
+        same(
+            &rt,
+            &lent.advance(),
+            &Step::Record {
                 op: kind,
-                offset: place
-            }
+                offset: place,
+            },
         );
-        assert_eq!(rt; lent.content(), bytes, "at {place}");
+        same_at(&rt, &lent.content(), &bytes, &place);
         match copied.next() {
             Ok(
                 Top::Record {
@@ -574,19 +575,19 @@ fn records_are_lent_and_copied_in_order(rt: HostRuntime) -> Result<(), Fail> {
                     content,
                 },
             ) => {
-                assert_eq!(rt; op, kind, "at {place}");
-                assert_eq!(rt; offset, place);
-                assert_eq!(rt; content.as_slice(), bytes, "copied at {place}");
+                same_at(&rt, &op, &kind, &place);
+                same(&rt, &offset, &place);
+                same_at(&rt, &content.as_slice(), &bytes, &place);
             }
             _ => return Err(Fail::from("a record")),
         }
     }
-    assert_eq!(rt; lent.advance(), Step::End { offset: 97 });
-    assert_eq!(rt; lent.into_source().rest(), b"left".as_slice());
-    assert!(rt; matches!(copied.next(), Ok(Top::End { offset: 97 })));
+    same(&rt, &lent.advance(), &Step::End { offset: 97 });
+    same(&rt, &lent.into_source().rest(), &b"left".as_slice());
+    holds(&rt, matches!(copied.next(), Ok(Top::End { offset: 97 })));
     let mut source = QuietSource::new(Vec::from_slice(alloc, PLAIN)?);
-    assert_eq!(rt; count_records(alloc, &mut source), Some(4));
-    assert_eq!(rt; source.rest(), b"left".as_slice());
+    same(&rt, &count_records(alloc, &mut source), &Some(4));
+    same(&rt, &source.rest(), &b"left".as_slice());
     Ok(())
 }
 
@@ -604,13 +605,14 @@ fn a_failing_read_ends_a_scan_for_good(rt: HostRuntime) -> Result<(), Fail> {
             offset: 1,
             why: Why::Fault,
         };
-        assert_eq!(rt; scan(&mut scanner), Some(fault), "at {read}");
-        assert!(rt;
+        same_at(&rt, &scan(&mut scanner), &Some(fault), &read);
+        holds_at(
+            &rt,
             matches!(scanner.next(), Err(ScanRefused::Fault { faults: 1 })),
-            "again at {read}"
+            &read,
         );
         let _ = scanner.into_source();
-        assert_eq!(rt; source.faults(), 1, "at {read}");
+        same_at(&rt, &source.faults(), &1, &read);
     }
     Ok(())
 }
@@ -625,7 +627,7 @@ fn a_compression_is_named(rt: HostRuntime) -> Result<(), Fail> {
             let _ = scan(&mut scanner);
             match scanner.next() {
                 Err(ScanRefused::Compressed { offset: _, name }) => {
-                    assert_eq!(rt; name.as_str(), "zstd");
+                    same(&rt, &name.as_str(), &"zstd");
                 }
                 _ => return Err(Fail::from("a compression")),
             }
@@ -683,7 +685,7 @@ fn a_large_chunk_and_many_channels_are_scanned(rt: HostRuntime) -> Result<(), Fa
             offset,
             why: Why::End,
         };
-        assert_eq!(rt; scan(&mut scanner), Some(expected));
+        same(&rt, &scan(&mut scanner), &Some(expected));
     }
     Ok(())
 }

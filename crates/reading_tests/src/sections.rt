@@ -1,4 +1,5 @@
 //! Data sections made by hand.
+use crate::same::{holds, same, same_at};
 use index_check::{IndexNote, Naming, Section};
 use mcap_io::{MemorySource, QuietSource, Source};
 use mcap_scan::ScanRefused;
@@ -83,29 +84,30 @@ fn whole_section(alloc: Global) -> Result<Section, Fail> {
 #[test]
 fn a_section_is_counted(rt: HostRuntime) -> Result<(), Fail> {
     let section = whole_section(rt.alloc())?;
-    assert_eq!(rt; section.behind, 399);
-    assert!(rt; section.has_messages);
-    assert_eq!(rt; section.tally.messages, 3);
-    assert_eq!(rt; section.tally.attachments, 1);
-    assert_eq!(rt; section.tally.metadata, 1);
-    assert_eq!(rt; section.tally.chunks, 1);
-    assert!(rt; section.tally.any);
-    assert_eq!(rt; section.tally.least, 10);
-    assert_eq!(rt; section.tally.greatest, 13);
-    assert_eq!(rt;
-        section.tally.counts.as_slice(),
-        [(7u16, 2u64), (8, 1)].as_slice()
+    same(&rt, &section.behind, &399);
+    holds(&rt, section.has_messages);
+    same(&rt, &section.tally.messages, &3);
+    same(&rt, &section.tally.attachments, &1);
+    same(&rt, &section.tally.metadata, &1);
+    same(&rt, &section.tally.chunks, &1);
+    holds(&rt, section.tally.any);
+    same(&rt, &section.tally.least, &10);
+    same(&rt, &section.tally.greatest, &13);
+    same(
+        &rt,
+        &section.tally.counts.as_slice(),
+        &[(7u16, 2u64), (8, 1)].as_slice(),
     );
-    assert_eq!(rt; section.tally.schemas.in_section, 1);
-    assert_eq!(rt; section.tally.schemas.in_file, 1);
-    assert_eq!(rt; section.tally.channels.in_section, 2);
-    assert_eq!(rt; section.tally.channels.in_file, 2);
-    assert!(rt; section.schemas.has(5));
-    assert!(rt; section.channels.has(7));
-    assert!(rt; section.channels.has(8));
-    assert_eq!(rt; section.channels.len(), 2);
-    assert!(rt; section.tables.channels.find(8).is_some());
-    assert!(rt; section.tables.channels.find(9).is_none());
+    same(&rt, &section.tally.schemas.in_section, &1);
+    same(&rt, &section.tally.schemas.in_file, &1);
+    same(&rt, &section.tally.channels.in_section, &2);
+    same(&rt, &section.tally.channels.in_file, &2);
+    holds(&rt, section.schemas.has(5));
+    holds(&rt, section.channels.has(7));
+    holds(&rt, section.channels.has(8));
+    same(&rt, &section.channels.len(), &2);
+    holds(&rt, section.tables.channels.find(8).is_some());
+    holds(&rt, section.tables.channels.find(9).is_none());
     Ok(())
 }
 
@@ -115,12 +117,12 @@ fn what_an_index_repeats_is_kept(rt: HostRuntime) -> Result<(), Fail> {
     let Some(first) = section.chunks.notes.get(0) else {
         return Err(Fail::from("no chunk"));
     };
-    assert_eq!(rt; first.length, 140);
-    assert_eq!(rt; first.start, 11);
-    assert_eq!(rt; first.end, 13);
-    assert_eq!(rt; first.size, 91);
-    assert!(rt; first.messages);
-    assert_eq!(rt; first.indexes_length, 62);
+    same(&rt, &first.length, &140);
+    same(&rt, &first.start, &11);
+    same(&rt, &first.end, &13);
+    same(&rt, &first.size, &91);
+    holds(&rt, first.messages);
+    same(&rt, &first.indexes_length, &62);
     let seven = IndexNote {
         channel: 7,
         offset: 314,
@@ -131,9 +133,14 @@ fn what_an_index_repeats_is_kept(rt: HostRuntime) -> Result<(), Fail> {
         offset: 345,
         entries: 1,
     };
-    assert_eq!(rt; first.indexes.as_slice(), [seven, eight].as_slice());
-    assert_eq!(rt; section.chunks.spots.name(174), Naming::First { place: 0 });
-    assert!(rt;
+    same(&rt, &first.indexes.as_slice(), &[seven, eight].as_slice());
+    same(
+        &rt,
+        &section.chunks.spots.name(174),
+        &Naming::First { place: 0 },
+    );
+    holds(
+        &rt,
         section.attachments.take_index(&AttachmentIndex {
             offset: 108,
             length: 48,
@@ -142,14 +149,15 @@ fn what_an_index_repeats_is_kept(rt: HostRuntime) -> Result<(), Fail> {
             data_size: 2,
             name: "n",
             media_type: "",
-        })
+        }),
     );
-    assert!(rt;
+    holds(
+        &rt,
         section.metadata.take_index(&MetadataIndex {
             offset: 156,
             length: 18,
             name: "m",
-        })
+        }),
     );
     Ok(())
 }
@@ -161,22 +169,28 @@ fn message_indexes_are_judged_behind_their_chunk(rt: HostRuntime) -> Result<(), 
     let second = &SECTION[345..376];
     let behind = &SECTION[376..];
     let missing = read_joined(alloc, &SECTION[..345], EMPTY_INDEX, behind)?;
-    assert_eq!(rt; missing, Outcome::Index(345), "an entry is missing");
+    same_at(&rt, &missing, &Outcome::Index(345), &"an entry is missing");
     let lacking = read_joined(alloc, &SECTION[..314], first, behind)?;
-    assert_eq!(rt; lacking, Outcome::Index(174), "channel 8 is missing");
+    same_at(&rt, &lacking, &Outcome::Index(174), &"channel 8 is missing");
     let twice = read_joined(alloc, &SECTION[..345], first, behind)?;
-    assert_eq!(rt; twice, Outcome::Index(345), "channel 7 stands twice");
+    same_at(&rt, &twice, &Outcome::Index(345), &"channel 7 stands twice");
     let alone = read_joined(alloc, &SECTION[..174], first, behind)?;
-    assert_eq!(rt; alone, Outcome::Index(174), "there is no chunk");
+    same_at(&rt, &alone, &Outcome::Index(174), &"there is no chunk");
     let apart = read_joined(alloc, &SECTION[..314], &SECTION[376..386], &SECTION[314..])?;
-    assert_eq!(rt; apart, Outcome::Index(324), "another record stands between");
+    same_at(
+        &rt,
+        &apart,
+        &Outcome::Index(324),
+        &"another record stands between",
+    );
     let none = read_joined(alloc, &SECTION[..314], b"", behind)?;
-    assert_eq!(rt; none, Outcome::Read(337), "there is none");
+    same_at(&rt, &none, &Outcome::Read(337), &"there is none");
     let moved = read_joined(alloc, &SECTION[..314], second, first)?;
-    assert_eq!(rt;
-        moved,
-        Outcome::Rule(376, 4),
-        "their order is free, and the section is cut off"
+    same_at(
+        &rt,
+        &moved,
+        &Outcome::Rule(376, 4),
+        &"their order is free, and the section is cut off",
     );
     Ok(())
 }
@@ -185,18 +199,25 @@ fn message_indexes_are_judged_behind_their_chunk(rt: HostRuntime) -> Result<(), 
 #[test]
 fn a_section_that_is_cut_off_is_refused_by_the_scan(rt: HostRuntime) -> Result<(), Fail> {
     let alloc = rt.alloc();
-    assert_eq!(rt;
-        read_joined(alloc, &SECTION[..345], b"", b"")?,
-        Outcome::Rule(345, 4)
+    same(
+        &rt,
+        &read_joined(alloc, &SECTION[..345], b"", b"")?,
+        &Outcome::Rule(345, 4),
     );
-    assert_eq!(rt;
-        read_joined(alloc, &SECTION[..386], b"", b"")?,
-        Outcome::Rule(386, 4)
+    same(
+        &rt,
+        &read_joined(alloc, &SECTION[..386], b"", b"")?,
+        &Outcome::Rule(386, 4),
     );
-    assert_eq!(rt; read_joined(alloc, b"", b"", b"")?, Outcome::Rule(0, 1));
-    assert_eq!(rt;
-        read_joined(alloc, &SECTION[..49], b"", &SECTION[76..])?,
-        Outcome::Rule(49, 7)
+    same(
+        &rt,
+        &read_joined(alloc, b"", b"", b"")?,
+        &Outcome::Rule(0, 1),
+    );
+    same(
+        &rt,
+        &read_joined(alloc, &SECTION[..49], b"", &SECTION[76..])?,
+        &Outcome::Rule(49, 7),
     );
     Ok(())
 }
@@ -210,9 +231,9 @@ fn a_failing_read_is_a_fault(rt: HostRuntime) -> Result<(), Fail> {
         let mut source = MemorySource::new(Vec::from_slice(alloc, SECTION)?, failing);
         let found = read(alloc, &mut source);
         if at < 23 {
-            assert_eq!(rt; found, Outcome::Fault(1), "at {at}");
+            same_at(&rt, &found, &Outcome::Fault(1), &at);
         } else {
-            assert_eq!(rt; found, Outcome::Read(399), "at {at}");
+            same_at(&rt, &found, &Outcome::Read(399), &at);
         }
     }
     Ok(())
@@ -227,11 +248,11 @@ fn an_empty_section_has_nothing(rt: HostRuntime) -> Result<(), Fail> {
     let Ok(section) = read_section(alloc, &mut source) else {
         return Err(Fail::from("refused"));
     };
-    assert_eq!(rt; section.behind, 38);
-    assert!(rt; !section.has_messages);
-    assert!(rt; !section.tally.any);
-    assert_eq!(rt; section.tally.messages, 0);
-    assert!(rt; section.tally.counts.is_empty());
-    assert!(rt; section.chunks.notes.is_empty());
+    same(&rt, &section.behind, &38);
+    holds(&rt, !section.has_messages);
+    holds(&rt, !section.tally.any);
+    same(&rt, &section.tally.messages, &0);
+    holds(&rt, section.tally.counts.is_empty());
+    holds(&rt, section.chunks.notes.is_empty());
     Ok(())
 }

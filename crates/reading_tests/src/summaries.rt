@@ -1,6 +1,7 @@
 //! What stands behind a Data End that ends at 100, spelled byte by byte.
 ghost use Rattle.std.specs.Prelude.{◌≡◌};
 
+use crate::same::{holds, same};
 use index_check::{Attachments, Chunks, IdCounts, Ids, MetadataList, Section, Tally};
 use mcap_model::Tables;
 use std::alloc::Global;
@@ -88,18 +89,23 @@ fn flawed(rule: u8, offset: u64) -> Option<SummaryRefused> {
 #[test]
 fn a_summary_keeps_the_rules(rt: HostRuntime) -> Result<(), Fail> {
     let alloc = rt.alloc();
-    assert_eq!(rt; refusal(alloc, &[NO_SUMMARY])?, None);
-    assert_eq!(rt; refusal(alloc, &[SCHEMA, SCHEMAS, FOOTER])?, None);
+    same(&rt, &refusal(alloc, &[NO_SUMMARY])?, &None);
+    same(&rt, &refusal(alloc, &[SCHEMA, SCHEMAS, FOOTER])?, &None);
     Ok(())
 }
 
 #[test]
 fn a_summary_offset_names_its_group(rt: HostRuntime) -> Result<(), Fail> {
     let alloc = rt.alloc();
-    assert_eq!(rt; refusal(alloc, &[SCHEMA, LONGER, FOOTER])?, flawed(15, 123));
-    assert_eq!(rt;
-        refusal(alloc, &[SCHEMA, SCHEMAS, SCHEMAS, FOOTER])?,
-        flawed(15, 149)
+    same(
+        &rt,
+        &refusal(alloc, &[SCHEMA, LONGER, FOOTER])?,
+        &flawed(15, 123),
+    );
+    same(
+        &rt,
+        &refusal(alloc, &[SCHEMA, SCHEMAS, SCHEMAS, FOOTER])?,
+        &flawed(15, 149),
     );
     Ok(())
 }
@@ -107,27 +113,45 @@ fn a_summary_offset_names_its_group(rt: HostRuntime) -> Result<(), Fail> {
 #[test]
 fn a_footer_stands_at_the_end_alone(rt: HostRuntime) -> Result<(), Fail> {
     let alloc = rt.alloc();
-    assert_eq!(rt; refusal(alloc, &[NO_SUMMARY, NO_SUMMARY])?, flawed(5, 100));
-    assert_eq!(rt; refusal(alloc, &[SCHEMA])?, flawed(17, 94));
-    assert_eq!(rt; refusal(alloc, &[])?, flawed(17, 71));
-    assert_eq!(rt; refusal(alloc, &[SCHEMA, FOOTER])?, None);
-    assert_eq!(rt; refusal(alloc, &[SCHEMA, NO_SUMMARY])?, flawed(11, 123));
+    same(
+        &rt,
+        &refusal(alloc, &[NO_SUMMARY, NO_SUMMARY])?,
+        &flawed(5, 100),
+    );
+    same(&rt, &refusal(alloc, &[SCHEMA])?, &flawed(17, 94));
+    same(&rt, &refusal(alloc, &[])?, &flawed(17, 71));
+    same(&rt, &refusal(alloc, &[SCHEMA, FOOTER])?, &None);
+    same(
+        &rt,
+        &refusal(alloc, &[SCHEMA, NO_SUMMARY])?,
+        &flawed(11, 123),
+    );
     Ok(())
 }
 
 #[test]
 fn a_record_is_refused_where_it_stands(rt: HostRuntime) -> Result<(), Fail> {
     let alloc = rt.alloc();
-    assert_eq!(rt; refusal(alloc, &[SCHEMA, b"\x80\x01"])?, flawed(4, 123));
-    assert_eq!(rt;
-        refusal(alloc, &[SCHEMA, b"\0\0\0\0\0\0\0\0\0"])?,
-        flawed(5, 123)
+    same(
+        &rt,
+        &refusal(alloc, &[SCHEMA, b"\x80\x01"])?,
+        &flawed(4, 123),
     );
-    assert_eq!(rt; refusal(alloc, &[SCHEMA, RENAMED, FOOTER])?, flawed(7, 123));
-    assert_eq!(rt; refusal(alloc, &[METADATA, FOOTER])?, flawed(13, 100));
-    assert_eq!(rt;
-        refusal(alloc, &[SCHEMA, ENDLESS])?,
-        Some(SummaryRefused::Limit { offset: 123 })
+    same(
+        &rt,
+        &refusal(alloc, &[SCHEMA, b"\0\0\0\0\0\0\0\0\0"])?,
+        &flawed(5, 123),
+    );
+    same(
+        &rt,
+        &refusal(alloc, &[SCHEMA, RENAMED, FOOTER])?,
+        &flawed(7, 123),
+    );
+    same(&rt, &refusal(alloc, &[METADATA, FOOTER])?, &flawed(13, 100));
+    same(
+        &rt,
+        &refusal(alloc, &[SCHEMA, ENDLESS])?,
+        &Some(SummaryRefused::Limit { offset: 123 }),
     );
     Ok(())
 }
@@ -138,8 +162,8 @@ fn a_channel_with_messages_is_repeated(rt: HostRuntime) -> Result<(), Fail> {
     let Section { mut tally, .. } = empty_section(alloc);
     tally.counts.push((1, 2))?;
     let mut ids = Ids::new(alloc);
-    assert!(rt; !are_repeated(&tally, &ids));
+    holds(&rt, !are_repeated(&tally, &ids));
     ids.add_once(1)?;
-    assert!(rt; are_repeated(&tally, &ids));
+    holds(&rt, are_repeated(&tally, &ids));
     Ok(())
 }

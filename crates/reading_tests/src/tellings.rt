@@ -1,4 +1,5 @@
 //! The lines of small files.
+use crate::same::same;
 use mcap_io::QuietStore;
 use std::alloc::Global;
 use std::test::Fail;
@@ -117,7 +118,7 @@ fn tells_of(
 fn the_line_of_one_message(rt: HostRuntime) -> Result<(), Fail> {
     let want =
         "{\"attachments\":0,\"channels\":[{\"count\":1,\"encoding\":\"\",\"id\":1,\"schema\":0,\"topic\":\"/a\"}],\"chunks\":1,\"compression\":[\"\"],\"end\":10,\"library\":\"mcaprec 1\",\"messages\":1,\"metadata\":0,\"profile\":\"\",\"schemas\":[],\"start\":10}\n";
-    assert_eq!(rt; tells(rt.alloc(), CHUNKED, want)?, Ok(true));
+    same(&rt, &tells(rt.alloc(), CHUNKED, want)?, &Ok(true));
     Ok(())
 }
 
@@ -125,7 +126,11 @@ fn the_line_of_one_message(rt: HostRuntime) -> Result<(), Fail> {
 fn the_line_of_a_compressed_chunk(rt: HostRuntime) -> Result<(), Fail> {
     let want =
         "{\"attachments\":0,\"channels\":[{\"count\":1,\"encoding\":\"\",\"id\":1,\"schema\":0,\"topic\":\"/a\"}],\"chunks\":1,\"compression\":[\"zstd\"],\"end\":10,\"library\":\"mcaprec 1\",\"messages\":1,\"metadata\":0,\"profile\":\"\",\"schemas\":[],\"start\":10}\n";
-    assert_eq!(rt; tells_of(rt.alloc(), HEAD, &[ONE, ZSTD], want)?, Ok(true));
+    same(
+        &rt,
+        &tells_of(rt.alloc(), HEAD, &[ONE, ZSTD], want)?,
+        &Ok(true),
+    );
     Ok(())
 }
 
@@ -133,7 +138,7 @@ fn the_line_of_a_compressed_chunk(rt: HostRuntime) -> Result<(), Fail> {
 fn the_line_of_no_messages(rt: HostRuntime) -> Result<(), Fail> {
     let want =
         "{\"attachments\":0,\"channels\":[],\"chunks\":0,\"compression\":[],\"end\":0,\"library\":\"mcaprec 1\",\"messages\":0,\"metadata\":0,\"profile\":\"\",\"schemas\":[],\"start\":0}\n";
-    assert_eq!(rt; tells_of(rt.alloc(), HEAD, &[NONE], want)?, Ok(true));
+    same(&rt, &tells_of(rt.alloc(), HEAD, &[NONE], want)?, &Ok(true));
     Ok(())
 }
 
@@ -143,7 +148,11 @@ fn the_line_of_many_records(rt: HostRuntime) -> Result<(), Fail> {
     let want =
         "{\"attachments\":2,\"channels\":[{\"count\":0,\"encoding\":\"e1\",\"id\":1,\"schema\":8,\"topic\":\"a\"},{\"count\":9,\"encoding\":\"\",\"id\":2,\"schema\":0,\"topic\":\"b\"},{\"count\":7,\"encoding\":\"e3\",\"id\":300,\"schema\":9,\"topic\":\"c\"}],\"chunks\":4,\"compression\":[\"\",\"lz4\",\"zstd\"],\"end\":18446744073709551615,\"library\":\"mcaprec 1\",\"messages\":6,\"metadata\":3,\"profile\":\"p\",\"schemas\":[{\"encoding\":\"\",\"id\":8,\"name\":\"eight\"},{\"encoding\":\"e9\",\"id\":9,\"name\":\"nine\"}],\"start\":5}\n";
     let summary = [SCHEMAS, CHANNELS, MANY, NONE, ZSTD, LZ4, ZSTD, PLAIN];
-    assert_eq!(rt; tells_of(rt.alloc(), PROFILE, &summary, want)?, Ok(true));
+    same(
+        &rt,
+        &tells_of(rt.alloc(), PROFILE, &summary, want)?,
+        &Ok(true),
+    );
     Ok(())
 }
 
@@ -152,13 +161,17 @@ fn the_line_of_many_records(rt: HostRuntime) -> Result<(), Fail> {
 fn the_line_of_an_odd_topic(rt: HostRuntime) -> Result<(), Fail> {
     let want =
         "{\"attachments\":0,\"channels\":[{\"count\":null,\"encoding\":\"\",\"id\":1,\"schema\":0,\"topic\":\"q\\\"b\\\\t\\tn\\n\\u0001\u{e9}\u{20ac}\u{1f600}\"}],\"chunks\":0,\"compression\":[],\"end\":0,\"library\":\"mcaprec 1\",\"messages\":0,\"metadata\":0,\"profile\":\"\",\"schemas\":[],\"start\":0}\n";
-    assert_eq!(rt; tells_of(rt.alloc(), HEAD, &[ODD, NONE], want)?, Ok(true));
+    same(
+        &rt,
+        &tells_of(rt.alloc(), HEAD, &[ODD, NONE], want)?,
+        &Ok(true),
+    );
     Ok(())
 }
 
 #[test]
 fn without_statistics_there_is_no_line(rt: HostRuntime) -> Result<(), Fail> {
     let found = tells_of(rt.alloc(), HEAD, &[CHANNELS, ZSTD], "")?;
-    assert_eq!(rt; found, Err(Untold::Info(InfoRefused::NoStatistics)));
+    same(&rt, &found, &Err(Untold::Info(InfoRefused::NoStatistics)));
     Ok(())
 }

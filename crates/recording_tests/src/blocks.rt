@@ -1,6 +1,7 @@
 //! Blocks byte by byte: where they are cut, and what stands in their Chunk and their Message Indexes.
 ghost use Rattle.std.specs.Prelude.{◌≤◌};
 
+use crate::same::{holds, holds_at, same};
 use chunk_build::Chunker;
 use mcap_model::{Block, IndexPart};
 use mcap_wire::Bytes;
@@ -192,7 +193,7 @@ fn a_block_is_closed_at_the_record_that_reaches_the_size(rt: HostRuntime) -> Res
         },
     ];
     let cut = are_cut(rt.alloc(), 59, &[channel(), first(), second()], &wanted)?;
-    assert!(rt; cut);
+    holds(&rt, cut);
     Ok(())
 }
 
@@ -205,7 +206,7 @@ fn a_size_that_is_not_reached_makes_one_block(rt: HostRuntime) -> Result<(), Fai
     }];
     for size in [60, 67_108_864] {
         let cut = are_cut(rt.alloc(), size, &[channel(), first(), second()], &wanted)?;
-        assert!(rt; cut, "size {size}");
+        holds_at(&rt, cut, &size);
     }
     Ok(())
 }
@@ -225,9 +226,9 @@ fn a_chunk_of_declarations_has_no_times_and_no_index(rt: HostRuntime) -> Result<
         },
     ];
     let cut = are_cut(rt.alloc(), 1, &[channel(), first()], &wanted)?;
-    assert!(rt; cut);
+    holds(&rt, cut);
     let cut = are_cut(rt.alloc(), 1, &[], &[])?;
-    assert!(rt; cut);
+    holds(&rt, cut);
     Ok(())
 }
 
@@ -239,7 +240,7 @@ fn indexes_stand_in_ascending_channel_id(rt: HostRuntime) -> Result<(), Fail> {
         parts: &[(1, 145, 1), (3, 176, 2)],
     }];
     let cut = are_cut(rt.alloc(), 96, &[late(), middle(), early()], &wanted)?;
-    assert!(rt; cut);
+    holds(&rt, cut);
     Ok(())
 }
 
@@ -255,9 +256,9 @@ fn a_message_above_the_size_is_a_block_of_its_own(rt: HostRuntime) -> Result<(),
         payload: Bytes::new(Vec::from_elem(alloc, 7u8, 1_000_000)?),
     };
     let block = chunker.put(&message)?.ok_or("no block")?;
-    assert_eq!(rt; block.bytes.as_slice().len(), 1_000_111);
-    assert_eq!(rt; block.chunk_length, 1_000_080);
-    assert!(rt; chunker.finish()?.is_none());
+    same(&rt, &block.bytes.as_slice().len(), &1_000_111);
+    same(&rt, &block.chunk_length, &1_000_080);
+    holds(&rt, chunker.finish()?.is_none());
     Ok(())
 }
 
@@ -273,9 +274,9 @@ fn room_of_next(alloc: Global, chunker: &mut Chunker, given: usize) -> Result<us
 fn a_vector_given_back_holds_a_later_block(rt: HostRuntime) -> Result<(), Fail> {
     let mut chunker = Chunker::new(rt.alloc(), 60)?;
     let room = room_of_next(rt.alloc(), &mut chunker, 5000)?;
-    assert!(rt; room == 5000);
+    holds(&rt, room == 5000);
     let room = room_of_next(rt.alloc(), &mut chunker, 6000)?;
-    assert!(rt; room == 6000);
+    holds(&rt, room == 6000);
     Ok(())
 }
 
@@ -287,6 +288,6 @@ fn crosses<T: Send + Sync>(value: T) -> T {
 #[test]
 fn a_chunker_crosses_threads(rt: HostRuntime) -> Result<(), Fail> {
     let mut chunker = crosses(Chunker::new(rt.alloc(), 1)?);
-    assert!(rt; crosses(chunker.finish()?).is_none());
+    holds(&rt, crosses(chunker.finish()?).is_none());
     Ok(())
 }

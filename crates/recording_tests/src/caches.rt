@@ -4,6 +4,7 @@ ghost use Rattle.rec_data.specs.Owned.{rec_bytes};
 ghost use Rattle.record_cache.specs.Buffers.{IsKept};
 ghost use Rattle.record_cache.specs.Offers.{rec_of};
 
+use crate::same::{holds, same};
 use mcap_wire::PairsRef;
 use rec_data::{Channel, Message, Rec, Schema};
 use record_cache::*;
@@ -57,21 +58,35 @@ fn message() -> RecRef<'static>
 #[test]
 fn a_buffer_is_full_from_its_limit_on(rt: HostRuntime) -> Result<(), Fail> {
     let mut cache = Cache::new(rt.alloc(), 27)?;
-    assert!(rt; cache.offer(channel()) == Ok(()));
-    assert!(rt; cache.offer(message()) == Err(OfferRefused::Full { held: 27 }));
-    assert!(rt; cache.offer_two(schema(), channel()) == Err(OfferRefused::Full { held: 27 }));
-    assert_eq!(rt; (cache.held(), cache.count(), cache.limit()), (27, 1, 27));
+    holds(&rt, cache.offer(channel()) == Ok(()));
+    holds(
+        &rt,
+        cache.offer(message()) == Err(OfferRefused::Full { held: 27 }),
+    );
+    holds(
+        &rt,
+        cache.offer_two(schema(), channel()) == Err(OfferRefused::Full { held: 27 }),
+    );
+    same(
+        &rt,
+        &(cache.held(), cache.count(), cache.limit()),
+        &(27, 1, 27),
+    );
     cache.clear();
-    assert_eq!(rt; (cache.held(), cache.count(), cache.limit()), (0, 0, 27));
+    same(
+        &rt,
+        &(cache.held(), cache.count(), cache.limit()),
+        &(0, 0, 27),
+    );
     Ok(())
 }
 
 #[test]
 fn two_records_are_tested_once(rt: HostRuntime) -> Result<(), Fail> {
     let mut cache = Cache::new(rt.alloc(), 28)?;
-    assert!(rt; cache.offer(channel()) == Ok(()));
-    assert!(rt; cache.offer_two(schema(), channel()) == Ok(()));
-    assert_eq!(rt; (cache.held(), cache.count()), (80, 3));
+    holds(&rt, cache.offer(channel()) == Ok(()));
+    holds(&rt, cache.offer_two(schema(), channel()) == Ok(()));
+    same(&rt, &(cache.held(), cache.count()), &(80, 3));
     Ok(())
 }
 
@@ -102,11 +117,11 @@ fn kind_of(rec: &Rec) -> u8 {
 #[test]
 fn records_are_walked_in_the_order_of_their_offers(rt: HostRuntime) -> Result<(), Fail> {
     let mut cache = Cache::new(rt.alloc(), 1000)?;
-    assert!(rt; cache.offer_two(schema(), channel()) == Ok(()));
-    assert!(rt; cache.offer(message()) == Ok(()));
+    holds(&rt, cache.offer_two(schema(), channel()) == Ok(()));
+    holds(&rt, cache.offer(message()) == Ok(()));
     let (bytes, kinds) = walked(rt.alloc(), &cache)?;
-    assert_eq!(rt; bytes.as_slice(), THREE);
-    assert_eq!(rt; kinds.as_slice(), b"scm".as_slice());
+    same(&rt, &bytes.as_slice(), &THREE);
+    same(&rt, &kinds.as_slice(), &b"scm".as_slice());
     Ok(())
 }
 
@@ -118,6 +133,6 @@ fn crosses<T: Send + Sync>(value: T) -> T {
 #[test]
 fn a_buffer_crosses_threads(rt: HostRuntime) -> Result<(), Fail> {
     let cache = crosses(Cache::new(rt.alloc(), 1000)?);
-    assert_eq!(rt; cache.held(), 0);
+    same(&rt, &cache.held(), &0);
     Ok(())
 }

@@ -1,4 +1,5 @@
 //! Ids of contents that differ in one field, the last ids, and ids that are taken back.
+use crate::same::same;
 use id_table::{Given, GivenIds, IdRefused, IdTable};
 use mcap_wire::{Bytes, Pairs, Text, take_pairs};
 use rec_data::{ChannelDef, SchemaDef};
@@ -88,9 +89,9 @@ fn contents_are_one_where_all_fields_are_equal(rt: HostRuntime) -> Result<(), Fa
         (("/a", "", NO_PAIRS, None), ids(None, Given::Known(3))),
     ];
     for (content, want) in &rows {
-        assert_eq!(rt; declared(&mut table, alloc, content)?, *want);
+        same(&rt, &declared(&mut table, alloc, content)?, &*want);
     }
-    assert_eq!(rt; (table.schemas(), table.channels()), (2, 7));
+    same(&rt, &(table.schemas(), table.channels()), &(2, 7));
     Ok(())
 }
 
@@ -104,13 +105,13 @@ fn ids_that_are_taken_back_are_given_again(rt: HostRuntime) -> Result<(), Fail> 
         channel: Given::New(1),
     };
     for _ in 0..2 {
-        assert_eq!(rt; found(&table, alloc, &content)?, None);
-        assert_eq!(rt; declared(&mut table, alloc, &content)?, Ok(new));
-        assert_eq!(rt; found(&table, alloc, &content)?, Some(1));
+        same(&rt, &found(&table, alloc, &content)?, &None);
+        same(&rt, &declared(&mut table, alloc, &content)?, &Ok(new));
+        same(&rt, &found(&table, alloc, &content)?, &Some(1));
         if table.schemas() == 1 && table.channels() == 1 {
             table.take_back(&new);
         }
-        assert_eq!(rt; (table.schemas(), table.channels()), (0, 0));
+        same(&rt, &(table.schemas(), table.channels()), &(0, 0));
     }
     Ok(())
 }
@@ -134,7 +135,7 @@ fn ids_end_at_65535_and_the_schemas_end_is_told_first(rt: HostRuntime) -> Result
         schema: Some(Given::New(65535)),
         channel: Given::New(65535),
     };
-    assert_eq!(rt; fill(&mut table, alloc)?, Some(last));
+    same(&rt, &fill(&mut table, alloc)?, &Some(last));
     let seven: Option<(&str, &[u8])> = Some(("7", &[]));
     let eight: Option<(&str, &[u8])> = Some(("8", &[]));
     let new: Option<(&str, &[u8])> = Some(("8", &[1]));
@@ -148,9 +149,9 @@ fn ids_end_at_65535_and_the_schemas_end_is_told_first(rt: HostRuntime) -> Result
         ),
     ];
     for (content, want) in &rows {
-        assert_eq!(rt; declared(&mut table, alloc, content)?, *want);
+        same(&rt, &declared(&mut table, alloc, content)?, &*want);
     }
-    assert_eq!(rt; (table.schemas(), table.channels()), (65535, 65535));
+    same(&rt, &(table.schemas(), table.channels()), &(65535, 65535));
     Ok(())
 }
 
@@ -161,6 +162,6 @@ fn crosses<T: Send + Sync>(value: T) -> T {
 #[test]
 fn a_table_may_cross_threads(rt: HostRuntime) -> Result<(), Fail> {
     let table = crosses(IdTable::new(rt.alloc())?);
-    assert_eq!(rt; table.channels(), 0);
+    same(&rt, &table.channels(), &0);
     Ok(())
 }

@@ -1,4 +1,5 @@
 //! The entries of a Message Index in a range, in the order of time and offset.
+use crate::same::{holds, holds_at};
 use chunk_build::{IndexTable, TimeAt};
 use mcap_model::Range;
 use mcap_wire::EntriesRef;
@@ -50,7 +51,7 @@ fn entries_of_a_range_in_order(rt: HostRuntime) -> Result<(), Fail> {
         (13, None, &[][..]),
     ] {
         let lie = lie_between(rt.alloc(), &mixed, Range { start, end }, wanted)?;
-        assert!(rt; lie, "from {start}");
+        holds_at(&rt, lie, &start);
     }
     let lie = lie_between(
         rt.alloc(),
@@ -61,6 +62,6 @@ fn entries_of_a_range_in_order(rt: HostRuntime) -> Result<(), Fail> {
         },
         &[],
     )?;
-    assert!(rt; lie);
+    holds(&rt, lie);
     Ok(())
 }

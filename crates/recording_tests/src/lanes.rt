@@ -4,6 +4,7 @@ ghost use Rattle.mcap_model.specs.History.{channel_of};
 ghost use Rattle.record_core.specs.Ids.{fields_with};
 ghost use Rattle.feed_lane.specs.Pass.{message_record, no_calls};
 
+use crate::same::{holds, same};
 use feed_lane::{Accepted, Cause, DeclaredAt, FeedEnd, FeedReport, Pass, Refused, publish_feed};
 use mcap_io::MemorySource;
 use mcap_model::{End, Stop};
@@ -290,11 +291,11 @@ fn messages_are_recorded_in_chunks_too(rt: HostRuntime) -> Result<(), Fail> {
         first: 0,
         count: 1,
     }];
-    assert_eq!(rt; report.accepted.as_slice(), accepted.as_slice());
-    assert_eq!(rt; report.declared.as_slice(), declared.as_slice());
-    assert!(rt; report.refused.is_empty());
-    assert_eq!(rt; report.passed, 2);
-    assert!(rt; matches!(report.end, FeedEnd::Done));
+    same(&rt, &report.accepted.as_slice(), &accepted.as_slice());
+    same(&rt, &report.declared.as_slice(), &declared.as_slice());
+    holds(&rt, report.refused.is_empty());
+    same(&rt, &report.passed, &2);
+    holds(&rt, matches!(report.end, FeedEnd::Done));
     Ok(())
 }
 
@@ -303,13 +304,13 @@ fn a_lane_goes_on_behind_a_refusal(rt: HostRuntime) -> Result<(), Fail> {
     // how many calls are taken; then the numbers of declarations, of recorded and of refused messages
     for (left, declared, accepted, refused) in [(0, 0, 0, 2), (1, 1, 0, 2), (2, 1, 1, 1)] {
         let report = publish(rt.alloc(), FEED, &[], left, false)?;
-        assert_eq!(rt; report.declared.len(), declared);
-        assert_eq!(rt; report.accepted.len(), accepted);
-        assert_eq!(rt; report.refused.len(), refused);
+        same(&rt, &report.declared.len(), &declared);
+        same(&rt, &report.accepted.len(), &accepted);
+        same(&rt, &report.refused.len(), &refused);
         for r in report.refused.as_slice() {
-            assert_eq!(rt; r.cause, Cause::Memory);
+            same(&rt, &r.cause, &Cause::Memory);
         }
-        assert!(rt; matches!(report.end, FeedEnd::Done));
+        holds(&rt, matches!(report.end, FeedEnd::Done));
     }
     Ok(())
 }
@@ -326,9 +327,9 @@ fn a_stop_ends_a_lane(rt: HostRuntime) -> Result<(), Fail> {
                 stop: Stop::Memory,
             },
         }];
-        assert_eq!(rt; report.refused.as_slice(), refused.as_slice());
-        assert_eq!(rt; report.passed, 0);
-        assert!(rt; matches!(report.end, FeedEnd::Ended));
+        same(&rt, &report.refused.as_slice(), &refused.as_slice());
+        same(&rt, &report.passed, &0);
+        holds(&rt, matches!(report.end, FeedEnd::Ended));
     }
     Ok(())
 }
@@ -336,15 +337,15 @@ fn a_stop_ends_a_lane(rt: HostRuntime) -> Result<(), Fail> {
 #[test]
 fn a_feed_may_be_cut_off(rt: HostRuntime) -> Result<(), Fail> {
     let report = publish(rt.alloc(), &FEED[..100], &[], 9, false)?;
-    assert_eq!(rt; report.accepted.len(), 1);
-    assert!(rt; matches!(report.end, FeedEnd::Grammar { offset: 84 }));
+    same(&rt, &report.accepted.len(), &1);
+    holds(&rt, matches!(report.end, FeedEnd::Grammar { offset: 84 }));
     Ok(())
 }
 
 #[test]
 fn a_source_may_fail(rt: HostRuntime) -> Result<(), Fail> {
     let report = publish(rt.alloc(), FEED, &[0], 9, false)?;
-    assert!(rt; report.accepted.is_empty());
-    assert!(rt; matches!(report.end, FeedEnd::Fault { faults: 1 }));
+    holds(&rt, report.accepted.is_empty());
+    holds(&rt, matches!(report.end, FeedEnd::Fault { faults: 1 }));
     Ok(())
 }

@@ -14,6 +14,8 @@ mod lanes;
 #[cfg(test)]
 mod recordings;
 #[cfg(test)]
+mod same;
+#[cfg(test)]
 mod scribes;
 #[cfg(test)]
 mod written_summaries;

@@ -1,6 +1,7 @@
 //! Small recordings: their files, their reports, and what a store that fails leaves of both.
 ghost use Rattle.std.specs.Prelude.{◌≡◌, ◌≤◌, ℕ, Some};
 
+use crate::same::{holds, same};
 use mcap_io::{FailingWrite, MemoryLive, QuietSource};
 use mcap_model::{End, FileOptions, Stop};
 use mcap_wire::{Memory, Text};
@@ -103,9 +104,9 @@ fn a_message_is_recorded_whole(rt: HostRuntime) -> Result<(), Fail> {
     ];
     for (chunk, limit, bytes, blocks) in rows {
         let out = record_small(rt.alloc(), one_message(), chunk, limit, &[])?;
-        assert_eq!(rt; out.text.len() as u64, bytes);
+        same(&rt, &(out.text.len() as u64), &bytes);
         if chunk.is_none() {
-            assert_eq!(rt; out.text.as_slice(), plain_file());
+            same(&rt, &out.text.as_slice(), &plain_file());
         }
         let writer = WriterReport {
             records: 2,
@@ -113,18 +114,18 @@ fn a_message_is_recorded_whole(rt: HostRuntime) -> Result<(), Fail> {
             bytes,
             end: End::Closed,
         };
-        assert_eq!(rt; out.writer, writer);
+        same(&rt, &out.writer, &writer);
         let accepted = [Accepted { index: 0, place: 1 }];
-        assert_eq!(rt; out.feed.accepted.as_slice(), accepted.as_slice());
+        same(&rt, &out.feed.accepted.as_slice(), &accepted.as_slice());
         let declared = [DeclaredAt {
             index: 0,
             channel: 1,
             first: 0,
             count: 1,
         }];
-        assert_eq!(rt; out.feed.declared.as_slice(), declared.as_slice());
-        assert!(rt; out.feed.refused.is_empty());
-        assert!(rt; matches!(out.feed.end, FeedEnd::Done));
+        same(&rt, &out.feed.declared.as_slice(), &declared.as_slice());
+        holds(&rt, out.feed.refused.is_empty());
+        holds(&rt, matches!(out.feed.end, FeedEnd::Done));
     }
     Ok(())
 }
@@ -149,19 +150,19 @@ fn an_append_that_fails_stops_the_recording(rt: HostRuntime) -> Result<(), Fail>
             bytes,
             end: End::Stopped { stop },
         };
-        assert_eq!(rt; out.writer, writer);
-        assert_eq!(rt; out.text.len() as u64, bytes);
-        assert_eq!(rt; out.feed.accepted.len(), accepted);
+        same(&rt, &out.writer, &writer);
+        same(&rt, &(out.text.len() as u64), &bytes);
+        same(&rt, &out.feed.accepted.len(), &accepted);
         match at {
             Some(at) => {
                 let cause = Cause::Stopped { at, stop };
                 let refused = [Refused { index: 0, cause }];
-                assert_eq!(rt; out.feed.refused.as_slice(), refused.as_slice());
-                assert!(rt; matches!(out.feed.end, FeedEnd::Ended));
+                same(&rt, &out.feed.refused.as_slice(), &refused.as_slice());
+                holds(&rt, matches!(out.feed.end, FeedEnd::Ended));
             }
             None => {
-                assert!(rt; out.feed.refused.is_empty());
-                assert!(rt; matches!(out.feed.end, FeedEnd::Done));
+                holds(&rt, out.feed.refused.is_empty());
+                holds(&rt, matches!(out.feed.end, FeedEnd::Done));
             }
         }
     }
@@ -175,10 +176,10 @@ fn a_feed_without_messages_keeps_its_end(rt: HostRuntime) -> Result<(), Fail> {
     };
     for (failing, end, bytes) in [([9], End::Closed, 84), ([0], stopped, 0)] {
         let out = record_small(rt.alloc(), no_message(), None, 1, &failing)?;
-        assert_eq!(rt; out.writer.end, end);
-        assert_eq!(rt; out.writer.bytes, bytes);
-        assert!(rt; out.feed.refused.is_empty());
-        assert!(rt; matches!(out.feed.end, FeedEnd::Done));
+        same(&rt, &out.writer.end, &end);
+        same(&rt, &out.writer.bytes, &bytes);
+        holds(&rt, out.feed.refused.is_empty());
+        holds(&rt, matches!(out.feed.end, FeedEnd::Done));
     }
     Ok(())
 }

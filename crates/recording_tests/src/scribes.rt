@@ -6,6 +6,7 @@ ghost use Rattle.record_cache.specs.Offers.{rec_of};
 ghost use Rattle.chunk_writer.specs.declared.phase.Phase.TheVariants as phases;
 ghost use Rattle.chunk_writer.specs.Scribes.{phase_of};
 
+use crate::same::{holds, same};
 use chunk_writer::{Entry, Scribe, keep_limit};
 use mcap_io::{FailingWrite, MemoryLive, Piece};
 use mcap_model::{FileOptions, Stop};
@@ -239,11 +240,11 @@ fn files_are_as_long_as_they_are(rt: HostRuntime) -> Result<(), Fail> {
     for (chunk, messages, len, blocks) in rows {
         for by in [By::Records, By::Buffers] {
             let file = write(rt.alloc(), by, chunk, messages, Vec::new(rt.alloc()))?;
-            assert_eq!(rt; file.text.len(), len);
-            assert_eq!(rt; file.bytes, len as u64);
-            assert_eq!(rt; file.blocks, blocks);
-            assert_eq!(rt; file.entries.len() as u64, blocks);
-            assert!(rt; file.stop.is_none());
+            same(&rt, &file.text.len(), &len);
+            same(&rt, &file.bytes, &(len as u64));
+            same(&rt, &file.blocks, &blocks);
+            same(&rt, &(file.entries.len() as u64), &blocks);
+            holds(&rt, file.stop.is_none());
         }
     }
     Ok(())
@@ -289,7 +290,7 @@ fn a_failing_append_leaves_a_front_of_the_file(rt: HostRuntime) -> Result<(), Fa
             (By::Buffers, 5),
         ] {
             let left = leaves_a_front(alloc, by, None, i as u64, taken, plain.text.as_slice())?;
-            assert_eq!(rt; left, Some(rows[i]));
+            same(&rt, &left, &Some(rows[i]));
         }
     }
     let rows = [(0, 0), (0, 34), (1, 173), (2, 285)];
@@ -302,7 +303,7 @@ fn a_failing_append_leaves_a_front_of_the_file(rt: HostRuntime) -> Result<(), Fa
         ] {
             let whole = chunked.text.as_slice();
             let left = leaves_a_front(alloc, by, Some(59), i as u64, taken, whole)?;
-            assert_eq!(rt; left, Some(rows[i]));
+            same(&rt, &left, &Some(rows[i]));
         }
     }
     Ok(())
@@ -312,17 +313,17 @@ fn a_failing_append_leaves_a_front_of_the_file(rt: HostRuntime) -> Result<(), Fa
 fn an_entry_tells_of_its_block(rt: HostRuntime) -> Result<(), Fail> {
     let file = write(rt.alloc(), By::Buffers, Some(59), 2, Vec::new(rt.alloc()))?;
     let rows = [(34, 173, 108, 10, 1, 1), (173, 285, 81, 11, 1, 0)];
-    assert_eq!(rt; file.entries.len(), 2);
+    same(&rt, &file.entries.len(), &2);
     for i in 0..rows.len() {
         let (from, to, chunk_length, time, messages, declared) = rows[i];
         let entry = file.entries[i].same();
-        assert_eq!(rt; Some(entry.extent.bytes()), file.text.get(from..to));
-        assert_eq!(rt; entry.offset, from as u64);
-        assert_eq!(rt; entry.chunk_length, chunk_length);
-        assert_eq!(rt; entry.start_time, time);
-        assert_eq!(rt; entry.end_time, time);
-        assert_eq!(rt; entry.messages, messages);
-        assert_eq!(rt; entry.declared, declared);
+        same(&rt, &Some(entry.extent.bytes()), &file.text.get(from..to));
+        same(&rt, &entry.offset, &(from as u64));
+        same(&rt, &entry.chunk_length, &chunk_length);
+        same(&rt, &entry.start_time, &time);
+        same(&rt, &entry.end_time, &time);
+        same(&rt, &entry.messages, &messages);
+        same(&rt, &entry.declared, &declared);
     }
     Ok(())
 }
@@ -330,17 +331,19 @@ fn an_entry_tells_of_its_block(rt: HostRuntime) -> Result<(), Fail> {
 #[test]
 fn a_piece_may_reach_the_limit_and_not_pass_it(rt: HostRuntime) {
     let bytes = (1 << 40) - 3;
-    assert!(rt; keep_limit(4_294_967_294, 0, 1, b"".as_slice()).is_ok());
-    assert!(rt; keep_limit(0, bytes, 1, b"abc".as_slice()).is_ok());
-    assert_eq!(rt;
-        keep_limit(4_294_967_295, 7, 1, b"".as_slice()),
-        Err(Stop::Limit {
+    holds(&rt, keep_limit(4_294_967_294, 0, 1, b"".as_slice()).is_ok());
+    holds(&rt, keep_limit(0, bytes, 1, b"abc".as_slice()).is_ok());
+    same(
+        &rt,
+        &keep_limit(4_294_967_295, 7, 1, b"".as_slice()),
+        &Err(Stop::Limit {
             blocks: 4_294_967_295,
-            bytes: 7
-        })
+            bytes: 7,
+        }),
     );
-    assert_eq!(rt;
-        keep_limit(5, bytes, 0, b"abcd".as_slice()),
-        Err(Stop::Limit { blocks: 5, bytes })
+    same(
+        &rt,
+        &keep_limit(5, bytes, 0, b"abcd".as_slice()),
+        &Err(Stop::Limit { blocks: 5, bytes }),
     );
 }

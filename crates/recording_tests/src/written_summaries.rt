@@ -5,6 +5,7 @@ ghost use Rattle.rec_data.specs.Owned.{LengthsFit};
 ghost use Rattle.mcap_model.specs.Built.{IsBlock};
 ghost use Rattle.chunk_build.specs.Chunker.{StandsFor};
 
+use crate::same::same;
 use chunk_build::Chunker;
 use mcap_model::Block;
 use mcap_wire::{Bytes, Memory};
@@ -200,8 +201,8 @@ fn joined(alloc: Global, parts: &[&[u8]]) -> Result<Bytes, Fail> {
 fn an_empty_summary_tells_zeros(rt: HostRuntime) -> Result<(), Fail> {
     let alloc = rt.alloc();
     let text = summary_of(alloc, 786432, &[])?;
-    assert_eq!(rt; text.as_slice().len(), 118);
-    assert_eq!(rt; text.as_slice(), joined(alloc, OF_NONE)?.as_slice());
+    same(&rt, &text.as_slice().len(), &118);
+    same(&rt, &text.as_slice(), &joined(alloc, OF_NONE)?.as_slice());
     Ok(())
 }
 
@@ -216,8 +217,8 @@ fn a_summary_tells_of_each_block(rt: HostRuntime) -> Result<(), Fail> {
     ];
     for (size, records, len, want) in rows {
         let text = summary_of(alloc, size, records)?;
-        assert_eq!(rt; text.as_slice().len(), len);
-        assert_eq!(rt; text.as_slice(), joined(alloc, want)?.as_slice());
+        same(&rt, &text.as_slice().len(), &len);
+        same(&rt, &text.as_slice(), &joined(alloc, want)?.as_slice());
     }
     Ok(())
 }
@@ -226,7 +227,7 @@ fn a_summary_tells_of_each_block(rt: HostRuntime) -> Result<(), Fail> {
 fn ids_are_told_once_and_counts_by_ascending_channel(rt: HostRuntime) -> Result<(), Fail> {
     let alloc = rt.alloc();
     let text = summary_of(alloc, 786432, MIXED)?;
-    assert_eq!(rt; text.as_slice(), joined(alloc, OF_MIXED)?.as_slice());
+    same(&rt, &text.as_slice(), &joined(alloc, OF_MIXED)?.as_slice());
     Ok(())
 }
 
@@ -237,6 +238,6 @@ fn crosses<T: Send + Sync>(value: T) -> T {
 #[test]
 fn a_summary_may_cross_threads(rt: HostRuntime) -> Result<(), Fail> {
     let summary = crosses(Summary::new(rt.alloc())?);
-    assert_eq!(rt; summary.text(47)?.as_slice().len(), 118);
+    same(&rt, &summary.text(47)?.as_slice().len(), &118);
     Ok(())
 }

@@ -1,3 +1,4 @@
+use crate::same::{holds, holds_at, same, same_at};
 use mcap_wire::{Bad, Cut, Why, cut};
 use rec_index::*;
 use std::test::Fail;
@@ -34,62 +35,62 @@ fn the_records_are_framed(rt: HostRuntime) {
         (&CHUNK_RECORD, CHUNK, 54),
     ];
     for (record, op, to) in table {
-        assert_eq!(rt; cut(record, 0), Ok(Cut { op, from: 9, to }), "at {op}");
+        same_at(&rt, &cut(record, 0), &Ok(Cut { op, from: 9, to }), &op);
     }
 }
 
 #[test]
 fn a_summary_offset_is_read_and_written(rt: HostRuntime) -> Result<(), Fail> {
     let offset = SummaryOffset::parse(&SUMMARY_OFFSET_RECORD[9..])?;
-    assert_eq!(rt; offset.group_opcode, 5);
-    assert_eq!(rt; offset.group_start, 0x0102);
-    assert_eq!(rt; offset.group_length, 0x0304);
+    same(&rt, &offset.group_opcode, &5);
+    same(&rt, &offset.group_start, &0x0102);
+    same(&rt, &offset.group_length, &0x0304);
     let mut out = Vec::new(rt.alloc());
     offset.frame(&mut out)?;
-    assert_eq!(rt; out.as_slice(), SUMMARY_OFFSET_RECORD.as_slice());
+    same(&rt, &out.as_slice(), &SUMMARY_OFFSET_RECORD.as_slice());
     Ok(())
 }
 
 #[test]
 fn a_metadata_index_is_read_and_written(rt: HostRuntime) -> Result<(), Fail> {
     let index = MetadataIndex::parse(&METADATA_INDEX_RECORD[9..])?;
-    assert_eq!(rt; index.offset, 0x0102);
-    assert_eq!(rt; index.length, 0x0304);
-    assert_eq!(rt; index.name, "m");
+    same(&rt, &index.offset, &0x0102);
+    same(&rt, &index.length, &0x0304);
+    same(&rt, &index.name, &"m");
     let mut out = Vec::new(rt.alloc());
     index.frame(&mut out)?;
-    assert_eq!(rt; out.as_slice(), METADATA_INDEX_RECORD.as_slice());
+    same(&rt, &out.as_slice(), &METADATA_INDEX_RECORD.as_slice());
     Ok(())
 }
 
 #[test]
 fn an_attachment_index_is_read_and_written(rt: HostRuntime) -> Result<(), Fail> {
     let index = AttachmentIndex::parse(&ATTACHMENT_INDEX_RECORD[9..])?;
-    assert_eq!(rt; index.offset, 1);
-    assert_eq!(rt; index.length, 2);
-    assert_eq!(rt; index.log_time, 3);
-    assert_eq!(rt; index.create_time, 4);
-    assert_eq!(rt; index.data_size, 5);
-    assert_eq!(rt; index.name, "n");
-    assert_eq!(rt; index.media_type, "t");
+    same(&rt, &index.offset, &1);
+    same(&rt, &index.length, &2);
+    same(&rt, &index.log_time, &3);
+    same(&rt, &index.create_time, &4);
+    same(&rt, &index.data_size, &5);
+    same(&rt, &index.name, &"n");
+    same(&rt, &index.media_type, &"t");
     let mut out = Vec::new(rt.alloc());
     index.frame(&mut out)?;
-    assert_eq!(rt; out.as_slice(), ATTACHMENT_INDEX_RECORD.as_slice());
+    same(&rt, &out.as_slice(), &ATTACHMENT_INDEX_RECORD.as_slice());
     Ok(())
 }
 
 #[test]
 fn a_chunk_is_read_and_written(rt: HostRuntime) -> Result<(), Fail> {
     let chunk = Chunk::parse(&CHUNK_RECORD[9..])?;
-    assert_eq!(rt; chunk.message_start_time, 1);
-    assert_eq!(rt; chunk.message_end_time, 2);
-    assert_eq!(rt; chunk.uncompressed_size, 3);
-    assert_eq!(rt; chunk.uncompressed_crc, 0xdead_beef);
-    assert_eq!(rt; chunk.compression, "lz4");
-    assert_eq!(rt; chunk.records, [9, 8].as_slice());
+    same(&rt, &chunk.message_start_time, &1);
+    same(&rt, &chunk.message_end_time, &2);
+    same(&rt, &chunk.uncompressed_size, &3);
+    same(&rt, &chunk.uncompressed_crc, &0xdead_beef);
+    same(&rt, &chunk.compression, &"lz4");
+    same(&rt, &chunk.records, &[9, 8].as_slice());
     let mut out = Vec::new(rt.alloc());
     chunk.frame(&mut out)?;
-    assert_eq!(rt; out.as_slice(), CHUNK_RECORD.as_slice());
+    same(&rt, &out.as_slice(), &CHUNK_RECORD.as_slice());
     Ok(())
 }
 
@@ -99,19 +100,21 @@ fn summary_offsets_and_metadata_indexes_cut_short_are_refused(rt: HostRuntime) {
     let whole = &SUMMARY_OFFSET_RECORD[9..];
     for (len, field) in [(0, 1), (1, 2), (8, 2), (9, 3), (16, 3)] {
         let content = &whole[..len];
-        assert_eq!(rt;
-            SummaryOffset::parse(content),
-            Err(Bad { field, why }),
-            "at {len}"
+        same_at(
+            &rt,
+            &SummaryOffset::parse(content),
+            &Err(Bad { field, why }),
+            &len,
         );
     }
     let whole = &METADATA_INDEX_RECORD[9..];
     for (len, field) in [(0, 1), (7, 1), (8, 2), (15, 2), (16, 3), (20, 3)] {
         let content = &whole[..len];
-        assert_eq!(rt;
-            MetadataIndex::parse(content),
-            Err(Bad { field, why }),
-            "at {len}"
+        same_at(
+            &rt,
+            &MetadataIndex::parse(content),
+            &Err(Bad { field, why }),
+            &len,
         );
     }
 }
@@ -132,10 +135,11 @@ fn attachment_indexes_and_chunks_cut_short_are_refused(rt: HostRuntime) {
         (49, 7),
     ] {
         let content = &whole[..len];
-        assert_eq!(rt;
-            AttachmentIndex::parse(content),
-            Err(Bad { field, why }),
-            "at {len}"
+        same_at(
+            &rt,
+            &AttachmentIndex::parse(content),
+            &Err(Bad { field, why }),
+            &len,
         );
     }
     let whole = &CHUNK_RECORD[9..];
@@ -151,7 +155,7 @@ fn attachment_indexes_and_chunks_cut_short_are_refused(rt: HostRuntime) {
         (44, 6),
     ] {
         let content = &whole[..len];
-        assert_eq!(rt; Chunk::parse(content), Err(Bad { field, why }), "at {len}");
+        same_at(&rt, &Chunk::parse(content), &Err(Bad { field, why }), &len);
     }
 }
 
@@ -160,20 +164,22 @@ fn texts_that_are_not_utf8_are_refused(rt: HostRuntime) {
     let why = Why::BadText;
     let mut metadata = METADATA_INDEX_RECORD;
     metadata[29] = 0xff;
-    assert_eq!(rt;
-        MetadataIndex::parse(&metadata[9..]),
-        Err(Bad { field: 3, why })
+    same(
+        &rt,
+        &MetadataIndex::parse(&metadata[9..]),
+        &Err(Bad { field: 3, why }),
     );
     let mut chunk = CHUNK_RECORD;
     chunk[41] = 0xff;
-    assert_eq!(rt; Chunk::parse(&chunk[9..]), Err(Bad { field: 5, why }));
+    same(&rt, &Chunk::parse(&chunk[9..]), &Err(Bad { field: 5, why }));
     for (at, field) in [(53, 6), (58, 7)] {
         let mut attachment = ATTACHMENT_INDEX_RECORD;
         attachment[at] = 0xff;
-        assert_eq!(rt;
-            AttachmentIndex::parse(&attachment[9..]),
-            Err(Bad { field, why }),
-            "at {at}"
+        same_at(
+            &rt,
+            &AttachmentIndex::parse(&attachment[9..]),
+            &Err(Bad { field, why }),
+            &at,
         );
     }
 }
@@ -198,10 +204,10 @@ fn bytes_may_follow(rt: HostRuntime) {
         group_start: 0,
         group_length: 0,
     };
-    assert_eq!(rt; Chunk::parse(&[0; 41]), Ok(chunk));
-    assert_eq!(rt; MetadataIndex::parse(&[0; 21]), Ok(index));
-    assert_eq!(rt; SummaryOffset::parse(&[0; 18]), Ok(offset));
-    assert!(rt; AttachmentIndex::parse(&[0; 49]).is_ok());
+    same(&rt, &Chunk::parse(&[0; 41]), &Ok(chunk));
+    same(&rt, &MetadataIndex::parse(&[0; 21]), &Ok(index));
+    same(&rt, &SummaryOffset::parse(&[0; 18]), &Ok(offset));
+    holds(&rt, AttachmentIndex::parse(&[0; 49]).is_ok());
 }
 
 #[test]
@@ -209,7 +215,7 @@ fn a_chunk_without_records_has_49_bytes(rt: HostRuntime) -> Result<(), Fail> {
     let chunk = Chunk::parse(&[0; 40])?;
     let mut out = Vec::new(rt.alloc());
     chunk.frame(&mut out)?;
-    assert_eq!(rt; out.len(), 49);
+    same(&rt, &out.len(), &49);
     Ok(())
 }
 
@@ -237,50 +243,50 @@ const STATISTICS_RECORD: [u8; 65] = [
 #[test]
 fn a_message_index_is_read_and_written(rt: HostRuntime) -> Result<(), Fail> {
     let index = MessageIndex::parse(&MESSAGE_INDEX_RECORD[9..])?;
-    assert_eq!(rt; index.channel_id, 3);
-    assert_eq!(rt; index.entries.count(), 1);
-    assert_eq!(rt; index.entries.item(0), (5, 6));
+    same(&rt, &index.channel_id, &3);
+    holds(&rt, index.entries.count() == 1);
+    same(&rt, &index.entries.item(0), &(5, 6));
     let mut out = Vec::new(rt.alloc());
     index.frame(&mut out)?;
-    assert_eq!(rt; out.as_slice(), MESSAGE_INDEX_RECORD.as_slice());
+    same(&rt, &out.as_slice(), &MESSAGE_INDEX_RECORD.as_slice());
     Ok(())
 }
 
 #[test]
 fn a_chunk_index_is_read_and_written(rt: HostRuntime) -> Result<(), Fail> {
     let index = ChunkIndex::parse(&CHUNK_INDEX_RECORD[9..])?;
-    assert_eq!(rt; index.message_start_time, 1);
-    assert_eq!(rt; index.message_end_time, 2);
-    assert_eq!(rt; index.chunk_start_offset, 3);
-    assert_eq!(rt; index.chunk_length, 4);
-    assert_eq!(rt; index.message_index_offsets.count(), 1);
-    assert_eq!(rt; index.message_index_offsets.item(0), (5, 6));
-    assert_eq!(rt; index.message_index_length, 7);
-    assert_eq!(rt; index.compression, "z");
-    assert_eq!(rt; index.compressed_size, 8);
-    assert_eq!(rt; index.uncompressed_size, 9);
+    same(&rt, &index.message_start_time, &1);
+    same(&rt, &index.message_end_time, &2);
+    same(&rt, &index.chunk_start_offset, &3);
+    same(&rt, &index.chunk_length, &4);
+    holds(&rt, index.message_index_offsets.count() == 1);
+    same(&rt, &index.message_index_offsets.item(0), &(5, 6));
+    same(&rt, &index.message_index_length, &7);
+    same(&rt, &index.compression, &"z");
+    same(&rt, &index.compressed_size, &8);
+    same(&rt, &index.uncompressed_size, &9);
     let mut out = Vec::new(rt.alloc());
     index.frame(&mut out)?;
-    assert_eq!(rt; out.as_slice(), CHUNK_INDEX_RECORD.as_slice());
+    same(&rt, &out.as_slice(), &CHUNK_INDEX_RECORD.as_slice());
     Ok(())
 }
 
 #[test]
 fn statistics_are_read_and_written(rt: HostRuntime) -> Result<(), Fail> {
     let statistics = Statistics::parse(&STATISTICS_RECORD[9..])?;
-    assert_eq!(rt; statistics.message_count, 1);
-    assert_eq!(rt; statistics.schema_count, 2);
-    assert_eq!(rt; statistics.channel_count, 3);
-    assert_eq!(rt; statistics.attachment_count, 4);
-    assert_eq!(rt; statistics.metadata_count, 5);
-    assert_eq!(rt; statistics.chunk_count, 6);
-    assert_eq!(rt; statistics.message_start_time, 7);
-    assert_eq!(rt; statistics.message_end_time, 8);
-    assert_eq!(rt; statistics.channel_message_counts.count(), 1);
-    assert_eq!(rt; statistics.channel_message_counts.item(0), (9, 1));
+    same(&rt, &statistics.message_count, &1);
+    same(&rt, &statistics.schema_count, &2);
+    same(&rt, &statistics.channel_count, &3);
+    same(&rt, &statistics.attachment_count, &4);
+    same(&rt, &statistics.metadata_count, &5);
+    same(&rt, &statistics.chunk_count, &6);
+    same(&rt, &statistics.message_start_time, &7);
+    same(&rt, &statistics.message_end_time, &8);
+    holds(&rt, statistics.channel_message_counts.count() == 1);
+    same(&rt, &statistics.channel_message_counts.item(0), &(9, 1));
     let mut out = Vec::new(rt.alloc());
     statistics.frame(&mut out)?;
-    assert_eq!(rt; out.as_slice(), STATISTICS_RECORD.as_slice());
+    same(&rt, &out.as_slice(), &STATISTICS_RECORD.as_slice());
     Ok(())
 }
 
@@ -291,14 +297,15 @@ fn chunk_indexes_and_statistics_cut_short_are_refused(rt: HostRuntime) {
     let mut field = 1;
     for len in chunk_index {
         match ChunkIndex::parse(&CHUNK_INDEX_RECORD[9..9 + len]) {
-            Ok(_) => assert!(rt; false, "at {len}"),
-            Err(bad) => assert_eq!(rt;
-                bad,
-                Bad {
+            Ok(_) => holds_at(&rt, false, &len),
+            Err(bad) => same_at(
+                &rt,
+                &bad,
+                &Bad {
                     field,
-                    why: Why::Short
+                    why: Why::Short,
                 },
-                "at {len}"
+                &len,
             ),
         }
         field = field.saturating_add(1);
@@ -307,14 +314,15 @@ fn chunk_indexes_and_statistics_cut_short_are_refused(rt: HostRuntime) {
     let mut field = 1;
     for len in statistics {
         match Statistics::parse(&STATISTICS_RECORD[9..9 + len]) {
-            Ok(_) => assert!(rt; false, "at {len}"),
-            Err(bad) => assert_eq!(rt;
-                bad,
-                Bad {
+            Ok(_) => holds_at(&rt, false, &len),
+            Err(bad) => same_at(
+                &rt,
+                &bad,
+                &Bad {
                     field,
-                    why: Why::Short
+                    why: Why::Short,
                 },
-                "at {len}"
+                &len,
             ),
         }
         field = field.saturating_add(1);
@@ -331,8 +339,8 @@ fn message_indexes_that_are_refused(rt: HostRuntime) {
     ];
     for (content, field, why) in table {
         match MessageIndex::parse(content) {
-            Ok(_) => assert!(rt; false, "at {content:?}"),
-            Err(bad) => assert_eq!(rt; bad, Bad { field, why }, "at {content:?}"),
+            Ok(_) => holds_at(&rt, false, &content),
+            Err(bad) => same_at(&rt, &bad, &Bad { field, why }, &content),
         }
     }
 }

@@ -12,4 +12,6 @@ mod outside;
 #[cfg(test)]
 mod owned_records;
 #[cfg(test)]
+mod same;
+#[cfg(test)]
 mod wire;

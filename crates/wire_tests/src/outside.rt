@@ -1,4 +1,5 @@
 use crate::callers::read_front;
+use crate::same::{holds, holds_at, same, same_at};
 use mcap_io::*;
 use std::alloc::Global;
 use std::fs;
@@ -36,9 +37,9 @@ fn a_source_goes_on_behind_a_read_that_failed(rt: HostRuntime) -> Result<(), Fai
     ];
     for (len, answer, held, faults) in stretches {
         let got = read_up_to(&mut source, &mut buffer, len);
-        assert!(rt; got == answer, "at {len}");
-        assert_eq!(rt; buffer.as_slice(), held, "at {len}");
-        assert_eq!(rt; source.faults(), faults, "at {len}");
+        holds_at(&rt, got == answer, &len);
+        same_at(&rt, &buffer.as_slice(), &held, &len);
+        same_at(&rt, &source.faults(), &faults, &len);
     }
     Ok(())
 }
@@ -49,15 +50,15 @@ fn a_short_input_costs_little_room(rt: HostRuntime) -> Result<(), Fail> {
     let mut source = QuietSource::new(Vec::from_slice(rt.alloc(), b"ab")?);
     let mut buffer = Vec::new(rt.alloc());
     for (len, held) in [(268_435_456, b"ab".as_slice()), (u64::MAX, b"")] {
-        assert!(rt; read_up_to(&mut source, &mut buffer, len) == Ok(()));
-        assert_eq!(rt; buffer.as_slice(), held);
-        assert_eq!(rt; buffer.capacity(), 65_536);
+        holds(&rt, read_up_to(&mut source, &mut buffer, len) == Ok(()));
+        same(&rt, &buffer.as_slice(), &held);
+        same(&rt, &buffer.capacity(), &65_536);
     }
     let mut large = QuietSource::new(vec![in rt.alloc(); 7u8; 100_000]?);
-    assert!(rt; read_up_to(&mut large, &mut buffer, 99_999) == Ok(()));
-    assert_eq!(rt; (buffer.len(), buffer.capacity()), (99_999, 99_999));
-    assert!(rt; buffer.iter().all(|byte| *byte == 7));
-    assert_eq!(rt; large.rest().len(), 1);
+    holds(&rt, read_up_to(&mut large, &mut buffer, 99_999) == Ok(()));
+    same(&rt, &(buffer.len(), buffer.capacity()), &(99_999, 99_999));
+    holds(&rt, buffer.iter().all(|byte| *byte == 7));
+    same(&rt, &large.rest().len(), &1);
     Ok(())
 }
 
@@ -72,9 +73,9 @@ fn a_sink_takes_part_of_a_piece_and_fails(rt: HostRuntime) -> Result<(), Fail> {
         (b"h", Ok(()), b"abcdeh", 1),
     ];
     for (piece, answer, held, faults) in pieces {
-        assert!(rt; write_all_of(&mut sink, piece) == answer, "at {held:?}");
-        assert_eq!(rt; sink.bytes(), held);
-        assert_eq!(rt; sink.faults(), faults);
+        holds_at(&rt, write_all_of(&mut sink, piece) == answer, &held);
+        same(&rt, &sink.bytes(), &held);
+        same(&rt, &sink.faults(), &faults);
     }
     Ok(())
 }
@@ -85,23 +86,24 @@ fn a_live_store_tells_where_each_piece_stands(rt: HostRuntime) -> Result<(), Fai
     let mut store = MemoryLive::new(rt.alloc(), failing);
     let mut quiet = QuietLive::new(rt.alloc());
     let first = store.append(b"ab").ok().ok_or("memory is there")?;
-    assert!(rt;
+    holds(
+        &rt,
         matches!(
             store.append_through(b"cd"),
             Err(AppendRefused::Failed { taken: 1 })
-        )
+        ),
     );
     let last = store.append(b"ef").ok().ok_or("memory is there")?;
-    assert_eq!(rt; store.bytes(), b"abcef".as_slice());
-    assert_eq!(rt; store.faults(), 1);
-    assert_eq!(rt; first.bytes(), b"ab".as_slice());
-    assert_eq!(rt; last.same().len(), 2);
+    same(&rt, &store.bytes(), &b"abcef".as_slice());
+    same(&rt, &store.faults(), &1);
+    same(&rt, &first.bytes(), &b"ab".as_slice());
+    same(&rt, &last.same().len(), &2);
     let piece = quiet.append(b"xyz").ok().ok_or("memory is there")?;
-    assert_eq!(rt; piece.bytes(), b"xyz".as_slice());
+    same(&rt, &piece.bytes(), &b"xyz".as_slice());
     let more = quiet.append_through(b"w").ok().ok_or("memory is there")?;
-    assert_eq!(rt; more.bytes(), b"w".as_slice());
-    assert_eq!(rt; quiet.faults(), 0);
-    assert_eq!(rt; quiet.into_bytes().as_slice(), b"xyzw".as_slice());
+    same(&rt, &more.bytes(), &b"w".as_slice());
+    same(&rt, &quiet.faults(), &0);
+    same(&rt, &quiet.into_bytes().as_slice(), &b"xyzw".as_slice());
     Ok(())
 }
 
@@ -114,24 +116,35 @@ fn a_world_fails_where_it_is_told_to(rt: HostRuntime) -> Result<(), Fail> {
     plan.reads.push(0)?;
     let mut world = MemoryWorld::new(rt.alloc(), plan);
     world.put("in", b"abc")?;
-    assert!(rt; matches!(world.source("none"), Err(OpenRefused::Failed)));
+    holds(
+        &rt,
+        matches!(world.source("none"), Err(OpenRefused::Failed)),
+    );
     let mut source = world.source("in").ok().ok_or("it is there")?;
     let mut buffer = Vec::new(rt.alloc());
-    assert!(rt; read_up_to(&mut source, &mut buffer, 3) == Err(ReadRefused::Failed));
-    assert!(rt; read_up_to(&mut source, &mut buffer, 3) == Ok(()));
-    assert!(rt; world.keep_source("in", source) == Ok(()));
-    assert!(rt; matches!(world.live("out"), Err(OpenRefused::Failed)));
+    holds(
+        &rt,
+        read_up_to(&mut source, &mut buffer, 3) == Err(ReadRefused::Failed),
+    );
+    holds(&rt, read_up_to(&mut source, &mut buffer, 3) == Ok(()));
+    holds(&rt, world.keep_source("in", source) == Ok(()));
+    holds(&rt, matches!(world.live("out"), Err(OpenRefused::Failed)));
     for (text, kept, stands) in [("lost", Err(Failed), None), ("kept", Ok(()), Some("kept"))] {
         let mut live = world.live("out").ok().ok_or("memory is there")?;
         let _piece = live.append(text.as_bytes()).ok().ok_or("memory is there")?;
-        assert!(rt; world.keep_live("out", live) == kept, "{text}");
-        assert!(rt;
+        holds_at(&rt, world.keep_live("out", live) == kept, &text);
+        holds_at(
+            &rt,
             world.bytes("out") == stands.map(|s: &str| s.as_bytes()),
-            "{text}"
+            &text,
         );
     }
-    assert_eq!(rt; world.bytes("in").ok_or("it is there")?, b"abc".as_slice());
-    assert_eq!(rt; (world.openings(), world.keepings()), (5, 3));
+    same(
+        &rt,
+        &world.bytes("in").ok_or("it is there")?,
+        &b"abc".as_slice(),
+    );
+    same(&rt, &(world.openings(), world.keepings()), &(5, 3));
     let openings = [
         (ObjectKind::Source, "none", false),
         (ObjectKind::Source, "in", true),
@@ -139,15 +152,16 @@ fn a_world_fails_where_it_is_told_to(rt: HostRuntime) -> Result<(), Fail> {
         (ObjectKind::Live, "out", true),
         (ObjectKind::Live, "out", true),
     ];
-    assert_eq!(rt; world.log().len(), 5);
+    same(&rt, &world.log().len(), &5);
     for (made, (kind, name, given)) in world.log().iter().zip(openings) {
-        assert_eq!(rt; made.kind, kind);
-        assert_eq!(rt; made.name.as_str(), name);
-        assert_eq!(rt; made.given, given);
+        same(&rt, &made.kind, &kind);
+        same(&rt, &made.name.as_str(), &name);
+        same(&rt, &made.given, &given);
     }
-    assert_eq!(rt;
-        (world.faults(), world.input_faults(), world.output_faults()),
-        (3, 1, 0)
+    same(
+        &rt,
+        &(world.faults(), world.input_faults(), world.output_faults()),
+        &(3, 1, 0),
     );
     Ok(())
 }
@@ -162,16 +176,16 @@ fn a_keeping_is_noted_at_the_newest_that_is_out(rt: HostRuntime) -> Result<(), F
     let mut first = world.source("in").ok().ok_or("it is there")?;
     let second = world.source("in").ok().ok_or("it is there")?;
     let mut buffer = Vec::new(rt.alloc());
-    assert!(rt; read_up_to(&mut first, &mut buffer, 1) == Ok(()));
-    assert!(rt; world.keep_source("in", second) == Err(Failed));
-    assert!(rt; world.keep_source("in", first) == Ok(()));
+    holds(&rt, read_up_to(&mut first, &mut buffer, 1) == Ok(()));
+    holds(&rt, world.keep_source("in", second) == Err(Failed));
+    holds(&rt, world.keep_source("in", first) == Ok(()));
     let wanted: [(bool, &[u8]); 2] = [(true, b"bc"), (false, b"abc")];
-    assert_eq!(rt; world.log().len(), 2);
+    same(&rt, &world.log().len(), &2);
     for (entry, (well, left)) in world.log().iter().zip(wanted) {
         let kept = entry.kept.as_ref().ok_or("it was kept")?;
-        assert_eq!(rt; (kept.well, kept.faults), (well, 0));
+        same(&rt, &(kept.well, kept.faults), &(well, 0));
         let rest = kept.rest.as_ref().ok_or("it is a source")?;
-        assert_eq!(rt; rest.rest(), left);
+        same(&rt, &rest.rest(), &left);
     }
     Ok(())
 }
@@ -183,16 +197,16 @@ fn an_input_is_no_output(rt: HostRuntime) -> Result<(), Fail> {
     let mut world = FileWorld::new(&rt);
     let source = world.source("both").ok().ok_or("it is there")?;
     match world.live("./both") {
-        Ok(live) => assert!(rt; world.keep_live("both", live).is_err(), "it is read"),
-        Err(why) => assert_eq!(rt; why, OpenRefused::Failed),
+        Ok(live) => holds_at(&rt, world.keep_live("both", live).is_err(), &"it is read"),
+        Err(why) => same(&rt, &why, &OpenRefused::Failed),
     }
-    assert_eq!(rt; len_of(&rt, "both"), 3);
-    assert!(rt; world.keep_source("both", source) == Ok(()));
+    same(&rt, &len_of(&rt, "both"), &3);
+    holds(&rt, world.keep_source("both", source) == Ok(()));
     let live = world.live("both").ok().ok_or("nothing reads it")?;
-    assert!(rt; world.keep_live("both", live) == Ok(()));
-    assert_eq!(rt; len_of(&rt, "both"), 0);
+    holds(&rt, world.keep_live("both", live) == Ok(()));
+    same(&rt, &len_of(&rt, "both"), &0);
     fs::remove_file(&rt, "both")?;
-    assert_eq!(rt; world.faults(), 1);
+    same(&rt, &world.faults(), &1);
     Ok(())
 }
 
@@ -200,8 +214,12 @@ fn an_input_is_no_output(rt: HostRuntime) -> Result<(), Fail> {
 fn a_file_gives_back_what_was_kept(rt: HostRuntime) -> Result<(), Fail> {
     let mut world = FileWorld::new(&rt);
     match world.source("none") {
-        Ok(source) => assert!(rt; world.keep_source("none", source).is_err(), "none is there"),
-        Err(why) => assert_eq!(rt; why, OpenRefused::Failed),
+        Ok(source) => holds_at(
+            &rt,
+            world.keep_source("none", source).is_err(),
+            &"none is there",
+        ),
+        Err(why) => same(&rt, &why, &OpenRefused::Failed),
     }
     let large = vec![in rt.alloc(); 7u8; 300_000]?;
     let mut live = world.live("record").ok().ok_or("the folder takes a file")?;
@@ -211,28 +229,29 @@ fn a_file_gives_back_what_was_kept(rt: HostRuntime) -> Result<(), Fail> {
         (b"cde", 300_002),
     ] {
         let len = piece.len() as u64;
-        assert!(rt; live.append(piece) == Ok(Stretch { from, len }));
+        holds(&rt, live.append(piece) == Ok(Stretch { from, len }));
     }
-    assert_eq!(rt; len_of(&rt, "record"), 300_002);
+    same(&rt, &len_of(&rt, "record"), &300_002);
     let last = Stretch {
         from: 300_005,
         len: 1,
     };
-    assert!(rt; live.append_through(b"f") == Ok(last));
-    assert_eq!(rt; len_of(&rt, "record"), 300_006);
-    assert!(rt; world.keep_live("record", live) == Ok(()));
+    holds(&rt, live.append_through(b"f") == Ok(last));
+    same(&rt, &len_of(&rt, "record"), &300_006);
+    holds(&rt, world.keep_live("record", live) == Ok(()));
     let mut source = world.source("record").ok().ok_or("it was kept")?;
     let mut buffer = Vec::new(rt.alloc());
     for (len, first, held) in [(3, b'a', 3), (299_999, 7, 299_999), (9, b'c', 4), (9, 0, 0)] {
-        assert!(rt; read_up_to(&mut source, &mut buffer, len) == Ok(()));
-        assert_eq!(rt; buffer.len(), held, "at {len}");
-        assert_eq!(rt; buffer.first().copied().unwrap_or(0), first, "at {len}");
+        holds(&rt, read_up_to(&mut source, &mut buffer, len) == Ok(()));
+        same_at(&rt, &buffer.len(), &held, &len);
+        same_at(&rt, &buffer.first().copied().unwrap_or(0), &first, &len);
     }
-    assert!(rt; world.keep_source("record", source) == Ok(()));
+    holds(&rt, world.keep_source("record", source) == Ok(()));
     fs::remove_file(&rt, "record")?;
-    assert_eq!(rt;
-        (world.faults(), world.input_faults(), world.output_faults()),
-        (1, 0, 0)
+    same(
+        &rt,
+        &(world.faults(), world.input_faults(), world.output_faults()),
+        &(1, 0, 0),
     );
     Ok(())
 }
@@ -241,10 +260,10 @@ fn a_file_gives_back_what_was_kept(rt: HostRuntime) -> Result<(), Fail> {
 fn a_writer_takes_all_pieces(rt: HostRuntime) -> Result<(), Fail> {
     let mut sink = WriterSink::new(Vec::new(rt.alloc()));
     for piece in [b"ab".as_slice(), b"", b"cd"] {
-        assert!(rt; write_all_of(&mut sink, piece) == Ok(()));
+        holds(&rt, write_all_of(&mut sink, piece) == Ok(()));
     }
-    assert_eq!(rt; sink.faults(), 0);
-    assert_eq!(rt; sink.into_inner().as_slice(), b"abcd".as_slice());
+    same(&rt, &sink.faults(), &0);
+    same(&rt, &sink.into_inner().as_slice(), &b"abcd".as_slice());
     Ok(())
 }
 
@@ -254,7 +273,7 @@ fn a_writer_takes_all_pieces(rt: HostRuntime) -> Result<(), Fail> {
 fn a_source_gives_the_front_of_a_store(rt: HostRuntime) -> Result<(), Fail> {
     let bytes = Vec::from_slice(rt.alloc(), b"abcdefgh")?;
     let mut store = MemoryStore::new(bytes, vec![in rt.alloc(); 1]?);
-    assert!(rt; store.len() == Ok(8));
+    holds(&rt, store.len() == Ok(8));
     let mut source = StoreSource::new(&mut store, 5);
     let mut buffer = Vec::new(rt.alloc());
     let stretches: [(u64, Result<(), ReadRefused>, &[u8], u64); 4] = [
@@ -264,14 +283,17 @@ fn a_source_gives_the_front_of_a_store(rt: HostRuntime) -> Result<(), Fail> {
         (3, Ok(()), b"", 1),
     ];
     for (len, answer, held, faults) in stretches {
-        assert!(rt; read_up_to(&mut source, &mut buffer, len) == answer);
-        assert_eq!(rt; buffer.as_slice(), held);
-        assert_eq!(rt; source.faults(), faults);
+        holds(&rt, read_up_to(&mut source, &mut buffer, len) == answer);
+        same(&rt, &buffer.as_slice(), &held);
+        same(&rt, &source.faults(), &faults);
     }
-    assert_eq!(rt; (store.asked(), store.faults()), (8, 1));
+    same(&rt, &(store.asked(), store.faults()), &(8, 1));
     let len = store.len().ok().ok_or("the call isn't to fail")?;
-    assert!(rt; read_front(&mut store, &mut buffer, len.min(2)) == Ok(()));
-    assert_eq!(rt; buffer.as_slice(), b"ab".as_slice());
+    holds(
+        &rt,
+        read_front(&mut store, &mut buffer, len.min(2)) == Ok(()),
+    );
+    same(&rt, &buffer.as_slice(), &b"ab".as_slice());
     Ok(())
 }
 
@@ -284,26 +306,27 @@ fn a_world_gives_stores_and_takes_them_back(rt: HostRuntime) -> Result<(), Fail>
     let mut world = MemoryWorld::new(rt.alloc(), plan);
     world.put("in", b"abc")?;
     let mut store = world.store("in").ok().ok_or("it is there")?;
-    assert!(rt; matches!(world.store("in"), Err(OpenRefused::Failed)));
-    assert!(rt; matches!(world.store("none"), Err(OpenRefused::Failed)));
-    assert!(rt; store.len() == Ok(3));
+    holds(&rt, matches!(world.store("in"), Err(OpenRefused::Failed)));
+    holds(&rt, matches!(world.store("none"), Err(OpenRefused::Failed)));
+    holds(&rt, store.len() == Ok(3));
     let mut room = [0; 2];
-    assert!(rt; store.read_at(1, &mut room) == Err(Failed));
-    assert!(rt; store.read_at(1, &mut room) == Ok(()));
-    assert_eq!(rt; room, *b"bc");
-    assert!(rt; world.keep_store("in", store) == Ok(()));
+    holds(&rt, store.read_at(1, &mut room) == Err(Failed));
+    holds(&rt, store.read_at(1, &mut room) == Ok(()));
+    same(&rt, &room, &*b"bc");
+    holds(&rt, world.keep_store("in", store) == Ok(()));
     let openings = [("in", true), ("in", false), ("none", false)];
-    assert_eq!(rt; world.log().len(), 3);
+    same(&rt, &world.log().len(), &3);
     for (entry, (name, given)) in world.log().iter().zip(openings) {
-        assert_eq!(rt; entry.kind, ObjectKind::Store);
-        assert_eq!(rt; (entry.name.as_str(), entry.given), (name, given));
+        same(&rt, &entry.kind, &ObjectKind::Store);
+        same(&rt, &(entry.name.as_str(), entry.given), &(name, given));
     }
     let first = world.log().first().ok_or("it was opened")?;
     let kept = first.kept.as_ref().ok_or("it was kept")?;
-    assert_eq!(rt; (kept.well, kept.faults, kept.asked), (true, 1, 4));
-    assert_eq!(rt;
-        (world.faults(), world.input_faults(), world.output_faults()),
-        (2, 1, 0)
+    same(&rt, &(kept.well, kept.faults, kept.asked), &(true, 1, 4));
+    same(
+        &rt,
+        &(world.faults(), world.input_faults(), world.output_faults()),
+        &(2, 1, 0),
     );
     Ok(())
 }
@@ -316,34 +339,38 @@ fn a_file_is_read_at_any_place(rt: HostRuntime) -> Result<(), Fail> {
     let mut world = FileWorld::new(&rt);
     for name in ["none", "."] {
         match world.store(name) {
-            Ok(store) => assert!(rt; world.keep_store(name, store).is_err(), "no file is there"),
-            Err(why) => assert_eq!(rt; why, OpenRefused::Failed),
+            Ok(store) => holds_at(
+                &rt,
+                world.keep_store(name, store).is_err(),
+                &"no file is there",
+            ),
+            Err(why) => same(&rt, &why, &OpenRefused::Failed),
         }
     }
     let mut store = world.store("stored").ok().ok_or("it is there")?;
     match world.live("stored") {
-        Ok(live) => assert!(rt; world.keep_live("stored", live).is_err(), "it is read"),
-        Err(why) => assert_eq!(rt; why, OpenRefused::Failed),
+        Ok(live) => holds_at(&rt, world.keep_live("stored", live).is_err(), &"it is read"),
+        Err(why) => same(&rt, &why, &OpenRefused::Failed),
     }
     let Ok(len) = store.len() else {
         let _kept = world.keep_store("stored", store);
         return Err("it is a file".into());
     };
-    assert_eq!(rt; len, 6);
+    same(&rt, &len, &6);
     let mut room = [0; 2];
     let mut cut = Ok(());
     if len == 6 {
-        assert!(rt; store.read_at(4, &mut room) == Ok(()));
-        assert_eq!(rt; room, *b"ef");
-        assert!(rt; store.read_at(0, &mut room) == Ok(()));
-        assert_eq!(rt; room, *b"ab");
+        holds(&rt, store.read_at(4, &mut room) == Ok(()));
+        same(&rt, &room, &*b"ef");
+        holds(&rt, store.read_at(0, &mut room) == Ok(()));
+        same(&rt, &room, &*b"ab");
         cut = fs::write(&rt, "stored", b"abc");
-        assert!(rt; store.read_at(2, &mut room) == Err(Failed));
+        holds(&rt, store.read_at(2, &mut room) == Err(Failed));
     }
-    assert_eq!(rt; (store.asked(), store.faults()), (6, 1));
-    assert!(rt; world.keep_store("stored", store) == Ok(()));
+    same(&rt, &(store.asked(), store.faults()), &(6, 1));
+    holds(&rt, world.keep_store("stored", store) == Ok(()));
     cut?;
     fs::remove_file(&rt, "stored")?;
-    assert_eq!(rt; (world.faults(), world.input_faults()), (3, 1));
+    same(&rt, &(world.faults(), world.input_faults()), &(3, 1));
     Ok(())
 }

@@ -1,4 +1,5 @@
 //! Records that own what they hold.
+use crate::same::{holds, holds_at, same};
 use mcap_wire::{Bytes, Text};
 use rec_data::{Rec, RecRefused, SchemaDef};
 use std::test::Fail;
@@ -28,8 +29,8 @@ fn records_are_owned(rt: HostRuntime) -> Result<(), Fail> {
             } => { topic.as_str() == "/a" && metadata.as_slice().is_empty() }
             Rec::Message { payload, .. } => payload.as_slice() == [0xaa].as_slice(),
         };
-        assert!(rt; is_shown);
-        assert_eq!(rt; bytes.len(), len);
+        holds(&rt, is_shown);
+        same(&rt, &bytes.len(), &len);
     }
     Ok(())
 }
@@ -45,9 +46,9 @@ fn owned_records_are_framed(rt: HostRuntime) -> Result<(), Fail> {
         payload: Bytes::copied(alloc, &[0xaa])?,
     };
     let mut out = Vec::new(alloc);
-    assert_eq!(rt; message.framed_len(), 32);
+    same(&rt, &message.framed_len(), &32);
     message.frame(&mut out)?;
-    assert_eq!(rt; out.as_slice(), MESSAGE_BYTES);
+    same(&rt, &out.as_slice(), &MESSAGE_BYTES);
     let schema = Rec::Schema {
         id: 1,
         schema: SchemaDef {
@@ -57,9 +58,9 @@ fn owned_records_are_framed(rt: HostRuntime) -> Result<(), Fail> {
         },
     };
     out.clear();
-    assert_eq!(rt; schema.framed_len(), 26);
+    same(&rt, &schema.framed_len(), &26);
     schema.frame(&mut out)?;
-    assert_eq!(rt; out.as_slice(), SCHEMA_BYTES);
+    same(&rt, &out.as_slice(), &SCHEMA_BYTES);
     Ok(())
 }
 
@@ -80,6 +81,6 @@ fn bytes_that_are_no_record_are_refused(rt: HostRuntime) {
     ];
     for bytes in table {
         let refused = matches!(Rec::from_framed(rt.alloc(), bytes), Err(RecRefused::Bad));
-        assert!(rt; refused, "{bytes:?}");
+        holds_at(&rt, refused, &bytes);
     }
 }

@@ -1,3 +1,4 @@
+use crate::same::{holds, holds_at, same, same_at};
 use mcap_wire::*;
 use std::alloc::Global;
 use std::test::Fail;
@@ -12,11 +13,11 @@ const RECORD: [u8; 13] = [0x0f, 4, 0, 0, 0, 0, 0, 0, 0, 0xef, 0xbe, 0xad, 0xde];
 
 #[test]
 fn each_field_is_read(rt: HostRuntime) {
-    assert_eq!(rt; take_u8(&FIELDS, 0), Ok((0x2a, 1)));
-    assert_eq!(rt; take_u16(&FIELDS, 1), Ok((0x1234, 3)));
-    assert_eq!(rt; take_u32(&FIELDS, 3), Ok((0x1234_5678, 7)));
-    assert_eq!(rt; take_u64(&FIELDS, 7), Ok((0x0100_0000_0000_0002, 15)));
-    assert_eq!(rt; take_text(&FIELDS, 15), Ok(("foo", 22)));
+    same(&rt, &take_u8(&FIELDS, 0), &Ok((0x2a, 1)));
+    same(&rt, &take_u16(&FIELDS, 1), &Ok((0x1234, 3)));
+    same(&rt, &take_u32(&FIELDS, 3), &Ok((0x1234_5678, 7)));
+    same(&rt, &take_u64(&FIELDS, 7), &Ok((0x0100_0000_0000_0002, 15)));
+    same(&rt, &take_text(&FIELDS, 15), &Ok(("foo", 22)));
 }
 
 #[test]
@@ -27,7 +28,7 @@ fn each_field_is_written(rt: HostRuntime) -> Result<(), Fail> {
     put_u32(&mut out, 0x1234_5678)?;
     put_u64(&mut out, 0x0100_0000_0000_0002)?;
     put_text(&mut out, "foo")?;
-    assert_eq!(rt; out.as_slice(), FIELDS.as_slice());
+    same(&rt, &out.as_slice(), &FIELDS.as_slice());
     Ok(())
 }
 
@@ -36,7 +37,7 @@ fn a_head_and_bytes_make_a_record(rt: HostRuntime) -> Result<(), Fail> {
     let mut out = Vec::new(rt.alloc());
     put_head(&mut out, 0x0f, 4)?;
     put_bytes(&mut out, &[0xef, 0xbe, 0xad, 0xde])?;
-    assert_eq!(rt; out.as_slice(), RECORD.as_slice());
+    same(&rt, &out.as_slice(), &RECORD.as_slice());
     Ok(())
 }
 
@@ -46,16 +47,16 @@ fn room_is_made(rt: HostRuntime) -> Result<(), Fail> {
     make_room(&mut out, 3)?;
     add_u8(&mut out, 1);
     add_u16(&mut out, 2);
-    assert_eq!(rt; out.as_slice(), [1, 2, 0].as_slice());
+    same(&rt, &out.as_slice(), &[1, 2, 0].as_slice());
     Ok(())
 }
 
 #[test]
 fn numbers_cut_short_are_refused(rt: HostRuntime) {
-    assert_eq!(rt; take_u8(&[], 0), Err(Why::Short));
-    assert_eq!(rt; take_u16(&FIELDS[..2], 1), Err(Why::Short));
-    assert_eq!(rt; take_u32(&FIELDS[..6], 3), Err(Why::Short));
-    assert_eq!(rt; take_u64(&FIELDS[..14], 7), Err(Why::Short));
+    same(&rt, &take_u8(&[], 0), &Err(Why::Short));
+    same(&rt, &take_u16(&FIELDS[..2], 1), &Err(Why::Short));
+    same(&rt, &take_u32(&FIELDS[..6], 3), &Err(Why::Short));
+    same(&rt, &take_u64(&FIELDS[..14], 7), &Err(Why::Short));
 }
 
 #[test]
@@ -71,29 +72,33 @@ fn texts_that_are_refused(rt: HostRuntime) {
         (&[1, 0, 0, 0, 0xc3, 0xa9], Why::BadText),
     ];
     for (content, why) in table {
-        assert_eq!(rt; take_text(content, 0), Err(why), "at {content:?}");
+        same_at(&rt, &take_text(content, 0), &Err(why), &content);
     }
 }
 
 #[test]
 fn a_record_is_cut_only_where_it_is_whole(rt: HostRuntime) {
     for n in 0..RECORD.len() {
-        assert_eq!(rt; cut(&RECORD[..n], 0), Err(CutFault::Short), "at {n}");
+        same_at(&rt, &cut(&RECORD[..n], 0), &Err(CutFault::Short), &n);
     }
     let whole = Cut {
         op: 0x0f,
         from: 9,
         to: 13,
     };
-    assert_eq!(rt; cut(&RECORD, 0), Ok(whole));
+    same(&rt, &cut(&RECORD, 0), &Ok(whole));
 }
 
 #[test]
 fn a_head_is_read_without_its_content(rt: HostRuntime) {
-    assert_eq!(rt; take_head(&RECORD[..9], 0), Ok(Head { op: 0x0f, len: 4 }));
-    assert_eq!(rt; take_head(&RECORD[..8], 0), Err(HeadFault::Short));
-    assert_eq!(rt; take_head(&[0; 9], 0), Err(HeadFault::ZeroOp));
-    assert_eq!(rt; take_head(&[0; 8], 0), Err(HeadFault::Short));
+    same(
+        &rt,
+        &take_head(&RECORD[..9], 0),
+        &Ok(Head { op: 0x0f, len: 4 }),
+    );
+    same(&rt, &take_head(&RECORD[..8], 0), &Err(HeadFault::Short));
+    same(&rt, &take_head(&[0; 9], 0), &Err(HeadFault::ZeroOp));
+    same(&rt, &take_head(&[0; 8], 0), &Err(HeadFault::Short));
 }
 
 #[test]
@@ -115,7 +120,7 @@ fn the_first_fault_of_a_record_is_told(rt: HostRuntime) {
         (&[1, 0, 0, 0, 0x10, 0, 0, 0, 0], CutFault::Short),
     ];
     for (bytes, fault) in table {
-        assert_eq!(rt; cut(bytes, 0), Err(fault), "at {bytes:?}");
+        same_at(&rt, &cut(bytes, 0), &Err(fault), &bytes);
     }
 }
 
@@ -124,19 +129,20 @@ fn a_text_is_its_bytes(rt: HostRuntime) -> Result<(), Fail> {
     let alloc = rt.alloc();
     let copy = Text::copied(alloc, "na\u{ef}ve")?;
     let own = Text::new(String::from_str(alloc, "na\u{ef}ve")?);
-    assert_eq!(rt;
-        copy.as_str().as_bytes(),
-        [b'n', b'a', 0xc3, 0xaf, b'v', b'e'].as_slice()
+    same(
+        &rt,
+        &copy.as_str().as_bytes(),
+        &[b'n', b'a', 0xc3, 0xaf, b'v', b'e'].as_slice(),
     );
-    assert!(rt; own.is(copy.as_str()));
-    assert!(rt; !own.is("naive"));
-    assert_eq!(rt; own.into_vec().as_slice(), copy.as_str().as_bytes());
+    holds(&rt, own.is(copy.as_str()));
+    holds(&rt, !own.is("naive"));
+    same(&rt, &own.into_vec().as_slice(), &copy.as_str().as_bytes());
     Ok(())
 }
 
 #[test]
 fn the_magic_is_that_of_the_format(rt: HostRuntime) {
-    assert_eq!(rt; MAGIC, *b"\x89MCAP0\r\n");
+    same(&rt, &MAGIC, &*b"\x89MCAP0\r\n");
 }
 
 // The bytes 7, 8 and 9 behind their length of four and of eight bytes.
@@ -147,27 +153,27 @@ const BYTES_64: [u8; 11] = [3, 0, 0, 0, 0, 0, 0, 0, 7, 8, 9];
 #[test]
 fn bytes_are_read_and_written(rt: HostRuntime) -> Result<(), Fail> {
     let bytes: &[u8] = &[7, 8, 9];
-    assert_eq!(rt; take_bytes32(&BYTES_32, 0), Ok((bytes, 7)));
-    assert_eq!(rt; take_bytes64(&BYTES_64, 0), Ok((bytes, 11)));
+    same(&rt, &take_bytes32(&BYTES_32, 0), &Ok((bytes, 7)));
+    same(&rt, &take_bytes64(&BYTES_64, 0), &Ok((bytes, 11)));
     let mut short = Vec::new(rt.alloc());
     put_bytes32(&mut short, bytes)?;
-    assert_eq!(rt; short.as_slice(), BYTES_32.as_slice());
+    same(&rt, &short.as_slice(), &BYTES_32.as_slice());
     let mut long = Vec::new(rt.alloc());
     put_bytes64(&mut long, bytes)?;
-    assert_eq!(rt; long.as_slice(), BYTES_64.as_slice());
+    same(&rt, &long.as_slice(), &BYTES_64.as_slice());
     Ok(())
 }
 
 #[test]
 fn bytes_cut_short_are_refused(rt: HostRuntime) {
     for n in 0..BYTES_32.len() {
-        assert_eq!(rt; take_bytes32(&BYTES_32[..n], 0), Err(Why::Short), "at {n}");
+        same_at(&rt, &take_bytes32(&BYTES_32[..n], 0), &Err(Why::Short), &n);
     }
     for n in 0..BYTES_64.len() {
-        assert_eq!(rt; take_bytes64(&BYTES_64[..n], 0), Err(Why::Short), "at {n}");
+        same_at(&rt, &take_bytes64(&BYTES_64[..n], 0), &Err(Why::Short), &n);
     }
-    assert_eq!(rt; take_bytes32(&[0xff; 9], 0), Err(Why::Short));
-    assert_eq!(rt; take_bytes64(&[0xff; 9], 0), Err(Why::Short));
+    same(&rt, &take_bytes32(&[0xff; 9], 0), &Err(Why::Short));
+    same(&rt, &take_bytes64(&[0xff; 9], 0), &Err(Why::Short));
 }
 
 #[test]
@@ -175,8 +181,8 @@ fn owned_bytes_are_these(rt: HostRuntime) -> Result<(), Fail> {
     let alloc = rt.alloc();
     let copy = Bytes::copied(alloc, &[7, 0, 9])?;
     let own = Bytes::new(Vec::from_slice(alloc, &[7, 0])?);
-    assert_eq!(rt; copy.as_slice(), [7, 0, 9].as_slice());
-    assert_eq!(rt; own.as_slice(), [7, 0].as_slice());
+    same(&rt, &copy.as_slice(), &[7, 0, 9].as_slice());
+    same(&rt, &own.as_slice(), &[7, 0].as_slice());
     Ok(())
 }
 
@@ -196,16 +202,16 @@ const ENTRIES: [u8; 20] = [16, 0, 0, 0, 5, 0, 0, 0, 0, 0, 0, 0, 6, 0, 0, 0, 0, 0
 #[test]
 fn a_map_of_texts_is_read_and_written(rt: HostRuntime) -> Result<(), Fail> {
     let (pairs, end) = take_pairs(&PAIRS, 0)?;
-    assert_eq!(rt; end, 23);
-    assert_eq!(rt; pairs.count(), 2);
-    assert_eq!(rt; pairs.byte_len(), 19);
-    assert_eq!(rt; pairs.item(0).0, "b");
-    assert_eq!(rt; pairs.item(0).1, "2");
-    assert_eq!(rt; pairs.item(1).0, "a");
-    assert_eq!(rt; pairs.item(1).1, "");
+    same(&rt, &end, &23);
+    holds(&rt, pairs.count() == 2);
+    same(&rt, &pairs.byte_len(), &19);
+    same(&rt, &pairs.item(0).0, &"b");
+    same(&rt, &pairs.item(0).1, &"2");
+    same(&rt, &pairs.item(1).0, &"a");
+    same(&rt, &pairs.item(1).1, &"");
     let mut out = Vec::new(rt.alloc());
     put_pairs(&mut out, &pairs)?;
-    assert_eq!(rt; out.as_slice(), PAIRS.as_slice());
+    same(&rt, &out.as_slice(), &PAIRS.as_slice());
     Ok(())
 }
 
@@ -215,38 +221,38 @@ fn a_map_is_copied_and_sorted(rt: HostRuntime) -> Result<(), Fail> {
     let list = PairList::copied(rt.alloc(), &pairs)?;
     let mut out = Vec::new(rt.alloc());
     put_pairs(&mut out, &PairsRef::of(list.as_slice()))?;
-    assert_eq!(rt; out.as_slice(), PAIRS.as_slice());
+    same(&rt, &out.as_slice(), &PAIRS.as_slice());
     let sorted = Pairs::sorted(rt.alloc(), &pairs)?;
     let sorted = sorted.into_vec();
-    assert_eq!(rt; sorted.len(), 2);
-    assert_eq!(rt; sorted[0].0.as_str(), "a");
-    assert_eq!(rt; sorted[1].0.as_str(), "b");
-    assert_eq!(rt; list.into_vec()[0].0.as_str(), "b");
+    same(&rt, &sorted.len(), &2);
+    same(&rt, &sorted[0].0.as_str(), &"a");
+    same(&rt, &sorted[1].0.as_str(), &"b");
+    same(&rt, &list.into_vec()[0].0.as_str(), &"b");
     Ok(())
 }
 
 #[test]
 fn a_map_of_counts_is_read_and_written(rt: HostRuntime) -> Result<(), Fail> {
     let (counts, end) = take_counts(&COUNTS, 0)?;
-    assert_eq!(rt; end, 24);
-    assert_eq!(rt; counts.count(), 2);
-    assert_eq!(rt; counts.item(0), (0x0201, 3));
-    assert_eq!(rt; counts.item(1), (1, 0));
+    same(&rt, &end, &24);
+    holds(&rt, counts.count() == 2);
+    same(&rt, &counts.item(0), &(0x0201, 3));
+    same(&rt, &counts.item(1), &(1, 0));
     let mut out = Vec::new(rt.alloc());
     put_counts(&mut out, &counts)?;
-    assert_eq!(rt; out.as_slice(), COUNTS.as_slice());
+    same(&rt, &out.as_slice(), &COUNTS.as_slice());
     Ok(())
 }
 
 #[test]
 fn an_array_is_read_and_written(rt: HostRuntime) -> Result<(), Fail> {
     let (entries, end) = take_entries(&ENTRIES, 0)?;
-    assert_eq!(rt; end, 20);
-    assert_eq!(rt; entries.count(), 1);
-    assert_eq!(rt; entries.item(0), (5, 6));
+    same(&rt, &end, &20);
+    holds(&rt, entries.count() == 1);
+    same(&rt, &entries.item(0), &(5, 6));
     let mut out = Vec::new(rt.alloc());
     put_entries(&mut out, &entries)?;
-    assert_eq!(rt; out.as_slice(), ENTRIES.as_slice());
+    same(&rt, &out.as_slice(), &ENTRIES.as_slice());
     Ok(())
 }
 
@@ -276,8 +282,8 @@ fn maps_of_texts_that_are_refused(rt: HostRuntime) {
     ];
     for (content, why) in table {
         match take_pairs(content, 0) {
-            Ok(_) => assert!(rt; false, "at {content:?}"),
-            Err(told) => assert_eq!(rt; told, why, "at {content:?}"),
+            Ok(_) => holds_at(&rt, false, &content),
+            Err(told) => same_at(&rt, &told, &why, &content),
         }
     }
 }
@@ -299,8 +305,8 @@ fn maps_of_counts_that_are_refused(rt: HostRuntime) {
     ];
     for (content, why) in table {
         match take_counts(content, 0) {
-            Ok(_) => assert!(rt; false, "at {content:?}"),
-            Err(told) => assert_eq!(rt; told, why, "at {content:?}"),
+            Ok(_) => holds_at(&rt, false, &content),
+            Err(told) => same_at(&rt, &told, &why, &content),
         }
     }
 }
@@ -322,10 +328,10 @@ fn descending(alloc: Global, last: u16) -> Result<Vec<u8>, Memory> {
 fn a_map_of_all_keys_in_another_order_is_read(rt: HostRuntime) -> Result<(), Fail> {
     let content = descending(rt.alloc(), 0)?;
     let (counts, end) = take_counts(content.as_slice(), 0)?;
-    assert_eq!(rt; end, 655_364);
-    assert_eq!(rt; counts.count(), 65_536);
-    assert_eq!(rt; counts.item(0), (65_535, 7));
-    assert_eq!(rt; counts.item(65_535), (0, 7));
+    same(&rt, &end, &655_364);
+    holds(&rt, counts.count() == 65_536);
+    same(&rt, &counts.item(0), &(65_535, 7));
+    same(&rt, &counts.item(65_535), &(0, 7));
     Ok(())
 }
 
@@ -333,8 +339,8 @@ fn a_map_of_all_keys_in_another_order_is_read(rt: HostRuntime) -> Result<(), Fai
 fn a_last_key_that_stands_first_is_refused(rt: HostRuntime) -> Result<(), Fail> {
     let content = descending(rt.alloc(), u16::MAX)?;
     match take_counts(content.as_slice(), 0) {
-        Ok(_) => assert!(rt; false),
-        Err(why) => assert_eq!(rt; why, Why::DoubleKey),
+        Ok(_) => holds(&rt, false),
+        Err(why) => same(&rt, &why, &Why::DoubleKey),
     }
     Ok(())
 }
@@ -348,8 +354,8 @@ fn arrays_that_are_refused(rt: HostRuntime) {
     ];
     for (content, why) in table {
         match take_entries(content, 0) {
-            Ok(_) => assert!(rt; false, "at {content:?}"),
-            Err(told) => assert_eq!(rt; told, why, "at {content:?}"),
+            Ok(_) => holds_at(&rt, false, &content),
+            Err(told) => same_at(&rt, &told, &why, &content),
         }
     }
 }

@@ -1,5 +1,6 @@
 //! Printing the messages of a file.
 use super::*;
+use crate::same::{holds, same};
 
 const CAT: &[&str] = &["cat", "F"];
 
@@ -61,9 +62,10 @@ fn files_are_printed_by_time(rt: HostRuntime) -> Result<(), Fail> {
     ];
     for (file, want) in table {
         let ran = expect(&rt, CAT, file, NOTHING, &unwritten(0, want, ""))?;
-        assert_eq!(rt;
-            openings_of(alloc, &ran)?.as_str(),
-            "source F given, kept\n"
+        same(
+            &rt,
+            &openings_of(alloc, &ran)?.as_str(),
+            &"source F given, kept\n",
         );
     }
     Ok(())
@@ -96,7 +98,7 @@ fn a_schema_of_the_summary_alone_is_left_unread(rt: HostRuntime) -> Result<(), F
     let front = feed_of(alloc, &[CHANNEL, FIRST])?;
     let back = joined(alloc, &[SUMMARY])?;
     let file = joined(alloc, &[&front, &back])?;
-    assert_eq!(rt; front.len(), 106);
+    same(&rt, &front.len(), &106);
     let want = "10 9 7 1 \"/a\" aa\n";
     let _ran = expect(&rt, CAT, &file, NOTHING, &unwritten(0, want, ""))?;
     Ok(())
@@ -107,10 +109,10 @@ fn a_schema_of_the_summary_alone_is_left_unread(rt: HostRuntime) -> Result<(), F
 fn where_memory_lacks_nothing_is_printed(rt: HostRuntime) -> Result<(), Fail> {
     let ran = run_in_memory(&rt, CAT, ONE, NOTHING)?;
     if ran.status == 5 {
-        assert!(rt; ran.out.bytes().is_empty());
+        holds(&rt, ran.out.bytes().is_empty());
     } else {
-        assert_eq!(rt; ran.status, 0);
-        assert_eq!(rt; ran.out.bytes(), ONE_LINE.as_bytes());
+        same(&rt, &ran.status, &0);
+        same(&rt, &ran.out.bytes(), &ONE_LINE.as_bytes());
     }
     Ok(())
 }
@@ -144,7 +146,7 @@ fn a_file_that_is_refused_is_not_printed(rt: HostRuntime) -> Result<(), Fail> {
 fn a_missing_file_is_a_fault(rt: HostRuntime) -> Result<(), Fail> {
     let wanted = unwritten(3, "", "mcaprec: \"missing\": fault\n");
     let ran = expect(&rt, &["cat", "missing"], ONE, NOTHING, &wanted)?;
-    assert_eq!(rt; (ran.world.openings(), ran.world.keepings()), (1, 0));
+    same(&rt, &(ran.world.openings(), ran.world.keepings()), &(1, 0));
     Ok(())
 }
 
@@ -159,16 +161,16 @@ fn a_source_that_fails_prints_nothing(rt: HostRuntime) -> Result<(), Fail> {
         };
         let ran = run_in_memory(&rt, CAT, ONE, failing)?;
         if ran.status == 3 {
-            assert_eq!(rt; failed, read);
+            same(&rt, &failed, &read);
             failed = read + 1;
-            assert!(rt; ran.out.bytes().is_empty());
-            assert_eq!(rt; ran.err.bytes(), FEED_FAULT.as_bytes());
+            holds(&rt, ran.out.bytes().is_empty());
+            same(&rt, &ran.err.bytes(), &FEED_FAULT.as_bytes());
         } else {
-            assert_eq!(rt; ran.status, 0);
-            assert_eq!(rt; ran.out.bytes(), ONE_LINE.as_bytes());
+            same(&rt, &ran.status, &0);
+            same(&rt, &ran.out.bytes(), &ONE_LINE.as_bytes());
         }
     }
-    assert_eq!(rt; failed, 9);
+    same(&rt, &failed, &9);
     Ok(())
 }
 

@@ -1,19 +1,21 @@
 //! Checking a file.
 use super::*;
+use crate::same::{holds, same};
 
 const CHECK: &[&str] = &["check", "F"];
 
 #[test]
 fn the_file_is_opened_as_a_store_and_kept(rt: HostRuntime) -> Result<(), Fail> {
     let ran = run_in_memory(&rt, CHECK, ONE, NOTHING)?;
-    assert_eq!(rt;
-        openings_of(rt.alloc(), &ran)?.as_str(),
-        "store F given, kept\n"
+    same(
+        &rt,
+        &openings_of(rt.alloc(), &ran)?.as_str(),
+        &"store F given, kept\n",
     );
-    assert_eq!(rt; (ran.world.openings(), ran.world.keepings()), (1, 1));
-    assert!(rt; ran.world.bytes("F") == Some(ONE));
-    assert!(rt; ran.world.bytes("OUT") == Some(b"before"));
-    assert!(rt; ran.report.is_none());
+    same(&rt, &(ran.world.openings(), ran.world.keepings()), &(1, 1));
+    holds(&rt, ran.world.bytes("F") == Some(ONE));
+    holds(&rt, ran.world.bytes("OUT") == Some(b"before"));
+    holds(&rt, ran.report.is_none());
     Ok(())
 }
 
@@ -21,7 +23,7 @@ fn the_file_is_opened_as_a_store_and_kept(rt: HostRuntime) -> Result<(), Fail> {
 fn a_missing_file_is_a_fault(rt: HostRuntime) -> Result<(), Fail> {
     let wanted = unwritten(3, "", "mcaprec: \"missing\": fault\n");
     let ran = expect(&rt, &["check", "missing"], ONE, NOTHING, &wanted)?;
-    assert_eq!(rt; (ran.world.openings(), ran.world.keepings()), (1, 0));
+    same(&rt, &(ran.world.openings(), ran.world.keepings()), &(1, 0));
     Ok(())
 }
 
@@ -32,9 +34,10 @@ fn an_opening_that_fails_is_a_fault(rt: HostRuntime) -> Result<(), Fail> {
         ..NOTHING
     };
     let ran = expect(&rt, CHECK, ONE, failing, &unwritten(3, "", FEED_FAULT))?;
-    assert_eq!(rt;
-        openings_of(rt.alloc(), &ran)?.as_str(),
-        "store F refused, not taken back\n"
+    same(
+        &rt,
+        &openings_of(rt.alloc(), &ran)?.as_str(),
+        &"store F refused, not taken back\n",
     );
     Ok(())
 }

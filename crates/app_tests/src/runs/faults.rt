@@ -1,5 +1,6 @@
 //! What fails outside of a recording: openings, keepings, reads, appends and printing.
 use super::*;
+use crate::same::{holds, same};
 
 const FEED_LINE: &str = "feed 1 accepted=0 refused=0 passed=0 end\n";
 
@@ -64,7 +65,7 @@ fn an_opening_or_a_keeping_that_fails_is_told_of_its_name(rt: HostRuntime) -> Re
             ..NOTHING
         };
         let ran = expect(&rt, RECORD, &feed, failing, &wanted)?;
-        assert_eq!(rt; openings_of(rt.alloc(), &ran)?.as_str(), log);
+        same(&rt, &openings_of(rt.alloc(), &ran)?.as_str(), &log);
     }
     Ok(())
 }
@@ -73,7 +74,7 @@ fn an_opening_or_a_keeping_that_fails_is_told_of_its_name(rt: HostRuntime) -> Re
 fn a_missing_feed_leaves_the_output_unopened(rt: HostRuntime) -> Result<(), Fail> {
     let wanted = unwritten(3, "", "mcaprec: \"missing\": fault\n");
     let ran = expect(&rt, &["record", "OUT", "missing"], MAGIC, NOTHING, &wanted)?;
-    assert_eq!(rt; (ran.world.openings(), ran.world.keepings()), (1, 0));
+    same(&rt, &(ran.world.openings(), ran.world.keepings()), &(1, 0));
     Ok(())
 }
 
@@ -125,7 +126,7 @@ fn expect_stopped(
             ..NOTHING
         };
         let held = before.saturating_add(taken).min(with);
-        assert!(rt; held <= whole.len() as u64);
+        holds(rt, held <= whole.len() as u64);
         let wanted = recorded(3, lines, OUT_FAULT, &whole[..held as usize]);
         let _ran = expect(rt, words, &feed, failing, &wanted)?;
     }

@@ -1,5 +1,6 @@
 //! Each number of a file is looked at, and each rule is told where it alone fails.
 use super::*;
+use crate::same::same;
 use verdicts::{CHECK, Change, NO_CRC, changed, one_changed, plain_of};
 
 // A byte, the offset where it is put in the file of one message, and what is told then.
@@ -142,7 +143,7 @@ fn expect_flaws(
     rows: &[(Change<'_>, &str)],
 ) -> Result<(), Fail> {
     let sound = run_in_memory(rt, CHECK, file, NOTHING)?;
-    assert_eq!(rt; sound.status, 0);
+    same(rt, &sound.status, &0);
     for (change, want) in rows {
         let broken = changed(rt.alloc(), file, &[*change])?;
         let _ran = expect(rt, CHECK, &broken, NOTHING, &unwritten(1, want, ""))?;

@@ -2,6 +2,7 @@
 use super::cat::{FOURTH, LAST_TIME};
 use super::info::packed_file;
 use super::*;
+use crate::same::{holds, same};
 
 const BY_INDEX: &[&str] = &["cat", "--indexed", "F"];
 
@@ -27,7 +28,7 @@ fn asked_of(rt: &(impl AllocGlobal + Abort), ran: &Ran) -> u128 {
     for opened in ran.world.log() {
         match &opened.kept {
             Some(kept) => asked = kept.asked,
-            None => assert!(rt; false),
+            None => holds(rt, false),
         }
     }
     asked
@@ -38,7 +39,7 @@ fn recorded_file(rt: &(impl AllocGlobal + Abort), records: &[&[u8]]) -> Result<V
     let feed = feed_of(rt.alloc(), records)?;
     let words: &[&str] = &["record", "--chunk=59", "OUT", "F"];
     let ran = run_in_memory(rt, words, &feed, NOTHING)?;
-    assert_eq!(rt; ran.status, 0);
+    same(rt, &ran.status, &0);
     match ran.world.bytes("OUT") {
         Some(bytes) => Ok(Vec::from_slice(rt.alloc(), bytes)?),
         None => Ok(Vec::new(rt.alloc())),
@@ -61,10 +62,11 @@ fn only_what_the_indexes_lead_to_is_read(rt: HostRuntime) -> Result<(), Fail> {
     ];
     for (words, file, want, asked) in table {
         let ran = expect(&rt, words, file, NOTHING, &unwritten(0, want, ""))?;
-        assert_eq!(rt; asked_of(&rt, &ran), asked);
-        assert_eq!(rt;
-            openings_of(rt.alloc(), &ran)?.as_str(),
-            "store F given, kept\n"
+        same(&rt, &asked_of(&rt, &ran), &asked);
+        same(
+            &rt,
+            &openings_of(rt.alloc(), &ran)?.as_str(),
+            &"store F given, kept\n",
         );
     }
     Ok(())
@@ -118,16 +120,16 @@ fn a_store_that_fails_prints_nothing(rt: HostRuntime) -> Result<(), Fail> {
         };
         let ran = run_in_memory(&rt, BY_INDEX, ONE, failing)?;
         if ran.status == 3 {
-            assert_eq!(rt; failed, read);
+            same(&rt, &failed, &read);
             failed = read + 1;
-            assert!(rt; ran.out.bytes().is_empty());
-            assert_eq!(rt; ran.err.bytes(), FEED_FAULT.as_bytes());
+            holds(&rt, ran.out.bytes().is_empty());
+            same(&rt, &ran.err.bytes(), &FEED_FAULT.as_bytes());
         } else {
-            assert_eq!(rt; ran.status, 0);
-            assert_eq!(rt; ran.out.bytes(), ONE_LINE.as_bytes());
+            same(&rt, &ran.status, &0);
+            same(&rt, &ran.out.bytes(), &ONE_LINE.as_bytes());
         }
     }
-    assert!(rt; failed >= 8);
+    holds(&rt, failed >= 8);
     Ok(())
 }
 

@@ -1,6 +1,7 @@
 //! Telling of a file by its summary.
 use super::cat::SUMMARY;
 use super::*;
+use crate::same::{holds, same};
 
 const INFO: &[&str] = &["info", "F"];
 
@@ -42,9 +43,10 @@ fn a_line_tells_of_a_file(rt: HostRuntime) -> Result<(), Fail> {
     ];
     for (file, want) in table {
         let ran = expect(&rt, INFO, file, NOTHING, &unwritten(0, want, ""))?;
-        assert_eq!(rt;
-            openings_of(rt.alloc(), &ran)?.as_str(),
-            "store F given, kept\n"
+        same(
+            &rt,
+            &openings_of(rt.alloc(), &ran)?.as_str(),
+            &"store F given, kept\n",
         );
     }
     Ok(())
@@ -68,8 +70,8 @@ fn only_the_ends_and_the_summary_are_read(rt: HostRuntime) -> Result<(), Fail> {
     let ran = run_in_memory(&rt, INFO, ONE, NOTHING)?;
     for opened in ran.world.log() {
         match &opened.kept {
-            Some(kept) => assert_eq!(rt; kept.asked, 34 + 37 + 253),
-            None => assert!(rt; false),
+            Some(kept) => same(&rt, &kept.asked, &(34 + 37 + 253)),
+            None => holds(&rt, false),
         }
     }
     Ok(())
@@ -106,16 +108,16 @@ fn a_store_that_fails_tells_nothing(rt: HostRuntime) -> Result<(), Fail> {
         };
         let ran = run_in_memory(&rt, INFO, ONE, failing)?;
         if ran.status == 3 {
-            assert_eq!(rt; failed, read);
+            same(&rt, &failed, &read);
             failed = read + 1;
-            assert!(rt; ran.out.bytes().is_empty());
-            assert_eq!(rt; ran.err.bytes(), FEED_FAULT.as_bytes());
+            holds(&rt, ran.out.bytes().is_empty());
+            same(&rt, &ran.err.bytes(), &FEED_FAULT.as_bytes());
         } else {
-            assert_eq!(rt; ran.status, 0);
-            assert_eq!(rt; ran.out.bytes(), ONE_MESSAGE.as_bytes());
+            same(&rt, &ran.status, &0);
+            same(&rt, &ran.out.bytes(), &ONE_MESSAGE.as_bytes());
         }
     }
-    assert!(rt; failed >= 4);
+    holds(&rt, failed >= 4);
     Ok(())
 }
 

@@ -1,5 +1,6 @@
 //! Limits on sizes and numbers, and what the report says where one is met.
 use super::*;
+use crate::same::same;
 use recorder::FeedReport;
 
 // A Message of 33,554,454 bytes up to its data, which is as much as a message may have: in the feed, and recorded.
@@ -96,9 +97,10 @@ fn a_first_message_that_is_too_large_has_its_channel_declared(rt: HostRuntime) -
     let wanted = recorded(4, lines, "mcaprec: \"OUT\": limit\n", &file);
     let Ran { report, .. } = expect(&rt, PLAIN, &feed, NOTHING, &wanted)?;
     let lists = lists_in(alloc, &report)?;
-    assert_eq!(rt;
-        lists.as_str(),
-        "1 stands at 1\n0 declares 1: 1 from 0\n0 is refused: TooLarge { len: 33554433 }\n"
+    same(
+        &rt,
+        &lists.as_str(),
+        &"1 stands at 1\n0 declares 1: 1 from 0\n0 is refused: TooLarge { len: 33554433 }\n",
     );
     Ok(())
 }

@@ -1,5 +1,6 @@
 //! The verdicts on files.
 use super::*;
+use crate::same::{holds, same};
 
 pub(super) const CHECK: &[&str] = &["check", "F"];
 
@@ -149,7 +150,7 @@ fn a_missing_entry_is_a_flaw(rt: HostRuntime) -> Result<(), Fail> {
             (496, NO_CRC),
         ],
     )?;
-    assert_eq!(rt; once.len(), 508);
+    same(&rt, &once.len(), &508);
     for file in [twice, once] {
         let wanted = unwritten(1, "flaw V9 at 174\n", "");
         let _ran = expect(&rt, CHECK, &file, NOTHING, &wanted)?;
@@ -191,7 +192,7 @@ fn a_compressed_chunk_is_not_checked(rt: HostRuntime) -> Result<(), Fail> {
             (472, NO_CRC),
         ],
     )?;
-    assert_eq!(rt; file.len(), 484);
+    same(&rt, &file.len(), &484);
     let wanted = unwritten(1, "", "mcaprec: \"F\": compressed \"zstd\" at 34\n");
     let _ran = expect(&rt, CHECK, &file, NOTHING, &wanted)?;
     Ok(())
@@ -217,17 +218,17 @@ fn a_store_that_fails_prints_nothing(rt: HostRuntime) -> Result<(), Fail> {
         };
         let ran = run_in_memory(&rt, CHECK, ONE, failing)?;
         if ran.status == 3 {
-            assert_eq!(rt; failed, read);
+            same(&rt, &failed, &read);
             failed = read + 1;
-            assert!(rt; ran.out.bytes().is_empty());
-            assert_eq!(rt; ran.err.bytes(), FEED_FAULT.as_bytes());
+            holds(&rt, ran.out.bytes().is_empty());
+            same(&rt, &ran.err.bytes(), &FEED_FAULT.as_bytes());
         } else {
-            assert_eq!(rt; ran.status, 0);
-            assert_eq!(rt; ran.out.bytes(), ONE_LINE.as_bytes());
+            same(&rt, &ran.status, &0);
+            same(&rt, &ran.out.bytes(), &ONE_LINE.as_bytes());
         }
     }
-    assert!(rt; failed > 0);
-    assert!(rt; failed < 60);
+    holds(&rt, failed > 0);
+    holds(&rt, failed < 60);
     Ok(())
 }
 
