@@ -1,5 +1,5 @@
 //! Words, good and bad.
-use crate::same::{same, same_at};
+use crate::same::{holds, same, same_at};
 use command_words::{Command, WordsRefused, parse_words};
 use mcap_model::{FileOptions, Range};
 use mcap_wire::Text;
@@ -126,7 +126,7 @@ fn with_profile(alloc: Global, length: u32, joined: bool) -> Result<String, Fail
 fn a_profile_has_at_most_65535_bytes(rt: HostRuntime) -> Result<(), Fail> {
     for joined in [false, true] {
         let most = with_profile(rt.alloc(), 65_535, joined)?;
-        same(&rt, &most.len(), &65_585);
+        holds(&rt, most.len() == 65_585);
         same(
             &rt,
             &with_profile(rt.alloc(), 65_536, joined)?.as_str(),

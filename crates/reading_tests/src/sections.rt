@@ -105,7 +105,7 @@ fn a_section_is_counted(rt: HostRuntime) -> Result<(), Fail> {
     holds(&rt, section.schemas.has(5));
     holds(&rt, section.channels.has(7));
     holds(&rt, section.channels.has(8));
-    same(&rt, &section.channels.len(), &2);
+    holds(&rt, section.channels.len() == 2);
     holds(&rt, section.tables.channels.find(8).is_some());
     holds(&rt, section.tables.channels.find(9).is_none());
     Ok(())

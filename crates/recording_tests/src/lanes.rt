@@ -337,7 +337,7 @@ fn a_stop_ends_a_lane(rt: HostRuntime) -> Result<(), Fail> {
 #[test]
 fn a_feed_may_be_cut_off(rt: HostRuntime) -> Result<(), Fail> {
     let report = publish(rt.alloc(), &FEED[..100], &[], 9, false)?;
-    same(&rt, &report.accepted.len(), &1);
+    holds(&rt, report.accepted.len() == 1);
     holds(&rt, matches!(report.end, FeedEnd::Grammar { offset: 84 }));
     Ok(())
 }

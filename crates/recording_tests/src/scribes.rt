@@ -313,7 +313,7 @@ fn a_failing_append_leaves_a_front_of_the_file(rt: HostRuntime) -> Result<(), Fa
 fn an_entry_tells_of_its_block(rt: HostRuntime) -> Result<(), Fail> {
     let file = write(rt.alloc(), By::Buffers, Some(59), 2, Vec::new(rt.alloc()))?;
     let rows = [(34, 173, 108, 10, 1, 1), (173, 285, 81, 11, 1, 0)];
-    same(&rt, &file.entries.len(), &2);
+    holds(&rt, file.entries.len() == 2);
     for i in 0..rows.len() {
         let (from, to, chunk_length, time, messages, declared) = rows[i];
         let entry = file.entries[i].same();

@@ -364,7 +364,7 @@ fn a_message_without_data_has_31_bytes(rt: HostRuntime) -> Result<(), Fail> {
     let message = Message::parse(&[0; 22])?;
     let mut out = Vec::new(rt.alloc());
     message.frame(&mut out)?;
-    same(&rt, &out.len(), &31);
+    holds(&rt, out.len() == 31);
     Ok(())
 }
 

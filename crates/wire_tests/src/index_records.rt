@@ -215,7 +215,7 @@ fn a_chunk_without_records_has_49_bytes(rt: HostRuntime) -> Result<(), Fail> {
     let chunk = Chunk::parse(&[0; 40])?;
     let mut out = Vec::new(rt.alloc());
     chunk.frame(&mut out)?;
-    same(&rt, &out.len(), &49);
+    holds(&rt, out.len() == 49);
     Ok(())
 }
 

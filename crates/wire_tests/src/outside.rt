@@ -58,7 +58,7 @@ fn a_short_input_costs_little_room(rt: HostRuntime) -> Result<(), Fail> {
     holds(&rt, read_up_to(&mut large, &mut buffer, 99_999) == Ok(()));
     same(&rt, &(buffer.len(), buffer.capacity()), &(99_999, 99_999));
     holds(&rt, buffer.iter().all(|byte| *byte == 7));
-    same(&rt, &large.rest().len(), &1);
+    holds(&rt, large.rest().len() == 1);
     Ok(())
 }
 
@@ -97,7 +97,7 @@ fn a_live_store_tells_where_each_piece_stands(rt: HostRuntime) -> Result<(), Fai
     same(&rt, &store.bytes(), &b"abcef".as_slice());
     same(&rt, &store.faults(), &1);
     same(&rt, &first.bytes(), &b"ab".as_slice());
-    same(&rt, &last.same().len(), &2);
+    holds(&rt, last.same().len() == 2);
     let piece = quiet.append(b"xyz").ok().ok_or("memory is there")?;
     same(&rt, &piece.bytes(), &b"xyz".as_slice());
     let more = quiet.append_through(b"w").ok().ok_or("memory is there")?;
@@ -152,7 +152,7 @@ fn a_world_fails_where_it_is_told_to(rt: HostRuntime) -> Result<(), Fail> {
         (ObjectKind::Live, "out", true),
         (ObjectKind::Live, "out", true),
     ];
-    same(&rt, &world.log().len(), &5);
+    holds(&rt, world.log().len() == 5);
     for (made, (kind, name, given)) in world.log().iter().zip(openings) {
         same(&rt, &made.kind, &kind);
         same(&rt, &made.name.as_str(), &name);
@@ -180,7 +180,7 @@ fn a_keeping_is_noted_at_the_newest_that_is_out(rt: HostRuntime) -> Result<(), F
     holds(&rt, world.keep_source("in", second) == Err(Failed));
     holds(&rt, world.keep_source("in", first) == Ok(()));
     let wanted: [(bool, &[u8]); 2] = [(true, b"bc"), (false, b"abc")];
-    same(&rt, &world.log().len(), &2);
+    holds(&rt, world.log().len() == 2);
     for (entry, (well, left)) in world.log().iter().zip(wanted) {
         let kept = entry.kept.as_ref().ok_or("it was kept")?;
         same(&rt, &(kept.well, kept.faults), &(well, 0));
@@ -315,7 +315,7 @@ fn a_world_gives_stores_and_takes_them_back(rt: HostRuntime) -> Result<(), Fail>
     same(&rt, &room, &*b"bc");
     holds(&rt, world.keep_store("in", store) == Ok(()));
     let openings = [("in", true), ("in", false), ("none", false)];
-    same(&rt, &world.log().len(), &3);
+    holds(&rt, world.log().len() == 3);
     for (entry, (name, given)) in world.log().iter().zip(openings) {
         same(&rt, &entry.kind, &ObjectKind::Store);
         same(&rt, &(entry.name.as_str(), entry.given), &(name, given));

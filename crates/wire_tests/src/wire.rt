@@ -224,7 +224,7 @@ fn a_map_is_copied_and_sorted(rt: HostRuntime) -> Result<(), Fail> {
     same(&rt, &out.as_slice(), &PAIRS.as_slice());
     let sorted = Pairs::sorted(rt.alloc(), &pairs)?;
     let sorted = sorted.into_vec();
-    same(&rt, &sorted.len(), &2);
+    holds(&rt, sorted.len() == 2);
     same(&rt, &sorted[0].0.as_str(), &"a");
     same(&rt, &sorted[1].0.as_str(), &"b");
     same(&rt, &list.into_vec()[0].0.as_str(), &"b");

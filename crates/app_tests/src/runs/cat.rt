@@ -98,7 +98,7 @@ fn a_schema_of_the_summary_alone_is_left_unread(rt: HostRuntime) -> Result<(), F
     let front = feed_of(alloc, &[CHANNEL, FIRST])?;
     let back = joined(alloc, &[SUMMARY])?;
     let file = joined(alloc, &[&front, &back])?;
-    same(&rt, &front.len(), &106);
+    holds(&rt, front.len() == 106);
     let want = "10 9 7 1 \"/a\" aa\n";
     let _ran = expect(&rt, CAT, &file, NOTHING, &unwritten(0, want, ""))?;
     Ok(())

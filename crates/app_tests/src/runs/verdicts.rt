@@ -150,7 +150,7 @@ fn a_missing_entry_is_a_flaw(rt: HostRuntime) -> Result<(), Fail> {
             (496, NO_CRC),
         ],
     )?;
-    same(&rt, &once.len(), &508);
+    holds(&rt, once.len() == 508);
     for file in [twice, once] {
         let wanted = unwritten(1, "flaw V9 at 174\n", "");
         let _ran = expect(&rt, CHECK, &file, NOTHING, &wanted)?;
@@ -192,7 +192,7 @@ fn a_compressed_chunk_is_not_checked(rt: HostRuntime) -> Result<(), Fail> {
             (472, NO_CRC),
         ],
     )?;
-    same(&rt, &file.len(), &484);
+    holds(&rt, file.len() == 484);
     let wanted = unwritten(1, "", "mcaprec: \"F\": compressed \"zstd\" at 34\n");
     let _ran = expect(&rt, CHECK, &file, NOTHING, &wanted)?;
     Ok(())
