@@ -227,7 +227,9 @@ fn a_map_is_copied_and_sorted(rt: HostRuntime) -> Result<(), Fail> {
     holds(&rt, sorted.len() == 2);
     same(&rt, &sorted[0].0.as_str(), &"a");
     same(&rt, &sorted[1].0.as_str(), &"b");
-    same(&rt, &list.into_vec()[0].0.as_str(), &"b");
+    let list = list.into_vec();
+    holds(&rt, list.len() == 2);
+    same(&rt, &list[0].0.as_str(), &"b");
     Ok(())
 }
 
