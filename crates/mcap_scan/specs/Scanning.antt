@@ -1,6 +1,7 @@
 -- For which records a reader stands, and what its next step adds.
 use Rattle.std.specs.Prelude.{◌≡◌, ℕ, ◌+◌, ◌-◌, ◌^◌, ◌<◌, ◌≤◌, ◌==◌, min, if◌then◌else◌, List, [], ◌∷◌, ◌++◌, Option, Some, None}
 use Rattle.mcap_io.specs.Outside.{SourceState, RisesOnce}
+use Rattle.mcap_wire.specs.Limits.{file_limit}
 use Rattle.mcap_model.specs.Tops.{Top, offset_behind, flat}
 use Rattle.mcap_model.specs.Rules.{HasDataEnd}
 use Rattle.mcap_model.specs.Kept.{reading_limits, Good, Halt, at_end, grammar, compressed, beyond, Halts}
@@ -106,7 +107,7 @@ offset_of reader = reader.offset
 
 -- A record that is given moves a reader on, and no further than the limit on files: so a reading ends.
 abbrev pub Moves : ℕ → ℕ → Step → Type 0
-Moves old new (steps.Record op offset) = (old < new) × (new ≤ 1099511627776)
+Moves old new (steps.Record op offset) = (old < new) × (new ≤ file_limit)
 Moves old new (steps.End offset) = Unit {0}
 Moves old new steps.Refused = Unit {0}
 

@@ -3,6 +3,7 @@ use Rattle.std.specs.Prelude.{◌≡◌, ◌⊎◌, ◌↔◌, ◌≤◌, ◌<�
 use Rattle.std.specs.List.{list_any}
 use Rattle.mcap_io.specs.Outside.{Rose, WorldState, Told, Keeping, Opening, TellsName}
 use Rattle.mcap_io.specs.declared.outside.ObjectKind.TheVariants as kinds
+use Rattle.mcap_wire.specs.Limits.{buffer_limit, chunk_size_limit, profile_limit}
 use Rattle.rec_data.specs.declared.owned.Rec.{Rec}
 use Rattle.mcap_model.specs.declared.ends.End.{End}
 use Rattle.mcap_model.specs.declared.ends.End.TheVariants as ends
@@ -33,12 +34,12 @@ abbrev pub files_of : List ℕ → List ℕ → Files
 files_of out feed = record { kind = kinds.Source; inputs = feed ∷ []; outputs = out ∷ [] }
 
 -- the options of a recording are in their ranges: a buffer of 1 byte to 1 GiB, chunks of 1 byte to 64 MiB, and a profile of at
--- most 65535 bytes
+-- most 65,535 bytes
 pub record AreAllowed (options : RecordOptions) : Type 0 where
   pub some : 1 ≤ options.limit
-  pub small : options.limit ≤ 1073741824
-  pub size : (n : ℕ) → options.file.chunk ≡ Some n → (1 ≤ n) × (n ≤ 67108864)
-  pub short : length options.file.profile ≤ 65535
+  pub small : options.limit ≤ buffer_limit
+  pub size : (n : ℕ) → options.file.chunk ≡ Some n → (1 ≤ n) × (n ≤ chunk_size_limit)
+  pub short : length options.file.profile ≤ profile_limit
 
 -- ---- with a report
 

@@ -1,5 +1,6 @@
 -- That what a pass showed is so of the history of a recording.
 use Rattle.std.specs.Prelude.{◌≡◌, ℕ, ◌-◌, ◌≤◌, List, length, take, drop, Option, Some, None}
+use Rattle.mcap_wire.specs.Limits.{id_limit}
 use Rattle.rec_data.specs.declared.owned.Rec.{Rec}
 use Rattle.rec_data.specs.declared.schema.SchemaDef.{SchemaDef}
 use Rattle.rec_data.specs.declared.channel.ChannelDef.{ChannelDef}
@@ -29,11 +30,11 @@ pub record ChannelStands (history : List Rec) (id : ℕ) (d : ChannelDef) : Type
 -- all ids of schemas were given, and none to this schema
 abbrev pub LacksSchema : List Rec → Option SchemaDef → Type 0
 LacksSchema history None = ⊥
-LacksSchema history (Some s) = (schema_count history ≡ 65535) × ((id : ℕ) → Has history (schema_of id (fields_of_schema s)) → ⊥)
+LacksSchema history (Some s) = (schema_count history ≡ id_limit) × ((id : ℕ) → Has history (schema_of id (fields_of_schema s)) → ⊥)
 
 -- all ids of channels were given, and none to this content
 abbrev pub LacksChannel : List Rec → ChannelDef → Type 0
-LacksChannel history d = (channel_count history ≡ 65535) × ((id : ℕ) → ChannelStands history id d → ⊥)
+LacksChannel history d = (channel_count history ≡ id_limit) × ((id : ℕ) → ChannelStands history id d → ⊥)
 
 -- why a declaration got no id
 abbrev pub Lacks : List Rec → ChannelDef → DeclareRefused → Type 0
