@@ -1,6 +1,7 @@
 -- A lane reads a feed to its end.
 use Rattle.std.proofs.Common.{◌≡◌, ℕ, ◌+◌, ◌<◌, ◌≤◌, ◌^◌, List, [], ◌∷◌, ◌++◌, length, false, true, None, Some, Result, Ok, Err, refl, sym, ap, subst, inl, inr, ◌∙◌, arith}
 use Rattle.std.proofs.lemmas.List.{length-append}
+use Rattle.std.proofs.lemmas.Option.{none-some}
 use Rattle.mcap_io.specs.Outside.{SourceState}
 use Rattle.mcap_model.specs.Tops.{Top, flat, flattened, offset_behind}
 use Rattle.mcap_model.specs.Made.{top}
@@ -8,14 +9,14 @@ use Rattle.mcap_model.specs.Rules.{V6}
 use Rattle.mcap_model.specs.Kept.{reading_limits, Fits, Good, at_end}
 use Rattle.mcap_model.specs.Written.{passed, passed_in}
 use Rattle.mcap_model.specs.Places.{Each}
-use Rattle.mcap_model.proofs.Places.{at_none, each_at}
-use Rattle.mcap_model.proofs.Flat.{good_lists_agree}
+use Rattle.mcap_model.proofs.Places.{each_at}
+use Rattle.mcap_model.proofs.Flat.{good_lists_agree, flat_more}
 use Rattle.mcap_scan.specs.declared.answers.ScanRefused.{ScanRefused}
 use Rattle.mcap_scan.specs.declared.answers.ScanRefused.TheVariants as refusals
 use Rattle.mcap_scan.specs.declared.reader.Reader.{Reader}
 use Rattle.mcap_scan.specs.declared.reader.Stage.{Stage}
 use Rattle.mcap_scan.specs.declared.reader.Stage.TheVariants as stages
-use Rattle.mcap_scan.specs.Scanning.{Stands as ReaderStands, StageStands, IsGoing, RefusalStands, Refuses, MemoryStands, HaltsSo, tables_of, offset_of}
+use Rattle.mcap_scan.specs.Scanning.{Stands as ReaderStands, StageStands, IsGoing, RefusalStands, MemoryStands, HaltsSo, tables_of, offset_of}
 use Rattle.mcap_scan.proofs.Scanning.{tables_stand, good_stand}
 use Rattle.feed_lane.specs.declared.report.FeedReport.{FeedReport}
 use Rattle.feed_lane.specs.declared.report.FeedEnd.{FeedEnd}
@@ -26,13 +27,14 @@ use Rattle.feed_lane.specs.declared.lane.Over.{Over}
 use Rattle.feed_lane.specs.declared.lane.Over.TheVariants as overs
 use Rattle.record_core.specs.declared.answers.Found.{Found}
 use Rattle.mcap_model.specs.declared.ends.End.{End}
+use Rattle.mcap_scan.proofs.Refused.{nothing_read}
 use Rattle.feed_lane.specs.Pass.{PassState}
 use Rattle.feed_lane.specs.Lanes.{messages, LaneFits}
 use Rattle.feed_lane.specs.Steps.{lists_of, IsOpen, goes_on, LaneStands, AreKnown, MessageTaken, Waits, RecordTaken, Counts, Counted, refused_end, over_end}
 use Rattle.feed_lane.specs.Feeds.{ReadSoFar, FeedEnds, IsInLast, AllTaken, Takes, reported, Reports}
 use Rattle.feed_lane.proofs.Members.{true_false, unended}
 use Rattle.feed_lane.proofs.Growing.{stands_more}
-use Rattle.feed_lane.proofs.Walking.{waits_behind, waits_none, flat_more, passed_more, passed_short}
+use Rattle.feed_lane.proofs.Walking.{waits_behind, waits_none, passed_more, passed_short}
 
 -- ---- one record
 
@@ -100,14 +102,6 @@ fed lane pass tops t was offset taken same counts place le =
     }
 
 -- ---- the end
-
--- the refusal that a reader hands out is the one that it keeps
-pub refusal_stands : (reader : Reader) (before now : SourceState) (tops : List Top) (why : ScanRefused) → Refuses reader before now tops → reader.stage ≡ stages.Stopped why → RefusalStands why before now tops
-refusal_stands reader before now tops why refuses is =
-    subst (λ (w : ScanRefused). RefusalStands w before now tops) (same (sym refuses.stage ∙ is)) refuses.stands
-  where
-    same : {a b : ScanRefused} → stages.Stopped a ≡ stages.Stopped b → a ≡ b
-    same e = cc
 
 abbrev pub report_of : Lane → FeedEnd → FeedReport
 report_of lane end = record { accepted = lane.accepted; declared = lane.declared; refused = lane.refused; passed = lane.passed; end = end }
@@ -189,17 +183,6 @@ reports_over lane pass before now tops t overs.Ended taken counts lacks read = r
   tried = taken.2.2.tried;
 }
 
--- nothing was read, for want of memory
-pub nothing_read : (before : SourceState) → MemoryStands before before []
-nothing_read before = record {
-  still = refl;
-  good = λ n t at. absurd (at_none n t at);
-  leaves = λ bytes told. inl (refl, told);
-}
-
-no_found : {f : Found} → None ≡ Some f → ⊥
-no_found e = cc
-
 pub reports_nothing : (before : SourceState) (pass : PassState) (report : FeedReport) → pass.found ≡ None → report.end ≡ feed_ends.Memory → report.passed ≡ 0 → LaneFits [] 0 (reported report) pass → Reports before before pass report
 reports_nothing before pass report unfound end none fits = record {
   tops = [];
@@ -208,7 +191,7 @@ reports_nothing before pass report unfound end none fits = record {
   takes = subst (Takes [] 0 report.passed report.refused.items) (sym end) (inl (refl, none));
   fits = fits;
   refused_ends = λ k r at. absurd (let below = fits.refused_below k r at in omega (arith, below));
-  found_ends = λ found last shown is. absurd (no_found (sym unfound ∙ shown));
+  found_ends = λ found last shown is. absurd (none-some _ (sym unfound ∙ shown));
   firsts = λ k d at. absurd (let below = fits.declared_below k d at in omega (arith, below));
   tried = λ k r at. absurd (let below = fits.refused_below k r at in omega (arith, below));
 }

@@ -48,7 +48,7 @@ on_one records index a b one other =
 on_within : (records : List Top) (index channel : ℕ) → IsOn records index channel → index < length (messages records)
 on_within records index channel on = at_within (messages records) index on.top on.at
 
-on_more : (records more : List Top) (index channel : ℕ) → IsOn records index channel → IsOn (records ++ more) index channel
+pub on_more : (records more : List Top) (index channel : ℕ) → IsOn records index channel → IsOn (records ++ more) index channel
 on_more records more index channel on = record {
   top = on.top;
   message = on.message;
@@ -72,7 +72,7 @@ shows_more records more channel shown shows = record {
   is = shows.is;
 }
 
-schema_more : (records more : List Top) (id : ℕ) (s : Option SchemaDef) → SchemaShown records id s → SchemaShown (records ++ more) id s
+pub schema_more : (records more : List Top) (id : ℕ) (s : Option SchemaDef) → SchemaShown records id s → SchemaShown (records ++ more) id s
 schema_more records more id None none = none
 schema_more records more id (Some s) some = record {
   place = some.place;

@@ -1,6 +1,7 @@
 -- What a call on the pass leaves of what was said of the members of the lists.
 use Rattle.std.proofs.Common.{◌≡◌, ℕ, zero, suc, ◌+◌, ◌<◌, ◌≤◌, List, [], ◌∷◌, ◌++◌, length, true, false, Some, None, refl, sym, ap, subst, inl, inr, ◌∙◌, arith}
 use Rattle.std.proofs.lemmas.List.{length-append}
+use Rattle.std.proofs.lemmas.Option.{same_Some, none-some}
 use Rattle.rec_data.specs.declared.owned.Rec.{Rec}
 use Rattle.mcap_model.specs.declared.ends.End.{End}
 use Rattle.mcap_model.specs.Places.{At, Has, Each}
@@ -26,19 +27,13 @@ true_false e = cc
 
 -- ---- the end that a pass found
 
-found_same : {x y : Found} → Some x ≡ Some y → x ≡ y
-found_same e = cc
-
-none_some : {e : End} → None ≡ Some e → ⊥
-none_some e = cc
-
 -- where the call found no end, the pass found none
 pub open_by : (after : PassState) (found : Found) → after.found ≡ Some found → found.end ≡ None → IsOpen after
-open_by after found shown none = λ other is. subst (λ (f : Found). f.end ≡ None) (found_same (sym shown ∙ is)) none
+open_by after found shown none = λ other is. subst (λ (f : Found). f.end ≡ None) (same_Some _ _ (sym shown ∙ is)) none
 
 -- it shows none
 pub unended : (pass : PassState) (found : Found) (end : End) → IsOpen pass → pass.found ≡ Some found → found.end ≡ Some end → ⊥
-unended pass found end none shown is = none_some (sym (none found shown) ∙ is)
+unended pass found end none shown is = none-some _ (sym (none found shown) ∙ is)
 
 -- ---- the numbers that a pass has seen
 

@@ -3,6 +3,7 @@ use Rattle.std.proofs.Common.{◌≡◌, ◌⊎◌, ℕ, ◌^◌, ◌<◌, ◌�
 use Rattle.std.specs.List.{list_any}
 use Rattle.std.proofs.lemmas.List.Folds.{list_any_at}
 use Rattle.std.proofs.lemmas.Option.{get_or_from_slice_get, slice_get_within}
+use Rattle.std.proofs.lemmas.Bool.{or_right}
 use Rattle.mcap_io.specs.Outside.{Rose, added, WorldState, Told, Opening}
 use Rattle.mcap_model.specs.declared.ends.End.{End}
 use Rattle.mcap_model.specs.declared.ends.End.TheVariants as ends
@@ -37,10 +38,6 @@ use Rattle.record_command.specs.Record.{Reported, EndsWith, RecordsAll, end_stat
 or_left : (a b : Bool) → a ≡ true → (a || b) ≡ true
 or_left true b is = refl
 or_left false b is = absurd cc
-
-or_right : (a b : Bool) → b ≡ true → (a || b) ≡ true
-or_right true b is = refl
-or_right false b is = is
 
 any_at : (p : Refused → Bool) (refused : List Refused) (k : ℕ) (x : Refused) → At refused k x → p x ≡ true → list_any p refused ≡ true
 any_at p refused k x at is =

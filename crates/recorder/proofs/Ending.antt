@@ -2,6 +2,7 @@
 use Rattle.std.proofs.Common.{◌≡◌, ℕ, ◌+◌, List, [], ◌∷◌, ◌++◌, length, All, get_or, Option, Some, None, Result, Err, refl, sym, ap, subst, ◌∙◌, arith}
 use Rattle.std.proofs.lemmas.List.{take-append-drop}
 use Rattle.std.proofs.lemmas.List.Elements.{All-append}
+use Rattle.std.proofs.lemmas.Option.{none-some}
 use Rattle.rec_data.specs.declared.owned.Rec.{Rec}
 use Rattle.mcap_io.specs.Outside.{SourceState}
 use Rattle.mcap_model.specs.declared.ends.End.{End}
@@ -15,7 +16,6 @@ use Rattle.record_cache.specs.Buffers.{IsKept}
 use Rattle.record_core.specs.Desk.{DeskView, new_desk, accepted, end_of, ended}
 use Rattle.record_core.specs.Machine.{State, start, end_with}
 use Rattle.record_core.specs.Stands.{StandsFor}
-use Rattle.record_core.specs.declared.answers.Found.{Found}
 use Rattle.chunk_writer.specs.declared.tape.Written.{Written}
 use Rattle.chunk_writer.specs.declared.phase.Phase.{Phase}
 use Rattle.chunk_writer.specs.declared.phase.Phase.TheVariants as phases
@@ -41,12 +41,6 @@ use Rattle.recorder.proofs.Handing.{ended_stands}
 
 -- ---- the beginning
 
-none_found : {f : Found} → None ≡ Some f → ⊥
-none_found e = cc
-
-none_end : {e : End} → None ≡ Some e → ⊥
-none_end e = cc
-
 pub some_end : {a b : End} → Some a ≡ Some b → a ≡ b
 some_end e = cc
 
@@ -68,8 +62,8 @@ alone_at limit desk s stands empty same unclosed = record {
     ids = λ n pair at. absurd (at_none n pair at);
     fulls = λ n full at. absurd (at_none n full at);
     lacks = λ n pair at. absurd (at_none n pair at);
-    found = λ f is. absurd (none_found is);
-    there = λ f is. absurd (none_found is);
+    found = λ f is. absurd (none-some _ is);
+    there = λ f is. absurd (none-some _ is);
     limit = sym same;
   };
   found = refl;
@@ -86,7 +80,7 @@ module _ {T : Type 0} (grows : T → T → List Rec → Type 0) (phase : T → P
       → IsIntake grows phase failures tape (beside lone tape) start (no_calls limit)
   begun none limit tape lone desk is new going = record {
     alone = subst (λ (l : LoneDesk). IsAlone l start (no_calls limit)) (sym (is ∙ ap lone_at new))
-        (alone_at limit (new_desk limit) start (started limit) refl refl (λ closed. none_end closed));
+        (alone_at limit (new_desk limit) start (started limit) refl refl (λ closed. none-some _ closed));
     grown = none tape;
     kept = λ k d lt. absurd (omega (arith, lt));
     continues = continues_same (phase tape) (failures tape) going;
@@ -139,7 +133,7 @@ all_kept d s stands before behind =
 
 -- the recording's end is the one that the lane may have found
 pub same_end : (phase : Phase) (stood : Option End) (end : End) → EndsAs phase stood → ((stop : Stop) → phase ≡ phases.Stopped stop → end ≡ ends.Stopped stop) → (e : End) → stood ≡ Some e → end ≡ e
-same_end phases.Going stood end is stopped e found = absurd (none_end (sym is ∙ found))
+same_end phases.Going stood end is stopped e found = absurd (none-some _ (sym is ∙ found))
 same_end (phases.Stopped stop) stood end is stopped e found = stopped stop refl ∙ some_end (sym is ∙ found)
 same_end phases.Ended stood end is stopped e found = absurd is
 

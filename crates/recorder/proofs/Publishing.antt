@@ -3,16 +3,15 @@ use Rattle.std.proofs.Common.{◌≡◌, ◌⊎◌, ℕ, ◌+◌, ◌-◌, ◌<�
 use Rattle.std.specs.Prelude.{nat_lt, nat_le, Bool, true, false, ◌&&◌}
 use Rattle.std.proofs.lemmas.List.{length-drop, take-append-le, take_all}
 use Rattle.std.proofs.lemmas.Bool.{and_parts, ltb-true, leb-true}
+use Rattle.std.proofs.lemmas.Option.{same_Some, none-some}
 use Rattle.rec_data.specs.declared.owned.Rec.{Rec}
 use Rattle.rec_data.specs.declared.channel.ChannelDef.{ChannelDef}
-use Rattle.mcap_model.specs.declared.ends.End.{End}
 use Rattle.mcap_model.specs.declared.ends.End.TheVariants as ends
 use Rattle.mcap_model.specs.declared.options.FileOptions.{FileOptions}
 use Rattle.mcap_model.specs.Places.{At, Each}
 use Rattle.mcap_model.specs.Fields.{MessageFields}
 use Rattle.mcap_model.specs.History.{message_of, schema_count, channel_count, history_bytes}
-use Rattle.mcap_model.proofs.Places.{at_none}
-use Rattle.mcap_model.proofs.Lists.{each_cons, each_joined}
+use Rattle.mcap_model.proofs.OneMore.{each_last}
 use Rattle.record_core.specs.Ids.{Ids, schemas_in, channels_in, is_known, ids_of, with_ids, channel_place, channel_id, new_records}
 use Rattle.record_core.specs.Tables.{IsTable}
 use Rattle.record_core.specs.Desk.{DeskView, accepted, added, first_of, end_of, found_of, EndIsLast, fields_of_message, publish_refusal, declare_refusal, Published, DeclaredBy}
@@ -77,12 +76,6 @@ finds lone s before alone =
       within = p.held;
     }
 
-some_found : {x y : Found} → Some x ≡ Some y → x ≡ y
-some_found e = cc
-
-none_some : {x : End} → None ≡ Some x → ⊥
-none_some e = cc
-
 -- ---- a call that added nothing
 
 goes_on_same : (s : State) → GoesOn s s
@@ -135,8 +128,8 @@ refused old new s before fulls lacks reasons alone same looked shown = record {
     ids = alone.shows.ids;
     fulls = shown.fulls_are;
     lacks = shown.lacks_are;
-    found = λ f is. subst (FoundBefore new.desk) (some_found is) (subst (λ (d : DeskView). FoundBefore d (found_of old.desk)) (sym same) (found_self old.desk alone.unclosed));
-    there = λ f is. subst (FoundThere s.history) (some_found is) (found_there old.desk s alone.stands);
+    found = λ f is. subst (FoundBefore new.desk) (same_Some _ _ is) (subst (λ (d : DeskView). FoundBefore d (found_of old.desk)) (sym same) (found_self old.desk alone.unclosed));
+    there = λ f is. subst (FoundThere s.history) (same_Some _ _ is) (found_there old.desk s alone.stands);
     limit = alone.shows.limit ∙ ap (λ (d : DeskView). d.limit) (sym same);
   };
   found = sym looked;
@@ -164,12 +157,9 @@ unseen old new s before reason alone same looked = record {
   unclosed = subst (λ (d : DeskView). end_of d ≡ Some ends.Closed → ⊥) (sym same) alone.unclosed;
 }
 
-one_more : {X : Type 0} (P : X → Type 0) (xs : List X) (x : X) → Each P xs → P x → Each P (xs ++ x ∷ [])
-one_more P xs x each it = each_joined P xs (x ∷ []) each (each_cons P x [] it (λ n y at. absurd (at_none n y at)))
-
 with_a_full : (lone : LoneDesk) (s : State) (before : PassState) → IsAlone lone s before → Shown s.history (before.fulls ++ full_at (found_of lone.desk) ∷ []) before.lacks
 with_a_full lone s before alone = record {
-  fulls_are = one_more (HeldThere s.history) before.fulls (full_at (found_of lone.desk)) alone.shows.fulls (full_there lone.desk s alone.stands);
+  fulls_are = each_last (HeldThere s.history) before.fulls (full_at (found_of lone.desk)) alone.shows.fulls (full_there lone.desk s alone.stands);
   lacks_are = alone.shows.lacks;
 }
 
@@ -180,7 +170,7 @@ with_a_lack : (lone : LoneDesk) (s : State) (before : PassState) (c : ChannelDef
     → Shown s.history before.fulls (before.lacks ++ lack c refusal ∷ [])
 with_a_lack lone s before c refusal alone lacks = record {
   fulls_are = alone.shows.fulls;
-  lacks_are = one_more (λ pair. Lacks s.history pair.0 pair.1) before.lacks (lack c refusal) alone.shows.lacks lacks;
+  lacks_are = each_last (λ pair. Lacks s.history pair.0 pair.1) before.lacks (lack c refusal) alone.shows.lacks lacks;
 }
 
 -- ---- a call that added records
@@ -196,8 +186,8 @@ found_grown d records unended =
         channels = omega (arith, length-append d.ids.channels (channels_in records));
         end = λ e is. is;
       };
-      all = λ e is. absurd (none_some (sym none ∙ is));
-      unclosed = λ is. none_some (sym none ∙ is);
+      all = λ e is. absurd (none-some _ (sym none ∙ is));
+      unclosed = λ is. none-some _ (sym none ∙ is);
     }
 
 -- the ids that stood, and the one more, where a channel was declared
@@ -236,12 +226,12 @@ adds old new s before records named alone stands is unended looked spares are =
         ids = are.ids;
         fulls = λ k full at. held_there_on s.history records full (alone.shows.fulls k full at);
         lacks = λ k pair at. lacks_on s.history records pair.0 pair.1 spares (alone.shows.lacks k pair at);
-        found = λ f same. subst (FoundBefore new.desk) (some_found same) (subst (λ (d : DeskView). FoundBefore d (found_of old.desk)) (sym is) (found_grown old.desk records unended));
-        there = λ f same. subst (FoundThere (s.history ++ records)) (some_found same) (found_there_on s.history records (found_of old.desk) (found_there old.desk s alone.stands));
+        found = λ f same. subst (FoundBefore new.desk) (same_Some _ _ same) (subst (λ (d : DeskView). FoundBefore d (found_of old.desk)) (sym is) (found_grown old.desk records unended));
+        there = λ f same. subst (FoundThere (s.history ++ records)) (same_Some _ _ same) (found_there_on s.history records (found_of old.desk) (found_there old.desk s alone.stands));
         limit = alone.shows.limit ∙ ap (λ (d : DeskView). d.limit) (sym is);
       };
       found = sym looked;
-      unclosed = λ closed. none_some (sym unclosed ∙ closed);
+      unclosed = λ closed. none-some _ (sym unclosed ∙ closed);
     }
 
 goes_on : (d : DeskView) (s : State) (records : List Rec) → StandsFor d s → GoesOn s (accept 0 records s)
@@ -382,8 +372,8 @@ naming channel c = (channel, c)
 named_more : (history records : List Rec) (named : List (ℕ × ChannelDef)) (channel : ℕ) (c : ChannelDef) → Named (history ++ records) named
     → ChannelStands (history ++ records) channel c → (1 ≤ channel) × (channel ≤ length (channels_in (history ++ records))) → Named (history ++ records) (named ++ naming channel c ∷ [])
 named_more history records named channel c are stands id = record {
-  stand = one_more (λ pair. ChannelStands (history ++ records) pair.0 pair.1) named (naming channel c) are.stand stands;
-  ids = one_more (λ pair. (1 ≤ pair.0) × (pair.0 ≤ length (channels_in (history ++ records)))) named (naming channel c) are.ids id;
+  stand = each_last (λ pair. ChannelStands (history ++ records) pair.0 pair.1) named (naming channel c) are.stand stands;
+  ids = each_last (λ pair. (1 ≤ pair.0) × (pair.0 ≤ length (channels_in (history ++ records)))) named (naming channel c) are.ids id;
 }
 
 pub declared : (old new : LoneDesk) (c : ChannelDef) (result : Result Declared DeclareRefused) → EndIsLast old.desk → IsTable new.desk.ids

@@ -18,6 +18,7 @@ use Rattle.mcap_model.proofs.Flat.{map-append}
 use Rattle.mcap_model.proofs.Lists.{each_joined}
 use Rattle.mcap_model.proofs.Places.{at_none, at_within, at_kept, at_last, last_apart}
 use Rattle.mcap_model.proofs.Readings.{short_there}
+use Rattle.mcap_model.proofs.TakenRecords.{ended_more}
 use Rattle.index_check.specs.declared.section.Section.{Section}
 use Rattle.summary_read.specs.Parts.{tops_of, AreInside}
 use Rattle.summary_read.proofs.FileEnds.{footer_size}
@@ -32,10 +33,6 @@ use Rattle.summary_check.proofs.Onward.{length-tops}
 
 -- ---- the data section
 
-has_last : (section : List Top) (end : Top) → end.op ≡ 15 → HasDataEnd (section ++ end ∷ [])
-has_last [] end kind = inl kind
-has_last (x ∷ xs) end kind = inr (has_last xs end kind)
-
 nothing_behind : (tops section behind : List Top) (end : Top) → Good reading_limits tops → tops ≡ section ++ end ∷ behind → end.op ≡ 15 → behind ≡ []
 nothing_behind tops section [] end good joined kind = refl
 nothing_behind tops section (t ∷ ts) end good joined kind =
@@ -43,7 +40,7 @@ nothing_behind tops section (t ∷ ts) end good joined kind =
     let at : At tops (length (section ++ end ∷ [])) t = subst (λ (l : List Top). At l (length (section ++ end ∷ [])) t) (sym same) (at_last (section ++ end ∷ []) t ts) in
     let front : take (length (section ++ end ∷ [])) tops ≡ section ++ end ∷ [] = ap (take (length (section ++ end ∷ []))) same ∙ take-append_seam (section ++ end ∷ []) (t ∷ ts) in
     let fits = good (length (section ++ end ∷ [])) t at in
-    absurd (fits.unended (subst HasDataEnd (sym front) (has_last section end kind)))
+    absurd (fits.unended (subst HasDataEnd (sym front) (ended_more section end kind)))
 
 pub sectioned_ended : (tops : List Top) (s : Section) → IsSectioned tops s → IsEnded tops
 sectioned_ended tops s is =

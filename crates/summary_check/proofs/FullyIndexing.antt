@@ -19,6 +19,7 @@ use Rattle.index_check.specs.declared.chunk_indexes.Chunks.{Chunks}
 use Rattle.index_check.specs.Chunks.{HasMessage, ChunksOf, ChunksNamed}
 use Rattle.index_check.proofs.Spotted.{one_place, note_there}
 use Rattle.mcap_wire.specs.declared.faults.Cut.{Cut}
+use Rattle.mcap_model.proofs.Once.{chunk_index_once}
 use Rattle.summary_read.specs.Parts.{tops_of}
 use Rattle.summary_read.specs.Steps.{Judged}
 use Rattle.summary_check.specs.Offsets.{Spans}
@@ -26,7 +27,6 @@ use Rattle.summary_check.proofs.Onward.{op_there, tops_within}
 use Rattle.summary_check.specs.Laid.{all_of, IsEnded, IsFront}
 use Rattle.summary_check.specs.FullIndex.{EmptyIsRight, EmptyRight, HasStatistics, IsFull}
 use Rattle.summary_check.proofs.Laying.{length-all, body_there, foot_there, body_back, body_within, within_body, front_not}
-use Rattle.summary_check.proofs.Once.{chunk_index_once}
 
 -- ---- lists
 
