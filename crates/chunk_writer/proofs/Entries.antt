@@ -10,7 +10,7 @@ use Rattle.mcap_model.specs.File.{front, blocks_from, written_of}
 use Rattle.mcap_model.proofs.Standing.{count_blocks}
 use Rattle.mcap_model.proofs.OneMore.{zip_push}
 use Rattle.chunk_writer.specs.declared.entry.Entry.{Entry}
-use Rattle.chunk_writer.specs.Scribes.{Seen, IsEntryOf, GivesEntry, Lists, KeepsOn, sure_blocks, GivesEntries}
+use Rattle.chunk_writer.specs.Scribes.{SeenExtents, IsEntryOf, GivesEntry, Lists, KeepsOn, sure_blocks, GivesEntries}
 use Rattle.chunk_writer.proofs.Cuts.{cuts_more, one_more}
 use Rattle.chunk_writer.proofs.Noting.{blocks_append}
 
@@ -44,24 +44,24 @@ block_more start ps qs records closes =
 -- ---- entries in a row
 
 -- what is seen later of the same extents
-abbrev pub seen_later : {X : Type 0} → Seen X → LiveState → Seen X
+abbrev pub seen_later : {X : Type 0} → SeenExtents X → LiveState → SeenExtents X
 seen_later seen store = record { tells = seen.tells; size = seen.size; held = store.held }
 
-entry_before : {X : Type 0} (seen : Seen X) (store : LiveState) (e : Entry X) (offset : ℕ) (records : List Rec) → KeepsOn seen.held store.held → IsEntryOf (seen_later seen store) e offset records → IsEntryOf seen e offset records
+entry_before : {X : Type 0} (seen : SeenExtents X) (store : LiveState) (e : Entry X) (offset : ℕ) (records : List Rec) → KeepsOn seen.held store.held → IsEntryOf (seen_later seen store) e offset records → IsEntryOf seen e offset records
 entry_before seen store e offset records keeps is = record {
   numbers = is.numbers;
   long = is.long;
   told = λ before holds. is.told (before ++ (keeps before holds).0) (keeps before holds).1;
 }
 
-pub no_entries : {X : Type 0} (seen : Seen X) (options : FileOptions) (history : List Rec) → GivesEntries seen options history [] []
+pub no_entries : {X : Type 0} (seen : SeenExtents X) (options : FileOptions) (history : List Rec) → GivesEntries seen options history [] []
 no_entries seen options history = record {
   closed = [];
   sure = ap (sure_blocks options) (append-nil history) ∙ sym (append-nil (sure_blocks options history));
   each = tt;
 }
 
-pub entries_more : {X : Type 0} (seen : Seen X) (store : LiveState) (options : FileOptions) (history records : List Rec) (r : Rec) (entries more : List (Entry X)) (given : Option (Entry X)) → KeepsOn seen.held store.held
+pub entries_more : {X : Type 0} (seen : SeenExtents X) (store : LiveState) (options : FileOptions) (history records : List Rec) (r : Rec) (entries more : List (Entry X)) (given : Option (Entry X)) → KeepsOn seen.held store.held
     → GivesEntries seen options history records entries → Lists entries more given → GivesEntry (seen_later seen store) options (history ++ records) r given → GivesEntries seen options history (records ++ r ∷ []) more
 entries_more seen store options history records r entries more None keeps old listed gives = record {
   closed = old.closed;

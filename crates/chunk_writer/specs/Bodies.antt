@@ -25,7 +25,7 @@ pub record IsBody (size at : ℕ) (history : List Rec) (b : Body) : Type 0 where
   pub summary : tally.StandsFor b.summary (noted_of at history (cuts (Some size) history).pieces)
 
 -- a record was put behind a history; the block that it closed isn't noted yet
-pub record Takes (size at : ℕ) (history : List Rec) (r : Rec) (closed : Option Block) (after : Body) : Type 0 where
+pub record BodyTakes (size at : ℕ) (history : List Rec) (r : Rec) (closed : Option Block) (after : Body) : Type 0 where
   pub size_is : after.chunker.size ≡ size
   pub chunk : chunker.StandsFor after.chunker (history ++ r ∷ [])
   pub closes : chunker.Closes (cuts (Some size) history) r (cuts (Some size) (history ++ r ∷ [])) closed

@@ -3,7 +3,7 @@ ghost use Rattle.std.specs.Prelude.{◌≡◌, ◌<◌, ◌≤◌, ℕ, List, []
 ghost use Rattle.mcap_wire.specs.Limits.{chunk_size_limit, record_count_limit};
 ghost use Rattle.rec_data.specs.declared.owned.Rec.{Rec};
 ghost use Rattle.chunk_build.specs.Chunker.{AreFramed};
-ghost use Rattle.chunk_writer.specs.Bodies.{IsBody, Takes, TakesLast};
+ghost use Rattle.chunk_writer.specs.Bodies.{IsBody, BodyTakes, TakesLast};
 
 use chunk_build::Chunker;
 use mcap_model::Block;
@@ -40,7 +40,7 @@ pub(crate) fn take(body: &mut Body, framed: &[u8]) -> Result<Option<Block>, Memo
     requires framed { (r : Rec) × AreFramed framed.now r }
     requires few { body.old.summary.messages < record_count_limit }
     ensures ok { IfOk result (λ closed. (r : Rec) → AreFramed framed.now r → (size at : ℕ) (history : List Rec) → IsBody size at history body.old
-        → Takes size at history r closed body.new) }
+        → BodyTakes size at history r closed body.new) }
     ensures blocks { OnOk result (body.new.summary.blocks ≡ body.old.summary.blocks) }
 {
     match body.summary.note_framed(framed) {

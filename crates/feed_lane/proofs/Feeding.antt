@@ -30,8 +30,8 @@ use Rattle.mcap_model.specs.declared.ends.End.{End}
 use Rattle.mcap_scan.proofs.Refused.{nothing_read}
 use Rattle.feed_lane.specs.Pass.{PassState}
 use Rattle.feed_lane.specs.Lanes.{messages, LaneFits}
-use Rattle.feed_lane.specs.Steps.{lists_of, IsOpen, goes_on, LaneStands, AreKnown, MessageTaken, Waits, RecordTaken, Counts, Counted, refused_end, over_end}
-use Rattle.feed_lane.specs.Feeds.{ReadSoFar, FeedEnds, IsInLast, AllTaken, Takes, reported, Reports}
+use Rattle.feed_lane.specs.Steps.{lists_of, IsOpen, goes_on, LaneStands, AreKnown, MessageTaken, Waits, RecordHandled, Counts, Counted, refused_end, over_end}
+use Rattle.feed_lane.specs.Feeds.{ReadSoFar, FeedEnds, IsInLast, AllTaken, TakesMessages, reported, Reports}
 use Rattle.feed_lane.proofs.Members.{true_false, unended}
 use Rattle.feed_lane.proofs.Growing.{stands_more}
 use Rattle.feed_lane.proofs.Walking.{waits_behind, waits_none, passed_more, passed_short}
@@ -44,7 +44,7 @@ counted_none before now n (Ok it) same none = (omega (arith, same), omega (arith
 counted_none before now n (Err over) same none = (omega (arith, same), omega (arith, same), tt)
 
 -- a message that was at hand is a record that was taken
-pub message_record : (lane : Lane) (records : List Top) (handled : ℕ) (content : List ℕ) (more : List Top) (pass : PassState) (result : Result Unit Over) → Waits records handled (top 5 content ∷ more) → MessageTaken lane records handled pass result → RecordTaken lane records handled more pass result
+pub message_record : (lane : Lane) (records : List Top) (handled : ℕ) (content : List ℕ) (more : List Top) (pass : PassState) (result : Result Unit Over) → Waits records handled (top 5 content ∷ more) → MessageTaken lane records handled pass result → RecordHandled lane records handled more pass result
 message_record lane records handled content more pass (Ok it) waits taken = (handled + 1, omega arith, taken, waits_behind records handled content more waits)
 message_record lane records handled content more pass (Err over) waits taken = (handled, omega arith, taken)
 
@@ -90,7 +90,7 @@ read_so_far reader before now tops t = by reader.stage
     by (stages.Stopped why) going was = absurd going
 
 -- the record was taken
-pub fed : (lane : Lane) (pass : PassState) (tops : List Top) (t : Top) (was offset : ℕ) → RecordTaken lane (flat (tops ++ t ∷ [])) (length (messages (flat tops))) [] pass (Ok tt) → was ≡ passed tops → Counts was lane.passed (passed_in t) → offset ≡ offset_behind (tops ++ t ∷ []) → offset ≤ 1099511627776 → Feeds lane pass (tops ++ t ∷ [])
+pub fed : (lane : Lane) (pass : PassState) (tops : List Top) (t : Top) (was offset : ℕ) → RecordHandled lane (flat (tops ++ t ∷ [])) (length (messages (flat tops))) [] pass (Ok tt) → was ≡ passed tops → Counts was lane.passed (passed_in t) → offset ≡ offset_behind (tops ++ t ∷ []) → offset ≤ 1099511627776 → Feeds lane pass (tops ++ t ∷ [])
 fed lane pass tops t was offset taken same counts place le =
     let more = passed_more tops t in
     let short = passed_short (tops ++ t ∷ []) in
@@ -120,7 +120,7 @@ ends_refused (refusals.Compressed offset name) before now tops stands = stands
 ends_refused (refusals.Limit offset) before now tops stands = stands
 ends_refused refusals.Memory before now tops stands = stands
 
-takes_refused : (why : ScanRefused) (tops : List Top) (handled count : ℕ) (refused : List Refused) → AllTaken tops handled count → Takes tops handled count refused (refused_end why)
+takes_refused : (why : ScanRefused) (tops : List Top) (handled count : ℕ) (refused : List Refused) → AllTaken tops handled count → TakesMessages tops handled count refused (refused_end why)
 takes_refused (refusals.Fault faults) tops handled count refused all = all
 takes_refused (refusals.Grammar offset rule) tops handled count refused all = all
 takes_refused (refusals.Compressed offset name) tops handled count refused all = all
@@ -157,7 +157,7 @@ reports_done lane pass before now tops offset feeds halts = record {
 in_last : (tops : List Top) (t : Top) (index count : ℕ) → length (messages (flat tops)) ≤ index → index < length (messages (flat (tops ++ t ∷ []))) → (passed tops ≤ count) × (count ≤ passed (tops ++ t ∷ [])) → IsInLast (tops ++ t ∷ []) index count
 in_last tops t index count behind within counts = record { earlier = tops; last = t; are = refl; behind = behind; within = within; passed_before = counts.0; passed_within = counts.1 }
 
-pub reports_over : (lane : Lane) (pass : PassState) (before now : SourceState) (tops : List Top) (t : Top) (over : Over) → RecordTaken lane (flat (tops ++ t ∷ [])) (length (messages (flat tops))) [] pass (Err over) → (passed tops ≤ lane.passed) × (lane.passed ≤ passed (tops ++ t ∷ [])) → MemoryStands before now (tops ++ t ∷ []) → ReadSoFar before now (tops ++ t ∷ []) → Reports before now pass (report_of lane (over_end over))
+pub reports_over : (lane : Lane) (pass : PassState) (before now : SourceState) (tops : List Top) (t : Top) (over : Over) → RecordHandled lane (flat (tops ++ t ∷ [])) (length (messages (flat tops))) [] pass (Err over) → (passed tops ≤ lane.passed) × (lane.passed ≤ passed (tops ++ t ∷ [])) → MemoryStands before now (tops ++ t ∷ []) → ReadSoFar before now (tops ++ t ∷ []) → Reports before now pass (report_of lane (over_end over))
 reports_over lane pass before now tops t overs.Memory taken counts lacks read = record {
   tops = tops ++ t ∷ [];
   handled = taken.0;
@@ -188,7 +188,7 @@ reports_nothing before pass report unfound end none fits = record {
   tops = [];
   handled = 0;
   ends = subst (FeedEnds before before []) (sym end) (nothing_read before);
-  takes = subst (Takes [] 0 report.passed report.refused.items) (sym end) (inl (refl, none));
+  takes = subst (TakesMessages [] 0 report.passed report.refused.items) (sym end) (inl (refl, none));
   fits = fits;
   refused_ends = λ k r at. absurd (let below = fits.refused_below k r at in omega (arith, below));
   found_ends = λ found last shown is. absurd (none-some _ (sym unfound ∙ shown));

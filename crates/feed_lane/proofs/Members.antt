@@ -15,7 +15,7 @@ use Rattle.feed_lane.specs.declared.report.Accepted.{Accepted}
 use Rattle.feed_lane.specs.declared.report.DeclaredAt.{DeclaredAt}
 use Rattle.feed_lane.specs.declared.report.Cause.{Cause}
 use Rattle.feed_lane.specs.declared.report.Cause.TheVariants as causes
-use Rattle.feed_lane.specs.Pass.{FullAt, PassState, placed_from, Finds, Seen}
+use Rattle.feed_lane.specs.Pass.{FullAt, PassState, placed_from, Finds, FoundAtLeast}
 use Rattle.feed_lane.specs.Lanes.{Declares, Accepts, LacksId, CauseFits, full_in, InStep}
 use Rattle.feed_lane.specs.Steps.{Above, Extends, IsOpen, goes_on, HasId}
 
@@ -44,7 +44,7 @@ finds_above before found finds = record {
 }
 
 -- the intake was found so, later than before
-pub seen_later : (before after : PassState) (found : Found) → Finds before found → after.found ≡ Some found → (n : ℕ) → Seen before n → Seen after n
+pub seen_later : (before after : PassState) (found : Found) → Finds before found → after.found ≡ Some found → (n : ℕ) → FoundAtLeast before n → FoundAtLeast after n
 seen_later before after found finds shown n s = record {
   found = found;
   shown = shown;
@@ -186,7 +186,7 @@ placed_at first (r ∷ rs) zero pair at = (omega (arith, ap (λ (p : ℕ × Rec)
     some_same e = cc
 placed_at first (r ∷ rs) (suc k) pair at = let t = placed_at (first + 1) rs k pair at in (omega (arith, t.0), omega (arith, t.1))
 
-pub declared_above : (records : List Top) (pass : PassState) (d : DeclaredAt) (n : ℕ) → Declares records pass d → Seen pass d.first → Above pass n → d.first + d.count ≤ n
+pub declared_above : (records : List Top) (pass : PassState) (d : DeclaredAt) (n : ℕ) → Declares records pass d → FoundAtLeast pass d.first → Above pass n → d.first + d.count ≤ n
 declared_above records pass d n was seen above =
     let below = placed_below d.first was.added n (above.seen d.first seen) (λ k pair at. let own = was.own k pair at in above.own own.0 pair own.1) in
     omega (arith, below, was.many)

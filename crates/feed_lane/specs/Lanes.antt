@@ -22,7 +22,7 @@ use Rattle.feed_lane.specs.declared.report.DeclaredAt.{DeclaredAt}
 use Rattle.feed_lane.specs.declared.report.Refused.{Refused}
 use Rattle.feed_lane.specs.declared.report.Cause.{Cause}
 use Rattle.feed_lane.specs.declared.report.Cause.TheVariants as causes
-use Rattle.feed_lane.specs.Pass.{FullAt, Reason, for_size, for_close, for_stop, for_count, for_room, for_id, PassState, Seen, placed_from, AreAdded}
+use Rattle.feed_lane.specs.Pass.{FullAt, Reason, for_size, for_close, for_stop, for_count, for_room, for_id, PassState, FoundAtLeast, placed_from, AreAdded}
 
 -- the lists of a report
 pub record Lists : Type 0 where
@@ -134,7 +134,7 @@ CauseFits records handled pass index (causes.Closed at) = EndsWith handled pass 
 CauseFits records handled pass index (causes.Stopped at stop) = EndsWith handled pass index at (ends.Stopped stop)
 CauseFits records handled pass index causes.TooManySchemas = LacksId records pass index declaring.TooManySchemas
 CauseFits records handled pass index causes.TooManyChannels = LacksId records pass index declaring.TooManyChannels
-CauseFits records handled pass index (causes.TooManyRecords count) = (record_count_limit ≤ count) × Seen pass count
+CauseFits records handled pass index (causes.TooManyRecords count) = (record_count_limit ≤ count) × FoundAtLeast pass count
 CauseFits records handled pass index causes.Memory = Unit {0}
 
 -- a declaration for that message's channel was made at the message or an earlier one

@@ -50,7 +50,7 @@ abbrev pub no_calls : ℕ → PassState
 no_calls limit = record { own = []; named = []; fulls = []; lacks = []; reasons = []; found = None; limit = limit }
 
 -- the pass found the intake with at least so many records
-pub record Seen (pass : PassState) (n : ℕ) : Type 0 where
+pub record FoundAtLeast (pass : PassState) (n : ℕ) : Type 0 where
   pub found : Found
   pub shown : pass.found ≡ Some found
   pub within : n ≤ found.count

@@ -29,12 +29,12 @@ use Rattle.mcap_model.proofs.Prefixes.{next_stands}
 use Rattle.mcap_scan.specs.Sources.{ReadTo, unread_behind, IsCutOff}
 use Rattle.mcap_scan.specs.Taking.{RefusalCause, MagicRefused, RecordRefused, TakesRecord, IsTakable}
 use Rattle.mcap_scan.proofs.Taking.{unread_broken}
-use Rattle.mcap_scan.specs.Scanning.{IsReading, IsEnded, HaltsSo, MemoryStands, RefusalStands, IsFresh, StageStands, Stands, Advanced, Given, IsGoing, Moves}
+use Rattle.mcap_scan.specs.Scanning.{IsUnfinished, IsEnded, HaltsSo, MemoryStands, RefusalStands, IsFresh, StageStands, Stands, Advanced, Given, IsGoing, Moves}
 
 -- ---- where a reading halts
 
 -- what stands behind the records halts the reading, and leaves so much
-halts_so : (tables : Tables) (offset : ℕ) (before now now_new : SourceState) (tops : List Top) (halt : Halt) → IsReading tables offset before now tops → now_new.faults ≡ now.faults
+halts_so : (tables : Tables) (offset : ℕ) (before now now_new : SourceState) (tops : List Top) (halt : Halt) → IsUnfinished tables offset before now tops → now_new.faults ≡ now.faults
     → ((rest : List ℕ) → now.left ≡ Some rest → HaltsThere reading_limits tops rest halt × (now_new.left ≡ Some (unread_behind rest halt))) → HaltsSo before now_new tops halt
 halts_so tables offset before now now_new tops halt was same there = record {
   still = same ∙ was.still;
@@ -70,7 +70,7 @@ cut_off part tops rest offset place stands good unended there = record {
   cut = inr (subst (λ (n : ℕ). HaltsAt reading_limits part tops (grammar n 4)) place (behind_kept rest stands unended (grammar offset 4) there));
 }
 
-pub record_refused : (tables : Tables) (offset : ℕ) (before now now_new : SourceState) (tops : List Top) (why : ScanRefused) → IsReading tables offset before now tops
+pub record_refused : (tables : Tables) (offset : ℕ) (before now now_new : SourceState) (tops : List Top) (why : ScanRefused) → IsUnfinished tables offset before now tops
     → RefusalCause now.faults now_new.faults why → ((rest : List ℕ) → now.left ≡ Some rest → RecordRefused rest offset now_new.left why) → RefusalStands why before now_new tops
 record_refused tables offset before now now_new tops (refusals.Fault faults) was cause refused = record {
   rises = subst (λ (n : ℕ). RisesOnce n now_new.faults) was.still cause.0;
@@ -157,7 +157,7 @@ magic_refused tables offset before now now_new tops why was cause refused =
 
 -- behind the magic
 pub magic_taken : (tables : Tables) (offset : ℕ) (before now now_new : SourceState) (tops : List Top) → IsFresh tables offset before now tops → now_new.faults ≡ now.faults
-    → ((bytes : List ℕ) → now.left ≡ Some bytes → (rest : List ℕ) × (now_new.left ≡ Some rest) × (bytes ≡ magic ++ rest)) → IsReading tables offset before now_new []
+    → ((bytes : List ℕ) → now.left ≡ Some bytes → (rest : List ℕ) × (now_new.left ≡ Some rest) × (bytes ≡ magic ++ rest)) → IsUnfinished tables offset before now_new []
 magic_taken tables offset before now now_new tops was same taken = record {
   good = none_good;
   unended = λ none. none;
@@ -230,7 +230,7 @@ taken_whole rest left op content taken front = taken.left_after ∙ ap Some (sym
 -- ---- one step
 
 stage_of : (tops : List Top) (op : ℕ) (content : List ℕ) (tables new : Tables) (offset offset_new : ℕ) (before now now_new : SourceState) (b : Bool) → eqb op 15 ≡ b
-    → IsReading tables offset before now tops → now_new.faults ≡ now.faults → ((rest : List ℕ) → now.left ≡ Some rest → TakesRecord rest now_new.left op content) → IsTakable offset op (length content)
+    → IsUnfinished tables offset before now tops → now_new.faults ≡ now.faults → ((rest : List ℕ) → now.left ≡ Some rest → TakesRecord rest now_new.left op content) → IsTakable offset op (length content)
     → Keeps tops (top op content) → TablesOf (flat (tops ++ top op content ∷ [])) new → offset_new ≡ offset_behind (tops ++ top op content ∷ [])
     → StageStands (if b then stages.Ended else stages.Inside) new offset_new before now_new (tops ++ top op content ∷ [])
 stage_of tops op content tables new offset offset_new before now now_new true is was same taken takable keeps are place = record {
@@ -300,7 +300,7 @@ going_on true = tt
 going_on false = tt
 
 pub stepped : (reader : Reader) (tables : Tables) (offset : ℕ) (before now now_new : SourceState) (tops : List Top) (op : ℕ) (content : List ℕ) (how : Judged) (step : Step)
-    → IsReading tables offset before now tops → now_new.faults ≡ now.faults → ((rest : List ℕ) → now.left ≡ Some rest → TakesRecord rest now_new.left op content) → IsTakable offset op (length content)
+    → IsUnfinished tables offset before now tops → now_new.faults ≡ now.faults → ((rest : List ℕ) → now.left ≡ Some rest → TakesRecord rest now_new.left op content) → IsTakable offset op (length content)
     → JudgedAs tops (top op content) reader.tables how → Given offset (length content) reader.offset reader.stage op how step → reader.room.items ≡ content → Advanced reader before now_new tops step
 stepped reader tables offset before now now_new tops op content judged.Fits step was same taken takable (keeps, are) (step_is, offset_is, stage_is) room =
     subst (Advanced reader before now_new tops) (sym step_is)

@@ -30,7 +30,7 @@ pub record IsFresh (tables : Tables) (offset : ℕ) (before now : SourceState) (
   pub unread : now ≡ before
 
 -- the records were taken, and there is no Data End among them
-pub record IsReading (tables : Tables) (offset : ℕ) (before now : SourceState) (tops : List Top) : Type 0 where
+pub record IsUnfinished (tables : Tables) (offset : ℕ) (before now : SourceState) (tops : List Top) : Type 0 where
   pub good : Good reading_limits tops
   pub unended : HasDataEnd tops → ⊥
   pub place : offset ≡ offset_behind tops
@@ -41,7 +41,7 @@ pub record IsReading (tables : Tables) (offset : ℕ) (before now : SourceState)
 -- the Header was given, and no Data End
 pub record IsInside (tables : Tables) (offset : ℕ) (before now : SourceState) (tops : List Top) : Type 0 where
   pub some : tops ≡ [] → ⊥
-  pub reading : IsReading tables offset before now tops
+  pub reading : IsUnfinished tables offset before now tops
 
 -- the records were given, the last a Data End, and nothing behind it was read
 pub record IsEnded (tables : Tables) (offset : ℕ) (before now : SourceState) (tops : List Top) : Type 0 where

@@ -22,7 +22,7 @@ use Rattle.feed_lane.specs.declared.report.Cause.{Cause}
 use Rattle.feed_lane.specs.declared.report.Cause.TheVariants as causes
 use Rattle.feed_lane.specs.Pass.{PassState}
 use Rattle.feed_lane.specs.Lanes.{EndsWith as IntakeEnds, CauseFits}
-use Rattle.feed_lane.specs.Feeds.{FeedEnds, Reports}
+use Rattle.feed_lane.specs.Feeds.{FeedEnds, TakesMessages}
 use Rattle.recorder.specs.declared.options.RecordOptions.{RecordOptions}
 use Rattle.recorder.specs.declared.report.Report.{Report}
 use Rattle.recorder.specs.Shown.{ShownBy}
@@ -120,7 +120,7 @@ module _ (options : RecordOptions) (out feed : List ℕ) (old new : WorldState) 
   -- what became of the reading of the feed
   end_why : f.end ≡ feed_ends.Ended → Hindered old new r
   end_why ended =
-      let last = subst (λ (e : FeedEnd). Rattle.feed_lane.specs.Feeds.Takes is.recorded.reports.tops is.recorded.reports.handled f.passed f.refused.items e) ended is.recorded.reports.takes in
+      let last = subst (λ (e : FeedEnd). TakesMessages is.recorded.reports.tops is.recorded.reports.handled f.passed f.refused.items e) ended is.recorded.reports.takes in
       each_refused last.1.0 last.0 last.1.1
 
   fault_why : (faults : ℕ) → f.end ≡ feed_ends.Fault faults → Hindered old new r

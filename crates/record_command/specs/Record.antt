@@ -182,9 +182,9 @@ abbrev pub findings_of : List ℕ → List ℕ → Option Report → Bool → Fi
 findings_of out feed report lacked = record { halts = ends_in feed report; limits = when (limit_passed report) (output_limit out); lacked = lacked }
 
 -- memory lacked exactly where the report names that; or it isn't there though no count rose
-abbrev pub Lacks : Counts → Counts → Option Report → Bool → Type 0
-Lacks before now None lacked = (AnyRose before now → ⊥) ↔ (lacked ≡ true)
-Lacks before now (Some r) lacked = lacked ≡ lacks_memory r
+abbrev pub LackIsTold : Counts → Counts → Option Report → Bool → Type 0
+LackIsTold before now None lacked = (AnyRose before now → ⊥) ↔ (lacked ≡ true)
+LackIsTold before now (Some r) lacked = lacked ≡ lacks_memory r
 
 -- which parts failed, as the counts tell: each with its cause, and none is left out
 pub record Causes (before now : Counts) (failed : Failures) : Type 0 where
@@ -232,7 +232,7 @@ pub record Records (options : RecordOptions) (out feed : List ℕ) (old new : Sc
   pub spares : SparesOutput out feed old.world new.world
   -- these two names are opened; both outputs are told of the report, of its troubles, and of which part failed
   pub lacked : Bool
-  pub lacks : Lacks (counts_in old) (counts_in new) report lacked
+  pub lacks : LackIsTold (counts_in old) (counts_in new) report lacked
   pub ran : Ran (files_of out feed) old new entries (report_text report) (findings_of out feed report lacked) status
   pub failed : Failures
   pub causes : Causes (counts_in old) (counts_in new) failed

@@ -59,7 +59,7 @@ GivesSchema ids None (Some given) = ⊥
 GivesSchema ids (Some s) None = ⊥
 GivesSchema ids (Some s) (Some given) = GivesAt (schema_place ids s) (length ids.schemas) given
 
-pub record Gives (ids : Ids) (c : ChannelDef) (given : GivenIds) : Type 0 where
+pub record GivesIds (ids : Ids) (c : ChannelDef) (given : GivenIds) : Type 0 where
   pub schema : GivesSchema ids c.schema given.schema
   pub channel : GivesAt (channel_place ids c) (length ids.channels) given.channel
 
@@ -75,7 +75,7 @@ ids_lack ids c =
 
 -- ids are given to a channel that is new, or nothing changes
 abbrev pub IdsDeclared : Ids → ChannelDef → Result GivenIds IdRefused → Ids → Type 0
-IdsDeclared ids c (Ok given) after = (ids_lack ids c ≡ None) × Gives ids c given × (after ≡ with_ids ids (new_records ids c))
+IdsDeclared ids c (Ok given) after = (ids_lack ids c ≡ None) × GivesIds ids c given × (after ≡ with_ids ids (new_records ids c))
 IdsDeclared ids c (Err Memory) after = (ids_lack ids c ≡ None) × (after ≡ ids)
 IdsDeclared ids c (Err TooManySchemas) after = (ids_lack ids c ≡ Some declaring.TooManySchemas) × (after ≡ ids)
 IdsDeclared ids c (Err TooManyChannels) after = (ids_lack ids c ≡ Some declaring.TooManyChannels) × (after ≡ ids)

@@ -9,7 +9,7 @@ ghost use Rattle.mcap_model.specs.History.{message_of};
 ghost use Rattle.record_cache.specs.Offers.{Offered};
 ghost use Rattle.record_core.specs.Machine.{start, swap, close, stop};
 ghost use Rattle.record_core.specs.Sights.{DefFits, IsOpen, SightOf};
-ghost use Rattle.record_core.specs.Stands.{StandsFor, Steps, Stays, PublishSteps, DeclareSteps};
+ghost use Rattle.record_core.specs.Stands.{DeskStandsFor, Steps, Stays, PublishSteps, DeclareSteps};
 
 use crate::answers::{DeclareRefused, Declared, Empty, Found, NewMessage, PublishRefused};
 use crate::framing::{declared_size, offer_declared};
@@ -58,7 +58,7 @@ impl Desk {
     pub fn open(alloc: Global, limit: u64) -> Result<Desk, Memory>
         requires { limit ≤ buffer_limit }
         ensures empty { IfOk result (λ desk. desk ≡ new_desk limit) }
-        ensures stands { IfOk result (λ desk. StandsFor desk start) }
+        ensures stands { IfOk result (λ desk. DeskStandsFor desk start) }
     {
         let ids = match IdTable::new(alloc) {
             Ok(ids) => ids,

@@ -15,7 +15,7 @@ use Rattle.mcap_model.proofs.Lists.{each_cons}
 use Rattle.record_cache.specs.Buffers.{IsKept}
 use Rattle.record_core.specs.Desk.{DeskView, new_desk, accepted, end_of, ended}
 use Rattle.record_core.specs.Machine.{State, start, end_with}
-use Rattle.record_core.specs.Stands.{StandsFor}
+use Rattle.record_core.specs.Stands.{DeskStandsFor}
 use Rattle.chunk_writer.specs.declared.tape.Written.{Written}
 use Rattle.chunk_writer.specs.declared.phase.Phase.{Phase}
 use Rattle.chunk_writer.specs.declared.phase.Phase.TheVariants as phases
@@ -28,7 +28,7 @@ use Rattle.recorder.specs.declared.lone.LoneDesk.{LoneDesk}
 use Rattle.recorder.specs.declared.report.Report.{Report}
 use Rattle.recorder.specs.declared.report.WriterReport.{WriterReport}
 use Rattle.recorder.specs.Shown.{ShownBy}
-use Rattle.recorder.specs.Assembled.{LanePart, LaneStands}
+use Rattle.recorder.specs.Assembled.{LanePart, LanePartStands}
 use Rattle.recorder.specs.Recorded.{lane_of, answer_of}
 use Rattle.recorder.specs.Lone.{FoundBefore, IsAlone}
 use Rattle.recorder.specs.Writing.{Continues}
@@ -50,10 +50,10 @@ stopped_closed e = cc
 abbrev lone_at : DeskView → LoneDesk
 lone_at desk = record { desk = desk; found = None }
 
-started : (limit : ℕ) → StandsFor (new_desk limit) start
+started : (limit : ℕ) → DeskStandsFor (new_desk limit) start
 started limit = record { desk = refl; within = omega arith; numbered = λ n r at. absurd (at_none n r at) }
 
-alone_at : (limit : ℕ) (desk : DeskView) (s : State) → StandsFor desk s → s.history ≡ [] → desk.limit ≡ limit → (end_of desk ≡ Some ends.Closed → ⊥) → IsAlone (lone_at desk) s (no_calls limit)
+alone_at : (limit : ℕ) (desk : DeskView) (s : State) → DeskStandsFor desk s → s.history ≡ [] → desk.limit ≡ limit → (end_of desk ≡ Some ends.Closed → ⊥) → IsAlone (lone_at desk) s (no_calls limit)
 alone_at limit desk s stands empty same unclosed = record {
   stands = stands;
   shows = record {
@@ -125,7 +125,7 @@ each_of P xs all n x at =
     let within = at_within xs n x at in
     subst P (at_one xs n (get_or xs n x) x (at_read xs n x within) at) (all n x within)
 
-pub all_kept : (d : DeskView) (s : State) → StandsFor d s → All IsKept (taken_of s) → All IsKept d.primary → Each IsKept s.history
+pub all_kept : (d : DeskView) (s : State) → DeskStandsFor d s → All IsKept (taken_of s) → All IsKept d.primary → Each IsKept s.history
 all_kept d s stands before behind =
     let p = parts d s stands in
     let whole : taken_of s ++ d.primary ≡ s.history = ap (λ (l : List Rec). taken_of s ++ l) p.primary ∙ take-append-drop s.taken s.history in
@@ -175,7 +175,7 @@ is_reported limit before now lone s pass r f alone limited unfull only reports s
       unfull = unfull;
       assembled = record {
         numbered = alone.stands.numbered;
-        stand = each_cons (LaneStands limit s.history r.writer.end) lane [] (record {
+        stand = each_cons (LanePartStands limit s.history r.writer.end) lane [] (record {
           fits = reports.fits;
           shown = shown_by lone s pass r.writer.end alone same;
           limit_is = limited;
@@ -191,7 +191,7 @@ is_reported limit before now lone s pass r f alone limited unfull only reports s
     }
 
 -- where a desk was stopped before its first record there is none
-pub nothing_more : (limit : ℕ) (stop : Stop) (desk : DeskView) (s : State) → StandsFor desk s → desk ≡ ended (new_desk limit) (ends.Stopped stop) → s.history ≡ []
+pub nothing_more : (limit : ℕ) (stop : Stop) (desk : DeskView) (s : State) → DeskStandsFor desk s → desk ≡ ended (new_desk limit) (ends.Stopped stop) → s.history ≡ []
 nothing_more limit stop desk s stands is = empty s.history (omega (arith, (parts desk s stands).count, ap accepted is))
   where
     empty : (l : List Rec) → length l ≡ 0 → l ≡ []

@@ -20,7 +20,7 @@ use Rattle.feed_lane.specs.declared.report.FeedEnd.TheVariants as feed_ends
 use Rattle.feed_lane.specs.Lanes.{Lists, IsGiven}
 use Rattle.feed_lane.specs.Feeds.{FeedEnds, reported}
 use Rattle.feed_lane.proofs.Growing.{schema_more, on_more, message_more}
-use Rattle.recorder.specs.Assembled.{LanePart, LaneStands, Assembled}
+use Rattle.recorder.specs.Assembled.{LanePart, LanePartStands, Assembled}
 use Rattle.recorder.specs.Recorded.{lane_of}
 use Rattle.recorder.specs.Laws.{RecordingsAreGiven}
 use Rattle.recorder.proofs.OneHistory.{Says, DeclaredOnce, lane_says, given_both, histories_same}
@@ -139,8 +139,8 @@ record IsAlone (tops : List Top) (lane : LanePart) (history : List Rec) : Type 0
 
 alone_front : (tops others : List Top) (lane other_lane : LanePart) (one other : List Rec) → IsFront tops others → lane.lists ≡ other_lane.lists → IsAlone tops lane one → IsAlone others other_lane other → one ≡ other
 alone_front tops others lane other_lane one other (more, longer) lists it also =
-    let stands : LaneStands it.limit one it.end lane = it.is.stand 0 lane refl in
-    let other_stands : LaneStands also.limit other also.end other_lane = also.is.stand 0 other_lane refl in
+    let stands : LanePartStands it.limit one it.end lane = it.is.stand 0 lane refl in
+    let other_stands : LanePartStands also.limit other also.end other_lane = also.is.stand 0 other_lane refl in
     let records : other_lane.records ≡ lane.records ++ flat more = also.records_are ∙ ap flat longer ∙ flat_map-append flattened tops more ∙ ap (λ (l : List Top). l ++ flat more) (sym it.records_are) in
     let agree : EachBehind Agrees other_lane.records = subst (EachBehind Agrees) (sym also.records_are) (good_lists_agree reading_limits others also.good).1 in
     let once : DeclaredOnce other_lane.records lane.lists.declared = subst (λ (l : Lists). DeclaredOnce other_lane.records l.declared) (sym lists) other_stands.fits.once in

@@ -25,7 +25,7 @@ use Rattle.feed_lane.specs.Pass.{PassState, AreAdded}
 use Rattle.feed_lane.specs.Lanes.{Lists, messages, IsOn, SchemaShown, Describes, Declares, Accepts, IsGiven}
 use Rattle.feed_lane.proofs.Growing.{on_one}
 use Rattle.recorder.specs.Shown.{SchemaStands, ChannelStands}
-use Rattle.recorder.specs.Assembled.{LanePart, LaneStands}
+use Rattle.recorder.specs.Assembled.{LanePart, LanePartStands}
 use Rattle.recorder.specs.Laws.{Assembly, SameLists, HistoriesAreGiven}
 use Rattle.recorder.proofs.NumberedOnce.{numbered_front, schema_place_one, schema_some, schema_id_one, channel_place_one}
 use Rattle.recorder.proofs.AgreedFields.{channel_same, SameDef, def_same}
@@ -126,7 +126,7 @@ stands_as records declared history pass a own was = record {
   there = own was.own.0 (a.place, message_of was.by.channel was.message) was.own.1;
 }
 
-pub lane_says : (limit : ℕ) (history : List Rec) (end : End) (lane : LanePart) → LaneStands limit history end lane → Says lane.records lane.lists history
+pub lane_says : (limit : ℕ) (history : List Rec) (end : End) (lane : LanePart) → LanePartStands limit history end lane → Says lane.records lane.lists history
 lane_says limit history end lane stands = record {
   accepts = λ k a at. stands_as lane.records lane.lists.declared history lane.pass a stands.shown.own (stands.fits.accepts k a at);
   declares = λ k d at. adds_there lane.records history lane.pass d stands.shown.own stands.shown.named (stands.fits.declares k d at);
@@ -329,8 +329,8 @@ histories_same one other alike back = all_same one other (all_at one other alike
 lanes_both : (one other : Assembly) (k place : ℕ) (lane other_lane : LanePart) → At one.lanes k lane → At other.lanes k other_lane → EachBehind Agrees lane.records → SameLists lane other_lane
     → take place one.history ≡ take place other.history → IsGiven lane.lists place → StandsInBoth one.history other.history place
 lanes_both one other k place lane other_lane at other_at agree same front given =
-    let stands : LaneStands one.limit one.history one.end lane = one.is.stand k lane at in
-    let other_stands : LaneStands other.limit other.history other.end other_lane = other.is.stand k other_lane other_at in
+    let stands : LanePartStands one.limit one.history one.end lane = one.is.stand k lane at in
+    let other_stands : LanePartStands other.limit other.history other.end other_lane = other.is.stand k other_lane other_at in
     let other_says : Says lane.records lane.lists other.history = subst (λ (r : List Top). Says r lane.lists other.history) (sym same.records)
     (subst (λ (l : Lists). Says other_lane.records l other.history) (sym same.lists) (lane_says other.limit other.history other.end other_lane other_stands)) in
     given_both lane.records lane.lists agree stands.fits.once one.history other.history place one.is.numbered other.is.numbered front

@@ -37,15 +37,15 @@ abbrev pub LacksChannel : List Rec → ChannelDef → Type 0
 LacksChannel history d = (channel_count history ≡ id_limit) × ((id : ℕ) → ChannelStands history id d → ⊥)
 
 -- why a declaration got no id
-abbrev pub Lacks : List Rec → ChannelDef → DeclareRefused → Type 0
-Lacks history d (declaring.TooLarge len) = ⊥
-Lacks history d (declaring.Closed at) = ⊥
-Lacks history d (declaring.Stopped at stop) = ⊥
-Lacks history d (declaring.TooManyRecords count) = ⊥
-Lacks history d (declaring.Full held) = ⊥
-Lacks history d declaring.TooManySchemas = LacksSchema history d.schema
-Lacks history d declaring.TooManyChannels = LacksChannel history d
-Lacks history d declaring.Memory = ⊥
+abbrev pub IdsLack : List Rec → ChannelDef → DeclareRefused → Type 0
+IdsLack history d (declaring.TooLarge len) = ⊥
+IdsLack history d (declaring.Closed at) = ⊥
+IdsLack history d (declaring.Stopped at stop) = ⊥
+IdsLack history d (declaring.TooManyRecords count) = ⊥
+IdsLack history d (declaring.Full held) = ⊥
+IdsLack history d declaring.TooManySchemas = LacksSchema history d.schema
+IdsLack history d declaring.TooManyChannels = LacksChannel history d
+IdsLack history d declaring.Memory = ⊥
 
 -- ---- a pass
 
@@ -76,5 +76,5 @@ pub record ShownBy (history : List Rec) (end : End) (pass : PassState) : Type 0 
   pub own : Each (λ pair. At history pair.0 pair.1) pass.own
   pub named : Each (λ pair. ChannelStands history pair.0 pair.1) pass.named
   pub fulls : Each (HeldThere history) pass.fulls
-  pub lacks : Each (λ pair. Lacks history pair.0 pair.1) pass.lacks
+  pub lacks : Each (λ pair. IdsLack history pair.0 pair.1) pass.lacks
   pub found : (found : Found) → pass.found ≡ Some found → FoundIn history end found

@@ -12,7 +12,7 @@ use Rattle.std.proofs.lemmas.List.{length-append}
 use Rattle.section_check.specs.declared.gathering.Gathering.{Gathering}
 use Rattle.section_check.specs.declared.last_chunk.TakeRefused.{TakeRefused}
 use Rattle.section_check.specs.declared.last_chunk.TakeRefused.TheVariants as takings
-use Rattle.section_check.specs.Gathering.{RecordTaken}
+use Rattle.section_check.specs.Gathering.{RecordGathered}
 use Rattle.section_check.specs.Reading.{AreRead, Reads, refused_as}
 
 -- memory lacked behind the Data End
@@ -36,6 +36,6 @@ read_so_far reader before now tops t = by reader.stage
     by (stages.Stopped why) going was = absurd going
 
 -- a record that was read wasn't taken
-pub not_taken : (before now : SourceState) (tops : List Top) (g : Gathering) (why : TakeRefused) → RecordTaken tops g (Err why) → MemoryStands before now tops → AreRead before now tops → Reads before now (Err (refused_as why))
+pub not_taken : (before now : SourceState) (tops : List Top) (g : Gathering) (why : TakeRefused) → RecordGathered tops g (Err why) → MemoryStands before now tops → AreRead before now tops → Reads before now (Err (refused_as why))
 not_taken before now tops g (takings.Index offset) fails lacks read = (tops, record { are_read = read; fails = fails })
 not_taken before now tops g takings.Memory fails lacks read = (tops, lacks)

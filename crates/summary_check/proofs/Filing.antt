@@ -26,7 +26,7 @@ use Rattle.summary_check.specs.Closing.{IsOfFooter, NoFooter}
 use Rattle.summary_check.specs.Cutting.{ArePlaced, AreCut}
 use Rattle.summary_check.specs.Files.{file_of}
 use Rattle.summary_check.specs.Filed.{records_of, Filed}
-use Rattle.summary_check.specs.Laid.{IsEnded, IsFront}
+use Rattle.summary_check.specs.Laid.{EndsWithDataEnd, IsFront}
 use Rattle.summary_check.specs.Sectioned.{IsSectioned}
 use Rattle.summary_check.proofs.Cuts.{size_of}
 use Rattle.summary_check.proofs.Onward.{length-tops}
@@ -42,7 +42,7 @@ nothing_behind tops section (t ∷ ts) end good joined kind =
     let fits = good (length (section ++ end ∷ [])) t at in
     absurd (fits.unended (subst HasDataEnd (sym front) (ended_more section end kind)))
 
-pub sectioned_ended : (tops : List Top) (s : Section) → IsSectioned tops s → IsEnded tops
+pub sectioned_ended : (tops : List Top) (s : Section) → IsSectioned tops s → EndsWithDataEnd tops
 sectioned_ended tops s is =
     let kept = is.kept in
     let section = kept.is in
@@ -157,7 +157,7 @@ end_flaw tops all rest offset whole bad there =
     subst (Flaw (file_of tops rest) 17) same (flaw_17 (inr (all, whole, bad)))
 
 -- nothing stands behind the Data End
-pub nothing_flaw : (tops : List Top) (bytes : List ℕ) (offset : ℕ) → IsEnded tops → AreShort tops → AreCut bytes [] → offset ≡ offset_behind tops + (length bytes + 8) - 37 → Flaw (file_of tops bytes) 17 offset
+pub nothing_flaw : (tops : List Top) (bytes : List ℕ) (offset : ℕ) → EndsWithDataEnd tops → AreShort tops → AreCut bytes [] → offset ≡ offset_behind tops + (length bytes + 8) - 37 → Flaw (file_of tops bytes) 17 offset
 nothing_flaw tops bytes offset ended short are there =
     end_flaw tops tops bytes offset (record { split = ap (λ (l : List ℕ). magic ++ (spelled tops ++ (l ++ magic))) are.split; short = short })
     (no_end tops ended.section ended.end ended.joined (λ summary offsets crc footer. omega (arith, ended.kind, footer.kind))) there

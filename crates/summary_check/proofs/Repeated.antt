@@ -19,7 +19,7 @@ use Rattle.index_check.specs.declared.tally.Tally.{Tally}
 use Rattle.index_check.specs.Tally.{TallyOf}
 use Rattle.summary_read.specs.Steps.{Judged}
 use Rattle.summary_check.specs.Declaring.{AreDeclared}
-use Rattle.summary_check.specs.Laid.{all_of, IsEnded}
+use Rattle.summary_check.specs.Laid.{all_of, EndsWithDataEnd}
 use Rattle.summary_check.specs.Repeating.{AreRepeated}
 use Rattle.summary_check.proofs.Laying.{body_there, body_back, body_within, within_body}
 
@@ -45,7 +45,7 @@ no_message records none n t at five =
         let has = (filter_passed is_flat_kind (u ∷ []) j t here).0 in
         alone u has.0 has.1
 
-module _ (tops body : List Top) (foot : Top) (ended : IsEnded tops) (judged : Each (λ t. Judged t None) body) (foot_is : foot.op ≡ 2) where
+module _ (tops body : List Top) (foot : Top) (ended : EndsWithDataEnd tops) (judged : Each (λ t. Judged t None) body) (foot_is : foot.op ≡ 2) where
   abbrev all : List Top
   all = all_of tops body foot
 
