@@ -17,7 +17,7 @@ use Rattle.command_base.specs.Printing.{Tells, TellsAll, Takes}
 use Rattle.command_base.specs.Ran.{Scene, counts_in, Complains}
 use Rattle.command_base.specs.OneFile.{was_read, failing, text_of, ending_status, HaltsWell, PrintsEnding, ShowsFaults}
 use Rattle.command_base.proofs.OneFile.{one_troubles, one_not_two, reads_one, halts_so, read_halts, failed_halts, lacked_halts}
-use Rattle.check_command.specs.Check.{ComesTo, IsJudged, counts_line, flaw_line, verdict_line, ending_of, verdict_status, judgement_status, final_status, Decides, FileChecks}
+use Rattle.check_command.specs.Check.{CheckComesTo, IsJudged, counts_line, flaw_line, verdict_line, ending_of, verdict_status, judgement_status, final_status, Decides, FileChecks}
 use Rattle.check_command.specs.Names.{NameJudged}
 
 -- ---- the line
@@ -97,7 +97,7 @@ halted_ends : (own complained answer n : ℕ) → answer ≡ final_status compla
 halted_ends own complained answer n final (inl is) = inl (final ∙ final_same complained own (λ none. omega (arith, none, is)) ∙ is)
 halted_ends own complained answer n final (inr five) = inr (final ∙ final_same complained own (λ none. omega (arith, none, five)) ∙ five)
 
-decides_so : (file bytes : List ℕ) (store : StoreState) (faults : ℕ) (judgement : Judgement) (complained answer : ℕ) → store.bytes ≡ Some bytes → ComesTo store faults judgement → (ending_of file judgement ≡ failing → ⊥)
+decides_so : (file bytes : List ℕ) (store : StoreState) (faults : ℕ) (judgement : Judgement) (complained answer : ℕ) → store.bytes ≡ Some bytes → CheckComesTo store faults judgement → (ending_of file judgement ≡ failing → ⊥)
     → Calm file judgement complained → answer ≡ final_status complained (judgement_status judgement) → Decides bytes judgement answer
 decides_so file bytes store faults judgements.Unopened complained answer here comes other why final = comes
 decides_so file bytes store faults (judgements.Given verdict) complained answer here comes other why final = (comes.checks bytes here, given_ends verdict complained answer final why)

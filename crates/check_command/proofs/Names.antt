@@ -16,14 +16,14 @@ use Rattle.command_base.specs.Ran.{kept, refused, failed_so}
 use Rattle.command_base.specs.OneFile.{failing}
 use Rattle.command_base.proofs.Counting.{failed_often}
 use Rattle.command_base.proofs.OneFile.{store_input, store_keeping, unopened as name_unopened, unopened_for_memory, same_back, taken_back, read_sure, halted_sure, lacked_sure}
-use Rattle.check_command.specs.Check.{ComesTo, ending_of}
+use Rattle.check_command.specs.Check.{CheckComesTo, ending_of}
 use Rattle.check_command.specs.Names.{NameJudged}
 
 abbrev pub judged : Judgement → Bool → Judged
 judged judgement broken = record { judgement = judgement; failed = broken }
 
 -- a check that failed has a store that failed
-sure : (file : List ℕ) (store : StoreState) (faults : ℕ) (judgement : Judgement) (well : Bool) → store.faults ≡ 0 → ComesTo store faults judgement → ending_of file judgement ≡ failing → failed_so well faults ≡ true
+sure : (file : List ℕ) (store : StoreState) (faults : ℕ) (judgement : Judgement) (well : Bool) → store.faults ≡ 0 → CheckComesTo store faults judgement → ending_of file judgement ≡ failing → failed_so well faults ≡ true
 sure file store faults judgements.Unopened well unused comes e = absurd comes
 sure file store faults (judgements.Given verdict) well unused comes e = read_sure _ (failed_so well faults) e
 sure file store faults (judgements.Refused (refusals.Fault count)) well unused comes e =
@@ -61,7 +61,7 @@ module _ (file : List ℕ) where
     pub still : w1.faults ≡ w0.faults
     pub tells : TellsStore w0 file store
     pub unused : IsUnused store
-    pub comes : ComesTo store store_now.faults judgement
+    pub comes : CheckComesTo store store_now.faults judgement
     pub keeps : KeepsStore w1 w2 file store_now result
     pub inputs : w2.input_faults ≡ added w1.input_faults store_now.faults
     pub outputs : w2.output_faults ≡ w1.output_faults

@@ -20,22 +20,22 @@ use Rattle.command_base.specs.OneFile.{Ending, was_read, halted, failing, lacked
 -- ---- the file
 
 -- the bytes of the store, where it told them, have this answer; its count says whether it failed
-pub record IsFound (store : StoreState) (faults : ℕ) (answer : Result Verdict CheckRefused) : Type 0 where
+pub record HasAnswer (store : StoreState) (faults : ℕ) (answer : Result Verdict CheckRefused) : Type 0 where
   pub checks : Checks store.bytes answer
   pub cause : CheckCause store.faults faults answer
 
 -- what the check of a store came to, whose count stands there then
-abbrev pub ComesTo : StoreState → ℕ → Judgement → Type 0
-ComesTo store faults judgements.Unopened = ⊥
-ComesTo store faults (judgements.Given verdict) = IsFound store faults (Ok verdict)
-ComesTo store faults (judgements.Refused why) = IsFound store faults (Err why)
+abbrev pub CheckComesTo : StoreState → ℕ → Judgement → Type 0
+CheckComesTo store faults judgements.Unopened = ⊥
+CheckComesTo store faults (judgements.Given verdict) = HasAnswer store faults (Ok verdict)
+CheckComesTo store faults (judgements.Refused why) = HasAnswer store faults (Err why)
 
 -- the store that was opened under the name told the bytes there, where the world tells; it was checked, and taken back
 pub record JudgedUnder (file : List ℕ) (world : WorldState) (keeping : Keeping) (judgement : Judgement) : Type 0 where
   pub store : StoreState
   pub tells : TellsStore world file store
   pub unused : IsUnused store
-  pub comes : ComesTo store keeping.faults judgement
+  pub comes : CheckComesTo store keeping.faults judgement
 
 -- no entry, where memory lacked for the opening; or it was refused; or a store was given, checked, and taken back
 abbrev pub IsJudged : List ℕ → WorldState → List Opening → Judgement → Type 0

@@ -4,7 +4,7 @@ ghost use Rattle.command_base.specs.Texts.{complained};
 ghost use Rattle.command_base.specs.Printing.{Takes};
 ghost use Rattle.command_base.specs.Ran.{scene};
 ghost use Rattle.command_base.specs.OneFile.{text_of, troubles_in, is_lack, PrintsEnding};
-ghost use Rattle.check_command.specs.Check.{ComesTo, refusal_ending, ending_of, judgement_status, final_status, FileChecks};
+ghost use Rattle.check_command.specs.Check.{CheckComesTo, refusal_ending, ending_of, judgement_status, final_status, FileChecks};
 ghost use Rattle.check_command.specs.Names.{NameJudged};
 
 use crate::verdict::line_of_verdict;
@@ -34,7 +34,7 @@ pub struct Judged {
 
 // Checks the file that a store holds.
 fn judge_store<T: Store>(alloc: Global, store: &mut T) -> Judgement
-    ensures { ComesTo (T.state store.old) (T.state store.new).faults result }
+    ensures { CheckComesTo (T.state store.old) (T.state store.new).faults result }
 {
     match check(alloc, store) {
         Ok(verdict) => Judgement::Given { verdict },

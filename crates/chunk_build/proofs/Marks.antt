@@ -38,7 +38,7 @@ content_is bytes r is =
     ∙ ap (λ (l : List ℕ). drop 9 l) is.spelled
     ∙ drop_at (le 8 (length text)) text 8 (length-le 8 (length text))
 
-first_is : (bytes : List ℕ) (r : Rec) → AreFramed bytes r → get_or bytes 0 0 ≡ rec_opcode r
+pub first_is : (bytes : List ℕ) (r : Rec) → AreFramed bytes r → get_or bytes 0 0 ≡ rec_opcode r
 first_is bytes r is = ap (λ (l : List ℕ). get_or l 0 0) is.spelled
 
 -- a record that doesn't begin with the opcode of a Message is none

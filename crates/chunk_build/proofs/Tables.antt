@@ -8,12 +8,11 @@ use Rattle.std.proofs.lemmas.Bool.{ltb-true, ltb-false, lt-ltb, le-leb, lt-leb, 
 use Rattle.mcap_model.specs.declared.replay.Range.{Range}
 use Rattle.mcap_model.specs.Places.{At}
 use Rattle.mcap_model.specs.Plain.{is_within, is_before}
-use Rattle.std.proofs.lemmas.Option.{same_Some}
 use Rattle.std.proofs.lemmas.List.{length-drop}
 use Rattle.std.proofs.lemmas.List.Kept.{AllPairs-filter}
 use Rattle.mcap_model.proofs.Flat.{map-append}
 use Rattle.mcap_model.proofs.NamedTopics.{take_past}
-use Rattle.mcap_model.proofs.Places.{at_none}
+use Rattle.mcap_model.proofs.OneMore.{take_next}
 use Rattle.chunk_build.specs.declared.index_table.TimeAt.{TimeAt}
 use Rattle.chunk_build.specs.IndexTable.{time_at, NotAfter, Rises}
 
@@ -137,11 +136,6 @@ among_both xs late some range end is then ends =
     (λ x. sym (ap (λ (o : Option ℕ). nat_le range.start x.time && is_before o x.time) ends)) xs
 
 -- ---- entries that are copied
-
-take_next : {X : Type 0} (xs : List X) (n : ℕ) (x : X) → At xs n x → take (suc n) xs ≡ take n xs ++ x ∷ []
-take_next [] n x at = absurd (at_none n x at)
-take_next {X} (y ∷ xs) zero x at = ap (λ (z : X). z ∷ []) (same_Some y x at)
-take_next {X} (y ∷ xs) (suc n) x at = ap (λ (l : List X). y ∷ l) (take_next xs n x at)
 
 pub copied_more : (entries : List (ℕ × ℕ)) (i : ℕ) (entry : ℕ × ℕ) (copied new : List TimeAt) → At {X = ℕ × ℕ} entries i entry → copied ≡ map time_at (take i entries) → new ≡ copied ++ time_at entry ∷ [] → new ≡ map time_at (take (i + 1) entries)
 copied_more entries i entry copied new at was added =

@@ -1,6 +1,7 @@
 //! The open chunk: its records stand where they will in the block, behind room for the head of the Chunk.
 ghost use Rattle.std.specs.Prelude.{◌≡◌, ◌+◌, ◌*◌, ◌^◌, ◌<◌, ◌≤◌, ◌++◌, ◌==◌, ℕ, [], length, drop, min, if◌then◌else◌, vec_len, vec_capacity, IfOk, OnOk, Option, Some, None};
 ghost use Rattle.mcap_wire.specs.Layout.{framed};
+ghost use Rattle.mcap_wire.specs.Limits.{chunk_size_limit};
 ghost use Rattle.mcap_wire.specs.Writing.{HasRoom};
 ghost use Rattle.rec_index.specs.Records.{chunk_text};
 ghost use Rattle.chunk_build.specs.Rows.{HasRow};
@@ -100,7 +101,7 @@ fn take_room(bytes: &mut Vec<u8>, spare: &mut Vec<u8>)
 
 // Makes room for the head in front of the first record, and some for the records and the Message Indexes.
 fn begin_chunk(bytes: &mut Vec<u8>, spare: &mut Vec<u8>, size: u64) -> Result<(), Memory>
-    requires { size ≤ 67108864 }
+    requires { size ≤ chunk_size_limit }
     ensures same { drop 49 bytes.new.items ≡ drop 49 bytes.old.items }
     ensures begun { OnOk result (49 ≤ length bytes.new.items) }
 {
@@ -152,7 +153,7 @@ pub(crate) fn prepare(
 ) -> Result<Ready, Memory>
     requires sound { IsSound chunk.old }
     requires small { chunk.old.index < 2 ^ 31 }
-    requires size { size ≤ 67108864 }
+    requires size { size ≤ chunk_size_limit }
     ensures same { seen chunk.new ≡ seen chunk.old }
     ensures sound { IsSound chunk.new }
     ensures ready { IfOk result (λ ready. IsReady size len mark chunk.new ready) }

@@ -1,5 +1,6 @@
 //! The chunker takes a history record by record, and gives the blocks into which it is cut.
 ghost use Rattle.std.specs.Prelude.{◌≡◌, ◌≤◌, ℕ, List, [], length, IfOk, OnErr};
+ghost use Rattle.mcap_wire.specs.Limits.{chunk_size_limit};
 ghost use Rattle.rec_data.specs.declared.owned.Rec.{Rec};
 ghost use Rattle.rec_data.specs.Owned.{rec_bytes, LengthsFit};
 ghost use Rattle.chunk_build.specs.Building.{mark_of, IsLong};
@@ -42,7 +43,7 @@ impl Chunker {
     /// A chunker that stands for no records yet. The size is in bytes of framed records.
     pub fn new(alloc: Global, size: u64) -> Result<Chunker, Memory>
         requires some { 1 ≤ size }
-        requires within { size ≤ 67108864 }
+        requires within { size ≤ chunk_size_limit }
         ensures { IfOk result (λ c. StandsFor c [] × (c.size ≡ size)) }
     {
         Ok(Chunker {

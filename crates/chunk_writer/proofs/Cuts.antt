@@ -4,14 +4,13 @@ use Rattle.std.specs.Prelude.{fold, if◌then◌else◌}
 use Rattle.std.proofs.lemmas.Bool.{leb-false}
 use Rattle.std.proofs.lemmas.List.{append-nil, length-append}
 use Rattle.std.proofs.lemmas.Grind.{flat_map-append}
-use Rattle.mcap_wire.proofs.Framing.{length-framed}
 use Rattle.rec_data.specs.declared.owned.Rec.{Rec}
-use Rattle.rec_data.specs.declared.owned.Rec.TheVariants.{Schema, Channel, Message}
-use Rattle.rec_data.specs.Owned.{rec_bytes, rec_opcode, rec_text}
+use Rattle.rec_data.specs.Owned.{rec_bytes}
 use Rattle.mcap_model.specs.History.{history_bytes}
-use Rattle.mcap_model.specs.Blocks.{Piece, block, alone, Cuts, no_cuts, reaches, put_behind, cuts, last_piece, pieces_of, piece_bytes, pieces_bytes, logged, logged_one, logged_from, block_bytes, chunk_bytes, indexes_bytes, logged_channels}
+use Rattle.mcap_model.specs.Blocks.{Piece, block, alone, Cuts, no_cuts, reaches, put_behind, cuts, last_piece, pieces_of, piece_bytes, pieces_bytes, logged, block_bytes, chunk_bytes, indexes_bytes, logged_channels}
 use Rattle.mcap_model.proofs.Growth.{fold_append, bytes_more}
 use Rattle.mcap_model.proofs.Section.{block_within}
+use Rattle.mcap_model.proofs.FewRecords.{logged_few}
 use Rattle.chunk_writer.specs.Bodies.{Closes}
 
 -- ---- one record more
@@ -67,18 +66,6 @@ pub none_waits : (history : List Rec) → (cuts None history).waiting ≡ []
 none_waits history = none_waits_by no_cuts history refl
 
 -- ---- how many messages there are
-
-logged_few : (at : ℕ) (rs : List Rec) → length (logged_from at rs) ≤ length (history_bytes rs)
-logged_few at [] = omega arith
-logged_few at (r ∷ rs) =
-    let rest = logged_few (at + length (rec_bytes r)) rs in
-    let one = one_few at r in
-    omega (arith, rest, one, length-framed (rec_opcode r) (rec_text r), length-append (logged_one at r) (logged_from (at + length (rec_bytes r)) rs), length-append (rec_bytes r) (history_bytes rs))
-  where
-    one_few : (at : ℕ) (r : Rec) → length (logged_one at r) ≤ 1
-    one_few at (Schema id schema) = omega arith
-    one_few at (Channel id schema topic encoding metadata) = omega arith
-    one_few at (Message channel sequence log_time publish_time payload) = omega arith
 
 -- the bytes of the records stand in the pieces, but for those that wait, which aren't ripe
 record Spread (size : ℕ) (done : List Rec) (c : Cuts) : Type 0 where

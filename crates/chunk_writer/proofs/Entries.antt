@@ -1,26 +1,18 @@
 -- The entries of the blocks that records make sure.
-use Rattle.std.proofs.Common.{◌≡◌, ℕ, ◌+◌, List, [], ◌∷◌, ◌++◌, length, Option, Some, None, refl, sym, ap, subst, ◌∙◌, append_assoc, append-nil, length-append, arith}
+use Rattle.std.proofs.Common.{◌≡◌, ℕ, ◌+◌, List, [], ◌∷◌, ◌++◌, length, Option, Some, None, sym, ap, subst, ◌∙◌, append_assoc, append-nil, length-append, arith}
 use Rattle.std.specs.List.{AllZip}
+use Rattle.std.proofs.lemmas.List.{nil_from_length}
 use Rattle.rec_data.specs.declared.owned.Rec.{Rec}
 use Rattle.mcap_io.specs.Outside.{LiveState}
 use Rattle.mcap_model.specs.declared.options.FileOptions.{FileOptions}
 use Rattle.mcap_model.specs.Blocks.{Piece, block, Cuts, cuts, pieces_bytes, blocks_in}
 use Rattle.mcap_model.specs.File.{front, blocks_from, written_of}
 use Rattle.mcap_model.proofs.Standing.{count_blocks}
+use Rattle.mcap_model.proofs.OneMore.{zip_push}
 use Rattle.chunk_writer.specs.declared.entry.Entry.{Entry}
-use Rattle.chunk_writer.specs.Scribes.{Seen, IsEntryOf, GivesEntry, Lists, KeepsOn, sure_blocks, GivesEntries}
+use Rattle.chunk_writer.specs.Scribes.{SeenExtents, IsEntryOf, GivesEntry, Lists, KeepsOn, sure_blocks, GivesEntries}
 use Rattle.chunk_writer.proofs.Cuts.{cuts_more, one_more}
 use Rattle.chunk_writer.proofs.Noting.{blocks_append}
-
-zip_push : {A B : Type 0} (R : A → B → Type 0) (xs : List A) (ys : List B) (x : A) (y : B) → AllZip R xs ys → R x y → AllZip R (xs ++ x ∷ []) (ys ++ y ∷ [])
-zip_push R [] [] x y all one = (one, tt)
-zip_push R [] (b ∷ ys) x y all one = absurd all
-zip_push R (a ∷ xs) [] x y all one = absurd all
-zip_push R (a ∷ xs) (b ∷ ys) x y all one = (all.0, zip_push R xs ys x y all.1 one)
-
-none_left : {A : Type 0} (xs : List A) → length xs ≡ 0 → xs ≡ []
-none_left [] is = refl
-none_left (x ∷ xs) is = absurd (omega (arith, is))
 
 -- ---- a record that closes no block
 
@@ -31,7 +23,7 @@ same_from at ps qs more is same =
     let all : blocks_from at qs ≡ blocks_from at ps ++ behind = ap (blocks_from at) is ∙ blocks_append at ps more in
     let sizes = ap (λ (l : List (ℕ × List Rec)). length l) all in
     let counts = ap (λ (l : List (List Rec)). length l) same in
-    let none : behind ≡ [] = none_left behind (omega (arith, sizes, counts, count_blocks at qs, count_blocks at ps, length-append (blocks_from at ps) behind)) in
+    let none : behind ≡ [] = nil_from_length behind (omega (arith, sizes, counts, count_blocks at qs, count_blocks at ps, length-append (blocks_from at ps) behind)) in
     all ∙ ap (λ (l : List (ℕ × List Rec)). blocks_from at ps ++ l) none ∙ append-nil (blocks_from at ps)
 
 same_sure : (options : FileOptions) (history : List Rec) (r : Rec) → blocks_in (cuts options.chunk (history ++ r ∷ [])).pieces ≡ blocks_in (cuts options.chunk history).pieces
@@ -52,24 +44,24 @@ block_more start ps qs records closes =
 -- ---- entries in a row
 
 -- what is seen later of the same extents
-abbrev pub seen_later : {X : Type 0} → Seen X → LiveState → Seen X
+abbrev pub seen_later : {X : Type 0} → SeenExtents X → LiveState → SeenExtents X
 seen_later seen store = record { tells = seen.tells; size = seen.size; held = store.held }
 
-entry_before : {X : Type 0} (seen : Seen X) (store : LiveState) (e : Entry X) (offset : ℕ) (records : List Rec) → KeepsOn seen.held store.held → IsEntryOf (seen_later seen store) e offset records → IsEntryOf seen e offset records
+entry_before : {X : Type 0} (seen : SeenExtents X) (store : LiveState) (e : Entry X) (offset : ℕ) (records : List Rec) → KeepsOn seen.held store.held → IsEntryOf (seen_later seen store) e offset records → IsEntryOf seen e offset records
 entry_before seen store e offset records keeps is = record {
   numbers = is.numbers;
   long = is.long;
   told = λ before holds. is.told (before ++ (keeps before holds).0) (keeps before holds).1;
 }
 
-pub no_entries : {X : Type 0} (seen : Seen X) (options : FileOptions) (history : List Rec) → GivesEntries seen options history [] []
+pub no_entries : {X : Type 0} (seen : SeenExtents X) (options : FileOptions) (history : List Rec) → GivesEntries seen options history [] []
 no_entries seen options history = record {
   closed = [];
   sure = ap (sure_blocks options) (append-nil history) ∙ sym (append-nil (sure_blocks options history));
   each = tt;
 }
 
-pub entries_more : {X : Type 0} (seen : Seen X) (store : LiveState) (options : FileOptions) (history records : List Rec) (r : Rec) (entries more : List (Entry X)) (given : Option (Entry X)) → KeepsOn seen.held store.held
+pub entries_more : {X : Type 0} (seen : SeenExtents X) (store : LiveState) (options : FileOptions) (history records : List Rec) (r : Rec) (entries more : List (Entry X)) (given : Option (Entry X)) → KeepsOn seen.held store.held
     → GivesEntries seen options history records entries → Lists entries more given → GivesEntry (seen_later seen store) options (history ++ records) r given → GivesEntries seen options history (records ++ r ∷ []) more
 entries_more seen store options history records r entries more None keeps old listed gives = record {
   closed = old.closed;

@@ -16,7 +16,7 @@ use Rattle.chunk_build.specs.Chunking.{Chunking}
 use Rattle.chunk_build.specs.Chunker as chunker
 use Rattle.chunk_writer.specs.declared.body.Body.{Body}
 use Rattle.chunk_writer.specs.Limits.{Holds, Kept, IsNoFault}
-use Rattle.chunk_writer.specs.Bodies.{noted_of, IsBody, Takes, TakesLast, StandsSo, Closes, NextBlock, LastBlock}
+use Rattle.chunk_writer.specs.Bodies.{noted_of, IsBody, BodyTakes, TakesLast, StandsSo, Closes, NextBlock, LastBlock}
 use Rattle.chunk_writer.specs.Plans.{Passes, PutStopped, LastStopped}
 use Rattle.chunk_writer.proofs.Cuts.{few_logged}
 
@@ -68,7 +68,7 @@ few_blocks size at history b blocks bytes n so within is =
 -- ---- a record is taken
 
 pub took : (size at : ℕ) (history : List Rec) (r : Rec) (b : Body) (ch : Chunking) (t : Tally) (closed : Option Block) → ((n : Noted) → StandsFor b.summary n → StandsFor t (with_noted_record n r))
-    → ((h : List Rec) → chunker.StandsFor b.chunker h → chunker.Puts b.chunker.size h r closed ch) → IsBody size at history b → Takes size at history r closed (record { chunker = ch; summary = t })
+    → ((h : List Rec) → chunker.StandsFor b.chunker h → chunker.Puts b.chunker.size h r closed ch) → IsBody size at history b → BodyTakes size at history r closed (record { chunker = ch; summary = t })
 took size at history r b ch t closed noted put is =
     let puts : chunker.Puts size history r closed ch = subst (λ (k : ℕ). chunker.Puts k history r closed ch) is.size_is (put history is.chunk) in
     record {
@@ -79,7 +79,7 @@ took size at history r b ch t closed noted put is =
     }
 
 abbrev pub TakesIt : Body → Rec → Option Block → Body → Type 0
-TakesIt b r closed after = (size at : ℕ) (history : List Rec) → IsBody size at history b → Takes size at history r closed after
+TakesIt b r closed after = (size at : ℕ) (history : List Rec) → IsBody size at history b → BodyTakes size at history r closed after
 
 abbrev pub Notes : Tally → ℕ → Block → Tally → Type 0
 Notes t at b after = (records : List Rec) → IsBlock b records → (n : Noted) → StandsFor t n → StandsFor after (with_noted_block n at records)
@@ -88,7 +88,7 @@ pub next_none : (size at : ℕ) (history : List Rec) (r : Rec) (b after : Body) 
     → StandsSo size at history b blocks bytes → NextBlock size at history r None after
 next_none size at history r b after blocks bytes closed none takes so =
     let body = so.body in
-    let took : Takes size at history r None after = subst (λ (x : Option Block). Takes size at history r x after) none (takes size at history body) in
+    let took : BodyTakes size at history r None after = subst (λ (x : Option Block). BodyTakes size at history r x after) none (takes size at history body) in
     record {
       body = record {
         some = body.some;
@@ -104,7 +104,7 @@ pub next_some : (size at : ℕ) (history : List Rec) (r : Rec) (b after : Body) 
     → Notes after.summary bytes blk t → StandsSo size at history b blocks bytes → NextBlock size at history r (Some blk) (record { chunker = after.chunker; summary = t })
 next_some size at history r b after blocks bytes closed blk t some takes notes so =
     let body = so.body in
-    let took : Takes size at history r (Some blk) after = subst (λ (x : Option Block). Takes size at history r x after) some (takes size at history body) in
+    let took : BodyTakes size at history r (Some blk) after = subst (λ (x : Option Block). BodyTakes size at history r x after) some (takes size at history body) in
     let ps = (cuts (Some size) history).pieces in
     let records = (cuts (Some size) history).waiting ++ r ∷ [] in
     let noted : StandsFor t (noted_of at (history ++ r ∷ []) (ps ++ block records ∷ [])) =
@@ -132,14 +132,14 @@ stopped_by size history r blocks bytes len records stops.Memory closes is kept =
 pub next_err : (size at : ℕ) (history : List Rec) (r : Rec) (b after : Body) (blocks bytes : ℕ) (closed : Option Block) (blk : Block) (stop : Stop) → closed ≡ Some blk → TakesIt b r closed after
     → Kept {X = Unit} blocks bytes (blocks + 1) (bytes + length blk.bytes) (Err stop) → StandsSo size at history b blocks bytes → PutStopped (Some size) history r blocks bytes stop
 next_err size at history r b after blocks bytes closed blk stop some takes kept so =
-    let took : Takes size at history r (Some blk) after = subst (λ (x : Option Block). Takes size at history r x after) some (takes size at history so.body) in
+    let took : BodyTakes size at history r (Some blk) after = subst (λ (x : Option Block). BodyTakes size at history r x after) some (takes size at history so.body) in
     let built = took.closes.1 in
     stopped_by (Some size) history r blocks bytes (length blk.bytes) ((cuts (Some size) history).waiting ++ r ∷ []) stop took.closes.0 (ap (λ (l : List ℕ). length l) built.spelled) kept
 
 pub built_next : (size at : ℕ) (history : List Rec) (r : Rec) (b after : Body) (blocks bytes : ℕ) (closed : Option Block) (blk : Block) → closed ≡ Some blk → TakesIt b r closed after
     → StandsSo size at history b blocks bytes → (records : List Rec) × IsBlock blk records
 built_next size at history r b after blocks bytes closed blk some takes so =
-    let took : Takes size at history r (Some blk) after = subst (λ (x : Option Block). Takes size at history r x after) some (takes size at history so.body) in
+    let took : BodyTakes size at history r (Some blk) after = subst (λ (x : Option Block). BodyTakes size at history r x after) some (takes size at history so.body) in
     ((cuts (Some size) history).waiting ++ r ∷ [], took.closes.1)
 
 -- ---- the last block

@@ -24,7 +24,7 @@ use Rattle.chunk_writer.specs.Limits.{Holds}
 use Rattle.chunk_writer.specs.Planning.{Planning}
 use Rattle.chunk_writer.specs.Plans.{StoppedBefore}
 use Rattle.chunk_writer.specs.Stops.{StopsBehind}
-use Rattle.chunk_writer.specs.Scribes.{Stands, Grows, OfEach, KeepsOn, Seen, ListsEntry, GivesEntries, PutsFront, grows_on}
+use Rattle.chunk_writer.specs.Scribes.{ScribeStands, Grows, OfEach, KeepsOn, SeenExtents, ListsEntry, GivesEntries, PutsFront, grows_on}
 use Rattle.chunk_writer.proofs.Entries.{seen_later, no_entries, entries_more}
 use Rattle.chunk_writer.proofs.Writing.{going_apart, add_refused}
 
@@ -36,13 +36,13 @@ read_same bytes r rec is read = framed_decided bytes rec r read (_, _, is.spelle
 
 -- memory lacks before a record
 pub memory_lacks : (options : FileOptions) (opened held : Option (List ℕ)) (history : List Rec) (r : Rec) (p after : Planning) → p.phase ≡ phases.Going → StoppedBefore p.blocks p.bytes stops.Memory after
-    → Stands options opened held history p → Stands options opened held (history ++ r ∷ []) after
+    → ScribeStands options opened held history p → ScribeStands options opened held (history ++ r ∷ []) after
 memory_lacks options opened held history r p after going before stands = add_refused options opened held history r p after stops.Memory going (λ o h plans. tt) before stands
 
 -- ---- where the writing stopped
 
 -- a scribe that stopped stands for all that may come behind its history
-pub stopped_on : (options : FileOptions) (opened now : Option (List ℕ)) (history more : List Rec) (p : Planning) (stop : Stop) → p.phase ≡ phases.Stopped stop → Stands options opened now history p → Stands options opened now (history ++ more) p
+pub stopped_on : (options : FileOptions) (opened now : Option (List ℕ)) (history more : List Rec) (p : Planning) (stop : Stop) → p.phase ≡ phases.Stopped stop → ScribeStands options opened now history p → ScribeStands options opened now (history ++ more) p
 stopped_on options opened now history more p stop is stands = record {
   going = λ going. absurd (going_apart p.phase stop is going);
   stopped = λ other e behind. subst (λ (l : List Rec). StopsBehind options l opened now other p.blocks p.bytes) (sym (append_assoc history more behind)) (stands.stopped other e (more ++ behind));
@@ -52,7 +52,7 @@ stopped_on options opened now history more p stop is stands = record {
 -- ---- the walk
 
 -- so many of a buffer's records were put, those before that offset, and none was refused
-pub record Partway {L X : Type 0} (state : L → LiveState) (seen : Seen X) (before now : Scribe L) (records : List Rec) (at : ℕ) (entries : List (Entry X)) : Type 0 where
+pub record Partway {L X : Type 0} (state : L → LiveState) (seen : SeenExtents X) (before now : Scribe L) (records : List Rec) (at : ℕ) (entries : List (Entry X)) : Type 0 where
   pub count : ℕ
   pub within : count ≤ length records
   pub place : at ≡ length (history_bytes (take count records))
@@ -64,7 +64,7 @@ pub record Partway {L X : Type 0} (state : L → LiveState) (seen : Seen X) (bef
   pub grows : Grows state before now (take count records)
   pub gives : OfEach state before (λ options history. GivesEntries seen options history (take count records) entries)
 
-pub begun : {L X : Type 0} (state : L → LiveState) (seen : Seen X) (before : Scribe L) (records : List Rec) (entries : List (Entry X)) → before.plan.phase ≡ phases.Going → Holds before.plan.blocks before.plan.bytes → entries ≡ []
+pub begun : {L X : Type 0} (state : L → LiveState) (seen : SeenExtents X) (before : Scribe L) (records : List Rec) (entries : List (Entry X)) → before.plan.phase ≡ phases.Going → Holds before.plan.blocks before.plan.bytes → entries ≡ []
     → Partway state seen before before records 0 entries
 begun state seen before records entries going holds none = record {
   count = 0;
@@ -75,7 +75,7 @@ begun state seen before records entries going holds none = record {
   still = refl;
   keeps = λ held is. ([], is ∙ ap Some (sym (append-nil held)));
   counted = let size = ap (λ (l : List (Entry _)). length l) none in omega (arith, size);
-  grows = λ options opened history writes. subst (λ (l : List Rec). Stands options opened.held (state before.store).held l before.plan) (sym (append-nil history)) writes;
+  grows = λ options opened history writes. subst (λ (l : List Rec). ScribeStands options opened.held (state before.store).held l before.plan) (sym (append-nil history)) writes;
   gives = λ options opened history writes. subst (λ (l : List (Entry _)). GivesEntries seen options history [] l) (sym none) (no_entries seen options history);
 }
 
@@ -127,7 +127,7 @@ keeps_more old mid new first second = λ held is.
     (one.0 ++ other.0, other.1 ∙ ap Some (append_assoc held one.0 other.0))
 
 -- one record more was put
-pub step : {L X : Type 0} (state : L → LiveState) (seen : Seen X) (before now after : Scribe L) (records : List Rec) (at next : ℕ) (framed : List ℕ) (entries more : List (Entry X)) → seen.held ≡ (state before.store).held → All IsKept records
+pub step : {L X : Type 0} (state : L → LiveState) (seen : SeenExtents X) (before now after : Scribe L) (records : List Rec) (at next : ℕ) (framed : List ℕ) (entries more : List (Entry X)) → seen.held ≡ (state before.store).held → All IsKept records
     → Partway state seen before now records at entries → at < length (history_bytes records) → RecordAt records at framed next → ((r : Rec) → AreFramed framed r → Grows state now after (r ∷ []))
     → ListsEntry state (seen_later seen (state now.store)) now framed entries more → after.plan.blocks + length entries ≡ now.plan.blocks + length more → KeepsOn (state now.store).held (state after.store).held
     → after.plan.phase ≡ phases.Going → Holds after.plan.blocks after.plan.bytes → (state after.store).faults ≡ (state now.store).faults → Partway state seen before after records next more
@@ -154,14 +154,14 @@ step state seen before now after records at next framed entries more same kept w
 
 -- ---- the end of the walk
 
-pub all_grows : {L X : Type 0} (state : L → LiveState) (seen : Seen X) (before now : Scribe L) (records : List Rec) (at : ℕ) (entries : List (Entry X)) → Partway state seen before now records at entries → (at < length (history_bytes records) → ⊥)
+pub all_grows : {L X : Type 0} (state : L → LiveState) (seen : SeenExtents X) (before now : Scribe L) (records : List Rec) (at : ℕ) (entries : List (Entry X)) → Partway state seen before now records at entries → (at < length (history_bytes records) → ⊥)
     → Grows state before now records
 all_grows state seen before now records at entries way none =
     let all = all_put records at way.count way.within way.place none in
     subst (λ (l : List Rec). Grows state before now l) (take_all way.count records (omega (arith, all))) way.grows
 
 -- all records were put
-pub all_front : {L X : Type 0} (state : L → LiveState) (seen : Seen X) (before now : Scribe L) (records : List Rec) (at : ℕ) (entries : List (Entry X)) → Partway state seen before now records at entries → (at < length (history_bytes records) → ⊥)
+pub all_front : {L X : Type 0} (state : L → LiveState) (seen : SeenExtents X) (before now : Scribe L) (records : List Rec) (at : ℕ) (entries : List (Entry X)) → Partway state seen before now records at entries → (at < length (history_bytes records) → ⊥)
     → OfEach state before (λ options history. PutsFront seen options history records entries now.plan.bytes (Ok tt))
 all_front state seen before now records at entries way none options opened history writes = record {
   count = way.count;
@@ -172,7 +172,7 @@ all_front state seen before now records at entries way none options opened histo
 }
 
 -- the record there was refused, so that it and those behind it weren't put
-pub front_stopped : {L X : Type 0} (state : L → LiveState) (seen : Seen X) (before now : Scribe L) (records : List Rec) (at : ℕ) (entries more : List (Entry X)) (bytes : ℕ) (stop : Stop) → Partway state seen before now records at entries
+pub front_stopped : {L X : Type 0} (state : L → LiveState) (seen : SeenExtents X) (before now : Scribe L) (records : List Rec) (at : ℕ) (entries more : List (Entry X)) (bytes : ℕ) (stop : Stop) → Partway state seen before now records at entries
     → at < length (history_bytes records) → more ≡ entries → bytes ≡ now.plan.bytes → OfEach state before (λ options history. PutsFront seen options history records more bytes (Err stop))
 front_stopped state seen before now records at entries more bytes stop way less same same_bytes options opened history writes = record {
   count = way.count;
@@ -182,7 +182,7 @@ front_stopped state seen before now records at entries more bytes stop way less 
   before = some_left records at way.count way.within way.place less;
 }
 
-pub stopped_grows : {L X : Type 0} (state : L → LiveState) (seen : Seen X) (before now after : Scribe L) (records : List Rec) (at next : ℕ) (framed : List ℕ) (entries : List (Entry X)) (stop : Stop) → All IsKept records → Partway state seen before now records at entries
+pub stopped_grows : {L X : Type 0} (state : L → LiveState) (seen : SeenExtents X) (before now after : Scribe L) (records : List Rec) (at next : ℕ) (framed : List ℕ) (entries : List (Entry X)) (stop : Stop) → All IsKept records → Partway state seen before now records at entries
     → at < length (history_bytes records) → RecordAt records at framed next → ((r : Rec) → AreFramed framed r → Grows state now after (r ∷ [])) → after.plan.phase ≡ phases.Stopped stop → Grows state before after records
 stopped_grows state seen before now after records at next framed entries stop kept way less found grows stopped options opened history writes =
     let below = some_left records at way.count way.within way.place less in
@@ -194,11 +194,11 @@ stopped_grows state seen before now after records at next framed entries stop ke
     ap (λ (l : List Rec). l ++ rest) (append_assoc history (take way.count records) (one.rec ∷ []) ∙ ap (λ (l : List Rec). history ++ l) (sym one.more))
     ∙ append_assoc history (take (suc way.count) records) rest
     ∙ ap (λ (l : List Rec). history ++ l) (take-append-drop (suc way.count) records) in
-    subst (λ (l : List Rec). Stands options opened.held (state after.store).held l after.plan) whole
+    subst (λ (l : List Rec). ScribeStands options opened.held (state after.store).held l after.plan) whole
     (stopped_on options opened.held (state after.store).held ((history ++ take way.count records) ++ one.rec ∷ []) rest after.plan stop stopped put)
 
 -- the same front, told by other names
-pub front_so : {L X : Type 0} (state : L → LiveState) (seen : Seen X) (before : Scribe L) (records : List Rec) (entries entries' : List (Entry X)) (bytes : ℕ) (end end' : Result Unit Stop) → entries' ≡ entries → end' ≡ end
+pub front_so : {L X : Type 0} (state : L → LiveState) (seen : SeenExtents X) (before : Scribe L) (records : List Rec) (entries entries' : List (Entry X)) (bytes : ℕ) (end end' : Result Unit Stop) → entries' ≡ entries → end' ≡ end
     → OfEach state before (λ options history. PutsFront seen options history records entries bytes end) → OfEach state before (λ options history. PutsFront seen options history records entries' bytes end')
 front_so state seen before records entries entries' bytes end end' same_entries same_end front options opened history writes =
     subst (λ (l : List (Entry _)). PutsFront seen options history records l bytes end') (sym same_entries)

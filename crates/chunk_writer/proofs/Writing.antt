@@ -21,7 +21,7 @@ use Rattle.chunk_writer.specs.Bodies.{Closes}
 use Rattle.chunk_writer.specs.Planning.{Planning}
 use Rattle.chunk_writer.specs.Plans.{Plans, IsPlanned, IsNext, PutStopped, HoldsBlock, HoldsNext, StoppedBefore, IsWhole, IsLast, LastStopped, BackStopped}
 use Rattle.chunk_writer.specs.Stops.{StopsAt, StopsBehind, Added}
-use Rattle.chunk_writer.specs.Scribes.{Stands, Seen, IsEntryOf, IsEntryWith, AddsLast, Ends, GivesEntry, GivesLast}
+use Rattle.chunk_writer.specs.Scribes.{ScribeStands, SeenExtents, IsEntryOf, IsEntryWith, AddsLast, Ends, GivesEntry, GivesLast}
 use Rattle.chunk_writer.proofs.Cuts.{bytes_behind}
 use Rattle.chunk_writer.proofs.Planned.{whole_none, whole_some}
 use Rattle.chunk_writer.proofs.Stopping.{Holding, put_refused, append_refused, last_refused, last_append_refused, back_refused, back_append_refused}
@@ -45,7 +45,7 @@ same_stop p one other first second = cc
 
 -- ---- a record was put
 
-pub holding : (options : FileOptions) (opened held : Option (List ℕ)) (history : List Rec) (p : Planning) → p.phase ≡ phases.Going → Stands options opened held history p → Holding options opened held history p.blocks p.bytes
+pub holding : (options : FileOptions) (opened held : Option (List ℕ)) (history : List Rec) (p : Planning) → p.phase ≡ phases.Going → ScribeStands options opened held history p → Holding options opened held history p.blocks p.bytes
 holding options opened held history p going stands = let (plans, adds) = stands.going going in (adds, plans.blocks, plans.bytes)
 
 more_written : (start : List ℕ) (ps qs : List Piece) (piece : Piece) → qs ≡ ps ++ piece ∷ [] → (start ++ pieces_bytes ps) ++ piece_bytes piece ≡ start ++ pieces_bytes qs
@@ -56,7 +56,7 @@ adds_more : (opened held now : Option (List ℕ)) (start : List ℕ) (ps qs : Li
 adds_more opened held now start ps qs piece closes first second =
     subst (λ (l : List ℕ). Adds opened now l) (more_written start ps qs piece closes) (adds-adds opened held now (start ++ pieces_bytes ps) (piece_bytes piece) first second)
 
-stands_going : (options : FileOptions) (opened now : Option (List ℕ)) (history : List Rec) (p : Planning) → p.phase ≡ phases.Going → Plans options history p → Adds opened now (written_of options history) → Stands options opened now history p
+stands_going : (options : FileOptions) (opened now : Option (List ℕ)) (history : List Rec) (p : Planning) → p.phase ≡ phases.Going → Plans options history p → Adds opened now (written_of options history) → ScribeStands options opened now history p
 stands_going options opened now history p going plans adds = record {
   going = λ e. (plans, adds);
   stopped = λ stop e. absurd (stop_apart p.phase stop going e);
@@ -68,7 +68,7 @@ plans_begun : (options : FileOptions) (history : List Rec) (p : Planning) → Pl
 plans_begun options history p plans = omega (arith, plans.bytes, length-append (front options.profile) (pieces_bytes (cuts options.chunk history).pieces))
 
 stands_stopped : (options : FileOptions) (opened now : Option (List ℕ)) (history : List Rec) (p : Planning) (stop : Stop) (blocks bytes : ℕ) → StoppedBefore blocks bytes stop p
-    → length (front options.profile) ≤ bytes → ((behind : List Rec) → StopsAt options (history ++ behind) opened now stop blocks bytes) → Stands options opened now history p
+    → length (front options.profile) ≤ bytes → ((behind : List Rec) → StopsAt options (history ++ behind) opened now stop blocks bytes) → ScribeStands options opened now history p
 stands_stopped options opened now history p stop blocks bytes before begun stops = record {
   going = λ e. absurd (going_apart p.phase stop before.phase e);
   stopped = λ other e behind. record {
@@ -85,28 +85,28 @@ abbrev pub Planned : Planning → Rec → Next → Planning → Type 0
 Planned p r next mid = (options : FileOptions) (history : List Rec) → Plans options history p → IsPlanned options history r next mid
 
 pub put_block : (options : FileOptions) (opened held now : Option (List ℕ)) (history : List Rec) (r : Rec) (p mid after : Planning) (next : Next) (blk : Block) → next ≡ nexts.Block blk → Planned p r next mid
-    → mid.phase ≡ phases.Going → after ≡ mid → p.phase ≡ phases.Going → Adds held now blk.bytes → Stands options opened held history p → Stands options opened now (history ++ r ∷ []) after
+    → mid.phase ≡ phases.Going → after ≡ mid → p.phase ≡ phases.Going → Adds held now blk.bytes → ScribeStands options opened held history p → ScribeStands options opened now (history ++ r ∷ []) after
 put_block options opened held now history r p mid after next blk is planned going same before adds stands =
     let (plans, first) = stands.going before in
     let made = planned options history plans in
     let (records, closes, built) : (records : List Rec) × Closes options.chunk history r (block records) × IsBlock blk records = subst (λ (n : Next). IsNext options.chunk history r n) is made.next_is in
     let piece : Adds held now (piece_bytes (block records)) = subst (λ (l : List ℕ). Adds held now l) built.spelled adds in
-    subst (λ (q : Planning). Stands options opened now (history ++ r ∷ []) q) (sym same)
+    subst (λ (q : Planning). ScribeStands options opened now (history ++ r ∷ []) q) (sym same)
     (stands_going options opened now (history ++ r ∷ []) mid going made.stands (adds_more opened held now (front options.profile) (cuts options.chunk history).pieces (cuts options.chunk (history ++ r ∷ [])).pieces (block records) closes first piece))
 
 pub put_record : (options : FileOptions) (opened held now : Option (List ℕ)) (history : List Rec) (r : Rec) (p mid after : Planning) (next : Next) (bytes : List ℕ) → next ≡ nexts.Record → bytes ≡ rec_bytes r → Planned p r next mid
-    → mid.phase ≡ phases.Going → after ≡ mid → p.phase ≡ phases.Going → Adds held now bytes → Stands options opened held history p → Stands options opened now (history ++ r ∷ []) after
+    → mid.phase ≡ phases.Going → after ≡ mid → p.phase ≡ phases.Going → Adds held now bytes → ScribeStands options opened held history p → ScribeStands options opened now (history ++ r ∷ []) after
 put_record options opened held now history r p mid after next bytes is spelled planned going same before adds stands =
     let (plans, first) = stands.going before in
     let made = planned options history plans in
     let closes : Closes options.chunk history r (alone r) = subst (λ (n : Next). IsNext options.chunk history r n) is made.next_is in
     let piece : Adds held now (piece_bytes (alone r)) = subst (λ (l : List ℕ). Adds held now l) spelled adds in
-    subst (λ (q : Planning). Stands options opened now (history ++ r ∷ []) q) (sym same)
+    subst (λ (q : Planning). ScribeStands options opened now (history ++ r ∷ []) q) (sym same)
     (stands_going options opened now (history ++ r ∷ []) mid going made.stands (adds_more opened held now (front options.profile) (cuts options.chunk history).pieces (cuts options.chunk (history ++ r ∷ [])).pieces (alone r) closes first piece))
 
 pub block_refused : (options : FileOptions) (opened held now : Option (List ℕ)) (history : List Rec) (r : Rec) (p mid after : Planning) (next : Next) (framed : List ℕ) (blk : Block) (stop : Stop) (blocks bytes : ℕ) → next ≡ nexts.Block blk → Planned p r next mid
-    → HoldsNext p.blocks p.bytes framed next → blocks ≡ p.blocks → bytes ≡ p.bytes → StoppedBefore blocks bytes stop after → p.phase ≡ phases.Going → Added held now blk.bytes (Err stop) → Stands options opened held history p
-    → Stands options opened now (history ++ r ∷ []) after
+    → HoldsNext p.blocks p.bytes framed next → blocks ≡ p.blocks → bytes ≡ p.bytes → StoppedBefore blocks bytes stop after → p.phase ≡ phases.Going → Added held now blk.bytes (Err stop) → ScribeStands options opened held history p
+    → ScribeStands options opened now (history ++ r ∷ []) after
 block_refused options opened held now history r p mid after next framed blk stop blocks bytes is planned room same_b same_n before going added stands =
     let (plans, first) = stands.going going in
     let made = planned options history plans in
@@ -119,8 +119,8 @@ block_refused options opened held now history r p mid after next framed blk stop
     (λ behind. append_refused options opened held now history r (block records) stop p.blocks p.bytes behind (holding options opened held history p going stands) closes fits piece)
 
 pub record_refused : (options : FileOptions) (opened held now : Option (List ℕ)) (history : List Rec) (r : Rec) (p mid after : Planning) (next : Next) (piece : List ℕ) (stop : Stop) (blocks bytes : ℕ) → next ≡ nexts.Record → piece ≡ rec_bytes r → Planned p r next mid
-    → HoldsNext p.blocks p.bytes piece next → blocks ≡ p.blocks → bytes ≡ p.bytes → StoppedBefore blocks bytes stop after → p.phase ≡ phases.Going → Added held now piece (Err stop) → Stands options opened held history p
-    → Stands options opened now (history ++ r ∷ []) after
+    → HoldsNext p.blocks p.bytes piece next → blocks ≡ p.blocks → bytes ≡ p.bytes → StoppedBefore blocks bytes stop after → p.phase ≡ phases.Going → Added held now piece (Err stop) → ScribeStands options opened held history p
+    → ScribeStands options opened now (history ++ r ∷ []) after
 record_refused options opened held now history r p mid after next piece stop blocks bytes is spelled planned room same_b same_n before going added stands =
     let (plans, first) = stands.going going in
     let made = planned options history plans in
@@ -136,15 +136,15 @@ record_refused options opened held now history r p mid after next piece stop blo
     (λ behind. append_refused options opened held now history r (alone r) stop p.blocks p.bytes behind (holding options opened held history p going stands) closes fits left)
 
 pub add_refused : (options : FileOptions) (opened held : Option (List ℕ)) (history : List Rec) (r : Rec) (p after : Planning) (stop : Stop) → p.phase ≡ phases.Going
-    → ((o : FileOptions) (h : List Rec) → Plans o h p → PutStopped o.chunk h r p.blocks p.bytes stop) → StoppedBefore p.blocks p.bytes stop after → Stands options opened held history p
-    → Stands options opened held (history ++ r ∷ []) after
+    → ((o : FileOptions) (h : List Rec) → Plans o h p → PutStopped o.chunk h r p.blocks p.bytes stop) → StoppedBefore p.blocks p.bytes stop after → ScribeStands options opened held history p
+    → ScribeStands options opened held (history ++ r ∷ []) after
 add_refused options opened held history r p after stop going refused before stands =
     stands_stopped options opened held (history ++ r ∷ []) after stop p.blocks p.bytes before (plans_begun options history p (stands.going going).0)
     (λ behind. put_refused options opened held history r stop p.blocks p.bytes behind (holding options opened held history p going stands) (refused options history (stands.going going).0))
 
 -- ---- entries
 
-pub entry_of_block : {X : Type 0} (seen : Seen X) (e : Entry X) (offset : ℕ) (blk : Block) (records : List Rec) → IsEntryWith e e.extent offset blk → IsBlock blk records
+pub entry_of_block : {X : Type 0} (seen : SeenExtents X) (e : Entry X) (offset : ℕ) (blk : Block) (records : List Rec) → IsEntryWith e e.extent offset blk → IsBlock blk records
     → seen.size e.extent ≡ length blk.bytes → ((before : List ℕ) → seen.held ≡ Some before → seen.tells e.extent ≡ Some blk.bytes) → IsEntryOf seen e offset records
 entry_of_block seen e offset blk records is built long told = record {
   numbers = record {
@@ -160,9 +160,9 @@ entry_of_block seen e offset blk records is built long told = record {
 }
 
 -- the entry of the block that a record closed
-pub block_entry : {X : Type 0} (seen : Seen X) (options : FileOptions) (opened held : Option (List ℕ)) (history : List Rec) (r : Rec) (p mid : Planning) (next : Next) (blk : Block) (e : Entry X) (bytes : ℕ) → next ≡ nexts.Block blk → Planned p r next mid
+pub block_entry : {X : Type 0} (seen : SeenExtents X) (options : FileOptions) (opened held : Option (List ℕ)) (history : List Rec) (r : Rec) (p mid : Planning) (next : Next) (blk : Block) (e : Entry X) (bytes : ℕ) → next ≡ nexts.Block blk → Planned p r next mid
     → p.phase ≡ phases.Going → bytes ≡ p.bytes → IsEntryWith e e.extent bytes blk → seen.size e.extent ≡ length blk.bytes → ((before : List ℕ) → seen.held ≡ Some before → seen.tells e.extent ≡ Some blk.bytes)
-    → Stands options opened held history p → GivesEntry seen options history r (Some e)
+    → ScribeStands options opened held history p → GivesEntry seen options history r (Some e)
 block_entry seen options opened held history r p mid next blk e bytes is planned going place with_it long told stands =
     let (plans, first) = stands.going going in
     let made = planned options history plans in
@@ -176,7 +176,7 @@ abbrev pub Lasts : Planning → Option Block → Planning → Type 0
 Lasts p last mid = (options : FileOptions) (history : List Rec) → Plans options history p → IsLast options history last mid
 
 pub adds_last : (options : FileOptions) (opened held now : Option (List ℕ)) (history : List Rec) (p mid after : Planning) (last : Option Block) (blk : Block) → last ≡ Some blk → Lasts p last mid → after ≡ mid → p.phase ≡ phases.Going
-    → Adds held now blk.bytes → Stands options opened held history p → AddsLast options opened now history after
+    → Adds held now blk.bytes → ScribeStands options opened held history p → AddsLast options opened now history after
 adds_last options opened held now history p mid after last blk is lasts same going adds stands =
     let (plans, first) = stands.going going in
     let made : IsLast options history (Some blk) mid = subst (λ (x : Option Block). IsLast options history x mid) is (lasts options history plans) in
@@ -188,7 +188,7 @@ adds_last options opened held now history p mid after last blk is lasts same goi
     })
 
 pub adds_none : (options : FileOptions) (opened held : Option (List ℕ)) (history : List Rec) (p mid : Planning) (last : Option Block) → last ≡ None → Lasts p last mid → p.phase ≡ phases.Going
-    → Stands options opened held history p → AddsLast options opened held history mid
+    → ScribeStands options opened held history p → AddsLast options opened held history mid
 adds_none options opened held history p mid last is lasts going stands =
     let (plans, first) = stands.going going in
     let made : IsLast options history None mid = subst (λ (x : Option Block). IsLast options history x mid) is (lasts options history plans) in
@@ -197,9 +197,9 @@ adds_none options opened held history p mid last is lasts going stands =
       adds = subst (λ (l : List Piece). Adds opened held (front options.profile ++ pieces_bytes l)) (sym (whole_none options.chunk history made.last_block)) first;
     }
 
-pub last_entry : {X : Type 0} (seen : Seen X) (options : FileOptions) (opened held : Option (List ℕ)) (history : List Rec) (p mid : Planning) (last : Option Block) (blk : Block) (e : Entry X) (bytes : ℕ)
+pub last_entry : {X : Type 0} (seen : SeenExtents X) (options : FileOptions) (opened held : Option (List ℕ)) (history : List Rec) (p mid : Planning) (last : Option Block) (blk : Block) (e : Entry X) (bytes : ℕ)
     → last ≡ Some blk → Lasts p last mid → p.phase ≡ phases.Going → bytes ≡ p.bytes → IsEntryWith e e.extent bytes blk → seen.size e.extent ≡ length blk.bytes
-    → ((before : List ℕ) → seen.held ≡ Some before → seen.tells e.extent ≡ Some blk.bytes) → Stands options opened held history p → GivesLast seen options history (Some e)
+    → ((before : List ℕ) → seen.held ≡ Some before → seen.tells e.extent ≡ Some blk.bytes) → ScribeStands options opened held history p → GivesLast seen options history (Some e)
 last_entry seen options opened held history p mid last blk e bytes is lasts going place with_it long told stands =
     let (plans, first) = stands.going going in
     let made : IsLast options history (Some blk) mid = subst (λ (x : Option Block). IsLast options history x mid) is (lasts options history plans) in
@@ -215,7 +215,7 @@ stops_so options opened now history p stop blocks bytes before stops =
     subst (λ (n : ℕ). StopsAt options history opened now stop n p.bytes) (sym before.blocks_are) (subst (λ (n : ℕ). StopsAt options history opened now stop blocks n) (sym before.bytes_are) stops)
 
 pub block_last_refused : (options : FileOptions) (opened held now : Option (List ℕ)) (history : List Rec) (p mid after : Planning) (last : Option Block) (blk : Block) (stop : Stop) (blocks bytes : ℕ) → last ≡ Some blk → Lasts p last mid
-    → HoldsBlock p.blocks p.bytes last → blocks ≡ p.blocks → bytes ≡ p.bytes → StoppedBefore blocks bytes stop after → p.phase ≡ phases.Going → Added held now blk.bytes (Err stop) → Stands options opened held history p
+    → HoldsBlock p.blocks p.bytes last → blocks ≡ p.blocks → bytes ≡ p.bytes → StoppedBefore blocks bytes stop after → p.phase ≡ phases.Going → Added held now blk.bytes (Err stop) → ScribeStands options opened held history p
     → StopsAt options history opened now stop after.blocks after.bytes
 block_last_refused options opened held now history p mid after last blk stop blocks bytes is lasts room same_b same_n before going added stands =
     let (plans, first) = stands.going going in
@@ -230,7 +230,7 @@ block_last_refused options opened held now history p mid after last blk stop blo
     (last_append_refused options opened held now history (block records) stop p.blocks p.bytes (holding options opened held history p going stands) made.last_block.0 fits piece)
 
 pub last_stopped : (options : FileOptions) (opened held : Option (List ℕ)) (history : List Rec) (p after : Planning) (stop : Stop) → p.phase ≡ phases.Going
-    → ((o : FileOptions) (h : List Rec) → Plans o h p → LastStopped o.chunk h p.blocks p.bytes stop) → StoppedBefore p.blocks p.bytes stop after → Stands options opened held history p
+    → ((o : FileOptions) (h : List Rec) → Plans o h p → LastStopped o.chunk h p.blocks p.bytes stop) → StoppedBefore p.blocks p.bytes stop after → ScribeStands options opened held history p
     → StopsAt options history opened held stop after.blocks after.bytes
 last_stopped options opened held history p after stop going refused before stands =
     stops_so options opened held history after stop p.blocks p.bytes before
@@ -285,12 +285,12 @@ ends_so options opened now history blocks bytes blocks' bytes' end end' same_end
     (subst (λ (n : ℕ). Ends options opened now history n bytes' end) (sym same_b) (subst (λ (n : ℕ). Ends options opened now history blocks n end) (sym same_n) ends))
 
 -- a history ends where the scribe had stopped
-pub stopped_ends : (options : FileOptions) (opened now : Option (List ℕ)) (history : List Rec) (p : Planning) (stop : Stop) → p.phase ≡ phases.Stopped stop → Stands options opened now history p
+pub stopped_ends : (options : FileOptions) (opened now : Option (List ℕ)) (history : List Rec) (p : Planning) (stop : Stop) → p.phase ≡ phases.Stopped stop → ScribeStands options opened now history p
     → StopsBehind options history opened now stop p.blocks p.bytes
 stopped_ends options opened now history p stop is stands = subst (λ (l : List Rec). StopsBehind options l opened now stop p.blocks p.bytes) (append-nil history) (stands.stopped stop is [])
 
 -- it had not, and stopped at its last block
-pub last_begun : (options : FileOptions) (opened now : Option (List ℕ)) (history : List Rec) (p : Planning) → p.phase ≡ phases.Going → Stands options opened now history p → length (front options.profile) ≤ p.bytes
+pub last_begun : (options : FileOptions) (opened now : Option (List ℕ)) (history : List Rec) (p : Planning) → p.phase ≡ phases.Going → ScribeStands options opened now history p → length (front options.profile) ≤ p.bytes
 last_begun options opened now history p going stands = plans_begun options history p (stands.going going).0
 
 -- ---- the front

@@ -1,5 +1,6 @@
 -- The open chunk and the summary beside it, and the histories for which they stand.
 use Rattle.std.specs.Prelude.{◌≡◌, ℕ, ◌+◌, ◌≤◌, List, [], ◌∷◌, ◌++◌, length, Option, Some, None}
+use Rattle.mcap_wire.specs.Limits.{chunk_size_limit}
 use Rattle.rec_data.specs.declared.owned.Rec.{Rec}
 use Rattle.mcap_model.specs.declared.block.Block.{Block}
 use Rattle.mcap_model.specs.Built.{IsBlock}
@@ -18,13 +19,13 @@ noted_of at records pieces = record { records = records; blocks = blocks_from at
 -- before these.
 pub record IsBody (size at : ℕ) (history : List Rec) (b : Body) : Type 0 where
   pub some : 1 ≤ size
-  pub within : size ≤ 67108864
+  pub within : size ≤ chunk_size_limit
   pub size_is : b.chunker.size ≡ size
   pub chunk : chunker.StandsFor b.chunker history
   pub summary : tally.StandsFor b.summary (noted_of at history (cuts (Some size) history).pieces)
 
 -- a record was put behind a history; the block that it closed isn't noted yet
-pub record Takes (size at : ℕ) (history : List Rec) (r : Rec) (closed : Option Block) (after : Body) : Type 0 where
+pub record BodyTakes (size at : ℕ) (history : List Rec) (r : Rec) (closed : Option Block) (after : Body) : Type 0 where
   pub size_is : after.chunker.size ≡ size
   pub chunk : chunker.StandsFor after.chunker (history ++ r ∷ [])
   pub closes : chunker.Closes (cuts (Some size) history) r (cuts (Some size) (history ++ r ∷ [])) closed

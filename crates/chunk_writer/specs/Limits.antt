@@ -1,12 +1,13 @@
 -- What a file may hold, and why a writer stops at a piece.
 use Rattle.std.specs.Prelude.{◌≡◌, ℕ, ◌≤◌, Result, Ok, Err}
+use Rattle.mcap_wire.specs.Limits.{block_limit, file_limit}
 use Rattle.mcap_model.specs.declared.ends.Stop.{Stop}
 use Rattle.mcap_model.specs.declared.ends.Stop.TheVariants as stops
 
--- 2^32 - 1 blocks and 2^40 bytes
+-- so many blocks, and so many bytes
 pub record Holds (blocks bytes : ℕ) : Type 0 where
-  pub few : blocks ≤ 4294967295
-  pub small : bytes ≤ 1099511627776
+  pub few : blocks ≤ block_limit
+  pub small : bytes ≤ file_limit
 
 -- A writer stopped at a piece, with so many blocks and bytes before it, and so many with it: at the limit exactly where the
 -- piece would pass that.

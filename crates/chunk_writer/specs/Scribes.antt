@@ -24,7 +24,7 @@ use Rattle.chunk_writer.specs.Stops.{StopsAt, StopsBehind}
 -- The plan of a scribe, whose store held the first bytes when it was opened and holds the second now, stands for a history.
 -- While it goes on, all pieces that are sure stand behind the first bytes. Where it stopped, it stopped at a piece of each
 -- history that goes on from this one, behind its front.
-pub record Stands (options : FileOptions) (opened now : Option (List ℕ)) (history : List Rec) (p : Planning) : Type 0 where
+pub record ScribeStands (options : FileOptions) (opened now : Option (List ℕ)) (history : List Rec) (p : Planning) : Type 0 where
   pub going : p.phase ≡ phases.Going → Plans options history p × Adds opened now (written_of options history)
   pub stopped : (stop : Stop) → p.phase ≡ phases.Stopped stop → (behind : List Rec) → StopsBehind options (history ++ behind) opened now stop p.blocks p.bytes
   pub unended : p.phase ≡ phases.Ended → ⊥
@@ -32,7 +32,7 @@ pub record Stands (options : FileOptions) (opened now : Option (List ℕ)) (hist
 -- A scribe stands for a history of a file of these options; its store was in this state when it was opened. What is seen of
 -- a store is handed in.
 abbrev pub Writes : {L : Type 0} → (L → LiveState) → FileOptions → LiveState → List Rec → Scribe L → Type 0
-Writes seen options opened history scribe = Stands options opened.held (seen scribe.store).held history scribe.plan
+Writes seen options opened history scribe = ScribeStands options opened.held (seen scribe.store).held history scribe.plan
 
 abbrev pub store_of : {L : Type 0} → Scribe L → L
 store_of scribe = scribe.store
@@ -82,28 +82,28 @@ pub record IsEntry {X : Type 0} (e : Entry X) (offset : ℕ) (records : List Rec
   pub declaring : e.declared ≡ length (declarations records)
 
 -- what is seen of the extents of a store, their bytes and their size, and what the store held before a call
-pub record Seen (X : Type 0) : Type 0 where
+pub record SeenExtents (X : Type 0) : Type 0 where
   pub tells : X → Option (List ℕ)
   pub size : X → ℕ
   pub held : Option (List ℕ)
 
-abbrev pub seen_before : {X : Type 0} → (X → Option (List ℕ)) → (X → ℕ) → LiveState → Seen X
+abbrev pub seen_before : {X : Type 0} → (X → Option (List ℕ)) → (X → ℕ) → LiveState → SeenExtents X
 seen_before tells size store = record { tells = tells; size = size; held = store.held }
 
 -- its extent is as long as the block, and tells the block's bytes where the store told what it held
-pub record IsEntryOf {X : Type 0} (seen : Seen X) (e : Entry X) (offset : ℕ) (records : List Rec) : Type 0 where
+pub record IsEntryOf {X : Type 0} (seen : SeenExtents X) (e : Entry X) (offset : ℕ) (records : List Rec) : Type 0 where
   pub numbers : IsEntry e offset records
   pub long : seen.size e.extent ≡ length (block_bytes records)
   pub told : (before : List ℕ) → seen.held ≡ Some before → seen.tells e.extent ≡ Some (block_bytes records)
 
 -- which entry a put record gives: that of the block that it closes, if it does so
-abbrev pub GivesEntry : {X : Type 0} → Seen X → FileOptions → List Rec → Rec → Option (Entry X) → Type 0
+abbrev pub GivesEntry : {X : Type 0} → SeenExtents X → FileOptions → List Rec → Rec → Option (Entry X) → Type 0
 GivesEntry seen options history r None = blocks_in (cuts options.chunk (history ++ r ∷ [])).pieces ≡ blocks_in (cuts options.chunk history).pieces
 GivesEntry seen options history r (Some e) = (records : List Rec) × Closes options.chunk history r (block records)
     × IsEntryOf seen e (length (written_of options history)) records
 
 -- the last entry is that of the block of the records that wait, where there are any
-abbrev pub GivesLast : {X : Type 0} → Seen X → FileOptions → List Rec → Option (Entry X) → Type 0
+abbrev pub GivesLast : {X : Type 0} → SeenExtents X → FileOptions → List Rec → Option (Entry X) → Type 0
 GivesLast seen options history None = Unit {0}
 GivesLast seen options history (Some e) = let waiting = (cuts options.chunk history).waiting in
     (last_piece waiting ≡ block waiting ∷ []) × IsEntryOf seen e (length (written_of options history)) waiting
@@ -114,7 +114,7 @@ Lists old new None = new ≡ old
 Lists old new (Some e) = new ≡ old ++ e ∷ []
 
 -- a record was put by its framed bytes, and the entry that this gave was listed
-pub record ListsEntry {L X : Type 0} (state : L → LiveState) (seen : Seen X) (before : Scribe L) (framed : List ℕ) (old new : List (Entry X)) : Type 0 where
+pub record ListsEntry {L X : Type 0} (state : L → LiveState) (seen : SeenExtents X) (before : Scribe L) (framed : List ℕ) (old new : List (Entry X)) : Type 0 where
   pub given : Option (Entry X)
   pub listed : Lists old new given
   pub entry : (r : Rec) → AreFramed framed r → OfEach state before (λ options history. GivesEntry seen options history r given)
@@ -124,14 +124,14 @@ abbrev pub sure_blocks : FileOptions → List Rec → List (ℕ × List Rec)
 sure_blocks options history = blocks_from (length (front options.profile)) (cuts options.chunk history).pieces
 
 -- records that are put behind a history give an entry for each block that they make sure, in the order of these
-pub record GivesEntries {X : Type 0} (seen : Seen X) (options : FileOptions) (history records : List Rec) (entries : List (Entry X)) : Type 0 where
+pub record GivesEntries {X : Type 0} (seen : SeenExtents X) (options : FileOptions) (history records : List Rec) (entries : List (Entry X)) : Type 0 where
   pub closed : List (ℕ × List Rec)
   pub sure : sure_blocks options (history ++ records) ≡ sure_blocks options history ++ closed
   pub each : AllZip (λ (b : ℕ × List Rec) (e : Entry X). IsEntryOf seen e b.0 b.1) closed entries
 
 -- So many of some records were put behind a history: all of them, or those before the one at which the writing stopped. The
 -- entries are those of the blocks that these made sure, and so many bytes are those of the pieces that are sure with them.
-pub record PutsFront {X : Type 0} (seen : Seen X) (options : FileOptions) (history records : List Rec) (entries : List (Entry X)) (bytes : ℕ) (end : Result Unit Stop) : Type 0 where
+pub record PutsFront {X : Type 0} (seen : SeenExtents X) (options : FileOptions) (history records : List Rec) (entries : List (Entry X)) (bytes : ℕ) (end : Result Unit Stop) : Type 0 where
   pub count : ℕ
   pub entries_are : GivesEntries seen options history (take count records) entries
   pub bytes_are : bytes ≡ length (written_of options (history ++ take count records))

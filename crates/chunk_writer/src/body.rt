@@ -1,8 +1,9 @@
 //! The blocks of a file as they are built: the open chunk, and beside it the summary.
-ghost use Rattle.std.specs.Prelude.{◌≡◌, ◌<◌, ◌≤◌, ◌^◌, ℕ, List, [], IfOk, OnOk, OnErr};
+ghost use Rattle.std.specs.Prelude.{◌≡◌, ◌<◌, ◌≤◌, ℕ, List, [], IfOk, OnOk, OnErr};
+ghost use Rattle.mcap_wire.specs.Limits.{chunk_size_limit, record_count_limit};
 ghost use Rattle.rec_data.specs.declared.owned.Rec.{Rec};
 ghost use Rattle.chunk_build.specs.Chunker.{AreFramed};
-ghost use Rattle.chunk_writer.specs.Bodies.{IsBody, Takes, TakesLast};
+ghost use Rattle.chunk_writer.specs.Bodies.{IsBody, BodyTakes, TakesLast};
 
 use chunk_build::Chunker;
 use mcap_model::Block;
@@ -20,7 +21,7 @@ pub(crate) struct Body {
 /// A body without a record.
 pub(crate) fn begin(alloc: Global, size: u64) -> Result<Body, Memory>
     requires some { 1 ≤ size }
-    requires within { size ≤ 67108864 }
+    requires within { size ≤ chunk_size_limit }
     ensures { IfOk result (λ b. (at : ℕ) → IsBody size at [] b) }
 {
     let chunker = match Chunker::new(alloc, size) {
@@ -37,9 +38,9 @@ pub(crate) fn begin(alloc: Global, size: u64) -> Result<Body, Memory>
 /// Notes a framed record and puts it into the open chunk, and gives the block that this closes. That isn't noted yet.
 pub(crate) fn take(body: &mut Body, framed: &[u8]) -> Result<Option<Block>, Memory>
     requires framed { (r : Rec) × AreFramed framed.now r }
-    requires few { body.old.summary.messages < 2 ^ 48 }
+    requires few { body.old.summary.messages < record_count_limit }
     ensures ok { IfOk result (λ closed. (r : Rec) → AreFramed framed.now r → (size at : ℕ) (history : List Rec) → IsBody size at history body.old
-        → Takes size at history r closed body.new) }
+        → BodyTakes size at history r closed body.new) }
     ensures blocks { OnOk result (body.new.summary.blocks ≡ body.old.summary.blocks) }
 {
     match body.summary.note_framed(framed) {

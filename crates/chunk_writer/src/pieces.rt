@@ -1,5 +1,7 @@
 //! The front and the back of a file.
 ghost use Rattle.std.specs.Prelude.{◌≡◌, ◌≤◌, ◌+◌, ◌++◌, ℕ, Option, length, IfOk, OnOk};
+ghost use Rattle.mcap_wire.specs.Layout.{content_limit};
+ghost use Rattle.mcap_wire.specs.Limits.{file_limit};
 ghost use Rattle.mcap_model.specs.Summary.{Noted};
 ghost use Rattle.mcap_model.specs.File.{front, data_end, tail_by};
 ghost use Rattle.chunk_writer.specs.Bodies.{SummaryFor, plain_tail};
@@ -15,7 +17,7 @@ const LIBRARY: &str = "mcaprec 1";
 /// The magic and the Header.
 #[tactic(auto, unfolding(mcap_model::specs::File::front))]
 pub(crate) fn front_piece(alloc: Global, profile: &str) -> Result<Vec<u8>, Memory>
-    requires { length profile.now ≤ 268435456 }
+    requires { length profile.now ≤ content_limit }
     ensures piece { IfOk result (λ piece. piece.items ≡ front profile.now) }
 {
     let header = Header {
@@ -57,7 +59,7 @@ fn add_footer(piece: &mut Vec<u8>) -> Result<(), Memory>
 
 /// The Data End and all behind it, where so many bytes stand before it.
 pub(crate) fn back_piece(alloc: Global, body: &Option<Body>, bytes: u64) -> Result<Bytes, Memory>
-    requires { bytes ≤ 1099511627776 }
+    requires { bytes ≤ file_limit }
     ensures { IfOk result (λ piece. (size : Option ℕ) (n : Noted) → SummaryFor size n body.now
         → piece ≡ data_end ++ tail_by size n (bytes + length data_end)) }
 {

@@ -1,5 +1,6 @@
 //! The plan of a file: which piece is to be appended next, and how many blocks and bytes there are with it.
 ghost use Rattle.std.specs.Prelude.{◌≡◌, ◌<◌, ◌≤◌, ◌+◌, ◌^◌, ℕ, List, [], ◌∷◌, ◌++◌, length, Some, IfOk, IfErr, OnOk, OnErr};
+ghost use Rattle.mcap_wire.specs.Limits.{block_limit, chunk_size_limit, file_limit};
 ghost use Rattle.rec_data.specs.declared.owned.Rec.{Rec};
 ghost use Rattle.chunk_build.specs.Chunker.{AreFramed};
 ghost use Rattle.mcap_model.specs.declared.options.FileOptions.{FileOptions};
@@ -48,7 +49,7 @@ impl Model for Plan {
 
 // The body of a file in chunks of that size, if there is one.
 fn body_for(alloc: Global, size: Option<u64>) -> Result<Option<Body>, Memory>
-    requires { (n : ℕ) → size ≡ Some n → (1 ≤ n) × (n ≤ 67108864) }
+    requires { (n : ℕ) → size ≡ Some n → (1 ≤ n) × (n ≤ chunk_size_limit) }
     ensures { IfOk result (λ body. (at : ℕ) → BodyFor size at [] body) }
 {
     match size {
@@ -130,9 +131,9 @@ fn last_block(body: &mut Body, blocks: u64, bytes: u64) -> Result<Option<Block>,
 impl Plan {
     /// The plan of a file of these options, whose front has so many bytes.
     pub(crate) fn new(alloc: Global, options: &FileOptions, bytes: u64) -> Result<Plan, Memory>
-        requires size { (n : ℕ) → options.now.chunk ≡ Some n → (1 ≤ n) × (n ≤ 67108864) }
+        requires size { (n : ℕ) → options.now.chunk ≡ Some n → (1 ≤ n) × (n ≤ chunk_size_limit) }
         requires front { bytes ≡ length (front options.now.profile) }
-        requires small { bytes ≤ 1099511627776 }
+        requires small { bytes ≤ file_limit }
         ensures stands { IfOk result (λ p. Plans options.now [] p) }
         ensures goes_on { IfOk result (λ p. p.phase ≡ phases.Going) }
     {
@@ -154,14 +155,14 @@ impl Plan {
 
     pub(crate) fn blocks(&self) -> u64
         ensures value { result ≡ self.now.blocks }
-        ensures few { result ≤ 4294967295 }
+        ensures few { result ≤ block_limit }
     {
         self.blocks
     }
 
     pub(crate) fn bytes(&self) -> u64
         ensures value { result ≡ self.now.bytes }
-        ensures small { result ≤ 1099511627776 }
+        ensures small { result ≤ file_limit }
     {
         self.bytes
     }

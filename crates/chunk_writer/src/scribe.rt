@@ -1,6 +1,8 @@
 //! The scribe appends the pieces of a file to its store: the magic and the Header; each block, or each record where there are
 //! no chunks; and the Data End with all behind it.
 ghost use Rattle.std.specs.Prelude.{◌≡◌, ◌≤◌, ◌+◌, ℕ, List, Option, [], ◌∷◌, ◌++◌, length, Some, None, Ok, Err, IfOk, IfErr, OnOk, OnErr};
+ghost use Rattle.mcap_wire.specs.Layout.{content_limit};
+ghost use Rattle.mcap_wire.specs.Limits.{chunk_size_limit};
 ghost use Rattle.rec_data.specs.declared.owned.Rec.{Rec};
 ghost use Rattle.rec_data.specs.Owned.{LengthsFit};
 ghost use Rattle.mcap_io.specs.Outside.{LiveState};
@@ -91,8 +93,8 @@ fn taken<X>(full: Cache, entries: Vec<Entry<X>>, end: Result<(), Stop>) -> Taken
 
 // The front of a file, and the plan of what follows it.
 fn opening(alloc: Global, options: &FileOptions) -> Result<(Plan, Vec<u8>), Memory>
-    requires size { (n : ℕ) → options.now.chunk ≡ Some n → (1 ≤ n) × (n ≤ 67108864) }
-    requires profile { length options.now.profile ≤ 268435456 }
+    requires size { (n : ℕ) → options.now.chunk ≡ Some n → (1 ≤ n) × (n ≤ chunk_size_limit) }
+    requires profile { length options.now.profile ≤ content_limit }
     ensures front { IfOk result (λ o. o.1.items ≡ front options.now.profile) }
     ensures stands { IfOk result (λ o. Plans options.now [] o.0) }
     ensures goes_on { IfOk result (λ o. o.0.phase ≡ phases.Going) }
@@ -127,8 +129,8 @@ impl<L: LiveStore> Scribe<L> {
     /// magic and the Header are one append, appended through. Where it is refused, or memory lacks, the store is given back
     /// with what it took of them.
     pub fn open(alloc: Global, store: L, options: &FileOptions) -> Result<Scribe<L>, (L, Stop)>
-        requires size { (n : ℕ) → options.now.chunk ≡ Some n → (1 ≤ n) × (n ≤ 67108864) }
-        requires profile { length options.now.profile ≤ 268435456 }
+        requires size { (n : ℕ) → options.now.chunk ≡ Some n → (1 ≤ n) × (n ≤ chunk_size_limit) }
+        requires profile { length options.now.profile ≤ content_limit }
         ensures stands { IfOk result (λ s. Writes L.state options.now (L.state store) [] s) }
         ensures goes_on { IfOk result (λ s. phase_of s ≡ phases.Going) }
         ensures still { IfOk result (λ s. (L.state (store_of s)).faults ≡ (L.state store).faults) }

@@ -2,7 +2,7 @@
 use Rattle.std.proofs.Common.{◌≡◌, ◌⊎◌, ℕ, zero, suc, ◌^◌, ◌<◌, not, Bool, true, false, cond, ◌||◌, ◌==◌, if◌then◌else◌, List, [], ◌∷◌, ◌++◌, Some, None, Result, Err, refl, sym, ap, subst, inl, inr, ◌∙◌, arith}
 use Rattle.std.specs.Option.{option_map}
 use Rattle.std.proofs.lemmas.List.{append-nil}
-use Rattle.std.proofs.lemmas.Bool.{both_ways, ne_eqb}
+use Rattle.std.proofs.lemmas.Bool.{both_ways, ne_eqb, false_from_ne_true}
 use Rattle.mcap_io.specs.Outside.{Rose, RisesOnce, HasCause, Opens, OpenCause, CountsStand, added, SinkState, WorldState, Opening, Keeping, Told, opened, with_opening, went_well, NoneIsOut, Notes}
 use Rattle.mcap_io.proofs.Notes.{noted_in}
 use Rattle.mcap_io.specs.Stores.{StoreState}
@@ -23,17 +23,13 @@ use Rattle.command_base.proofs.Blamed.{each_one, some_one}
 
 -- ---- tests
 
-is_false : (b : Bool) → (b ≡ true → ⊥) → b ≡ false
-is_false true none = absurd (none refl)
-is_false false none = refl
-
 is_true : (b : Bool) → (b ≡ false → ⊥) → b ≡ true
 is_true true none = refl
 is_true false none = absurd (none refl)
 
 same_tests : (a b : Bool) → (a ≡ true → b ≡ true) → (b ≡ true → a ≡ true) → a ≡ b
 same_tests true b there back = sym (there refl)
-same_tests false b there back = sym (is_false b (λ is. both_ways false refl (back is)))
+same_tests false b there back = sym (false_from_ne_true b (λ is. both_ways false refl (back is)))
 
 either : (a b : Bool) → (a ≡ true) ⊎ (b ≡ true) → (a || b) ≡ true
 either true b some = refl
@@ -243,14 +239,14 @@ module _ (kind : ObjectKind) (file : List ℕ) (old new : Scene) (entries : List
 
   -- where no count rose nothing failed
   file_calm : (AnyRose (counts_in old) (counts_in new) → ⊥) → faults.file ≡ false
-  file_calm quiet = is_false faults.file (λ blamed_is. elim (file_rose blamed_is) [ inl world ↦ quiet (inl world) | inr inputs ↦ quiet (inr (inl inputs)) ])
+  file_calm quiet = false_from_ne_true faults.file (λ blamed_is. elim (file_rose blamed_is) [ inl world ↦ quiet (inl world) | inr inputs ↦ quiet (inr (inl inputs)) ])
 
   printing_calm : (AnyRose (counts_in old) (counts_in new) → ⊥) → faults.printing ≡ false
-  printing_calm quiet = is_false faults.printing (λ blamed_is. quiet (inr (inr (inr (printing_rose blamed_is)))))
+  printing_calm quiet = false_from_ne_true faults.printing (λ blamed_is. quiet (inr (inr (inr (printing_rose blamed_is)))))
 
   -- a part that isn't blamed didn't fail
   unblamed : faults.file ≡ false → broken ≡ false
-  unblamed well = is_false broken (λ is. both_ways faults.file well (parts.shows.file_told (inl is)))
+  unblamed well = false_from_ne_true broken (λ is. both_ways faults.file well (parts.shows.file_told (inl is)))
 
   calm : (AnyRose (counts_in old) (counts_in new) → ⊥) → (broken ≡ false) × ((answer ≡ ending_status ending) ⊎ (answer ≡ 5))
   calm quiet =
@@ -270,7 +266,7 @@ module _ (kind : ObjectKind) (file : List ℕ) (old new : Scene) (entries : List
         | inr is ↦ sym is ∙ zero_is
       ] in
       let all = all_read ending faults.file faults.printing parts.well number (λ well e. both_ways broken (unblamed well) (parts.sure e)) in
-      let well : broke ≡ false = is_false broke (λ is. both_ways faults.printing all.3 (parts.shows.printing_told (inl is))) in
+      let well : broke ≡ false = false_from_ne_true broke (λ is. both_ways faults.printing all.3 (parts.shows.printing_told (inl is))) in
       (unblamed all.2, (all.0, all.1, all_taken old.out new.out ending broke all.0 parts.prints all.1 well))
 
   blames : Blames (files_of kind file) old.world new.world entries (named_when faults.file file ++ [])
@@ -284,7 +280,7 @@ module _ (kind : ObjectKind) (file : List ℕ) (old new : Scene) (entries : List
         ap (λ (b : Bool). named_when b file ++ []) same ∙ sym parts.name.names_are;
     caused = each_one (IsCaused (files_of kind file) old.world new.world) faults.file file (λ blamed_is. elim (file_rose blamed_is) [ inl world ↦ inl world | inr inputs ↦ inr (inl ((0, refl), inputs)) ]);
     told = λ on risen none.
-        let well : faults.file ≡ false = is_false faults.file (λ is. some_one faults.file file is none) in
+        let well : faults.file ≡ false = false_from_ne_true faults.file (λ is. some_one faults.file file is none) in
         elim risen [
           | inl world ↦ both_ways faults.file well (parts.shows.file_told (inr (inl world)))
           | inr (inl inputs) ↦ both_ways faults.file well (parts.shows.file_told (inr (inr inputs)))

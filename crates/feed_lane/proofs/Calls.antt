@@ -20,7 +20,7 @@ use Rattle.record_core.specs.declared.answers.Declared.{Declared}
 use Rattle.feed_lane.specs.declared.report.DeclaredAt.{DeclaredAt}
 use Rattle.feed_lane.specs.declared.report.Cause.{Cause}
 use Rattle.feed_lane.specs.declared.report.Cause.TheVariants as causes
-use Rattle.feed_lane.specs.Pass.{FullAt, Reason, for_size, for_room, for_id, PassState, Finds, full_at, with_found, with_reason, with_full, with_lack, GetsId, PublishedBy, DeclaredInto, Seen}
+use Rattle.feed_lane.specs.Pass.{FullAt, Reason, for_size, for_room, for_id, PassState, Finds, full_at, with_found, with_reason, with_full, with_lack, GetsId, PublishedBy, DeclaredInto, FoundAtLeast}
 use Rattle.feed_lane.specs.Lanes.{Lists, messages, IsLong, IsChannelOf, IsWide, EndsWith, CauseFits, IsTried, full_in, lack_in, reason_in, IsLacking, InStep, ListsFit}
 use Rattle.feed_lane.specs.Steps.{Above, IsOpen, goes_on, HasId, IsRefusal, publish_cause, declare_cause, full_cause}
 use Rattle.feed_lane.proofs.Members.{false_true, open_by, finds_above, seen_later, in_step_none, in_step_one}
@@ -117,7 +117,7 @@ was_full records handled before found held finds end same le =
       reasons = ap (λ (x : FullAt). before.reasons ++ for_room x ∷ []) (sym is);
       fits = (subst (Has (before.fulls ++ full_at found ∷ [])) (sym is) (has_last before.fulls (full_at found) []), le, finds.within);
       above = λ n x at. subst (λ (y : FullAt). Above before y.to) (sym (only n x at)) (finds_above before found finds);
-      tos = λ n x at. subst (λ (y : FullAt). Seen (with_full before found) y.to) (sym (only n x at)) (record { found = found; shown = refl; within = omega arith });
+      tos = λ n x at. subst (λ (y : FullAt). FoundAtLeast (with_full before found) y.to) (sym (only n x at)) (record { found = found; shown = refl; within = omega arith });
       is_open = λ on was. open_by (with_full before found) found refl end;
     }
   where

@@ -12,7 +12,7 @@ use Rattle.feed_lane.specs.declared.report.DeclaredAt.{DeclaredAt}
 use Rattle.feed_lane.specs.declared.report.Refused.{Refused}
 use Rattle.feed_lane.specs.Pass.{PassState, placed_from, Finds, AreAdded, with_declared}
 use Rattle.feed_lane.specs.Lanes.{Lists, IsOn, Describes, Declares, IsTried, full_in, IsNamed, InTurnWith, IsGiven, ListsFit}
-use Rattle.feed_lane.specs.Steps.{Extends, HasId, IdsStand, Stands}
+use Rattle.feed_lane.specs.Steps.{Extends, HasId, IdsStand, ListsStand}
 use Rattle.feed_lane.proofs.Growing.{on_one}
 use Rattle.feed_lane.proofs.Members.{open_by, finds_above, seen_later, in_step_joined, in_step_one, declares_on, accepts_on, accepts_listed, has_id_listed, cause_on, full_shown, placed_at, declared_above, accepted_above}
 
@@ -58,7 +58,7 @@ new_declares records handled ids source before found content d is = record {
 }
 
 -- no other declaration is for that channel
-not_twice : (records : List Top) (handled : ℕ) (ids : List ℕ) (lists : Lists) (source : ℕ) (before : PassState) (found : Found) (content : ChannelDef) (d : DeclaredAt) → Stands records handled handled ids lists before → IsNew records handled ids source found content d → (k : ℕ) (e : DeclaredAt) (channel : ℕ) → At lists.declared k e → IsOn records e.index channel → IsOn records d.index channel → ⊥
+not_twice : (records : List Top) (handled : ℕ) (ids : List ℕ) (lists : Lists) (source : ℕ) (before : PassState) (found : Found) (content : ChannelDef) (d : DeclaredAt) → ListsStand records handled handled ids lists before → IsNew records handled ids source found content d → (k : ℕ) (e : DeclaredAt) (channel : ℕ) → At lists.declared k e → IsOn records e.index channel → IsOn records d.index channel → ⊥
 not_twice records handled ids lists source before found content d stands is k e channel at on on_d =
     let same : channel ≡ source = on_one records handled channel source (subst (λ (n : ℕ). IsOn records n channel) is.index on_d) is.on in
     stands.ids_stand.fresh source e is.none (k, at) (subst (IsOn records e.index) same on)
@@ -84,7 +84,7 @@ own_rises before found added finds was =
       ]
     ])
 
-pub declared_fits : (records : List Top) (handled : ℕ) (ids : List ℕ) (lists : Lists) (source : ℕ) (before : PassState) (found : Found) (content : ChannelDef) (d : DeclaredAt) → Stands records handled handled ids lists before → Finds before found → (is : IsNew records handled ids source found content d) → ListsFit records handled (handled + 1) (with_declaration lists d) (with_declared before found content d.channel is.added)
+pub declared_fits : (records : List Top) (handled : ℕ) (ids : List ℕ) (lists : Lists) (source : ℕ) (before : PassState) (found : Found) (content : ChannelDef) (d : DeclaredAt) → ListsStand records handled handled ids lists before → Finds before found → (is : IsNew records handled ids source found content d) → ListsFit records handled (handled + 1) (with_declaration lists d) (with_declared before found content d.channel is.added)
 declared_fits records handled ids lists source before found content d stands finds is =
     let was = stands.fits in
     let after = with_declared before found content d.channel is.added in
@@ -152,7 +152,7 @@ declared_fits records handled ids lists source before found content d stands fin
       apart = was.apart;
     }
 
-new_ids : (records : List Top) (handled : ℕ) (ids : List ℕ) (lists : Lists) (source : ℕ) (before : PassState) (found : Found) (content : ChannelDef) (d : DeclaredAt) → Stands records handled handled ids lists before → IsNew records handled ids source found content d → HasId records (lists.declared ++ d ∷ []) source d.channel → IdsStand records (lists.declared ++ d ∷ []) (set ids source d.channel)
+new_ids : (records : List Top) (handled : ℕ) (ids : List ℕ) (lists : Lists) (source : ℕ) (before : PassState) (found : Found) (content : ChannelDef) (d : DeclaredAt) → ListsStand records handled handled ids lists before → IsNew records handled ids source found content d → HasId records (lists.declared ++ d ∷ []) source d.channel → IdsStand records (lists.declared ++ d ∷ []) (set ids source d.channel)
 new_ids records handled ids lists source before found content d stands is has = record {
   fresh = λ other e at listed on. elim (at_set ids source other 0 d.channel at) [
     | inl here ↦ omega (arith, here.1, is.some)
@@ -181,7 +181,7 @@ tried_kept records declared d r was = λ len is. elim (was len is) [
   | inr one ↦ inr (record { source = one.source; on = one.on; by = one.by; listed = has_kept declared (d ∷ []) one.by one.listed; before = one.before; is_on = one.is_on })
 ]
 
-pub declared_stands : (records : List Top) (handled : ℕ) (ids : List ℕ) (lists : Lists) (source : ℕ) (before : PassState) (found : Found) (content : ChannelDef) (d : DeclaredAt) → Stands records handled handled ids lists before → Finds before found → found.end ≡ None → (is : IsNew records handled ids source found content d) → Stands records handled (handled + 1) (set ids source d.channel) (with_declaration lists d) (with_declared before found content d.channel is.added)
+pub declared_stands : (records : List Top) (handled : ℕ) (ids : List ℕ) (lists : Lists) (source : ℕ) (before : PassState) (found : Found) (content : ChannelDef) (d : DeclaredAt) → ListsStand records handled handled ids lists before → Finds before found → found.end ≡ None → (is : IsNew records handled ids source found content d) → ListsStand records handled (handled + 1) (set ids source d.channel) (with_declaration lists d) (with_declared before found content d.channel is.added)
 declared_stands records handled ids lists source before found content d stands finds end is =
     let after = with_declared before found content d.channel is.added in
     let extends = declared_extends before found content d.channel is.added finds in

@@ -1,6 +1,7 @@
 -- A lane reads a feed to its end.
 use Rattle.std.proofs.Common.{◌≡◌, ℕ, ◌+◌, ◌<◌, ◌≤◌, ◌^◌, List, [], ◌∷◌, ◌++◌, length, false, true, None, Some, Result, Ok, Err, refl, sym, ap, subst, inl, inr, ◌∙◌, arith}
 use Rattle.std.proofs.lemmas.List.{length-append}
+use Rattle.std.proofs.lemmas.Option.{none-some}
 use Rattle.mcap_io.specs.Outside.{SourceState}
 use Rattle.mcap_model.specs.Tops.{Top, flat, flattened, offset_behind}
 use Rattle.mcap_model.specs.Made.{top}
@@ -8,14 +9,14 @@ use Rattle.mcap_model.specs.Rules.{V6}
 use Rattle.mcap_model.specs.Kept.{reading_limits, Fits, Good, at_end}
 use Rattle.mcap_model.specs.Written.{passed, passed_in}
 use Rattle.mcap_model.specs.Places.{Each}
-use Rattle.mcap_model.proofs.Places.{at_none, each_at}
-use Rattle.mcap_model.proofs.Flat.{good_lists_agree}
+use Rattle.mcap_model.proofs.Places.{each_at}
+use Rattle.mcap_model.proofs.Flat.{good_lists_agree, flat_more}
 use Rattle.mcap_scan.specs.declared.answers.ScanRefused.{ScanRefused}
 use Rattle.mcap_scan.specs.declared.answers.ScanRefused.TheVariants as refusals
 use Rattle.mcap_scan.specs.declared.reader.Reader.{Reader}
 use Rattle.mcap_scan.specs.declared.reader.Stage.{Stage}
 use Rattle.mcap_scan.specs.declared.reader.Stage.TheVariants as stages
-use Rattle.mcap_scan.specs.Scanning.{Stands as ReaderStands, StageStands, IsGoing, RefusalStands, Refuses, MemoryStands, HaltsSo, tables_of, offset_of}
+use Rattle.mcap_scan.specs.Scanning.{Stands as ReaderStands, StageStands, IsGoing, RefusalStands, MemoryStands, HaltsSo, tables_of, offset_of}
 use Rattle.mcap_scan.proofs.Scanning.{tables_stand, good_stand}
 use Rattle.feed_lane.specs.declared.report.FeedReport.{FeedReport}
 use Rattle.feed_lane.specs.declared.report.FeedEnd.{FeedEnd}
@@ -26,13 +27,14 @@ use Rattle.feed_lane.specs.declared.lane.Over.{Over}
 use Rattle.feed_lane.specs.declared.lane.Over.TheVariants as overs
 use Rattle.record_core.specs.declared.answers.Found.{Found}
 use Rattle.mcap_model.specs.declared.ends.End.{End}
+use Rattle.mcap_scan.proofs.Refused.{nothing_read}
 use Rattle.feed_lane.specs.Pass.{PassState}
 use Rattle.feed_lane.specs.Lanes.{messages, LaneFits}
-use Rattle.feed_lane.specs.Steps.{lists_of, IsOpen, goes_on, LaneStands, AreKnown, MessageTaken, Waits, RecordTaken, Counts, Counted, refused_end, over_end}
-use Rattle.feed_lane.specs.Feeds.{ReadSoFar, FeedEnds, IsInLast, AllTaken, Takes, reported, Reports}
+use Rattle.feed_lane.specs.Steps.{lists_of, IsOpen, goes_on, LaneStands, AreKnown, MessageTaken, Waits, RecordHandled, Counts, Counted, refused_end, over_end}
+use Rattle.feed_lane.specs.Feeds.{ReadSoFar, FeedEnds, IsInLast, AllTaken, TakesMessages, reported, Reports}
 use Rattle.feed_lane.proofs.Members.{true_false, unended}
 use Rattle.feed_lane.proofs.Growing.{stands_more}
-use Rattle.feed_lane.proofs.Walking.{waits_behind, waits_none, flat_more, passed_more, passed_short}
+use Rattle.feed_lane.proofs.Walking.{waits_behind, waits_none, passed_more, passed_short}
 
 -- ---- one record
 
@@ -42,7 +44,7 @@ counted_none before now n (Ok it) same none = (omega (arith, same), omega (arith
 counted_none before now n (Err over) same none = (omega (arith, same), omega (arith, same), tt)
 
 -- a message that was at hand is a record that was taken
-pub message_record : (lane : Lane) (records : List Top) (handled : ℕ) (content : List ℕ) (more : List Top) (pass : PassState) (result : Result Unit Over) → Waits records handled (top 5 content ∷ more) → MessageTaken lane records handled pass result → RecordTaken lane records handled more pass result
+pub message_record : (lane : Lane) (records : List Top) (handled : ℕ) (content : List ℕ) (more : List Top) (pass : PassState) (result : Result Unit Over) → Waits records handled (top 5 content ∷ more) → MessageTaken lane records handled pass result → RecordHandled lane records handled more pass result
 message_record lane records handled content more pass (Ok it) waits taken = (handled + 1, omega arith, taken, waits_behind records handled content more waits)
 message_record lane records handled content more pass (Err over) waits taken = (handled, omega arith, taken)
 
@@ -88,7 +90,7 @@ read_so_far reader before now tops t = by reader.stage
     by (stages.Stopped why) going was = absurd going
 
 -- the record was taken
-pub fed : (lane : Lane) (pass : PassState) (tops : List Top) (t : Top) (was offset : ℕ) → RecordTaken lane (flat (tops ++ t ∷ [])) (length (messages (flat tops))) [] pass (Ok tt) → was ≡ passed tops → Counts was lane.passed (passed_in t) → offset ≡ offset_behind (tops ++ t ∷ []) → offset ≤ 1099511627776 → Feeds lane pass (tops ++ t ∷ [])
+pub fed : (lane : Lane) (pass : PassState) (tops : List Top) (t : Top) (was offset : ℕ) → RecordHandled lane (flat (tops ++ t ∷ [])) (length (messages (flat tops))) [] pass (Ok tt) → was ≡ passed tops → Counts was lane.passed (passed_in t) → offset ≡ offset_behind (tops ++ t ∷ []) → offset ≤ 1099511627776 → Feeds lane pass (tops ++ t ∷ [])
 fed lane pass tops t was offset taken same counts place le =
     let more = passed_more tops t in
     let short = passed_short (tops ++ t ∷ []) in
@@ -100,14 +102,6 @@ fed lane pass tops t was offset taken same counts place le =
     }
 
 -- ---- the end
-
--- the refusal that a reader hands out is the one that it keeps
-pub refusal_stands : (reader : Reader) (before now : SourceState) (tops : List Top) (why : ScanRefused) → Refuses reader before now tops → reader.stage ≡ stages.Stopped why → RefusalStands why before now tops
-refusal_stands reader before now tops why refuses is =
-    subst (λ (w : ScanRefused). RefusalStands w before now tops) (same (sym refuses.stage ∙ is)) refuses.stands
-  where
-    same : {a b : ScanRefused} → stages.Stopped a ≡ stages.Stopped b → a ≡ b
-    same e = cc
 
 abbrev pub report_of : Lane → FeedEnd → FeedReport
 report_of lane end = record { accepted = lane.accepted; declared = lane.declared; refused = lane.refused; passed = lane.passed; end = end }
@@ -126,7 +120,7 @@ ends_refused (refusals.Compressed offset name) before now tops stands = stands
 ends_refused (refusals.Limit offset) before now tops stands = stands
 ends_refused refusals.Memory before now tops stands = stands
 
-takes_refused : (why : ScanRefused) (tops : List Top) (handled count : ℕ) (refused : List Refused) → AllTaken tops handled count → Takes tops handled count refused (refused_end why)
+takes_refused : (why : ScanRefused) (tops : List Top) (handled count : ℕ) (refused : List Refused) → AllTaken tops handled count → TakesMessages tops handled count refused (refused_end why)
 takes_refused (refusals.Fault faults) tops handled count refused all = all
 takes_refused (refusals.Grammar offset rule) tops handled count refused all = all
 takes_refused (refusals.Compressed offset name) tops handled count refused all = all
@@ -163,7 +157,7 @@ reports_done lane pass before now tops offset feeds halts = record {
 in_last : (tops : List Top) (t : Top) (index count : ℕ) → length (messages (flat tops)) ≤ index → index < length (messages (flat (tops ++ t ∷ []))) → (passed tops ≤ count) × (count ≤ passed (tops ++ t ∷ [])) → IsInLast (tops ++ t ∷ []) index count
 in_last tops t index count behind within counts = record { earlier = tops; last = t; are = refl; behind = behind; within = within; passed_before = counts.0; passed_within = counts.1 }
 
-pub reports_over : (lane : Lane) (pass : PassState) (before now : SourceState) (tops : List Top) (t : Top) (over : Over) → RecordTaken lane (flat (tops ++ t ∷ [])) (length (messages (flat tops))) [] pass (Err over) → (passed tops ≤ lane.passed) × (lane.passed ≤ passed (tops ++ t ∷ [])) → MemoryStands before now (tops ++ t ∷ []) → ReadSoFar before now (tops ++ t ∷ []) → Reports before now pass (report_of lane (over_end over))
+pub reports_over : (lane : Lane) (pass : PassState) (before now : SourceState) (tops : List Top) (t : Top) (over : Over) → RecordHandled lane (flat (tops ++ t ∷ [])) (length (messages (flat tops))) [] pass (Err over) → (passed tops ≤ lane.passed) × (lane.passed ≤ passed (tops ++ t ∷ [])) → MemoryStands before now (tops ++ t ∷ []) → ReadSoFar before now (tops ++ t ∷ []) → Reports before now pass (report_of lane (over_end over))
 reports_over lane pass before now tops t overs.Memory taken counts lacks read = record {
   tops = tops ++ t ∷ [];
   handled = taken.0;
@@ -189,26 +183,15 @@ reports_over lane pass before now tops t overs.Ended taken counts lacks read = r
   tried = taken.2.2.tried;
 }
 
--- nothing was read, for want of memory
-pub nothing_read : (before : SourceState) → MemoryStands before before []
-nothing_read before = record {
-  still = refl;
-  good = λ n t at. absurd (at_none n t at);
-  leaves = λ bytes told. inl (refl, told);
-}
-
-no_found : {f : Found} → None ≡ Some f → ⊥
-no_found e = cc
-
 pub reports_nothing : (before : SourceState) (pass : PassState) (report : FeedReport) → pass.found ≡ None → report.end ≡ feed_ends.Memory → report.passed ≡ 0 → LaneFits [] 0 (reported report) pass → Reports before before pass report
 reports_nothing before pass report unfound end none fits = record {
   tops = [];
   handled = 0;
   ends = subst (FeedEnds before before []) (sym end) (nothing_read before);
-  takes = subst (Takes [] 0 report.passed report.refused.items) (sym end) (inl (refl, none));
+  takes = subst (TakesMessages [] 0 report.passed report.refused.items) (sym end) (inl (refl, none));
   fits = fits;
   refused_ends = λ k r at. absurd (let below = fits.refused_below k r at in omega (arith, below));
-  found_ends = λ found last shown is. absurd (no_found (sym unfound ∙ shown));
+  found_ends = λ found last shown is. absurd (none-some _ (sym unfound ∙ shown));
   firsts = λ k d at. absurd (let below = fits.declared_below k d at in omega (arith, below));
   tried = λ k r at. absurd (let below = fits.refused_below k r at in omega (arith, below));
 }

@@ -20,7 +20,7 @@ use Rattle.feed_lane.specs.declared.report.Cause.{Cause}
 use Rattle.feed_lane.specs.declared.report.Cause.TheVariants as causes
 use Rattle.feed_lane.specs.Pass.{PassState}
 use Rattle.feed_lane.specs.Lanes.{Lists, messages, IsOn, SchemaShown, Describes, Declares, Accepts, IsLong, IsChannelOf, IsWide, LacksId, CauseFits, IsTried, lacks_of, IsNamed, IsLacking, InStep, ListsFit}
-use Rattle.feed_lane.specs.Steps.{HasId, Stands}
+use Rattle.feed_lane.specs.Steps.{HasId, ListsStand}
 use Rattle.feed_lane.proofs.Members.{in_step_on}
 
 -- ---- what the records show
@@ -48,7 +48,7 @@ on_one records index a b one other =
 on_within : (records : List Top) (index channel : ℕ) → IsOn records index channel → index < length (messages records)
 on_within records index channel on = at_within (messages records) index on.top on.at
 
-on_more : (records more : List Top) (index channel : ℕ) → IsOn records index channel → IsOn (records ++ more) index channel
+pub on_more : (records more : List Top) (index channel : ℕ) → IsOn records index channel → IsOn (records ++ more) index channel
 on_more records more index channel on = record {
   top = on.top;
   message = on.message;
@@ -72,7 +72,7 @@ shows_more records more channel shown shows = record {
   is = shows.is;
 }
 
-schema_more : (records more : List Top) (id : ℕ) (s : Option SchemaDef) → SchemaShown records id s → SchemaShown (records ++ more) id s
+pub schema_more : (records more : List Top) (id : ℕ) (s : Option SchemaDef) → SchemaShown records id s → SchemaShown (records ++ more) id s
 schema_more records more id None none = none
 schema_more records more id (Some s) some = record {
   place = some.place;
@@ -222,7 +222,7 @@ has_id_more records more declared source id has = record {
   is = has.is;
 }
 
-pub stands_more : (records more : List Top) (handled bound : ℕ) (ids : List ℕ) (lists : Lists) (pass : PassState) → Stands records handled bound ids lists pass → Stands (records ++ more) handled bound ids lists pass
+pub stands_more : (records more : List Top) (handled bound : ℕ) (ids : List ℕ) (lists : Lists) (pass : PassState) → ListsStand records handled bound ids lists pass → ListsStand (records ++ more) handled bound ids lists pass
 stands_more records more handled bound ids lists pass was = record {
   fits = fits_more records more handled bound lists pass was.fits;
   ids_stand = record {
@@ -239,7 +239,7 @@ stands_more records more handled bound ids lists pass was = record {
 -- ---- between the steps
 
 -- a declaration may have been made for the message at hand
-pub may_declare : (records : List Top) (handled : ℕ) (ids : List ℕ) (lists : Lists) (pass : PassState) → Stands records handled handled ids lists pass → Stands records handled (handled + 1) ids lists pass
+pub may_declare : (records : List Top) (handled : ℕ) (ids : List ℕ) (lists : Lists) (pass : PassState) → ListsStand records handled handled ids lists pass → ListsStand records handled (handled + 1) ids lists pass
 may_declare records handled ids lists pass stands =
     let was = stands.fits in
     record {

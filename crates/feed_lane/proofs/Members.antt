@@ -1,6 +1,7 @@
 -- What a call on the pass leaves of what was said of the members of the lists.
 use Rattle.std.proofs.Common.{◌≡◌, ℕ, zero, suc, ◌+◌, ◌<◌, ◌≤◌, List, [], ◌∷◌, ◌++◌, length, true, false, Some, None, refl, sym, ap, subst, inl, inr, ◌∙◌, arith}
 use Rattle.std.proofs.lemmas.List.{length-append}
+use Rattle.std.proofs.lemmas.Option.{same_Some, none-some}
 use Rattle.rec_data.specs.declared.owned.Rec.{Rec}
 use Rattle.mcap_model.specs.declared.ends.End.{End}
 use Rattle.mcap_model.specs.Places.{At, Has, Each}
@@ -14,7 +15,7 @@ use Rattle.feed_lane.specs.declared.report.Accepted.{Accepted}
 use Rattle.feed_lane.specs.declared.report.DeclaredAt.{DeclaredAt}
 use Rattle.feed_lane.specs.declared.report.Cause.{Cause}
 use Rattle.feed_lane.specs.declared.report.Cause.TheVariants as causes
-use Rattle.feed_lane.specs.Pass.{FullAt, PassState, placed_from, Finds, Seen}
+use Rattle.feed_lane.specs.Pass.{FullAt, PassState, placed_from, Finds, FoundAtLeast}
 use Rattle.feed_lane.specs.Lanes.{Declares, Accepts, LacksId, CauseFits, full_in, InStep}
 use Rattle.feed_lane.specs.Steps.{Above, Extends, IsOpen, goes_on, HasId}
 
@@ -26,19 +27,13 @@ true_false e = cc
 
 -- ---- the end that a pass found
 
-found_same : {x y : Found} → Some x ≡ Some y → x ≡ y
-found_same e = cc
-
-none_some : {e : End} → None ≡ Some e → ⊥
-none_some e = cc
-
 -- where the call found no end, the pass found none
 pub open_by : (after : PassState) (found : Found) → after.found ≡ Some found → found.end ≡ None → IsOpen after
-open_by after found shown none = λ other is. subst (λ (f : Found). f.end ≡ None) (found_same (sym shown ∙ is)) none
+open_by after found shown none = λ other is. subst (λ (f : Found). f.end ≡ None) (same_Some _ _ (sym shown ∙ is)) none
 
 -- it shows none
 pub unended : (pass : PassState) (found : Found) (end : End) → IsOpen pass → pass.found ≡ Some found → found.end ≡ Some end → ⊥
-unended pass found end none shown is = none_some (sym (none found shown) ∙ is)
+unended pass found end none shown is = none-some _ (sym (none found shown) ∙ is)
 
 -- ---- the numbers that a pass has seen
 
@@ -49,7 +44,7 @@ finds_above before found finds = record {
 }
 
 -- the intake was found so, later than before
-pub seen_later : (before after : PassState) (found : Found) → Finds before found → after.found ≡ Some found → (n : ℕ) → Seen before n → Seen after n
+pub seen_later : (before after : PassState) (found : Found) → Finds before found → after.found ≡ Some found → (n : ℕ) → FoundAtLeast before n → FoundAtLeast after n
 seen_later before after found finds shown n s = record {
   found = found;
   shown = shown;
@@ -191,7 +186,7 @@ placed_at first (r ∷ rs) zero pair at = (omega (arith, ap (λ (p : ℕ × Rec)
     some_same e = cc
 placed_at first (r ∷ rs) (suc k) pair at = let t = placed_at (first + 1) rs k pair at in (omega (arith, t.0), omega (arith, t.1))
 
-pub declared_above : (records : List Top) (pass : PassState) (d : DeclaredAt) (n : ℕ) → Declares records pass d → Seen pass d.first → Above pass n → d.first + d.count ≤ n
+pub declared_above : (records : List Top) (pass : PassState) (d : DeclaredAt) (n : ℕ) → Declares records pass d → FoundAtLeast pass d.first → Above pass n → d.first + d.count ≤ n
 declared_above records pass d n was seen above =
     let below = placed_below d.first was.added n (above.seen d.first seen) (λ k pair at. let own = was.own k pair at in above.own own.0 pair own.1) in
     omega (arith, below, was.many)

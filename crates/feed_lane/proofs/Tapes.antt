@@ -1,5 +1,6 @@
 -- A tape as a pass.
-use Rattle.std.proofs.Common.{◌≡◌, ℕ, zero, suc, ◌+◌, ◌-◌, ◌<◌, List, [], ◌∷◌, ◌++◌, length, Bool, true, false, Option, Some, None, refl, sym, ap, subst, ◌∙◌, length-append, arith}
+use Rattle.std.proofs.Common.{◌≡◌, ℕ, zero, suc, ◌+◌, ◌-◌, ◌<◌, List, [], ◌∷◌, ◌++◌, length, Bool, true, false, Option, Some, refl, sym, ap, subst, ◌∙◌, length-append, arith}
+use Rattle.std.proofs.lemmas.Option.{same_Some, none-some}
 use Rattle.rec_data.specs.declared.owned.Rec.{Rec}
 use Rattle.rec_data.specs.declared.channel.ChannelDef.{ChannelDef}
 use Rattle.mcap_model.specs.declared.ends.End.{End}
@@ -13,12 +14,6 @@ use Rattle.feed_lane.proofs.Members.{placed_at}
 
 some_same : {x y : ℕ × ChannelDef} → Some x ≡ Some y → x ≡ y
 some_same e = cc
-
-found_same : {x y : Found} → Some x ≡ Some y → x ≡ y
-found_same e = cc
-
-none_some : {x : Found} → None ≡ Some x → ⊥
-none_some e = cc
 
 none_end : {e : End} → end_when false ≡ Some e → ⊥
 none_end e = cc
@@ -54,8 +49,8 @@ numbered_more id (x ∷ xs) d =
 
 -- a tape only grows
 later : (asked was ended : Bool) (count channels a b : ℕ) → (was ≡ true → ended ≡ true) → (last : Found) → found_when asked (count - a) (channels - b) was ≡ Some last → IsLater last (found_now count channels ended)
-later false was ended count channels a b stays last is = absurd (none_some is)
-later true was ended count channels a b stays last is = subst (λ (f : Found). IsLater f (found_now count channels ended)) (found_same is) (by was stays)
+later false was ended count channels a b stays last is = absurd (none-some _ is)
+later true was ended count channels a b stays last is = subst (λ (f : Found). IsLater f (found_now count channels ended)) (same_Some _ _ is) (by was stays)
   where
     by : (w : Bool) → (w ≡ true → ended ≡ true) → IsLater (found_now (count - a) (channels - b) w) (found_now count channels ended)
     by true on = record { taken = omega arith; count = omega arith; schemas = omega arith; channels = omega arith; end = λ e same. subst (λ (x : Bool). end_when x ≡ Some e) (sym (on refl)) same }

@@ -1,18 +1,19 @@
 -- A lane goes over the records of a feed: which messages wait, and how many records are passed over.
-use Rattle.std.proofs.Common.{◌≡◌, ℕ, zero, suc, ◌+◌, ◌<◌, ◌≤◌, Bool, true, false, List, [], ◌∷◌, ◌++◌, length, filter, eqb, cond, take, drop, refl, sym, ap, subst, ◌∙◌, append_assoc, arith}
+use Rattle.std.proofs.Common.{◌≡◌, ℕ, ◌+◌, ◌<◌, ◌≤◌, Bool, true, false, List, [], ◌∷◌, ◌++◌, length, filter, eqb, cond, refl, sym, ap, subst, ◌∙◌, append_assoc, arith}
 use Rattle.std.proofs.lemmas.Bool.{eqb-true, ne_eqb, le-leb, lt-leb}
-use Rattle.std.proofs.lemmas.List.{append-nil, length-append, length-take, length-drop}
+use Rattle.std.proofs.lemmas.List.{append-nil, length-append}
 use Rattle.std.proofs.lemmas.List.Elements.{filter-append}
 use Rattle.std.proofs.lemmas.List.Sums.{sum_by-append}
-use Rattle.std.proofs.lemmas.Grind.{flat_map-append}
 use Rattle.mcap_model.specs.Places.{At}
-use Rattle.mcap_model.specs.Tops.{Top, top_bytes, spelled, first_top, behind_first, begins_record, first_records, records_in, chunk_records, is_chunk, inner_tops, opened, is_flat_kind, flattened, flat}
+use Rattle.mcap_model.specs.Tops.{Top, top_bytes, spelled, chunk_records, is_chunk, inner_tops, opened, is_flat_kind, flattened, flat}
 use Rattle.mcap_model.specs.Made.{top}
 use Rattle.mcap_model.specs.Rules.{is_unknown}
 use Rattle.mcap_model.specs.Written.{is_passed_over, passed_in, passed}
 use Rattle.mcap_model.proofs.Places.{at_last}
 use Rattle.mcap_model.proofs.Readings.{length-top}
 use Rattle.mcap_model.proofs.Logging.{few_filtered}
+use Rattle.mcap_model.proofs.FewRecords.{records_short, chunk_short}
+use Rattle.mcap_model.proofs.Flat.{flat_more}
 use Rattle.feed_lane.specs.Lanes.{messages}
 use Rattle.feed_lane.specs.Steps.{AtHand, Waits, unknown_in}
 use Rattle.feed_lane.proofs.Growing.{messages_more}
@@ -70,9 +71,6 @@ messages_flat (t ∷ ts) = by (eqb t.op 5) refl (messages_flat ts)
         left (is_flat_kind t) other rest
         ∙ sym (ap (λ (c : Bool). cond c (t ∷ messages ts) (messages ts)) other)
 
-pub flat_more : (tops : List Top) (t : Top) → flat (tops ++ t ∷ []) ≡ flat tops ++ flattened t
-flat_more tops t = flat_map-append flattened tops (t ∷ []) ∙ ap (λ (l : List Top). flat tops ++ l) (append-nil (flattened t))
-
 -- behind the messages of the records before it, those of a record wait
 pub waits_more : (tops : List Top) (t : Top) → Waits (flat (tops ++ t ∷ [])) (length (messages (flat tops))) (opened t)
 waits_more tops t = record {
@@ -99,25 +97,6 @@ unknown_none op content lt = ap (λ (b : Bool). length (cond b (top op content �
 
 pub passed_more : (tops : List Top) (t : Top) → passed (tops ++ t ∷ []) ≡ passed tops + passed_in t
 passed_more tops t = let one = sum_by-append passed_in tops (t ∷ []) in omega (arith, one)
-
-first_short : (n : ℕ) (bytes : List ℕ) → length (first_records n bytes) ≤ n
-first_short zero bytes = omega arith
-first_short (suc n) bytes = by (begins_record bytes) (first_short n (behind_first bytes))
-  where
-    by : (b : Bool) → length (first_records n (behind_first bytes)) ≤ n → length (cond b (first_top bytes ∷ first_records n (behind_first bytes)) []) ≤ suc n
-    by true short = omega (arith, short)
-    by false short = omega arith
-
-records_short : (bytes : List ℕ) → length (records_in bytes) ≤ length bytes
-unfolding records_in
-records_short bytes = first_short (length bytes) bytes
-
-chunk_short : (content : List ℕ) → length (chunk_records content) ≤ length content
-unfolding chunk_records
-chunk_short content = cut_short content _ _
-  where
-    cut_short : (bytes : List ℕ) (n at : ℕ) → length (take n (drop at bytes)) ≤ length bytes
-    cut_short bytes n at = omega (arith, length-take n (drop at bytes), length-drop at bytes)
 
 one_short : (t : Top) → passed_in t ≤ length (top_bytes t)
 one_short t = by (is_chunk t) (is_passed_over t)

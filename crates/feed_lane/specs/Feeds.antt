@@ -13,7 +13,7 @@ use Rattle.feed_lane.specs.declared.report.Refused.{Refused}
 use Rattle.feed_lane.specs.declared.report.FeedReport.{FeedReport}
 use Rattle.feed_lane.specs.declared.report.FeedEnd.{FeedEnd}
 use Rattle.feed_lane.specs.declared.report.FeedEnd.TheVariants as feed_ends
-use Rattle.feed_lane.specs.Pass.{PassState, Seen}
+use Rattle.feed_lane.specs.Pass.{PassState, FoundAtLeast}
 use Rattle.feed_lane.specs.Lanes.{Lists, messages, IsTried, LaneFits}
 use Rattle.feed_lane.specs.Steps.{goes_on}
 
@@ -56,14 +56,14 @@ abbrev EndsInLast : List Top → ℕ → ℕ → List Refused → Type 0
 EndsInLast tops handled count refused = (r : Refused) × Has refused r × (r.index + 1 ≡ handled) × (goes_on r.cause ≡ false) × IsInLast tops r.index count
 
 -- All were taken, unless memory lacked for the next message, which is one of the last record, or the intake had ended.
-abbrev pub Takes : List Top → ℕ → ℕ → List Refused → FeedEnd → Type 0
-Takes tops handled count refused feed_ends.Done = AllTaken tops handled count
-Takes tops handled count refused (feed_ends.Grammar offset) = AllTaken tops handled count
-Takes tops handled count refused (feed_ends.Compressed offset name) = AllTaken tops handled count
-Takes tops handled count refused (feed_ends.Limit offset) = AllTaken tops handled count
-Takes tops handled count refused (feed_ends.Fault faults) = AllTaken tops handled count
-Takes tops handled count refused feed_ends.Memory = AllTaken tops handled count ⊎ IsInLast tops handled count
-Takes tops handled count refused feed_ends.Ended = EndsInLast tops handled count refused
+abbrev pub TakesMessages : List Top → ℕ → ℕ → List Refused → FeedEnd → Type 0
+TakesMessages tops handled count refused feed_ends.Done = AllTaken tops handled count
+TakesMessages tops handled count refused (feed_ends.Grammar offset) = AllTaken tops handled count
+TakesMessages tops handled count refused (feed_ends.Compressed offset name) = AllTaken tops handled count
+TakesMessages tops handled count refused (feed_ends.Limit offset) = AllTaken tops handled count
+TakesMessages tops handled count refused (feed_ends.Fault faults) = AllTaken tops handled count
+TakesMessages tops handled count refused feed_ends.Memory = AllTaken tops handled count ⊎ IsInLast tops handled count
+TakesMessages tops handled count refused feed_ends.Ended = EndsInLast tops handled count refused
 
 -- the lists of a report
 abbrev pub reported : FeedReport → Lists
@@ -76,11 +76,11 @@ pub record Reports (before now : SourceState) (pass : PassState) (report : FeedR
   pub tops : List Top
   pub handled : ℕ
   pub ends : FeedEnds before now tops report.end
-  pub takes : Takes tops handled report.passed report.refused.items report.end
+  pub takes : TakesMessages tops handled report.passed report.refused.items report.end
   pub fits : LaneFits (flat tops) handled (reported report) pass
   pub refused_ends : Each (λ r. goes_on r.cause ≡ false → report.end ≡ feed_ends.Ended) report.refused.items
   pub found_ends : (found : Found) (end : End) → pass.found ≡ Some found → found.end ≡ Some end → report.end ≡ feed_ends.Ended
   -- no declaration stands behind the records that the pass found
-  pub firsts : Each (λ d. Seen pass d.first) report.declared.items
+  pub firsts : Each (λ d. FoundAtLeast pass d.first) report.declared.items
   -- the channel of a message that is too large is declared all the same
   pub tried : Each (IsTried (flat tops) report.declared.items) report.refused.items

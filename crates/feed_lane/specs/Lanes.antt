@@ -1,6 +1,7 @@
 -- What the lists of a feed's report say, of the records that its reading kept and of the pass of its lane.
-use Rattle.std.specs.Prelude.{◌≡◌, ◌⊎◌, ℕ, ◌+◌, ◌^◌, ◌<◌, ◌≤◌, List, [], ◌∷◌, length, filter, AllPairs, ◌==◌, Option, Some, None, IsPermutation}
+use Rattle.std.specs.Prelude.{◌≡◌, ◌⊎◌, ℕ, ◌+◌, ◌<◌, ◌≤◌, List, [], ◌∷◌, length, filter, AllPairs, ◌==◌, Option, Some, None, IsPermutation}
 use Rattle.std.specs.List.{flat_map}
+use Rattle.mcap_wire.specs.Limits.{data_limit, declaration_limit, record_count_limit}
 use Rattle.rec_data.specs.declared.owned.Rec.{Rec}
 use Rattle.rec_data.specs.declared.channel.ChannelDef.{ChannelDef}
 use Rattle.rec_data.specs.declared.schema.SchemaDef.{SchemaDef}
@@ -21,7 +22,7 @@ use Rattle.feed_lane.specs.declared.report.DeclaredAt.{DeclaredAt}
 use Rattle.feed_lane.specs.declared.report.Refused.{Refused}
 use Rattle.feed_lane.specs.declared.report.Cause.{Cause}
 use Rattle.feed_lane.specs.declared.report.Cause.TheVariants as causes
-use Rattle.feed_lane.specs.Pass.{FullAt, Reason, for_size, for_close, for_stop, for_count, for_room, for_id, PassState, Seen, placed_from, AreAdded}
+use Rattle.feed_lane.specs.Pass.{FullAt, Reason, for_size, for_close, for_stop, for_count, for_room, for_id, PassState, FoundAtLeast, placed_from, AreAdded}
 
 -- the lists of a report
 pub record Lists : Type 0 where
@@ -84,7 +85,7 @@ pub record Accepts (records : List Top) (declared : List DeclaredAt) (pass : Pas
   pub top : Top
   pub at : At (messages records) a.index top
   pub is : IsMessage top source message
-  pub small : length message.payload ≤ 33554432
+  pub small : length message.payload ≤ data_limit
   pub by : DeclaredAt
   pub listed : Has declared by
   pub before : by.index ≤ a.index
@@ -101,7 +102,7 @@ pub record IsLong (records : List Top) (index len : ℕ) : Type 0 where
   pub at : At (messages records) index top
   pub is : IsMessage top source message
   pub size : len ≡ length message.payload
-  pub over : 33554432 < len
+  pub over : data_limit < len
 
 -- a declaration of that message's channel has this content
 pub record IsChannelOf (records : List Top) (index : ℕ) (content : ChannelDef) : Type 0 where
@@ -111,7 +112,7 @@ pub record IsChannelOf (records : List Top) (index : ℕ) (content : ChannelDef)
 
 -- the records of that message's channel are longer than those of a declaration may be
 abbrev pub IsWide : List Top → ℕ → ℕ → Type 0
-IsWide records index len = (content : ChannelDef) × IsChannelOf records index content × (len ≡ declared_size content) × (1048576 < len)
+IsWide records index len = (content : ChannelDef) × IsChannelOf records index content × (len ≡ declared_size content) × (declaration_limit < len)
 
 -- no id was left for that message's channel
 abbrev pub LacksId : List Top → PassState → ℕ → DeclareRefused → Type 0
@@ -133,7 +134,7 @@ CauseFits records handled pass index (causes.Closed at) = EndsWith handled pass 
 CauseFits records handled pass index (causes.Stopped at stop) = EndsWith handled pass index at (ends.Stopped stop)
 CauseFits records handled pass index causes.TooManySchemas = LacksId records pass index declaring.TooManySchemas
 CauseFits records handled pass index causes.TooManyChannels = LacksId records pass index declaring.TooManyChannels
-CauseFits records handled pass index (causes.TooManyRecords count) = (2 ^ 48 ≤ count) × Seen pass count
+CauseFits records handled pass index (causes.TooManyRecords count) = (record_count_limit ≤ count) × FoundAtLeast pass count
 CauseFits records handled pass index causes.Memory = Unit {0}
 
 -- a declaration for that message's channel was made at the message or an earlier one

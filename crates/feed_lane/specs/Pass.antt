@@ -1,5 +1,6 @@
 -- What a pass shows of its calls on the intake, and what each call adds to that.
-use Rattle.std.specs.Prelude.{◌≡◌, ◌⊎◌, ℕ, ◌+◌, ◌^◌, ◌<◌, ◌≤◌, List, [], ◌∷◌, ◌++◌, length, Option, Some, None, Result, Ok, Err}
+use Rattle.std.specs.Prelude.{◌≡◌, ◌⊎◌, ℕ, ◌+◌, ◌<◌, ◌≤◌, List, [], ◌∷◌, ◌++◌, length, Option, Some, None, Result, Ok, Err}
+use Rattle.mcap_wire.specs.Limits.{data_limit, declaration_limit, id_limit, record_count_limit}
 use Rattle.rec_data.specs.declared.owned.Rec.{Rec}
 use Rattle.rec_data.specs.declared.channel.ChannelDef.{ChannelDef}
 use Rattle.mcap_model.specs.declared.ends.End.{End}
@@ -49,7 +50,7 @@ abbrev pub no_calls : ℕ → PassState
 no_calls limit = record { own = []; named = []; fulls = []; lacks = []; reasons = []; found = None; limit = limit }
 
 -- the pass found the intake with at least so many records
-pub record Seen (pass : PassState) (n : ℕ) : Type 0 where
+pub record FoundAtLeast (pass : PassState) (n : ℕ) : Type 0 where
   pub found : Found
   pub shown : pass.found ≡ Some found
   pub within : n ≤ found.count
@@ -109,7 +110,7 @@ IsChannel found channel = (1 ≤ channel) × (channel ≤ found.channels)
 
 -- the intake has a place for a record more, and its buffer has room
 pub record HasPlace (before : PassState) (found : Found) : Type 0 where
-  pub few : found.count < 2 ^ 48
+  pub few : found.count < record_count_limit
   pub room : found.held < before.limit
 
 -- the intake may take a message on that channel
@@ -121,13 +122,13 @@ pub record MayTake (before : PassState) (found : Found) (channel : ℕ) : Type 0
 
 -- the message has no more data than one may have
 abbrev pub IsShort : NewMessage → Type 0
-IsShort m = length m.payload.now ≤ 33554432
+IsShort m = length m.payload.now ≤ data_limit
 
 -- A message was accepted at a place, or refused for the first reason that held of how the intake was found. A message of too
 -- much data is refused without a look at the intake; memory may lack only where there is no other reason.
 abbrev pub PublishedBy : PassState → PassState → NewMessage → Result ℕ PublishRefused → Type 0
 PublishedBy before after m (Ok place) = (found : Found) × IsShort m × MayTake before found m.channel × (place ≡ found.count) × (after ≡ with_message before found m)
-PublishedBy before after m (Err (publishing.TooLarge len)) = (len ≡ length m.payload.now) × (33554432 < len) × (after ≡ with_reason before (for_size len))
+PublishedBy before after m (Err (publishing.TooLarge len)) = (len ≡ length m.payload.now) × (data_limit < len) × (after ≡ with_reason before (for_size len))
 PublishedBy before after m (Err (publishing.Closed at)) = (found : Found) × IsShort m × Finds before found × (found.end ≡ Some Closed) × (at ≡ found.count)
     × (after ≡ with_refused before found (for_close at))
 PublishedBy before after m (Err (publishing.Stopped at stop)) = (found : Found) × IsShort m × Finds before found × (found.end ≡ Some (Stopped stop)) × (at ≡ found.count)
@@ -135,8 +136,8 @@ PublishedBy before after m (Err (publishing.Stopped at stop)) = (found : Found) 
 PublishedBy before after m (Err publishing.UnknownChannel) = (found : Found) × IsShort m × Finds before found × (found.end ≡ None)
     × ((m.channel ≡ 0) ⊎ (found.channels < m.channel)) × (after ≡ with_refused before found for_channel)
 PublishedBy before after m (Err (publishing.TooManyRecords count)) = (found : Found) × IsShort m × Finds before found × (found.end ≡ None) × IsChannel found m.channel
-    × (count ≡ found.count) × (2 ^ 48 ≤ count) × (after ≡ with_refused before found (for_count count))
-PublishedBy before after m (Err (publishing.Full held)) = (found : Found) × IsShort m × Finds before found × (found.end ≡ None) × IsChannel found m.channel × (found.count < 2 ^ 48)
+    × (count ≡ found.count) × (record_count_limit ≤ count) × (after ≡ with_refused before found (for_count count))
+PublishedBy before after m (Err (publishing.Full held)) = (found : Found) × IsShort m × Finds before found × (found.end ≡ None) × IsChannel found m.channel × (found.count < record_count_limit)
     × (held ≡ found.held) × (before.limit ≤ held) × (after ≡ with_full before found)
 PublishedBy before after m (Err publishing.Memory) = (found : Found) × IsShort m × MayTake before found m.channel × (after ≡ with_found before found)
 
@@ -156,7 +157,7 @@ with_lack before found d refusal = record before { lacks = before.lacks ++ (d, r
 
 -- the records of a declaration are no longer than they may be
 abbrev pub IsNarrow : ChannelDef → Type 0
-IsNarrow d = declared_size d ≤ 1048576
+IsNarrow d = declared_size d ≤ declaration_limit
 
 -- the pass got no id for this content
 abbrev pub IsUnnamed : PassState → ChannelDef → Type 0
@@ -167,8 +168,8 @@ pub record IsNextId (before : PassState) (found : Found) (channel : ℕ) (record
   pub next : channel ≡ found.channels + 1
   pub some : 1 ≤ length records
   pub place : HasPlace before found
-  pub channels : found.channels < 65535
-  pub schemas : length records ≡ 2 → found.schemas < 65535
+  pub channels : found.channels < id_limit
+  pub schemas : length records ≡ 2 → found.schemas < id_limit
 
 -- a channel whose content had an id gets that and adds no record
 abbrev pub GetsId : PassState → Found → ℕ → List Rec → Type 0
@@ -180,17 +181,17 @@ GetsId before found channel records = ((records ≡ []) × IsChannel found chann
 abbrev pub DeclaredInto : PassState → PassState → ChannelDef → Result Declared DeclareRefused → Type 0
 DeclaredInto before after d (Ok given) = (found : Found) × (records : List Rec) × IsNarrow d × Finds before found × (found.end ≡ None) × (given.first ≡ found.count)
     × (given.count ≡ length records) × AreAdded d given.channel records × GetsId before found given.channel records × (after ≡ with_declared before found d given.channel records)
-DeclaredInto before after d (Err (declaring.TooLarge len)) = (len ≡ declared_size d) × (1048576 < len) × (after ≡ with_reason before (for_size len))
+DeclaredInto before after d (Err (declaring.TooLarge len)) = (len ≡ declared_size d) × (declaration_limit < len) × (after ≡ with_reason before (for_size len))
 DeclaredInto before after d (Err (declaring.Closed at)) = (found : Found) × IsNarrow d × Finds before found × (found.end ≡ Some Closed) × (at ≡ found.count)
     × (after ≡ with_refused before found (for_close at))
 DeclaredInto before after d (Err (declaring.Stopped at stop)) = (found : Found) × IsNarrow d × Finds before found × (found.end ≡ Some (Stopped stop)) × (at ≡ found.count)
     × (after ≡ with_refused before found (for_stop at stop))
 DeclaredInto before after d (Err (declaring.TooManyRecords count)) = (found : Found) × IsNarrow d × Finds before found × (found.end ≡ None) × IsUnnamed before d
-    × (count ≡ found.count) × (2 ^ 48 ≤ count) × (after ≡ with_refused before found (for_count count))
-DeclaredInto before after d (Err (declaring.Full held)) = (found : Found) × IsNarrow d × Finds before found × (found.end ≡ None) × IsUnnamed before d × (found.count < 2 ^ 48)
+    × (count ≡ found.count) × (record_count_limit ≤ count) × (after ≡ with_refused before found (for_count count))
+DeclaredInto before after d (Err (declaring.Full held)) = (found : Found) × IsNarrow d × Finds before found × (found.end ≡ None) × IsUnnamed before d × (found.count < record_count_limit)
     × (held ≡ found.held) × (before.limit ≤ held) × (after ≡ with_full before found)
 DeclaredInto before after d (Err declaring.TooManySchemas) = (found : Found) × IsNarrow d × Finds before found × (found.end ≡ None) × IsUnnamed before d × HasPlace before found
-    × (found.schemas ≡ 65535) × (after ≡ with_lack before found d declaring.TooManySchemas)
+    × (found.schemas ≡ id_limit) × (after ≡ with_lack before found d declaring.TooManySchemas)
 DeclaredInto before after d (Err declaring.TooManyChannels) = (found : Found) × IsNarrow d × Finds before found × (found.end ≡ None) × IsUnnamed before d × HasPlace before found
-    × (found.channels ≡ 65535) × (after ≡ with_lack before found d declaring.TooManyChannels)
+    × (found.channels ≡ id_limit) × (after ≡ with_lack before found d declaring.TooManyChannels)
 DeclaredInto before after d (Err declaring.Memory) = (found : Found) × IsNarrow d × Finds before found × (found.end ≡ None) × (after ≡ with_found before found)

@@ -27,7 +27,7 @@ use Rattle.feed_lane.specs.declared.report.FeedEnd.TheVariants as feed_ends
 use Rattle.feed_lane.specs.declared.lane.Lane.{Lane}
 use Rattle.feed_lane.specs.declared.lane.Over.{Over}
 use Rattle.feed_lane.specs.declared.lane.Over.TheVariants as overs
-use Rattle.feed_lane.specs.Pass.{FullAt, PassState, Seen}
+use Rattle.feed_lane.specs.Pass.{FullAt, PassState, FoundAtLeast}
 use Rattle.feed_lane.specs.Lanes.{Lists, messages, IsOn, CauseFits, IsTried, full_in, lack_in, reason_in, IsLacking, InStep, ListsFit, LaneFits}
 
 -- ---- what a pass shows, call by call
@@ -35,7 +35,7 @@ use Rattle.feed_lane.specs.Lanes.{Lists, messages, IsOn, CauseFits, IsTried, ful
 -- all places of the pass are below this one, and no number that it found is above
 pub record Above (pass : PassState) (n : ℕ) : Type 0 where
   pub own : Each (λ pair. pair.0 < n) pass.own
-  pub seen : (m : ℕ) → Seen pass m → m ≤ n
+  pub seen : (m : ℕ) → FoundAtLeast pass m → m ≤ n
 
 -- what the pass showed it shows still
 pub record Extends (before after : PassState) : Type 0 where
@@ -44,7 +44,7 @@ pub record Extends (before after : PassState) : Type 0 where
   pub fulls : (full : FullAt) → Has before.fulls full → Has after.fulls full
   pub lacks : (pair : ChannelDef × DeclareRefused) → Has before.lacks pair → Has after.lacks pair
   pub limit : after.limit ≡ before.limit
-  pub seen : (n : ℕ) → Seen before n → Seen after n
+  pub seen : (n : ℕ) → FoundAtLeast before n → FoundAtLeast after n
 
 -- the pass found no end of the intake
 abbrev pub IsOpen : PassState → Type 0
@@ -78,18 +78,18 @@ pub record IdsStand (records : List Top) (declared : List DeclaredAt) (ids : Lis
 abbrev pub lists_of : Lane → Lists
 lists_of lane = record { accepted = lane.accepted.items; declared = lane.declared.items; refused = lane.refused.items }
 
-pub record Stands (records : List Top) (handled bound : ℕ) (ids : List ℕ) (lists : Lists) (pass : PassState) : Type 0 where
+pub record ListsStand (records : List Top) (handled bound : ℕ) (ids : List ℕ) (lists : Lists) (pass : PassState) : Type 0 where
   pub fits : ListsFit records handled bound lists pass
   pub ids_stand : IdsStand records lists.declared ids
   pub going : Each (λ r. goes_on r.cause ≡ true) lists.refused
-  pub firsts : Each (λ d. Seen pass d.first) lists.declared
-  pub tos : Each (λ full. Seen pass full.to) pass.fulls
+  pub firsts : Each (λ d. FoundAtLeast pass d.first) lists.declared
+  pub tos : Each (λ full. FoundAtLeast pass full.to) pass.fulls
   pub is_open : IsOpen pass
   pub tried : Each (IsTried records lists.declared) lists.refused
 
 -- the lane goes on, with so many messages handled
 abbrev pub LaneStands : Lane → List Top → ℕ → PassState → Type 0
-LaneStands lane records handled pass = Stands records handled handled lane.ids (lists_of lane) pass
+LaneStands lane records handled pass = ListsStand records handled handled lane.ids (lists_of lane) pass
 
 -- the pass, which showed this before, shows with the same limit what makes that so
 abbrev pub ThenShows : (PassState → Type 0) → PassState → (PassState → Type 0) → Type 0
@@ -118,20 +118,20 @@ pub record IsRefusal (records : List Top) (handled : ℕ) (before after : PassSt
   pub reasons : after.reasons ≡ before.reasons ++ reason_in cause
   pub fits : CauseFits records (handled + 1) after handled cause
   pub above : Each (λ full. Above before full.to) (full_in cause)
-  pub tos : Each (λ full. Seen after full.to) (full_in cause)
+  pub tos : Each (λ full. FoundAtLeast after full.to) (full_in cause)
   pub is_open : goes_on cause ≡ true → IsOpen before → IsOpen after
 
 -- the lane stood before the call, with declarations up to the message at hand
 pub record IsDue (lane : Lane) (records : List Top) (handled : ℕ) (after : PassState) (cause : Cause) : Type 0 where
   pub before : PassState
-  pub stands : Stands records handled (handled + 1) lane.ids (lists_of lane) before
+  pub stands : ListsStand records handled (handled + 1) lane.ids (lists_of lane) before
   pub refusal : IsRefusal records handled before after cause
   pub some : handled < length (messages records)
   pub tried : IsTried records lane.declared.items (record { index = handled; cause = cause })
 
 -- what the channel of the message at hand came to: an id, or the message is refused
 abbrev pub ChannelFound : Lane → List Top → ℕ → ℕ → PassState → Result ℕ Cause → Type 0
-ChannelFound lane records handled source pass (Ok id) = HasId records lane.declared.items source id × Stands records handled (handled + 1) lane.ids (lists_of lane) pass
+ChannelFound lane records handled source pass (Ok id) = HasId records lane.declared.items source id × ListsStand records handled (handled + 1) lane.ids (lists_of lane) pass
 ChannelFound lane records handled source pass (Err cause) = IsDue lane records handled pass cause
 
 -- the last message that was handled was refused for an end of the intake, and ends the list
@@ -140,7 +140,7 @@ LastEnds handled refused = (r : Refused) × Has refused r × (r.index + 1 ≡ ha
 
 -- what the lists tell of a lane that is over
 pub record ListsTell (records : List Top) (lists : Lists) (pass : PassState) : Type 0 where
-  pub firsts : Each (λ d. Seen pass d.first) lists.declared
+  pub firsts : Each (λ d. FoundAtLeast pass d.first) lists.declared
   pub tried : Each (IsTried records lists.declared) lists.refused
 
 -- the intake hadn't ended for the lane
@@ -209,9 +209,9 @@ pub record Waits (records : List Top) (handled : ℕ) (more : List Top) : Type 0
   pub many : length done ≡ handled
 
 -- what a record comes to, before which so many messages were handled and behind which these still wait
-abbrev pub RecordTaken : Lane → List Top → ℕ → List Top → PassState → Result Unit Over → Type 0
-RecordTaken lane records before more pass (Ok it) = (handled : ℕ) × (before ≤ handled) × LaneStands lane records handled pass × Waits records handled more
-RecordTaken lane records before more pass (Err over) = (handled : ℕ) × (before ≤ handled) × LaneOver lane records handled pass over
+abbrev pub RecordHandled : Lane → List Top → ℕ → List Top → PassState → Result Unit Over → Type 0
+RecordHandled lane records before more pass (Ok it) = (handled : ℕ) × (before ≤ handled) × LaneStands lane records handled pass × Waits records handled more
+RecordHandled lane records before more pass (Err over) = (handled : ℕ) × (before ≤ handled) × LaneOver lane records handled pass over
 
 -- how many of the records inside a chunk are passed over
 abbrev pub unknown_in : List Top → ℕ

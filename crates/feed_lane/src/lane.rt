@@ -5,7 +5,7 @@ ghost use Rattle.mcap_model.specs.Tops.{Top};
 ghost use Rattle.mcap_model.specs.Fields.{IsMessage};
 ghost use Rattle.feed_lane.specs.Pass.{PassState, no_calls};
 ghost use Rattle.feed_lane.specs.Lanes.{messages, IsOn};
-ghost use Rattle.feed_lane.specs.Steps.{lists_of, LaneStands, Stands, Roomy, AreKnown, AtHand, IsDue, HasId, ThenShows, ChannelFound, MessageTaken, goes_on as goes_on_behind, publish_cause as cause_of_publishing, declare_cause as cause_of_declaring, full_cause as cause_of_full, fields_of};
+ghost use Rattle.feed_lane.specs.Steps.{lists_of, LaneStands, ListsStand, Roomy, AreKnown, AtHand, IsDue, HasId, ThenShows, ChannelFound, MessageTaken, goes_on as goes_on_behind, publish_cause as cause_of_publishing, declare_cause as cause_of_declaring, full_cause as cause_of_full, fields_of};
 
 use crate::definition::definition;
 use crate::ids::Ids;
@@ -170,7 +170,7 @@ impl Lane {
         requires accepted { vec_len self.old.accepted + 1 ≤ vec_capacity self.old.accepted }
         requires refused { vec_len self.old.refused + 1 ≤ vec_capacity self.old.refused }
         ensures taken { (begun : P) (before : PassState) → P.since begun pass.old before → ThenShows (P.since begun pass.new) before (λ after.
-            (records : List Top) (handled source : ℕ) (t : Top) → Stands records handled (handled + 1) self.old.ids (lists_of self.old) before
+            (records : List Top) (handled source : ℕ) (t : Top) → ListsStand records handled (handled + 1) self.old.ids (lists_of self.old) before
             → HasId records self.old.declared.items source id → At (messages records) handled t → IsMessage t source (fields_of m.now)
             → MessageTaken self.new records handled after result) }
         ensures passed { self.new.passed ≡ self.old.passed }

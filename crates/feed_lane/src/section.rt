@@ -5,7 +5,7 @@ ghost use Rattle.mcap_model.specs.Rules.{V6};
 ghost use Rattle.mcap_model.specs.Made.{top};
 ghost use Rattle.mcap_model.specs.Written.{passed_in};
 ghost use Rattle.feed_lane.specs.Pass.{PassState};
-ghost use Rattle.feed_lane.specs.Steps.{LaneStands, AreKnown, ThenShows, Waits, RecordTaken, unknown_in, Counted};
+ghost use Rattle.feed_lane.specs.Steps.{LaneStands, AreKnown, ThenShows, Waits, RecordHandled, unknown_in, Counted};
 
 use crate::lane::{Lane, Over};
 use crate::pass::Pass;
@@ -26,7 +26,7 @@ impl Lane {
     ) -> Result<(), Over>
         ensures taken { (begun : P) (before : PassState) → P.since begun pass.old before → ThenShows (P.since begun pass.new) before (λ after.
             (records more : List Top) (handled : ℕ) → LaneStands self.old records handled before → AreKnown records tables.now
-            → Waits records handled (top op content.now ∷ more) → RecordTaken self.new records handled more after result) }
+            → Waits records handled (top op content.now ∷ more) → RecordHandled self.new records handled more after result) }
         ensures passed { Counted self.old.passed self.new.passed (unknown_in (top op content.now ∷ [])) result }
     {
         match op {
@@ -49,7 +49,7 @@ impl Lane {
     ) -> Result<(), Over>
         ensures taken { (begun : P) (before : PassState) → P.since begun pass.old before → ThenShows (P.since begun pass.new) before (λ after.
             (records : List Top) (handled : ℕ) → LaneStands self.old records handled before → AreKnown records tables.now
-            → Waits records handled (records_in bytes.now) → RecordTaken self.new records handled [] after result) }
+            → Waits records handled (records_in bytes.now) → RecordHandled self.new records handled [] after result) }
         ensures passed { Counted self.old.passed self.new.passed (unknown_in (records_in bytes.now)) result }
     {
         let mut walk = InnerWalk::new(bytes);
@@ -73,7 +73,7 @@ impl Lane {
     ) -> Result<(), Over>
         ensures taken { (begun : P) (before : PassState) → P.since begun pass.old before → ThenShows (P.since begun pass.new) before (λ after.
             (records : List Top) (handled : ℕ) → LaneStands self.old records handled before → AreKnown records tables.now
-            → V6 (top op content.now) → Waits records handled (opened (top op content.now)) → RecordTaken self.new records handled [] after result) }
+            → V6 (top op content.now) → Waits records handled (opened (top op content.now)) → RecordHandled self.new records handled [] after result) }
         ensures passed { V6 (top op content.now) → Counted self.old.passed self.new.passed (passed_in (top op content.now)) result }
     {
         match op {

@@ -17,6 +17,7 @@ use Rattle.mcap_model.specs.Valid.{IsPlain, Behind, WherePlain, FailsAmong, Fail
 use Rattle.mcap_model.proofs.Places.{at_none, at_last, at_more}
 use Rattle.mcap_model.proofs.Readings.{top_of, short_there, length-top}
 use Rattle.mcap_model.proofs.Flaws.{left_size}
+use Rattle.summary_check.proofs.Cuts.{inner_is}
 use Rattle.file_check.specs.declared.flaws.FailedRule.{FailedRule}
 use Rattle.file_check.specs.Halting.{failed, told_flaw, HasLengthAt, HaltsAreFlaws}
 
@@ -220,12 +221,6 @@ at_the_end inner tops stand good unended =
     let there : length (inner ++ magic) - 37 ≡ length inner - 29 = omega (arith, size) in
     subst (λ (n : ℕ). Flaw (inner ++ magic) 17 n) there (flaw_17 (inr (tops, is, no_footer tops good unended)))
 
--- what stands between the records and the last magic
-in_front : (rest : List ℕ) → take (length (rest ++ magic) - 8) (rest ++ magic) ≡ rest
-in_front rest =
-    let size : length (rest ++ magic) - 8 ≡ length rest = omega (arith, length-append rest magic) in
-    ap (λ (n : ℕ). take n (rest ++ magic)) size ∙ take_at rest magic (length rest) refl
-
 cut_off : (inner : List ℕ) (tops : List Top) (rest : List ℕ) → Tops inner tops rest → Good reading_limits tops → 0 < length rest → (has_head rest ≡ false) ⊎ (is_whole rest ≡ false) → FailsToFit (inner ++ magic) (offset_behind tops)
 cut_off inner tops rest stand good some cut = record {
   tops = tops;
@@ -235,8 +230,8 @@ cut_off inner tops rest stand good some cut = record {
   there = refl;
   inside = omega (arith, some, left_size inner tops rest stand, length-append inner magic);
   cut = elim cut [
-    | inl headless ↦ inl (ap has_head (in_front rest) ∙ headless)
-    | inr short ↦ inr (ap is_whole (in_front rest) ∙ short)
+    | inl headless ↦ inl (ap has_head (inner_is rest) ∙ headless)
+    | inr short ↦ inr (ap is_whole (inner_is rest) ∙ short)
   ];
 }
 

@@ -12,11 +12,11 @@ use Rattle.summary_check.specs.declared.refusals.SummaryRefused.{SummaryRefused}
 use Rattle.summary_check.specs.declared.refusals.SummaryRefused.TheVariants as summaries
 use Rattle.summary_check.specs.Files.{file_of}
 use Rattle.summary_check.specs.Sectioned.{IsSectioned}
-use Rattle.file_check.specs.Checking.{Counted, IsEnded, FrontIs, Judges, told_by, Checked}
+use Rattle.file_check.specs.Checking.{Counted, EndsAtMagic, FrontIs, Judges, told_by, Checked}
 use Rattle.file_check.proofs.Halted.{left_there, stand_whole}
 use Rattle.file_check.proofs.Refusing.{inner_size, inner_whole}
 
-module _ (file : List ℕ) (end : ℕ) (section : Section) (ended : IsEnded file end) (front : FrontIs file end section) where
+module _ (file : List ℕ) (end : ℕ) (section : Section) (ended : EndsAtMagic file end) (front : FrontIs file end section) where
   pub sectioned : IsSectioned front.tops section
   sectioned = record { kept = front.kept; good = front.good; v9 = front.v9; ended = front.ended }
 
@@ -85,7 +85,7 @@ told tops rest (Err (summaries.Flawed rule offset)) c counted is = is
 told tops rest (Err (summaries.Limit offset)) c counted is = inr is
 told tops rest (Err summaries.Memory) c counted is = tt
 
-pub told_file : (file : List ℕ) (end : ℕ) (section : Section) (ended : IsEnded file end) (front : FrontIs file end section) (bytes : List ℕ) (judged : Result Bool SummaryRefused) (c : Counts)
+pub told_file : (file : List ℕ) (end : ℕ) (section : Section) (ended : EndsAtMagic file end) (front : FrontIs file end section) (bytes : List ℕ) (judged : Result Bool SummaryRefused) (c : Counts)
     → bytes ≡ take (end - section.behind) (drop section.behind file) → ((tops : List Top) → IsSectioned tops section → Judges tops bytes judged) → Counted front.tops c → Checked file (told_by judged c)
 told_file file end section ended front bytes judged c is judges counted =
     let so = subst (λ (l : List ℕ). Judges front.tops l judged) (rest_is file end section ended front bytes is) (judges front.tops (sectioned file end section ended front)) in

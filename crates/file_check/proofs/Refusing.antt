@@ -18,16 +18,16 @@ use Rattle.file_check.specs.declared.flaws.FailedRule.{FailedRule}
 use Rattle.file_check.specs.Halting.{told_flaw}
 use Rattle.file_check.specs.declared.refusals.CheckRefused.{CheckRefused}
 use Rattle.file_check.specs.declared.refusals.CheckRefused.TheVariants as refusals
-use Rattle.file_check.specs.Checking.{HaltsBefore, IsUnchecked, IsFault, EndsWithMagic, front_of, TellsFlaw, IsEnded, FrontIs}
+use Rattle.file_check.specs.Checking.{HaltsBefore, IsUnchecked, IsFault, EndsWithMagic, front_of, TellsFlaw, EndsAtMagic, FrontIs}
 use Rattle.mcap_model.proofs.Places.{at_none}
 use Rattle.file_check.proofs.Halted.{good_short, stand_whole, halts_are_flaws}
 
 -- ---- the bytes in front of the last magic
 
-pub inner_size : (file : List ℕ) (end : ℕ) → IsEnded file end → length (take end file) ≡ end
+pub inner_size : (file : List ℕ) (end : ℕ) → EndsAtMagic file end → length (take end file) ≡ end
 inner_size file end ended = length-take-le end file (omega (arith, ended.size))
 
-pub inner_whole : (file : List ℕ) (end : ℕ) → IsEnded file end → file ≡ take end file ++ magic
+pub inner_whole : (file : List ℕ) (end : ℕ) → EndsAtMagic file end → file ≡ take end file ++ magic
 inner_whole file end ended =
     let (start, is) = ended.magic_last in
     let size : length start ≡ end = omega (arith, ap length is, length-append start magic, ended.size) in
@@ -46,10 +46,10 @@ fault_unchecked file (refusals.Compressed offset name) is = absurd is
 fault_unchecked file (refusals.Limit offset) is = absurd is
 fault_unchecked file refusals.Memory is = absurd is
 
-pub halts_before : (file : List ℕ) (end : ℕ) (halt : Halt) (tops : List Top) → IsEnded file end → Halts reading_limits (take end file) tops halt → HaltsBefore file halt
+pub halts_before : (file : List ℕ) (end : ℕ) (halt : Halt) (tops : List Top) → EndsAtMagic file end → Halts reading_limits (take end file) tops halt → HaltsBefore file halt
 halts_before file end halt tops ended halts = (take end file, tops, inner_whole file end ended, halts)
 
-pub grammar_told : (file : List ℕ) (end offset rule : ℕ) (tops : List Top) (f : FailedRule) → 8 ≤ end → IsEnded file end → Halts reading_limits (take end file) tops (grammar offset rule)
+pub grammar_told : (file : List ℕ) (end offset rule : ℕ) (tops : List Top) (f : FailedRule) → 8 ≤ end → EndsAtMagic file end → Halts reading_limits (take end file) tops (grammar offset rule)
     → TellsFlaw (Some file) end offset rule f → Flaw file f.rule f.offset
 grammar_told file end offset rule tops f long ended halts (is, there) =
     let inner = take end file in
@@ -73,7 +73,7 @@ taken_at (t ∷ ts) (suc n) (suc k) u at = taken_at ts n k u at
 plain_front : (tops : List Top) (n : ℕ) → Good reading_limits tops → Each IsPlain (take n tops)
 plain_front tops n good k u at = let fits = good k u (taken_at tops n k u at) in fits.plain
 
-pub index_told : (file : List ℕ) (end offset : ℕ) (tops : List Top) (rest : List ℕ) → IsEnded file end → Good reading_limits tops → Tops (take end file) tops rest → IndexFails tops offset → Flaw file 9 offset
+pub index_told : (file : List ℕ) (end offset : ℕ) (tops : List Top) (rest : List ℕ) → EndsAtMagic file end → Good reading_limits tops → Tops (take end file) tops rest → IndexFails tops offset → Flaw file 9 offset
 index_told file end offset tops rest ended good stand fails =
     let bad = fails.breaks in
     let among : FailsAmong (WherePlain V9) (take end file ++ magic) offset = record {
@@ -90,7 +90,7 @@ index_told file end offset tops rest ended good stand fails =
     } in
     subst (λ (l : List ℕ). Flaw l 9 offset) (sym (inner_whole file end ended)) (flaw_9 offset among)
 
-pub index_read : (old : StoreState) (now : SourceState) (told : Option (List ℕ)) (file : List ℕ) (end offset : ℕ) (tops : List Top) → old.bytes ≡ told → told ≡ Some file → IsEnded file end
+pub index_read : (old : StoreState) (now : SourceState) (told : Option (List ℕ)) (file : List ℕ) (end offset : ℕ) (tops : List Top) → old.bytes ≡ told → told ≡ Some file → EndsAtMagic file end
     → IndexIsWrong (front_of old end) now tops offset → Flaw file 9 offset
 index_read old now told file end offset tops same is ended wrong =
     let are = wrong.are_read in
@@ -113,5 +113,5 @@ too_short file len size short = subst (λ (n : ℕ). Flaw file 2 (n - 8)) (sym s
 pub unended : (file : List ℕ) (len : ℕ) → len ≡ length file → (EndsWithMagic file → ⊥) → Flaw file 2 (len - 8)
 unended file len size none = subst (λ (n : ℕ). Flaw file 2 (n - 8)) (sym size) (flaw_2 (λ v2. none v2.1))
 
-pub ended_at : (file : List ℕ) (len : ℕ) → len ≡ length file → 8 ≤ len → len < 2 ^ 64 → EndsWithMagic file → IsEnded file (len - 8)
+pub ended_at : (file : List ℕ) (len : ℕ) → len ≡ length file → 8 ≤ len → len < 2 ^ 64 → EndsWithMagic file → EndsAtMagic file (len - 8)
 ended_at file len size long fits ends = record { size = omega (arith, size, long); magic_last = ends; fits = omega (arith, size, fits) }

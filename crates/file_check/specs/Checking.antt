@@ -81,7 +81,7 @@ IsFault (refusals.Limit offset) = ⊥
 IsFault refusals.Memory = ⊥
 
 -- the bytes and the length that the store tells stay
-pub record Keeps (old new : StoreState) : Type 0 where
+pub record StoreStays (old new : StoreState) : Type 0 where
   pub bytes : new.bytes ≡ old.bytes
   pub known : new.known ≡ old.known
 
@@ -104,7 +104,7 @@ abbrev pub SectionReads : StoreState → ℕ → StoreState → Result Section S
 SectionReads old end new result = (now : SourceState) × (now.faults ≡ new.faults) × Reads (front_of old end) now result
 
 -- the file's last magic stands at that end
-pub record IsEnded (file : List ℕ) (end : ℕ) : Type 0 where
+pub record EndsAtMagic (file : List ℕ) (end : ℕ) : Type 0 where
   pub size : length file ≡ end + 8
   pub magic_last : EndsWithMagic file
   pub fits : length file < 2 ^ 64
@@ -112,7 +112,7 @@ pub record IsEnded (file : List ℕ) (end : ℕ) : Type 0 where
 -- what is told, by a store of these bytes, of a data section that was refused
 abbrev pub TellsRefused : Option (List ℕ) → ℕ → SectionRefused → Result Verdict CheckRefused → Type 0
 TellsRefused told end why result = (old : StoreState) (now : SourceState) → old.bytes ≡ told → Reads (front_of old end) now (Err why)
-    → (file : List ℕ) → told ≡ Some file → IsEnded file end → Checked file result
+    → (file : List ℕ) → told ≡ Some file → EndsAtMagic file end → Checked file result
 
 -- and its cause
 abbrev pub RefusedCause : ℕ → ℕ → ℕ → SectionRefused → Result Verdict CheckRefused → Type 0
@@ -132,11 +132,11 @@ pub record FrontIs (file : List ℕ) (end : ℕ) (section : Section) : Type 0 wh
 
 -- what is told, by a store of these bytes, of a file whose data section was kept so
 abbrev pub TellsJudged : Option (List ℕ) → ℕ → Section → Result Verdict CheckRefused → Type 0
-TellsJudged told end section result = (file : List ℕ) → told ≡ Some file → IsEnded file end → FrontIs file end section → Checked file result
+TellsJudged told end section result = (file : List ℕ) → told ≡ Some file → EndsAtMagic file end → FrontIs file end section → Checked file result
 
 -- of a file whose last magic stands at that end
 abbrev pub TellsFile : Option (List ℕ) → ℕ → Result Verdict CheckRefused → Type 0
-TellsFile told end result = (file : List ℕ) → told ≡ Some file → IsEnded file end → Checked file result
+TellsFile told end result = (file : List ℕ) → told ≡ Some file → EndsAtMagic file end → Checked file result
 
 -- what a file with these bytes behind a data section comes to
 abbrev pub told_by : Result Bool SummaryRefused → Counts → Result Verdict CheckRefused

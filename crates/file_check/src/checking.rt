@@ -4,7 +4,7 @@ ghost use Rattle.summary_check.specs.Sectioned.{IsSectioned};
 ghost use Rattle.section_check.specs.declared.reading.SectionRefused.TheVariants as sections;
 ghost use Rattle.mcap_model.specs.Tops.{Top};
 ghost use Rattle.index_check.specs.Section.{SectionOf};
-ghost use Rattle.file_check.specs.Checking.{Counted, CheckCause, Keeps, SectionReads, TellsRefused, RefusedCause, TellsJudged, TellsFile, IsUnchecked, told_by, Judges};
+ghost use Rattle.file_check.specs.Checking.{Counted, CheckCause, StoreStays, SectionReads, TellsRefused, RefusedCause, TellsJudged, TellsFile, IsUnchecked, told_by, Judges};
 
 use crate::ends::tell_flaw;
 use crate::refusals::CheckRefused;
@@ -20,7 +20,7 @@ use summary_check::{SummaryRefused, judge_summary};
 fn read_front<T: Store>(alloc: Global, store: &mut T, end: u64) -> Result<Section, SectionRefused>
     requires { end ≤ (T.state store.old).known }
     ensures reads { SectionReads (T.state store.old) end (T.state store.new) result }
-    ensures keeps { Keeps (T.state store.old) (T.state store.new) }
+    ensures keeps { StoreStays (T.state store.old) (T.state store.new) }
 {
     let mut source = StoreSource::new(store, end);
     read_section(alloc, &mut source)
@@ -32,7 +32,7 @@ fn tell_scan<T: Store>(store: &mut T, end: u64, why: ScanRefused) -> Result<Verd
     requires long { 8 ≤ end }
     ensures tells { TellsRefused (T.state store.old).bytes end (sections.Scan why) result }
     ensures cause { RefusedCause (T.state store.old).faults (T.state store.new).faults end (sections.Scan why) result }
-    ensures keeps { Keeps (T.state store.old) (T.state store.new) }
+    ensures keeps { StoreStays (T.state store.old) (T.state store.new) }
 {
     match why {
         ScanRefused::Fault { faults } => return Err(CheckRefused::Fault { faults }),
@@ -63,7 +63,7 @@ fn tell_section<T: Store>(
     requires long { 8 ≤ end }
     ensures tells { TellsRefused (T.state store.old).bytes end why result }
     ensures cause { RefusedCause (T.state store.old).faults (T.state store.new).faults end why result }
-    ensures keeps { Keeps (T.state store.old) (T.state store.new) }
+    ensures keeps { StoreStays (T.state store.old) (T.state store.new) }
 {
     match why {
         SectionRefused::Scan { why } => return tell_scan(store, end, why),
@@ -97,7 +97,7 @@ fn read_rest<T: Store>(
     ensures gives { IfOk result (λ part. (file : List ℕ) → (T.state store.old).bytes ≡ Some file → part.items ≡ take len (drop at file)) }
     ensures unchecked { IfErr result (λ why. (file : List ℕ) → IsUnchecked file why) }
     ensures cause { CheckCause (T.state store.old).faults (T.state store.new).faults result }
-    ensures keeps { Keeps (T.state store.old) (T.state store.new) }
+    ensures keeps { StoreStays (T.state store.old) (T.state store.new) }
 {
     match read_part(alloc, store, at, len) {
         Ok(part) => return Ok(part),
@@ -148,7 +148,7 @@ fn judge_behind<T: Store>(
     requires fits { end + 8 < 2 ^ 64 }
     ensures tells { TellsJudged (T.state store.old).bytes end section result }
     ensures cause { CheckCause (T.state store.old).faults (T.state store.new).faults result }
-    ensures keeps { Keeps (T.state store.old) (T.state store.new) }
+    ensures keeps { StoreStays (T.state store.old) (T.state store.new) }
 {
     let at = section.behind;
     if at > end {
@@ -174,7 +174,7 @@ pub(crate) fn check_records<T: Store>(
     requires fits { end + 8 < 2 ^ 64 }
     ensures tells { TellsFile (T.state store.old).bytes end result }
     ensures cause { CheckCause (T.state store.old).faults (T.state store.new).faults result }
-    ensures keeps { Keeps (T.state store.old) (T.state store.new) }
+    ensures keeps { StoreStays (T.state store.old) (T.state store.new) }
 {
     match read_front(alloc, store, end) {
         Ok(section) => return judge_behind(alloc, store, end, section),

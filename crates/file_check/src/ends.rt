@@ -1,7 +1,7 @@
 //! Parts of a file that are read by themselves: its last magic, and the head of a record.
 ghost use Rattle.std.specs.Prelude.{◌≡◌, ◌+◌, ◌≤◌, ◌↔◌, ◌^◌, ◌<◌, ℕ, List, Some, length, take, drop, IsTrue, IfOk, IfErr};
 ghost use Rattle.mcap_wire.specs.Layout.{le};
-ghost use Rattle.file_check.specs.Checking.{CheckCause, IsFault, Keeps, EndsWithMagic, TellsFlaw};
+ghost use Rattle.file_check.specs.Checking.{CheckCause, IsFault, StoreStays, EndsWithMagic, TellsFlaw};
 
 use crate::flaws::{FailedRule, failed_rule};
 use crate::refusals::CheckRefused;
@@ -22,7 +22,7 @@ pub(crate) fn ends_with_magic<T: Store>(store: &mut T, len: u64) -> Result<bool,
     ensures tells { IfOk result (λ ends. (file : List ℕ) → (T.state store.old).bytes ≡ Some file → length file ≡ len → IsTrue ends ↔ EndsWithMagic file) }
     ensures cause { CheckCause (T.state store.old).faults (T.state store.new).faults result }
     ensures fault { IfErr result IsFault }
-    ensures keeps { Keeps (T.state store.old) (T.state store.new) }
+    ensures keeps { StoreStays (T.state store.old) (T.state store.new) }
 {
     let mut end = [0; 8];
     match store.read_at(len - 8, &mut end) {
@@ -59,7 +59,7 @@ pub(crate) fn tell_flaw<T: Store>(
     ensures tells { IfOk result (λ f. TellsFlaw (T.state store.old).bytes end offset rule f) }
     ensures cause { CheckCause (T.state store.old).faults (T.state store.new).faults result }
     ensures fault { IfErr result IsFault }
-    ensures keeps { Keeps (T.state store.old) (T.state store.new) }
+    ensures keeps { StoreStays (T.state store.old) (T.state store.new) }
 {
     if offset > end || end - offset < 9 {
         return Ok(failed_rule(end, offset, rule));

@@ -1,5 +1,6 @@
 -- Which id a content has or gets.
 use Rattle.std.specs.Prelude.{◌≡◌, ◌⊎◌, ℕ, ◌+◌, ◌-◌, ◌<◌, ◌≤◌, List, [], ◌∷◌, ◌++◌, length, take, Option, Some, None, slice_get}
+use Rattle.mcap_wire.specs.Limits.{id_limit}
 use Rattle.rec_data.specs.declared.channel.ChannelDef.{ChannelDef}
 use Rattle.id_table.specs.declared.given.Given.{Given}
 use Rattle.id_table.specs.declared.given.Given.TheVariants.{Known, New}
@@ -47,7 +48,7 @@ module _ {X : Type 0} where
 
   -- a new id is needed, and all are given
   abbrev pub IsFull : List X → X → Type 0
-  IsFull xs x = Lacks xs x × (65535 ≤ length xs)
+  IsFull xs x = Lacks xs x × (id_limit ≤ length xs)
 
   -- of a content that may be missing
   abbrev pub OffersTo : List X → Option X → Option Given → Type 0
@@ -102,8 +103,8 @@ PlaceGives (Some i) count (Some (Known id)) = id ≡ i + 1
 PlaceGives (Some i) count (Some (New id)) = ⊥
 PlaceGives (Some i) count None = ⊥
 PlaceGives None count (Some (Known id)) = ⊥
-PlaceGives None count (Some (New id)) = (id ≡ count + 1) × (count < 65535)
-PlaceGives None count None = 65535 ≤ count
+PlaceGives None count (Some (New id)) = (id ≡ count + 1) × (count < id_limit)
+PlaceGives None count None = id_limit ≤ count
 
 -- ids were given to a channel and to its schema
 pub record Declares (before : Ids) (d : ChannelDef) (g : GivenIds) (after : Ids) : Type 0 where

@@ -1,5 +1,6 @@
 //! The table of ids.
 ghost use Rattle.std.specs.Prelude.{◌≡◌, ◌+◌, ◌<◌, ◌≤◌, ◌++◌, [], length, IfOk, IfErr, IfSome, OnOk, OnErr, option_to_list};
+ghost use Rattle.mcap_wire.specs.Limits.{id_limit};
 ghost use Rattle.rec_data.specs.declared.channel.ChannelDef.{ChannelDef};
 ghost use Rattle.indexmap.specs.IndexSet.{spare};
 ghost use Rattle.id_table.specs.Ids.{Ids};
@@ -91,7 +92,7 @@ impl IdTable {
     /// How many schemas have ids.
     pub fn schemas(&self) -> u32
         ensures count { result ≡ length self.now.schemas }
-        ensures few { result ≤ 65535 }
+        ensures few { result ≤ id_limit }
         ensures once { EachOnce self.now.schemas }
     {
         count_of_schemas(&self.schemas) as u32
@@ -100,7 +101,7 @@ impl IdTable {
     /// How many channels have ids.
     pub fn channels(&self) -> u32
         ensures count { result ≡ length self.now.channels }
-        ensures few { result ≤ 65535 }
+        ensures few { result ≤ id_limit }
         ensures once { EachOnce self.now.channels }
     {
         count_of_channels(&self.channels) as u32
@@ -156,7 +157,7 @@ fn count_of_channels(set: &IndexSet<ChannelDef>) -> usize
 
 // The id of a content that stands at a place or nowhere, or none where all are given.
 fn given(place: Option<usize>, count: usize) -> Option<Given>
-    requires some { count ≤ 65535 }
+    requires some { count ≤ id_limit }
     requires within { IfSome place (λ i. i < count) }
     ensures { PlaceGives place count result }
 {
@@ -176,7 +177,7 @@ fn given_to_schema(
     set: &IndexSet<SchemaDef>,
     schema: &Option<SchemaDef>,
 ) -> Result<Option<Given>, IdRefused>
-    requires { length set.now.keys ≤ 65535 }
+    requires { length set.now.keys ≤ id_limit }
     ensures ok { IfOk result (λ g. OffersTo set.now.keys schema.now g) }
     ensures room { OnOk result (IsFullTo set.now.keys schema.now → ⊥) }
     ensures err { IfErr result (λ e. (e ≡ IdRefused.TooManySchemas) × IsFullTo set.now.keys schema.now) }
@@ -192,7 +193,7 @@ fn given_to_schema(
 
 // The id for a channel, or none where all are given.
 fn given_to_channel(set: &IndexSet<ChannelDef>, channel: &ChannelDef) -> Option<Given>
-    requires { length set.now.keys ≤ 65535 }
+    requires { length set.now.keys ≤ id_limit }
     ensures { GivesOrFull set.now.keys channel.now result }
 {
     given(place_of_channel(set, channel), set.len())

@@ -1,12 +1,11 @@
 -- Elements with different keys, in any order; lists element by element.
-use Rattle.std.proofs.Common.{◌≡◌, ℕ, suc, ◌+◌, ◌<◌, Bool, true, false, eqb, List, [], ◌∷◌, ◌++◌, length, take, get_or, refl, sym, ap, subst, inl, inr, ◌∙◌, arith}
+use Rattle.std.proofs.Common.{◌≡◌, ℕ, suc, ◌+◌, ◌<◌, Bool, true, false, eqb, List, [], ◌∷◌, length, get_or, refl, sym, ap, subst, inl, inr, ◌∙◌, arith}
 use Rattle.std.specs.Prelude.{AllPairs, IsPermutation, ◌≢◌, slice_get}
 use Rattle.std.specs.List.{IsDistinct}
 use Rattle.std.proofs.lemmas.Bool.{cases_lt, ne_eqb, eqb-false, eqb-true, eq-eqb}
 use Rattle.std.proofs.lemmas.List.Elements.{recursion_from_All, All-from_recursion}
 use Rattle.std.proofs.lemmas.Map.Keys.{IsDistinct-IsPermutation}
 use Rattle.std.proofs.lemmas.Option.{same_Some}
-use Rattle.std.proofs.Math.Seq.{take-suc}
 use Rattle.mcap_model.specs.Places.{At}
 use Rattle.mcap_model.proofs.Places.{at_within, at_read, at_one}
 use Rattle.mcap_model.proofs.Lists.{pairs_cons}
@@ -54,14 +53,6 @@ each_same {X} (x ∷ xs) (y ∷ ys) size each =
     let head : x ≡ y = same_Some x y (each 0 (omega arith)) in
     let rest : xs ≡ ys = each_same xs ys (omega (arith, size)) (λ k within. each (suc k) (omega (arith, within))) in
     ap (λ (z : X). z ∷ xs) head ∙ ap (λ (l : List X). y ∷ l) rest
-
--- one element more of a list is taken
-pub taken_more : {X : Type 0} (xs : List X) (i : ℕ) (x : X) → At xs i x → take (i + 1) xs ≡ take i xs ++ x ∷ []
-taken_more {X} xs i x at =
-    let within = at_within xs i x at in
-    let next : i + 1 ≡ suc i = omega arith in
-    ap (λ (n : ℕ). take n xs) next ∙ take-suc xs i x within
-    ∙ ap (λ (y : X). take i xs ++ y ∷ []) (at_one xs i (get_or xs i x) x (at_read xs i x within) at)
 
 -- what holds of the elements in front of a place, and of the one there
 pub front_more : {X : Type 0} (P : X → Type 0) (xs : List X) (i : ℕ) (x : X) → ((k : ℕ) (y : X) → At xs k y → k < i → P y) → At xs i x → P x → (k : ℕ) (y : X) → At xs k y → k < i + 1 → P y

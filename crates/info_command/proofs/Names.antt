@@ -16,14 +16,14 @@ use Rattle.command_base.specs.Ran.{kept, refused, failed_so}
 use Rattle.command_base.specs.OneFile.{failing}
 use Rattle.command_base.proofs.Counting.{failed_often}
 use Rattle.command_base.proofs.OneFile.{store_input, store_keeping, unopened as name_unopened, unopened_for_memory, same_back, taken_back, read_sure, halted_sure, lacked_sure}
-use Rattle.info_command.specs.Info.{Seen, seen, Finds, ComesTo, ending_of}
+use Rattle.info_command.specs.Info.{StoreUse, seen, Finds, InfoComesTo, ending_of}
 use Rattle.info_command.specs.Names.{NameDescribed}
 
 abbrev pub described : Description → Bool → Described
 described description broken = record { description = description; failed = broken }
 
 -- a reading that failed has a store that failed
-sure : (file : List ℕ) (store : StoreState) (now : Seen) (description : Description) (well : Bool) → store.faults ≡ 0 → Finds store now description → ending_of file description ≡ failing → failed_so well now.faults ≡ true
+sure : (file : List ℕ) (store : StoreState) (now : StoreUse) (description : Description) (well : Bool) → store.faults ≡ 0 → Finds store now description → ending_of file description ≡ failing → failed_so well now.faults ≡ true
 sure file store now descriptions.Unopened well unused finds e = absurd finds
 sure file store now (descriptions.Line text) well unused finds e = read_sure text (failed_so well now.faults) e
 sure file store now (descriptions.Unloaded (refusals.Fault count)) well unused finds e =
@@ -64,7 +64,7 @@ module _ (file : List ℕ) where
     pub still : w1.faults ≡ w0.faults
     pub tells : TellsStore w0 file store
     pub unused : IsUnused store
-    pub comes : ComesTo store (seen store_now.faults store_now.asked) description
+    pub comes : InfoComesTo store (seen store_now.faults store_now.asked) description
     pub keeps : KeepsStore w1 w2 file store_now result
     pub inputs : w2.input_faults ≡ added w1.input_faults store_now.faults
     pub outputs : w2.output_faults ≡ w1.output_faults

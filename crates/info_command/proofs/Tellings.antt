@@ -13,7 +13,7 @@ use Rattle.command_base.specs.Printing.{Takes}
 use Rattle.command_base.specs.Ran.{Scene, counts_in, Complains}
 use Rattle.command_base.specs.OneFile.{was_read, failing, text_of, HaltsWell, PrintsEnding, ShowsFaults}
 use Rattle.command_base.proofs.OneFile.{one_troubles, one_not_two, reads_one, halts_so, read_halts, failed_halts, lacked_halts}
-use Rattle.info_command.specs.Info.{Seen, seen, ComesTo, IsDescribed, ending_of, Shows, Describes}
+use Rattle.info_command.specs.Info.{StoreUse, seen, InfoComesTo, IsDescribed, ending_of, DescribesBytes, Describes}
 use Rattle.info_command.specs.Names.{NameDescribed}
 
 -- a telling halts by a broken rule, by what is missing, or by a limit
@@ -34,7 +34,7 @@ not_two file old new answer all two = one_not_two kinds.Store file old new all.e
 
 -- ---- the bytes decide
 
-shows_so : (file bytes : List ℕ) (store : StoreState) (now : Seen) (description : Description) → store.bytes ≡ Some bytes → ComesTo store now description → (ending_of file description ≡ failing → ⊥) → Shows bytes description
+shows_so : (file bytes : List ℕ) (store : StoreState) (now : StoreUse) (description : Description) → store.bytes ≡ Some bytes → InfoComesTo store now description → (ending_of file description ≡ failing → ⊥) → DescribesBytes bytes description
 shows_so file bytes store now descriptions.Unopened here comes other = comes.finds
 shows_so file bytes store now (descriptions.Line text) here comes other = (comes.finds.0, (comes.finds.1.loads bytes here).0, comes.finds.2)
 shows_so file bytes store now (descriptions.Unloaded (refusals.Fault faults)) here comes other = other refl
@@ -46,8 +46,8 @@ shows_so file bytes store now descriptions.NoStatistics here comes other = (come
 shows_so file bytes store now descriptions.NoMemory here comes other = tt
 
 shows_bytes : (file bytes : List ℕ) (world : WorldState) (told : Told) (entries : List Opening) (description : Description) → IsDescribed file world entries description → world.told ≡ Some told → told.names file ≡ Some bytes
-    → (ending_of file description ≡ failing → ⊥) → Shows bytes description
-shows_bytes file bytes world told [] description is here there other = subst (λ (d : Description). Shows bytes d) (sym is) tt
+    → (ending_of file description ≡ failing → ⊥) → DescribesBytes bytes description
+shows_bytes file bytes world told [] description is here there other = subst (λ (d : Description). DescribesBytes bytes d) (sym is) tt
 shows_bytes file bytes world told (entry ∷ more) description (inl refused) here there other = absurd (other (ap (ending_of file) refused.1))
 shows_bytes file bytes world told (entry ∷ more) description (inr (keeping, is, under)) here there other =
     shows_so file bytes under.store (seen keeping.faults keeping.asked) description ((under.tells told here).0 ∙ there) under.comes other

@@ -19,20 +19,20 @@ use Rattle.command_base.specs.OneFile.{Ending, was_read, halted, failing, lacked
 -- ---- the file
 
 -- what a store shows when it is taken back: how often it failed, and for how many bytes it was asked
-pub record Seen : Type 0 where
+pub record StoreUse : Type 0 where
   pub faults : ℕ
   pub asked : ℕ
 
-abbrev pub seen : ℕ → ℕ → Seen
+abbrev pub seen : ℕ → ℕ → StoreUse
 seen faults asked = record { faults = faults; asked = asked }
 
 -- the summary was loaded, and no failure was met
-pub record HasLoaded (store : StoreState) (now : Seen) (parts : Parts) : Type 0 where
+pub record HasLoaded (store : StoreState) (now : StoreUse) (parts : Parts) : Type 0 where
   pub loads : Loads store.bytes (Ok parts)
   pub still : now.faults ≡ store.faults
 
 -- what was found of it
-abbrev pub Finds : StoreState → Seen → Description → Type 0
+abbrev pub Finds : StoreState → StoreUse → Description → Type 0
 Finds store now descriptions.Unopened = ⊥
 Finds store now (descriptions.Line text) = (parts : Parts) × HasLoaded store now parts × InfoText parts text
 Finds store now (descriptions.Unloaded why) = Loads store.bytes (Err why) × LoadCause {P = Parts} store.faults now.faults (Err why)
@@ -40,7 +40,7 @@ Finds store now descriptions.NoStatistics = (parts : Parts) × HasLoaded store n
 Finds store now descriptions.NoMemory = (parts : Parts) × HasLoaded store now parts
 
 -- what the telling of a store came to: only the ends of the file and its summary were asked for
-pub record ComesTo (store : StoreState) (now : Seen) (description : Description) : Type 0 where
+pub record InfoComesTo (store : StoreState) (now : StoreUse) (description : Description) : Type 0 where
   pub finds : Finds store now description
   pub asks : (file : List ℕ) → store.bytes ≡ Some file → AskedFor file store.asked now.asked
 
@@ -49,7 +49,7 @@ pub record DescribedUnder (file : List ℕ) (world : WorldState) (keeping : Keep
   pub store : StoreState
   pub tells : TellsStore world file store
   pub unused : IsUnused store
-  pub comes : ComesTo store (seen keeping.faults keeping.asked) description
+  pub comes : InfoComesTo store (seen keeping.faults keeping.asked) description
 
 -- no entry, where memory lacked for the opening; or it was refused; or a store was given, read, and taken back
 abbrev pub IsDescribed : List ℕ → WorldState → List Opening → Description → Type 0
@@ -73,16 +73,16 @@ ending_of file descriptions.NoStatistics = halted (not_indexed file unindexed.No
 ending_of file descriptions.NoMemory = lacked
 
 -- Where nothing failed, the description is one of these bytes.
-abbrev pub Shows : List ℕ → Description → Type 0
-Shows bytes descriptions.Unopened = ⊥
-Shows bytes (descriptions.Line text) = (parts : Parts) × IsLoaded bytes parts × InfoText parts text
-Shows bytes (descriptions.Unloaded (refusals.Fault faults)) = ⊥
-Shows bytes (descriptions.Unloaded refusals.NoSummary) = IsRefused bytes refusals.NoSummary
-Shows bytes (descriptions.Unloaded (refusals.Grammar offset rule)) = IsRefused bytes (refusals.Grammar offset rule)
-Shows bytes (descriptions.Unloaded (refusals.Limit offset)) = IsRefused bytes (refusals.Limit offset)
-Shows bytes (descriptions.Unloaded refusals.Memory) = Unit {0}
-Shows bytes descriptions.NoStatistics = (parts : Parts) × IsLoaded bytes parts × (parts.statistics ≡ None)
-Shows bytes descriptions.NoMemory = Unit {0}
+abbrev pub DescribesBytes : List ℕ → Description → Type 0
+DescribesBytes bytes descriptions.Unopened = ⊥
+DescribesBytes bytes (descriptions.Line text) = (parts : Parts) × IsLoaded bytes parts × InfoText parts text
+DescribesBytes bytes (descriptions.Unloaded (refusals.Fault faults)) = ⊥
+DescribesBytes bytes (descriptions.Unloaded refusals.NoSummary) = IsRefused bytes refusals.NoSummary
+DescribesBytes bytes (descriptions.Unloaded (refusals.Grammar offset rule)) = IsRefused bytes (refusals.Grammar offset rule)
+DescribesBytes bytes (descriptions.Unloaded (refusals.Limit offset)) = IsRefused bytes (refusals.Limit offset)
+DescribesBytes bytes (descriptions.Unloaded refusals.Memory) = Unit {0}
+DescribesBytes bytes descriptions.NoStatistics = (parts : Parts) × IsLoaded bytes parts × (parts.statistics ≡ None)
+DescribesBytes bytes descriptions.NoMemory = Unit {0}
 
 -- ---- the command
 
@@ -96,6 +96,6 @@ pub record Describes (file : List ℕ) (old new : Scene) (status : ℕ) : Type 0
   pub ran : ReadsOne kinds.Store file old new entries (ending_of file description) status
   -- where the world tells, the bytes under the name decide, unless a count rises
   pub decided : (told : Told) (bytes : List ℕ) → old.world.told ≡ Some told → told.names file ≡ Some bytes
-      → (AnyRose (counts_in old) (counts_in new) → ⊥) → Shows bytes description × ((status ≡ ending_status (ending_of file description)) ⊎ (status ≡ 5))
+      → (AnyRose (counts_in old) (counts_in new) → ⊥) → DescribesBytes bytes description × ((status ≡ ending_status (ending_of file description)) ⊎ (status ≡ 5))
   -- the status 0 says that all of the line was taken
   pub whole : status ≡ 0 → (text : List ℕ) × (description ≡ descriptions.Line text) × TellsAll old.out new.out text

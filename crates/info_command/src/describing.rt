@@ -4,7 +4,7 @@ ghost use Rattle.command_base.specs.Texts.{complained};
 ghost use Rattle.command_base.specs.Printing.{Takes};
 ghost use Rattle.command_base.specs.Ran.{scene};
 ghost use Rattle.command_base.specs.OneFile.{text_of, troubles_in, is_lack, PrintsEnding};
-ghost use Rattle.info_command.specs.Info.{seen, ComesTo, load_ending, ending_of, Describes};
+ghost use Rattle.info_command.specs.Info.{seen, InfoComesTo, load_ending, ending_of, Describes};
 ghost use Rattle.info_command.specs.Names.{NameDescribed};
 
 use command_base::{Complaint, Counts, Unindexed, answer_file, faults_of, has_failed};
@@ -38,7 +38,7 @@ pub struct Described {
 
 // Tells of the file that a store holds.
 fn describe_store<T: Store>(alloc: Global, store: &mut T) -> Description
-    ensures { ComesTo (T.state store.old) (seen (T.state store.new).faults (T.state store.new).asked) result }
+    ensures { InfoComesTo (T.state store.old) (seen (T.state store.new).faults (T.state store.new).asked) result }
 {
     let loaded = match load(alloc, store) {
         Ok(loaded) => loaded,

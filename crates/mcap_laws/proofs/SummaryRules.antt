@@ -34,7 +34,7 @@ use Rattle.mcap_model.proofs.Groups.{in_front, in_group, op_of, same_group, insi
 use Rattle.mcap_model.proofs.ShownBack.{summary_offset_shows}
 use Rattle.mcap_model.proofs.Front.{IsTail, summary_only, last_is, unended}
 use Rattle.mcap_laws.proofs.Tails.{all_groups, full_groups, full_tops, full_apart, each_full, with_offsets, with_offsets_tops, groups_apart, six_kinds, offsets_group, NotedFits, summary_tail, group_room}
-use Rattle.std.proofs.lemmas.Option.{same_Some}
+use Rattle.mcap_model.proofs.OneMore.{take_next}
 
 -- what stands behind the Data End
 pub cut_end : (section more : List Top) → Each (λ t. t.op ≢ 15) section → behind_end (section ++ end_top ∷ more) ≡ more
@@ -48,11 +48,6 @@ all_known [] each = refl
 all_known (t ∷ ts) each =
     ap (λ (b : Bool). cond b (t ∷ filter (λ x. is_known x.op) ts) (filter (λ x. is_known x.op) ts)) (each 0 t refl)
     ∙ ap (λ (l : List Top). t ∷ l) (all_known ts (λ n x at. each (suc n) x at))
-
-take_more : {X : Type 0} (xs : List X) (n : ℕ) (x : X) → At xs n x → take (suc n) xs ≡ take n xs ++ x ∷ []
-take_more [] n x at = absurd (at_none n x at)
-take_more {X} (y ∷ xs) zero x at = ap (λ (z : X). z ∷ []) (same_Some y x at)
-take_more {X} (y ∷ xs) (suc n) x at = ap (λ (l : List X). y ∷ l) (take_more xs n x at)
 
 -- the records of a group that isn't empty
 starts_by : (op : ℕ) (contents : List (List ℕ)) → has_some contents ≡ true → StartsWith op (map (top_of op) contents)
@@ -231,7 +226,7 @@ module _ (header : Top) (body : List Top) (n : Noted) (at : ℕ) (is_header : Is
         | inl low ↦ inr (apart u there (λ e. omega (arith, low, e)))
         | inr not_low ↦ elim (cases_lt t.op u.op) [
           | inl high ↦ inr (apart u there (λ e. omega (arith, high, e)))
-          | inr not_high ↦ inl (take c summary, u, take_more summary c u there, omega (arith, not_low, not_high))
+          | inr not_high ↦ inl (take c summary, u, take_next summary c u there, omega (arith, not_low, not_high))
         ]
       ]
 

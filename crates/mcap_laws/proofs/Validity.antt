@@ -6,7 +6,6 @@ use Rattle.std.proofs.lemmas.List.{append-nil, length-append}
 use Rattle.std.proofs.lemmas.Grind.{flat_map-append}
 use Rattle.mcap_wire.specs.Layout.{magic}
 use Rattle.rec_data.specs.declared.owned.Rec.{Rec}
-use Rattle.rec_data.specs.declared.owned.Rec.TheVariants.{Schema, Channel, Message}
 use Rattle.rec_data.specs.Owned.{rec_bytes}
 use Rattle.rec_data.specs.Records.{footer_text}
 use Rattle.rec_data.proofs.Contents.{footer_shown}
@@ -16,14 +15,14 @@ use Rattle.mcap_model.specs.Tops.{Top, top_bytes, spelled, offset_behind, flat}
 use Rattle.mcap_model.specs.Fields.{IsHeader, IsFooter, IsStatistics}
 use Rattle.mcap_model.specs.Rules.{HasDataEnd, Agrees, stands_in_section}
 use Rattle.mcap_model.specs.History.{rec_top, history_bytes}
-use Rattle.mcap_model.specs.Blocks.{Piece, block, alone, logged_from, logged, logged_channels, pieces_of, pieces_bytes, chunk_bytes, indexes_bytes}
+use Rattle.mcap_model.specs.Blocks.{Piece, block, alone, logged, logged_channels, pieces_of, pieces_bytes, chunk_bytes, indexes_bytes}
 use Rattle.mcap_model.specs.Summary.{Noted, group_bytes, groups_of, statistics_content, footer_fields}
 use Rattle.mcap_model.specs.File.{front, blocks_from, extras_from, noted, file_of}
 use Rattle.mcap_model.specs.Whole.{is_last, BelongsTo, IsIndexed, V9, V11, V12, V13, V14, V15, V16, StatisticsAreRight}
 use Rattle.mcap_model.specs.Valid.{Keeps, Valid, IsValid, FullyIndexed}
 use Rattle.mcap_model.specs.Laws.{index_top, IsReadBack, IsNumberedRec, IsExtra, CanBeWritten, FilesAreValid, FilesAreIndexed}
 use Rattle.mcap_model.proofs.Places.{at_none}
-use Rattle.mcap_model.proofs.Readings.{top_of, length-top}
+use Rattle.mcap_model.proofs.Readings.{top_of}
 use Rattle.mcap_model.proofs.Histories.{recs_agree}
 use Rattle.mcap_model.proofs.Lists.{cut_flat, cut_at}
 use Rattle.mcap_model.proofs.Edges.{header_top, end_top}
@@ -42,6 +41,7 @@ use Rattle.mcap_laws.proofs.SummaryRules.{foot_is, never, keeps_11, keeps_15, ke
 use Rattle.mcap_laws.proofs.IndexRules.{body_at, noted_of, keeps_12, keeps_13, statistics_there, no_message, chunks_indexed, times_zero, channels_there}
 use Rattle.mcap_laws.proofs.Scanned.{v7_of_flat}
 use Rattle.std.proofs.lemmas.Option.{same_Some}
+use Rattle.mcap_model.proofs.FewRecords.{logged_few}
 
 -- ---- what is left where the first and the last rules are kept
 
@@ -89,15 +89,6 @@ module _ (header : Top) (ps : List Piece) (extras summary : List Top) (foot : To
   }
 
 -- ---- bounds
-
-few_logged : (at : ℕ) (records : List Rec) → length (logged_from at records) ≤ length (history_bytes records)
-few_logged at [] = omega arith
-few_logged at (Schema id s ∷ rs) = let r = Schema id s in let more = few_logged (at + length (rec_bytes r)) rs in omega (arith, more, length-append (rec_bytes r) (history_bytes rs))
-few_logged at (Channel id schema topic encoding metadata ∷ rs) = let r = Channel id schema topic encoding metadata in let more = few_logged (at + length (rec_bytes r)) rs in omega (arith, more, length-append (rec_bytes r) (history_bytes rs))
-few_logged at (Message channel sequence log_time publish_time payload ∷ rs) =
-    let r = Message channel sequence log_time publish_time payload in
-    let more = few_logged (at + length (rec_bytes r)) rs in
-    omega (arith, more, length-append (rec_bytes r) (history_bytes rs), length-top (rec_top r))
 
 piece_holds : (p : Piece) → length (history_bytes (piece_recs p)) ≤ length (spelled (piece_tops p))
 piece_holds (block records) = omega (arith, block_within records, length-append (chunk_bytes records) (spelled (map (index_top records) (logged_channels records))))
@@ -252,7 +243,7 @@ module _ (options : FileOptions) (extras : List Top) (history : List Rec) (writt
 
   few_messages : length (logged history) < 2 ^ 64
   few_messages =
-      let few = few_logged 0 history in
+      let few = logged_few 0 history in
       let holds = pieces_holds ps in
       let same = ap (λ (l : List Rec). length (history_bytes l)) (pieces_hold options.chunk history) in
       let room = section_within options extras history (standing options extras history written) in

@@ -124,7 +124,7 @@ pub fn good_histories_agree()
     ensures { GoodHistoriesAgree }
 {}
 
-/// In blocks that are cut at a size of at most 67108864 the entries of each Message Index fit behind their length.
+/// In blocks that are cut at a size of at most 64 MiB the entries of each Message Index fit behind their length.
 pub fn small_blocks_fit()
     ensures { SmallBlocksFit }
 {}

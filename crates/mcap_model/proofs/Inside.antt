@@ -2,7 +2,7 @@
 use Rattle.std.proofs.Common.{◌≡◌, ◌⊎◌, ℕ, zero, suc, Some, Err, ◌<◌, ◌≤◌, Bool, true, false, ◌||◌, eqb, List, [], ◌∷◌, ◌++◌, length, filter, cond, refl, sym, ap, subst, inl, inr, ◌∙◌, append_assoc, arith}
 use Rattle.std.specs.Prelude.{nat_le}
 use Rattle.std.specs.List.{list_any}
-use Rattle.std.proofs.lemmas.Bool.{both_ways, ne_eqb, le-leb, lt-leb}
+use Rattle.std.proofs.lemmas.Bool.{both_ways, ne_eqb, le-leb, lt-leb, or_right}
 use Rattle.std.proofs.lemmas.List.{append-nil, length-append}
 use Rattle.std.proofs.lemmas.List.Elements.{filter-append}
 use Rattle.std.proofs.lemmas.Grind.{flat_map-append}
@@ -24,10 +24,6 @@ use Rattle.mcap_model.proofs.Meets.{unknown_meets}
 use Rattle.mcap_model.proofs.Lists.{each_joined}
 
 -- ---- kinds
-
-or_right : (a b : Bool) → b ≡ true → (a || b) ≡ true
-or_right true b e = refl
-or_right false b e = e
 
 none_of : (op : ℕ) → (op ≡ 3 → ⊥) → (op ≡ 4 → ⊥) → (op ≡ 5 → ⊥) → list_any (λ kind. eqb kind op) (3 ∷ 4 ∷ 5 ∷ []) ≡ false
 none_of op a b c =

@@ -38,9 +38,12 @@ pub mod Spans
 pub mod Walks
 pub mod Inside
 pub mod Judging
-mod TakenRecords
+pub mod TakenRecords
 pub mod ShownMessages
 pub mod NamedTopics
 pub mod Replays
 pub mod PlacesApart
 pub mod Pieces
+pub mod OneMore
+pub mod Once
+pub mod FewRecords

@@ -1,5 +1,7 @@
 -- What a reading keeps of a file: its longest good list of records; and where it halts, and why.
 use Rattle.std.specs.Prelude.{◌≡◌, ◌↔◌, ℕ, ◌+◌, ◌≤◌, List, [], length, Bool, true, false, ◌||◌, nat_lt}
+use Rattle.mcap_wire.specs.Layout.{content_limit}
+use Rattle.mcap_wire.specs.Limits.{file_limit}
 use Rattle.mcap_model.specs.Places.{EachBehind}
 use Rattle.mcap_model.specs.Tops.{Top, Tops, Begins, offset_behind, opcode, declared_length, has_head, is_whole, first_top}
 use Rattle.mcap_model.specs.Fields.{ChunkFields, IsChunk}
@@ -12,9 +14,9 @@ pub record Limits : Type 0 where
   pub content : ℕ
   pub file : ℕ
 
--- 256 MiB (2 ^ 28) and 1 TiB (2 ^ 40)
+-- 256 MiB and 1 TiB
 abbrev pub reading_limits : Limits
-reading_limits = record { content = 268435456; file = 1099511627776 }
+reading_limits = record { content = content_limit; file = file_limit }
 
 -- a record of that length at that offset has a content or an end past its limit
 abbrev pub is_beyond : Limits → ℕ → ℕ → Bool

@@ -1,6 +1,8 @@
 -- What holds of the definitions.
 use Rattle.std.specs.Prelude.{◌≡◌, ◌⊎◌, ◌↔◌, ℕ, suc, ◌^◌, ◌<◌, List, [], ◌∷◌, ◌++◌, length, Bool, false, ◌≤◌, take, filter, map, Option, Some, IsUtf8}
 use Rattle.std.specs.List.{AllZip}
+use Rattle.mcap_wire.specs.Layout.{content_limit}
+use Rattle.mcap_wire.specs.Limits.{chunk_size_limit, file_limit}
 use Rattle.rec_data.specs.Records.{header_text}
 use Rattle.rec_data.specs.declared.owned.Rec.{Rec}
 use Rattle.rec_data.specs.Owned.{rec_opcode, rec_text, ShowsRec}
@@ -159,15 +161,15 @@ pub record CanBeWritten (options : FileOptions) (extras : List Top) (history : L
 
 -- the content that is written of a piece may be read; a Message Index is shorter than its chunk
 abbrev pub PieceIsShort : Piece → Type 0
-PieceIsShort (alone r) = length (rec_text r) ≤ 268435456
-PieceIsShort (block records) = length (chunk_content records) ≤ 268435456
+PieceIsShort (alone r) = length (rec_text r) ≤ content_limit
+PieceIsShort (block records) = length (chunk_content records) ≤ content_limit
 
 -- no content up to the Data End, and not the file, is longer than what is read
 pub record CanBeRead (options : FileOptions) (extras : List Top) (history : List Rec) : Type 0 where
-  pub header : length (header_text (record { profile = options.profile; library = library })) ≤ 268435456
+  pub header : length (header_text (record { profile = options.profile; library = library })) ≤ content_limit
   pub pieces : Each PieceIsShort (pieces_of options.chunk history)
-  pub extras_short : Each (λ t. length t.content ≤ 268435456) extras
-  pub file : length (file_of options extras history) ≤ 1099511627776
+  pub extras_short : Each (λ t. length t.content ≤ content_limit) extras
+  pub file : length (file_of options extras history) ≤ file_limit
 
 -- the ids of a numbered history agree, and none of its Schemas has the id 0
 abbrev pub NumberedIdsAgree : Type 0
@@ -211,9 +213,9 @@ FilesAreIndexed = (options : FileOptions) (extras : List Top) (history : List Re
 abbrev pub WholeFilesAreOne : Type 0
 WholeFilesAreOne = (file : List ℕ) (tops others : List Top) → IsWhole file tops → IsWhole file others → tops ≡ others
 
--- in blocks that are cut at a size of at most 67108864 the entries fit
+-- in blocks that are cut at a size of at most 64 MiB the entries fit
 abbrev pub SmallBlocksFit : Type 0
-SmallBlocksFit = (size : ℕ) (history : List Rec) → 0 < size → size ≤ 67108864 → Each EntriesFit (blocks_in (pieces_of (Some size) history))
+SmallBlocksFit = (size : ℕ) (history : List Rec) → 0 < size → size ≤ chunk_size_limit → Each EntriesFit (blocks_in (pieces_of (Some size) history))
 
 -- Where a file is read to its Data End, what is kept of a first part of it that holds the magic are the records up to
 -- the Data End that are whole there.

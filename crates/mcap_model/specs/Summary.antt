@@ -1,5 +1,5 @@
 -- The summary of a file: its text, from what was noted of the records, the blocks and the extras.
-use Rattle.std.specs.Prelude.{ℕ, ◌+◌, List, [], ◌∷◌, ◌++◌, length, map, filter, take, min, Bool, true, false, ◌==◌}
+use Rattle.std.specs.Prelude.{ℕ, ◌+◌, List, [], ◌∷◌, ◌++◌, length, map, filter, take, min, Bool, true, false, ◌==◌, ◌^◌, ◌-◌}
 use Rattle.std.specs.List.{flat_map}
 use Rattle.mcap_wire.specs.Layout.{number, framed, magic, part}
 use Rattle.mcap_wire.specs.Reading.{text_length, text_bytes, bytes_length}
@@ -31,7 +31,7 @@ channels_of records = filter is_channel (without_repeats records)
 
 -- a count as it is written in four bytes
 abbrev pub capped : ℕ → ℕ
-capped n = min n 4294967295
+capped n = min n (2 ^ 32 - 1)
 
 -- how many of the messages are on a channel
 abbrev pub messages_on : List Rec → ℕ → ℕ

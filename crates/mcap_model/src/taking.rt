@@ -11,14 +11,11 @@ ghost use Rattle.mcap_model.specs.Plain.{ReadTo, RecordTaken};
 use crate::refusals::PlainRefused;
 use crate::tables::Tables;
 use crate::tops::{Judged, judge, judge_first};
-use mcap_wire::{CONTENT_LIMIT, Cut, MAGIC, cut, take_u64};
+use mcap_wire::{CONTENT_LIMIT, Cut, FILE_LIMIT, MAGIC, cut, take_u64};
 use std::alloc::Global;
 
 /// The length of a record's head: the opcode and the content's length.
 const HEAD_LENGTH: u64 = 9;
-
-/// The last offset at which a record may end: 1 TiB.
-const FILE_LIMIT: u64 = 1_099_511_627_776;
 
 /// The offset of the first record.
 pub(crate) const FIRST_OFFSET: usize = 8;

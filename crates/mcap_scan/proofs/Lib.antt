@@ -1,2 +1,3 @@
 mod Taking
 pub mod Scanning
+pub mod Refused

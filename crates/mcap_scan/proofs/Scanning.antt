@@ -2,17 +2,14 @@
 use Rattle.std.proofs.Common.{◌≡◌, ℕ, ◌+◌, ◌-◌, ◌^◌, ◌<◌, ◌≤◌, min, Bool, true, false, eqb, List, [], ◌∷◌, ◌++◌, length, take, drop, Option, Some, refl, sym, ap, subst, inl, inr, ◌∙◌, append_assoc, arith}
 use Rattle.std.specs.Prelude.{nat_lt, if◌then◌else◌}
 use Rattle.std.proofs.lemmas.Bool.{or_parts, ltb-false, eqb-true, eqb-false}
-use Rattle.std.proofs.lemmas.List.{append-nil, length-append, take-append-drop, drop_at}
-use Rattle.std.proofs.lemmas.Grind.{flat_map-append}
+use Rattle.std.proofs.lemmas.List.{length-append, take-append-drop}
 use Rattle.mcap_wire.specs.Layout.{magic}
 use Rattle.mcap_io.specs.Outside.{SourceState, RisesOnce}
-use Rattle.mcap_model.specs.Places.{At}
-use Rattle.mcap_model.specs.Tops.{Top, Tops, top_bytes, spelled, offset_behind, opcode, declared_length, behind_first, flattened, flat}
-use Rattle.mcap_model.specs.Rules.{V1, HasDataEnd, Breaks, breaks_3}
-use Rattle.mcap_model.specs.Kept.{reading_limits, is_beyond, NamesCompression, Fits, Good, Kept, Halt, at_end, grammar, compressed, beyond, IsDue, HaltsThere, packed_chunk, broken_rule, Halts, no_magic, at_data_end, behind_kept, HaltsAt}
+use Rattle.mcap_model.specs.Tops.{Top, Tops, top_bytes, spelled, offset_behind, opcode, declared_length, behind_first, flat}
+use Rattle.mcap_model.specs.Rules.{V1, HasDataEnd, Breaks}
+use Rattle.mcap_model.specs.Kept.{reading_limits, is_beyond, NamesCompression, Fits, Good, Kept, Halt, at_end, grammar, compressed, beyond, IsDue, HaltsThere, packed_chunk, broken_rule, no_magic, at_data_end, behind_kept, HaltsAt}
 use Rattle.mcap_model.proofs.Places.{at_none, each_more, each_at}
 use Rattle.mcap_model.proofs.Readings.{Begun, begun, length-top, fits_opcode, halts_are_last, good_from_the_front}
-use Rattle.mcap_model.proofs.Histories.{header_meets}
 use Rattle.mcap_scan.specs.declared.answers.ScanRefused.{ScanRefused}
 use Rattle.mcap_scan.specs.declared.answers.ScanRefused.TheVariants as refusals
 use Rattle.mcap_scan.specs.declared.answers.Step.{Step}
@@ -25,22 +22,19 @@ use Rattle.mcap_model.specs.declared.tops.Judged.{Judged}
 use Rattle.mcap_model.specs.declared.tops.Judged.TheVariants as judged
 use Rattle.mcap_model.specs.Made.{top}
 use Rattle.mcap_model.specs.Declarations.{TablesOf}
-use Rattle.mcap_model.specs.Judging.{IsPlain, Keeps, JudgedAs, FirstJudged}
+use Rattle.mcap_model.specs.Judging.{IsPlain, Keeps, JudgedAs}
+use Rattle.mcap_model.proofs.TakenRecords.{ended_more, spelled_more, halted, unended_more}
+use Rattle.mcap_model.proofs.Unpacking.{left_behind}
+use Rattle.mcap_model.proofs.Prefixes.{next_stands}
 use Rattle.mcap_scan.specs.Sources.{ReadTo, unread_behind, IsCutOff}
 use Rattle.mcap_scan.specs.Taking.{RefusalCause, MagicRefused, RecordRefused, TakesRecord, IsTakable}
 use Rattle.mcap_scan.proofs.Taking.{unread_broken}
-use Rattle.mcap_scan.specs.Scanning.{IsReading, IsEnded, HaltsSo, MemoryStands, RefusalStands, IsFresh, StageStands, Stands, Advanced, Given, IsGoing, Moves}
+use Rattle.mcap_scan.specs.Scanning.{IsUnfinished, IsEnded, HaltsSo, MemoryStands, RefusalStands, IsFresh, StageStands, Stands, Advanced, Given, IsGoing, Moves}
 
 -- ---- where a reading halts
 
-halted : (bytes : List ℕ) (tops : List Top) (rest : List ℕ) (halt : Halt) → Tops bytes tops rest → Good reading_limits tops → (HasDataEnd tops → ⊥) → HaltsThere reading_limits tops rest halt → Halts reading_limits bytes tops halt
-halted bytes tops rest halt stands good unended there = record {
-  kept = halts_are_last bytes tops rest halt stands good (inr there);
-  there = behind_kept rest stands unended halt there;
-}
-
 -- what stands behind the records halts the reading, and leaves so much
-halts_so : (tables : Tables) (offset : ℕ) (before now now_new : SourceState) (tops : List Top) (halt : Halt) → IsReading tables offset before now tops → now_new.faults ≡ now.faults
+halts_so : (tables : Tables) (offset : ℕ) (before now now_new : SourceState) (tops : List Top) (halt : Halt) → IsUnfinished tables offset before now tops → now_new.faults ≡ now.faults
     → ((rest : List ℕ) → now.left ≡ Some rest → HaltsThere reading_limits tops rest halt × (now_new.left ≡ Some (unread_behind rest halt))) → HaltsSo before now_new tops halt
 halts_so tables offset before now now_new tops halt was same there = record {
   still = same ∙ was.still;
@@ -76,7 +70,7 @@ cut_off part tops rest offset place stands good unended there = record {
   cut = inr (subst (λ (n : ℕ). HaltsAt reading_limits part tops (grammar n 4)) place (behind_kept rest stands unended (grammar offset 4) there));
 }
 
-pub record_refused : (tables : Tables) (offset : ℕ) (before now now_new : SourceState) (tops : List Top) (why : ScanRefused) → IsReading tables offset before now tops
+pub record_refused : (tables : Tables) (offset : ℕ) (before now now_new : SourceState) (tops : List Top) (why : ScanRefused) → IsUnfinished tables offset before now tops
     → RefusalCause now.faults now_new.faults why → ((rest : List ℕ) → now.left ≡ Some rest → RecordRefused rest offset now_new.left why) → RefusalStands why before now_new tops
 record_refused tables offset before now now_new tops (refusals.Fault faults) was cause refused = record {
   rises = subst (λ (n : ℕ). RisesOnce n now_new.faults) was.still cause.0;
@@ -163,7 +157,7 @@ magic_refused tables offset before now now_new tops why was cause refused =
 
 -- behind the magic
 pub magic_taken : (tables : Tables) (offset : ℕ) (before now now_new : SourceState) (tops : List Top) → IsFresh tables offset before now tops → now_new.faults ≡ now.faults
-    → ((bytes : List ℕ) → now.left ≡ Some bytes → (rest : List ℕ) × (now_new.left ≡ Some rest) × (bytes ≡ magic ++ rest)) → IsReading tables offset before now_new []
+    → ((bytes : List ℕ) → now.left ≡ Some bytes → (rest : List ℕ) × (now_new.left ≡ Some rest) × (bytes ≡ magic ++ rest)) → IsUnfinished tables offset before now_new []
 magic_taken tables offset before now now_new tops was same taken = record {
   good = none_good;
   unended = λ none. none;
@@ -175,31 +169,11 @@ magic_taken tables offset before now now_new tops was same taken = record {
 
 -- ---- a record that was taken
 
-spelled_more : (tops : List Top) (t : Top) → spelled (tops ++ t ∷ []) ≡ spelled tops ++ top_bytes t
-spelled_more tops t = flat_map-append top_bytes tops (t ∷ []) ∙ ap (λ (l : List ℕ). spelled tops ++ l) (append-nil (top_bytes t))
-
-tops_more : (bytes : List ℕ) (tops : List Top) (t : Top) (rest after : List ℕ) → Tops bytes tops rest → rest ≡ top_bytes t ++ after → Tops bytes (tops ++ t ∷ []) after
-tops_more bytes tops t rest after stands split = record {
-  split = stands.split
-      ∙ ap (λ (l : List ℕ). magic ++ (spelled tops ++ l)) split
-      ∙ ap (λ (l : List ℕ). magic ++ l) (sym (append_assoc (spelled tops) (top_bytes t) after) ∙ ap (λ (l : List ℕ). l ++ after) (sym (spelled_more tops t)));
-}
-
 read_more : (before now now_new : SourceState) (tops : List Top) (op : ℕ) (content : List ℕ) → ReadTo before now tops → ((rest : List ℕ) → now.left ≡ Some rest → TakesRecord rest now_new.left op content) → ReadTo before now_new (tops ++ top op content ∷ [])
 read_more before now now_new tops op content read taken bytes known =
     let r = read bytes known in
     let t = taken r.0 r.1 in
-    (t.after, t.left_after, tops_more bytes tops (top op content) r.0 t.after r.2 t.split)
-
-ended_more : (tops : List Top) (t : Top) → t.op ≡ 15 → HasDataEnd (tops ++ t ∷ [])
-ended_more [] t is = inl is
-ended_more (x ∷ xs) t is = inr (ended_more xs t is)
-
-unended_more : (tops : List Top) (t : Top) → (HasDataEnd tops → ⊥) → (t.op ≡ 15 → ⊥) → HasDataEnd (tops ++ t ∷ []) → ⊥
-unended_more [] t none other (inl is) = other is
-unended_more [] t none other (inr more) = more
-unended_more (x ∷ xs) t none other (inl is) = none (inl is)
-unended_more (x ∷ xs) t none other (inr more) = unended_more xs t (λ e. none (inr e)) other more
+    (t.after, t.left_after, next_stands bytes tops (top op content) r.0 t.after r.2 t.split)
 
 good_more : (tops : List Top) (t : Top) → Good reading_limits tops → Keeps tops t → is_beyond reading_limits (offset_behind tops) (length t.content) ≡ false → (HasDataEnd tops → ⊥) → Good reading_limits (tops ++ t ∷ [])
 good_more tops t good keeps within unended =
@@ -250,18 +224,13 @@ compressed_there tops rest at op content name place front takable some names =
     subst (λ (n : ℕ). HaltsThere reading_limits tops rest (compressed n name)) (sym place)
     (packed_chunk name (front_due tops rest at op content place front takable) front.whole (some, subst (λ (x : Top). NamesCompression x name) (sym front.first) names))
 
--- a record at the front was taken whole
-behind_begun : (rest : List ℕ) (t : Top) (after : List ℕ) → rest ≡ top_bytes t ++ after → Begun rest t → behind_first rest ≡ after
-behind_begun rest t after is front =
-    ap (λ (n : ℕ). drop (9 + n) rest) front.len_is ∙ ap (drop (9 + length t.content)) is ∙ drop_at (top_bytes t) after (9 + length t.content) (length-top t)
-
 taken_whole : (rest : List ℕ) (left : Option (List ℕ)) (op : ℕ) (content : List ℕ) (taken : TakesRecord rest left op content) → Begun rest (top op content) → left ≡ Some (behind_first rest)
-taken_whole rest left op content taken front = taken.left_after ∙ ap Some (sym (behind_begun rest (top op content) taken.after taken.split front))
+taken_whole rest left op content taken front = taken.left_after ∙ ap Some (sym (left_behind rest (top op content) taken.after taken.split front))
 
 -- ---- one step
 
 stage_of : (tops : List Top) (op : ℕ) (content : List ℕ) (tables new : Tables) (offset offset_new : ℕ) (before now now_new : SourceState) (b : Bool) → eqb op 15 ≡ b
-    → IsReading tables offset before now tops → now_new.faults ≡ now.faults → ((rest : List ℕ) → now.left ≡ Some rest → TakesRecord rest now_new.left op content) → IsTakable offset op (length content)
+    → IsUnfinished tables offset before now tops → now_new.faults ≡ now.faults → ((rest : List ℕ) → now.left ≡ Some rest → TakesRecord rest now_new.left op content) → IsTakable offset op (length content)
     → Keeps tops (top op content) → TablesOf (flat (tops ++ top op content ∷ [])) new → offset_new ≡ offset_behind (tops ++ top op content ∷ [])
     → StageStands (if b then stages.Ended else stages.Inside) new offset_new before now_new (tops ++ top op content ∷ [])
 stage_of tops op content tables new offset offset_new before now now_new true is was same taken takable keeps are place = record {
@@ -331,7 +300,7 @@ going_on true = tt
 going_on false = tt
 
 pub stepped : (reader : Reader) (tables : Tables) (offset : ℕ) (before now now_new : SourceState) (tops : List Top) (op : ℕ) (content : List ℕ) (how : Judged) (step : Step)
-    → IsReading tables offset before now tops → now_new.faults ≡ now.faults → ((rest : List ℕ) → now.left ≡ Some rest → TakesRecord rest now_new.left op content) → IsTakable offset op (length content)
+    → IsUnfinished tables offset before now tops → now_new.faults ≡ now.faults → ((rest : List ℕ) → now.left ≡ Some rest → TakesRecord rest now_new.left op content) → IsTakable offset op (length content)
     → JudgedAs tops (top op content) reader.tables how → Given offset (length content) reader.offset reader.stage op how step → reader.room.items ≡ content → Advanced reader before now_new tops step
 stepped reader tables offset before now now_new tops op content judged.Fits step was same taken takable (keeps, are) (step_is, offset_is, stage_is) room =
     subst (Advanced reader before now_new tops) (sym step_is)
@@ -388,26 +357,6 @@ refused_step reader before now tops why step step_is stage_is stands =
 
 -- ---- the first record
 
-header_silent : (t : Top) → t.op ≡ 1 → flat (t ∷ []) ≡ []
-header_silent t is = append-nil (flattened t) ∙ subst (λ (n : ℕ). flattened (top n t.content) ≡ []) (sym is) refl
-
-pub first_judged : (op : ℕ) (content : List ℕ) (tables : Tables) (how : Judged) → FirstJudged (top op content) how → TablesOf [] tables → JudgedAs [] (top op content) tables how
-first_judged op content tables judged.Fits is are = (
-  record {
-    v3 = is;
-    v5 = λ (e : op ≡ 0). omega (arith, is.kind, e);
-    v6 = header_meets (top op content) is;
-    v7 = λ n u at. absurd (at_none n u (subst (λ (l : List Top). At l n u) (sym (append-nil (flattened (top op content))) ∙ header_silent (top op content) is.kind) at));
-    v8 = λ f shown plain. absurd (omega (arith, is.kind, shown.kind));
-    v10 = λ f place kind stands. absurd (omega (arith, is.kind, kind));
-    plain = λ name names. let shown = names.is in absurd (omega (arith, is.kind, shown.kind));
-  },
-  subst (λ (l : List Top). TablesOf l tables) (sym (header_silent (top op content) is.kind)) are,
-)
-first_judged op content tables (judged.Breaks rule) (is, bad) are = ((λ some. absurd (some refl)), subst (Breaks [] (top op content)) (sym is) (breaks_3 bad))
-first_judged op content tables (judged.Compressed name) is are = absurd is
-first_judged op content tables judged.Memory is are = absurd is
-
 -- records that are some begin with one
 pub some_tops : (P : List Top → Type 0) (tops : List Top) → (tops ≡ [] → ⊥) → ((first : Top) (more : List Top) → P (first ∷ more)) → P tops
 some_tops P [] some each = absurd (some refl)
@@ -442,7 +391,7 @@ lacks_back before now tops t still good read = record {
       let r = read bytes known in
       let rest = top_bytes t ++ r.0 in
       let front = begun_again tops t r.0 good in
-      let behind = behind_begun rest t r.0 refl front in
+      let behind = left_behind rest t r.0 refl front in
       inr (rest, begins_less bytes tops t r.0 r.2, inr (last_due tops t rest good (ap (λ (l : List ℕ). top_bytes t ++ l) (sym behind)) front, inr (front.whole, r.1 ∙ ap Some (sym behind))));
 }
 

@@ -1,6 +1,7 @@
 -- For which records a reader stands, and what its next step adds.
 use Rattle.std.specs.Prelude.{◌≡◌, ℕ, ◌+◌, ◌-◌, ◌^◌, ◌<◌, ◌≤◌, ◌==◌, min, if◌then◌else◌, List, [], ◌∷◌, ◌++◌, Option, Some, None}
 use Rattle.mcap_io.specs.Outside.{SourceState, RisesOnce}
+use Rattle.mcap_wire.specs.Limits.{file_limit}
 use Rattle.mcap_model.specs.Tops.{Top, offset_behind, flat}
 use Rattle.mcap_model.specs.Rules.{HasDataEnd}
 use Rattle.mcap_model.specs.Kept.{reading_limits, Good, Halt, at_end, grammar, compressed, beyond, Halts}
@@ -29,7 +30,7 @@ pub record IsFresh (tables : Tables) (offset : ℕ) (before now : SourceState) (
   pub unread : now ≡ before
 
 -- the records were taken, and there is no Data End among them
-pub record IsReading (tables : Tables) (offset : ℕ) (before now : SourceState) (tops : List Top) : Type 0 where
+pub record IsUnfinished (tables : Tables) (offset : ℕ) (before now : SourceState) (tops : List Top) : Type 0 where
   pub good : Good reading_limits tops
   pub unended : HasDataEnd tops → ⊥
   pub place : offset ≡ offset_behind tops
@@ -40,7 +41,7 @@ pub record IsReading (tables : Tables) (offset : ℕ) (before now : SourceState)
 -- the Header was given, and no Data End
 pub record IsInside (tables : Tables) (offset : ℕ) (before now : SourceState) (tops : List Top) : Type 0 where
   pub some : tops ≡ [] → ⊥
-  pub reading : IsReading tables offset before now tops
+  pub reading : IsUnfinished tables offset before now tops
 
 -- the records were given, the last a Data End, and nothing behind it was read
 pub record IsEnded (tables : Tables) (offset : ℕ) (before now : SourceState) (tops : List Top) : Type 0 where
@@ -106,7 +107,7 @@ offset_of reader = reader.offset
 
 -- A record that is given moves a reader on, and no further than the limit on files: so a reading ends.
 abbrev pub Moves : ℕ → ℕ → Step → Type 0
-Moves old new (steps.Record op offset) = (old < new) × (new ≤ 1099511627776)
+Moves old new (steps.Record op offset) = (old < new) × (new ≤ file_limit)
 Moves old new (steps.End offset) = Unit {0}
 Moves old new steps.Refused = Unit {0}
 

@@ -1,4 +1,5 @@
 pub mod Layout
+pub mod Limits
 pub mod Reading
 pub mod Maps
 pub mod Arrays

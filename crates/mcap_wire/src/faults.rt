@@ -9,6 +9,9 @@ pub const MAGIC: [u8; 8] = [0x89, 0x4d, 0x43, 0x41, 0x50, 0x30, 0x0d, 0x0a];
 /// The largest content of a record, in bytes.
 pub const CONTENT_LIMIT: u64 = 256 * 1024 * 1024;
 
+/// The longest file, in bytes: 1 TiB.
+pub const FILE_LIMIT: u64 = 1_099_511_627_776;
+
 /// Memory ran out.
 #[derive(Clone, Copy, Debug, PartialEq, Eq)]
 pub struct Memory;

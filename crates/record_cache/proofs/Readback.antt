@@ -5,26 +5,21 @@ use Rattle.std.proofs.lemmas.List.{length-append}
 use Rattle.std.proofs.Math.Seq.{take-append_seam, drop-append_seam}
 use Rattle.mcap_wire.specs.Layout.{le, number, string}
 use Rattle.mcap_wire.specs.Maps.{IsTextPair, IsTextMap, pair_texts}
-use Rattle.mcap_wire.proofs.Numbers.{length-le, number-le}
+use Rattle.mcap_wire.proofs.Numbers.{length-le}
 use Rattle.mcap_wire.proofs.Framing.{length-string, length-framed}
 use Rattle.rec_data.specs.declared.owned.Rec.{Rec}
 use Rattle.rec_data.specs.declared.owned.Rec.TheVariants.{Schema, Channel, Message}
 use Rattle.rec_data.specs.Owned.{rec_opcode, rec_text, rec_bytes, RecFits}
 use Rattle.rec_data.specs.Records.{schema_text, channel_text, message_text}
 use Rattle.mcap_model.specs.History.{history_bytes}
+use Rattle.mcap_model.proofs.Unpacking.{number_first}
 use Rattle.record_cache.specs.Reading.{first_text, behind_text, pairs_within, schema_read, map_read, channel_read, message_read, record_read, records_within, records_shown}
 use Rattle.record_cache.specs.Buffers.{IsKept}
 
 -- ---- numbers and texts
 
-taken_front : (n : ℕ) (xs ys : List ℕ) → length xs ≡ n → take n (xs ++ ys) ≡ xs
-taken_front n xs ys size = subst (λ (k : ℕ). take k (xs ++ ys) ≡ xs) size (take-append_seam xs ys)
-
 dropped_front : (n : ℕ) (xs ys : List ℕ) → length xs ≡ n → drop n (xs ++ ys) ≡ ys
 dropped_front n xs ys size = subst (λ (k : ℕ). drop k (xs ++ ys) ≡ ys) size (drop-append_seam xs ys)
-
-number_front : (n v : ℕ) (rest : List ℕ) → v < 256 ^ n → number (take n (le n v ++ rest)) ≡ v
-number_front n v rest fits = ap number (taken_front n (le n v) rest (length-le n v)) ∙ number-le n v fits
 
 number_behind : (n v : ℕ) (rest : List ℕ) → drop n (le n v ++ rest) ≡ rest
 number_behind n v rest = dropped_front n (le n v) rest (length-le n v)
@@ -34,7 +29,7 @@ abbrev Text_with : List ℕ → List ℕ → List ℕ
 Text_with text rest = string text ++ rest
 
 text_length : (text rest : List ℕ) → length text < 2 ^ 32 → number (take 4 (string text ++ rest)) ≡ length text
-text_length text rest fits = ap (λ (l : List ℕ). number (take 4 l)) (append_assoc (le 4 (length text)) text rest) ∙ number_front 4 (length text) (text ++ rest) fits
+text_length text rest fits = ap (λ (l : List ℕ). number (take 4 l)) (append_assoc (le 4 (length text)) text rest) ∙ number_first 4 (length text) (text ++ rest) fits
 
 text_parts : (text rest : List ℕ) → drop 4 (string text ++ rest) ≡ text ++ rest
 text_parts text rest = ap (drop 4) (append_assoc (le 4 (length text)) text rest) ∙ number_behind 4 (length text) (text ++ rest)
@@ -115,7 +110,7 @@ schema_found id name encoding payload id_fits name_fits encoding_fits payload_fi
     let at_payload : behind_text (behind_text (drop 2 (le 2 id ++ first))) ≡ third = ap behind_text at_encoding ∙ text_behind encoding third encoding_fits in
     schema_same (number (take 2 (le 2 id ++ first))) id (first_text (drop 2 (le 2 id ++ first))) name
     (first_text (behind_text (drop 2 (le 2 id ++ first)))) encoding (first_text (behind_text (behind_text (drop 2 (le 2 id ++ first))))) payload
-    (number_front 2 id first id_fits)
+    (number_first 2 id first id_fits)
     (ap first_text at_name ∙ text_first name second name_fits)
     (ap first_text at_encoding ∙ text_first encoding third encoding_fits)
     (ap first_text at_payload ∙ text_first payload [] payload_fits)
@@ -137,8 +132,8 @@ channel_found id schema topic encoding metadata id_fits schema_fits topic_fits e
     let at_map : behind_text (behind_text (drop 2 (drop 2 content))) ≡ third = ap behind_text at_encoding ∙ text_behind encoding third encoding_fits in
     channel_same (number (take 2 content)) id (number (take 2 (drop 2 content))) schema (first_text (drop 2 (drop 2 content))) topic
     (first_text (behind_text (drop 2 (drop 2 content)))) encoding (map_read (first_text (behind_text (behind_text (drop 2 (drop 2 content)))))) metadata
-    (number_front 2 id (le 2 schema ++ first) id_fits)
-    (ap (λ (l : List ℕ). number (take 2 l)) at_schema ∙ number_front 2 schema first schema_fits)
+    (number_first 2 id (le 2 schema ++ first) id_fits)
+    (ap (λ (l : List ℕ). number (take 2 l)) at_schema ∙ number_first 2 schema first schema_fits)
     (ap first_text at_topic ∙ text_first topic second topic_fits)
     (ap first_text at_encoding ∙ text_first encoding third encoding_fits)
     (ap map_read (ap first_text at_map ∙ text_first (pair_texts metadata) [] metadata_fits) ∙ map_found metadata is_map)
@@ -159,10 +154,10 @@ message_found channel sequence log_time publish_time payload channel_fits sequen
     let at_publish : drop 8 (drop 4 (drop 2 content)) ≡ third = ap (drop 8) at_log ∙ number_behind 8 log_time third in
     message_same (number (take 2 content)) channel (number (take 4 (drop 2 content))) sequence (number (take 8 (drop 4 (drop 2 content)))) log_time
     (number (take 8 (drop 8 (drop 4 (drop 2 content))))) publish_time (drop 8 (drop 8 (drop 4 (drop 2 content)))) payload
-    (number_front 2 channel first channel_fits)
-    (ap (λ (l : List ℕ). number (take 4 l)) at_sequence ∙ number_front 4 sequence second sequence_fits)
-    (ap (λ (l : List ℕ). number (take 8 l)) at_log ∙ number_front 8 log_time third log_fits)
-    (ap (λ (l : List ℕ). number (take 8 l)) at_publish ∙ number_front 8 publish_time payload publish_fits)
+    (number_first 2 channel first channel_fits)
+    (ap (λ (l : List ℕ). number (take 4 l)) at_sequence ∙ number_first 4 sequence second sequence_fits)
+    (ap (λ (l : List ℕ). number (take 8 l)) at_log ∙ number_first 8 log_time third log_fits)
+    (ap (λ (l : List ℕ). number (take 8 l)) at_publish ∙ number_first 8 publish_time payload publish_fits)
     (ap (drop 8) at_publish ∙ number_behind 8 publish_time payload)
 
 pub record_found : (r : Rec) → RecFits r → record_read (rec_opcode r) (rec_text r) ≡ r
@@ -199,7 +194,7 @@ records_found (suc n) (r ∷ rs) few all =
     let tail = (le 8 (length content) ++ content) ++ rest in
     let parts : tail ≡ le 8 (length content) ++ (content ++ rest) = append_assoc (le 8 (length content)) content rest in
     let short : length content < 256 ^ 8 = omega (arith, kept.short, length-framed (rec_opcode r) content) in
-    let len : number (take 8 tail) ≡ length content = ap (λ (l : List ℕ). number (take 8 l)) parts ∙ number_front 8 (length content) (content ++ rest) short in
+    let len : number (take 8 tail) ≡ length content = ap (λ (l : List ℕ). number (take 8 l)) parts ∙ number_first 8 (length content) (content ++ rest) short in
     let behind : drop 8 tail ≡ content ++ rest = ap (drop 8) parts ∙ number_behind 8 (length content) (content ++ rest) in
     let here : take (number (take 8 tail)) (drop 8 tail) ≡ content = ap (λ (k : ℕ). take k (drop 8 tail)) len ∙ ap (take (length content)) behind ∙ take-append_seam content rest in
     let there : drop (number (take 8 tail)) (drop 8 tail) ≡ rest = ap (λ (k : ℕ). drop k (drop 8 tail)) len ∙ ap (drop (length content)) behind ∙ drop-append_seam content rest in

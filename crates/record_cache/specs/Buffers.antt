@@ -1,5 +1,6 @@
 -- What a buffer of records is to its callers.
 use Rattle.std.specs.Prelude.{◌≡◌, ℕ, ◌+◌, ◌≤◌, List, ◌++◌, length, All}
+use Rattle.mcap_wire.specs.Limits.{buffer_limit, record_limit}
 use Rattle.rec_data.specs.declared.owned.Rec.{Rec}
 use Rattle.rec_data.specs.Owned.{rec_bytes, RecFits}
 use Rattle.mcap_model.specs.History.{history_bytes}
@@ -8,7 +9,7 @@ use Rattle.record_cache.specs.Reading.{records_shown}
 -- a record that a buffer may keep
 pub record IsKept (r : Rec) : Type 0 where
   pub fits : RecFits r
-  pub short : length (rec_bytes r) ≤ 33554463
+  pub short : length (rec_bytes r) ≤ record_limit
 
 -- How many bytes a buffer may hold before it is full, and its records.
 pub record Buffer : Type 0 where
@@ -27,9 +28,9 @@ abbrev pub buffer_of : ℕ → List ℕ → Buffer
 buffer_of limit framed = record { limit = limit; records = records_shown framed }
 
 pub record IsBuffer (limit count : ℕ) (framed : List ℕ) : Type 0 where
-  pub small : limit ≤ 1073741824
+  pub small : limit ≤ buffer_limit
   pub spelled : framed ≡ history_bytes (records_shown framed)
   pub kept : All IsKept (records_shown framed)
   pub counted : count ≡ length (records_shown framed)
   pub few : count ≤ length framed
-  pub room : length framed ≤ limit + 33554463
+  pub room : length framed ≤ limit + record_limit

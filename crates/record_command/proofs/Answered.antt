@@ -11,9 +11,9 @@ use Rattle.record_command.specs.declared.answering.Outcome.{Outcome}
 use Rattle.command_base.specs.Printing.{Tells, Takes}
 use Rattle.command_base.specs.Texts.{no_memory}
 use Rattle.record_command.specs.ReportTexts.{file_line, printed, feed_lines}
-use Rattle.record_command.specs.Answer.{Failed, LacksMemory, FaultsShow, Answers}
+use Rattle.record_command.specs.Answer.{PartFailed, LacksMemory, FaultsShow, Answers}
 use Rattle.command_base.specs.Ran.{Scene, counts_in, AnyRose, IsCaused, Blames, named_when, troubles_of}
-use Rattle.record_command.specs.Record.{files_of, report_text, findings_of, names_of, end_status, Lacks, Causes, EndsWith, limit_passed, Records, NamesRecorded}
+use Rattle.record_command.specs.Record.{files_of, report_text, findings_of, names_of, end_status, LackIsTold, Causes, EndsWith, limit_passed, Records, NamesRecorded}
 use Rattle.record_command.proofs.Statuses.{any, first_number, number_of, five_or, some_failed, none_failed, five_where_lacked, two_is_none}
 use Rattle.command_base.proofs.Blamed.{each_two, some_two}
 use Rattle.record_command.proofs.Whole.{decided, whole}
@@ -37,7 +37,7 @@ takes_report before now report r is tells =
 -- ---- what failed
 
 -- where no count rose, no part failed
-nothing_failed : (before now : Counts) (failed : Failures) → Causes before now failed → (AnyRose before now → ⊥) → Failed failed → ⊥
+nothing_failed : (before now : Counts) (failed : Failures) → Causes before now failed → (AnyRose before now → ⊥) → PartFailed failed → ⊥
 nothing_failed before now failed causes quiet some = elim some [
   | inl e ↦ elim (causes.feed e) [ inl world ↦ quiet (inl world) | inr inputs ↦ quiet (inr (inl inputs)) ]
   | inr others ↦ elim others [
@@ -46,7 +46,7 @@ nothing_failed before now failed causes quiet some = elim some [
   ]
 ]
 
-lacks : (before now : Counts) (outcome : Outcome) (report : Option Report) (failed : Failures) (lacked : Bool) → FaultsShow before now outcome failed → LacksMemory report failed lacked → Lacks before now report lacked
+lacks : (before now : Counts) (outcome : Outcome) (report : Option Report) (failed : Failures) (lacked : Bool) → FaultsShow before now outcome failed → LacksMemory report failed lacked → LackIsTold before now report lacked
 lacks before now outcome None failed lacked shows lacking =
     (λ quiet. lacking.0 (nothing_failed before now failed shows.causes quiet), λ is risen. lacking.1 is (shows.any risen))
 lacks before now outcome (Some r) failed lacked shows lacking = lacking
@@ -97,8 +97,8 @@ ended out feed before now outcome report failed err err_now answer a shows =
             ∙ ap (λ (n : ℕ). cond (limit_passed report) 4 n) (only_number report r f here one)
             ∙ ap (λ (x : Option Report). cond (limit_passed x) 4 (end_status f.end)) here)
       ];
-      no_report = λ quiet none. five_where_lacked answer _ a.lacked status ((subst (λ (x : Option Report). Lacks before now x a.lacked) none lacking).0 quiet);
-      memory = λ r here names. five_where_lacked answer _ a.lacked status (subst (λ (x : Option Report). Lacks before now x a.lacked) here lacking ∙ names);
+      no_report = λ quiet none. five_where_lacked answer _ a.lacked status ((subst (λ (x : Option Report). LackIsTold before now x a.lacked) none lacking).0 quiet);
+      memory = λ r here names. five_where_lacked answer _ a.lacked status (subst (λ (x : Option Report). LackIsTold before now x a.lacked) here lacking ∙ names);
     }
 
 -- all that the program promises of a recording

@@ -1,7 +1,6 @@
 -- What the output of a recording holds.
-use Rattle.std.proofs.Common.{◌≡◌, ◌⊎◌, ℕ, ◌≤◌, List, [], ◌∷◌, ◌++◌, length, map, take, drop, Option, Some, Result, Ok, Err, refl, sym, ap, inl, inr, ◌∙◌, arith, length-append}
-use Rattle.std.proofs.Math.Seq.{take-append_seam}
-use Rattle.std.proofs.lemmas.List.{append-nil, take-append-le, take-append-drop}
+use Rattle.std.proofs.Common.{◌≡◌, ◌⊎◌, ℕ, ◌≤◌, List, [], ◌∷◌, ◌++◌, length, map, take, Option, Some, Result, Ok, Err, refl, sym, ap, inl, inr, ◌∙◌, arith, length-append}
+use Rattle.std.proofs.lemmas.List.{append-nil}
 use Rattle.mcap_io.specs.Outside.{went_well, Names, Placed}
 use Rattle.mcap_io.specs.declared.outside.Failed.{Failed}
 use Rattle.rec_data.specs.declared.owned.Rec.{Rec}
@@ -12,6 +11,7 @@ use Rattle.mcap_model.specs.Blocks.{pieces_of, piece_bytes}
 use Rattle.mcap_model.specs.File.{front, file_of, IsPrefix}
 use Rattle.mcap_model.specs.Pieces.{joined, back_of, file_pieces, pieces_before}
 use Rattle.mcap_model.proofs.Pieces.{pieces_make_files, stops_leave_prefixes}
+use Rattle.mcap_model.proofs.Prefixes.{begins_with}
 use Rattle.chunk_writer.specs.Scribes.{Ends}
 use Rattle.recorder.specs.Recorded.{answer_of, IsBegun}
 use Rattle.recorder.specs.declared.report.WriterReport.{WriterReport}
@@ -34,11 +34,6 @@ long text front more n split size = omega (arith, ap length split, length-append
 file_begins : (options : FileOptions) (history : List Rec) → file_of options [] history ≡ front options.profile ++ joined (map piece_bytes (pieces_of options.chunk history) ++ back_of options [] history ∷ [])
 file_begins options history = sym (pieces_make_files options [] history)
 
-begins : (text rest start more : List ℕ) → text ++ rest ≡ start ++ more → length start ≤ length text → (behind : List ℕ) × (text ≡ start ++ behind)
-begins text rest start more same le =
-    let first : take (length start) text ≡ start = sym (take-append-le (length start) text rest le) ∙ ap (take (length start)) same ∙ take-append_seam start more in
-    (drop (length start) text, sym (take-append-drop (length start) text) ∙ ap (λ (l : List ℕ). l ++ drop (length start) text) first)
-
 some_held : (options : FileOptions) (before now : Option (List ℕ)) (history : List Rec) (w : WriterReport) (end : End) → w.end ≡ end → Ends options before now history w.blocks w.bytes (answer_of end) → IsBegun options history w.bytes → before ≡ Some [] → Holds options history w now
 some_held options before now history w ends.Closed is all begun none = record {
   text = file_of options [] history;
@@ -60,7 +55,7 @@ some_held options before now history w (ends.Stopped stop) is stopped begun none
       front = (prefix.0, whole);
       closed = λ same. let apart = sym is ∙ same in absurd cc;
       begun = λ some. elim begun [
-        | inl le ↦ begins stood.0 prefix.0 (front options.profile) _ (whole ∙ file_begins options history) (omega (arith, le, most))
+        | inl le ↦ begins_with stood.0 prefix.0 (front options.profile) _ (whole ∙ file_begins options history) (omega (arith, le, most))
         | inr none_begun ↦ absurd (some none_begun.1)
       ];
     }

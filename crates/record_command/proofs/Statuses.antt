@@ -8,7 +8,7 @@ use Rattle.feed_lane.specs.declared.report.FeedEnd.TheVariants as feed_ends
 use Rattle.record_command.specs.declared.answering.Failures.{Failures}
 use Rattle.command_base.specs.Texts.{Trouble, grammar, compressed, limit, output_limit, no_memory, status_of}
 use Rattle.command_base.specs.Ran.{when, Findings, troubles_of}
-use Rattle.record_command.specs.Answer.{Failed}
+use Rattle.record_command.specs.Answer.{PartFailed}
 use Rattle.record_command.specs.Record.{names_of, end_troubles, end_status, first_end, ends_in, limit_passed, findings_of}
 
 abbrev pub parts : Bool → Bool → Bool → Failures
@@ -126,13 +126,13 @@ five_or out feed report failed false troubles answer (inl is) status =
 five_or out feed report failed lacked troubles answer (inr alone) status = inl (sym status ∙ ap status_of alone)
 
 -- some part failed: 3
-pub some_failed : (f o p : Bool) → Failed (parts f o p) → any f o p ≡ true
+pub some_failed : (f o p : Bool) → PartFailed (parts f o p) → any f o p ≡ true
 some_failed true o p some = refl
 some_failed false true p some = refl
 some_failed false false true some = refl
 some_failed false false false some = elim some [ inl e ↦ cc | inr others ↦ elim others [ inl e ↦ cc | inr e ↦ cc ] ]
 
-pub none_failed : (f o p : Bool) → (Failed (parts f o p) → ⊥) → any f o p ≡ false
+pub none_failed : (f o p : Bool) → (PartFailed (parts f o p) → ⊥) → any f o p ≡ false
 none_failed true o p none = absurd (none (inl refl))
 none_failed false true p none = absurd (none (inr (inl refl)))
 none_failed false false true none = absurd (none (inr (inr refl)))

@@ -3,6 +3,7 @@ use Rattle.std.proofs.Common.{◌≡◌, ◌⊎◌, ℕ, ◌^◌, ◌<◌, ◌�
 use Rattle.std.specs.List.{list_any}
 use Rattle.std.proofs.lemmas.List.Folds.{list_any_at}
 use Rattle.std.proofs.lemmas.Option.{get_or_from_slice_get, slice_get_within}
+use Rattle.std.proofs.lemmas.Bool.{or_right}
 use Rattle.mcap_io.specs.Outside.{Rose, added, WorldState, Told, Opening}
 use Rattle.mcap_model.specs.declared.ends.End.{End}
 use Rattle.mcap_model.specs.declared.ends.End.TheVariants as ends
@@ -21,7 +22,7 @@ use Rattle.feed_lane.specs.declared.report.Cause.{Cause}
 use Rattle.feed_lane.specs.declared.report.Cause.TheVariants as causes
 use Rattle.feed_lane.specs.Pass.{PassState}
 use Rattle.feed_lane.specs.Lanes.{EndsWith as IntakeEnds, CauseFits}
-use Rattle.feed_lane.specs.Feeds.{FeedEnds, Reports}
+use Rattle.feed_lane.specs.Feeds.{FeedEnds, TakesMessages}
 use Rattle.recorder.specs.declared.options.RecordOptions.{RecordOptions}
 use Rattle.recorder.specs.declared.report.Report.{Report}
 use Rattle.recorder.specs.Shown.{ShownBy}
@@ -37,10 +38,6 @@ use Rattle.record_command.specs.Record.{Reported, EndsWith, RecordsAll, end_stat
 or_left : (a b : Bool) → a ≡ true → (a || b) ≡ true
 or_left true b is = refl
 or_left false b is = absurd cc
-
-or_right : (a b : Bool) → b ≡ true → (a || b) ≡ true
-or_right true b is = refl
-or_right false b is = is
 
 any_at : (p : Refused → Bool) (refused : List Refused) (k : ℕ) (x : Refused) → At refused k x → p x ≡ true → list_any p refused ≡ true
 any_at p refused k x at is =
@@ -123,7 +120,7 @@ module _ (options : RecordOptions) (out feed : List ℕ) (old new : WorldState) 
   -- what became of the reading of the feed
   end_why : f.end ≡ feed_ends.Ended → Hindered old new r
   end_why ended =
-      let last = subst (λ (e : FeedEnd). Rattle.feed_lane.specs.Feeds.Takes is.recorded.reports.tops is.recorded.reports.handled f.passed f.refused.items e) ended is.recorded.reports.takes in
+      let last = subst (λ (e : FeedEnd). TakesMessages is.recorded.reports.tops is.recorded.reports.handled f.passed f.refused.items e) ended is.recorded.reports.takes in
       each_refused last.1.0 last.0 last.1.1
 
   fault_why : (faults : ℕ) → f.end ≡ feed_ends.Fault faults → Hindered old new r

@@ -9,13 +9,13 @@ use Rattle.command_base.specs.Ran.{AnyRose, troubles_of, Complains}
 use Rattle.record_command.specs.Record.{Causes, names_of, findings_of, lacks_memory}
 
 -- some part failed
-abbrev pub Failed : Failures → Type 0
-Failed failed = (failed.feed ≡ true) ⊎ ((failed.out ≡ true) ⊎ (failed.printing ≡ true))
+abbrev pub PartFailed : Failures → Type 0
+PartFailed failed = (failed.feed ≡ true) ⊎ ((failed.out ≡ true) ⊎ (failed.printing ≡ true))
 
 -- what a recording told of failures and what the counts tell: which parts failed
 pub record FaultsShow (before now : Counts) (outcome : Outcome) (failed : Failures) : Type 0 where
   pub causes : Causes before now failed
-  pub any : AnyRose before now → Failed failed
+  pub any : AnyRose before now → PartFailed failed
   -- nothing else is blamed where each count that rose shows in what the recording told
   pub feed : (Rose before.inputs now.inputs → outcome.feed_failed ≡ true) → failed.feed ≡ outcome.feed_failed
   pub out : (Rose before.outputs now.outputs → outcome.out_failed ≡ true) → (Rose before.world now.world → (outcome.feed_failed ≡ true) ⊎ (outcome.out_failed ≡ true))
@@ -23,7 +23,7 @@ pub record FaultsShow (before now : Counts) (outcome : Outcome) (failed : Failur
 
 -- memory lacked exactly where the report names that, or where there is no report though no part failed
 abbrev pub LacksMemory : Option Report → Failures → Bool → Type 0
-LacksMemory None failed lacked = (Failed failed → ⊥) ↔ (lacked ≡ true)
+LacksMemory None failed lacked = (PartFailed failed → ⊥) ↔ (lacked ≡ true)
 LacksMemory (Some r) failed lacked = lacked ≡ lacks_memory r
 
 -- what standard error is told of a recording, and the status

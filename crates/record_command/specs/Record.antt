@@ -3,6 +3,7 @@ use Rattle.std.specs.Prelude.{◌≡◌, ◌⊎◌, ◌↔◌, ◌≤◌, ◌<�
 use Rattle.std.specs.List.{list_any}
 use Rattle.mcap_io.specs.Outside.{Rose, WorldState, Told, Keeping, Opening, TellsName}
 use Rattle.mcap_io.specs.declared.outside.ObjectKind.TheVariants as kinds
+use Rattle.mcap_wire.specs.Limits.{buffer_limit, chunk_size_limit, profile_limit}
 use Rattle.rec_data.specs.declared.owned.Rec.{Rec}
 use Rattle.mcap_model.specs.declared.ends.End.{End}
 use Rattle.mcap_model.specs.declared.ends.End.TheVariants as ends
@@ -33,12 +34,12 @@ abbrev pub files_of : List ℕ → List ℕ → Files
 files_of out feed = record { kind = kinds.Source; inputs = feed ∷ []; outputs = out ∷ [] }
 
 -- the options of a recording are in their ranges: a buffer of 1 byte to 1 GiB, chunks of 1 byte to 64 MiB, and a profile of at
--- most 65535 bytes
+-- most 65,535 bytes
 pub record AreAllowed (options : RecordOptions) : Type 0 where
   pub some : 1 ≤ options.limit
-  pub small : options.limit ≤ 1073741824
-  pub size : (n : ℕ) → options.file.chunk ≡ Some n → (1 ≤ n) × (n ≤ 67108864)
-  pub short : length options.file.profile ≤ 65535
+  pub small : options.limit ≤ buffer_limit
+  pub size : (n : ℕ) → options.file.chunk ≡ Some n → (1 ≤ n) × (n ≤ chunk_size_limit)
+  pub short : length options.file.profile ≤ profile_limit
 
 -- ---- with a report
 
@@ -181,9 +182,9 @@ abbrev pub findings_of : List ℕ → List ℕ → Option Report → Bool → Fi
 findings_of out feed report lacked = record { halts = ends_in feed report; limits = when (limit_passed report) (output_limit out); lacked = lacked }
 
 -- memory lacked exactly where the report names that; or it isn't there though no count rose
-abbrev pub Lacks : Counts → Counts → Option Report → Bool → Type 0
-Lacks before now None lacked = (AnyRose before now → ⊥) ↔ (lacked ≡ true)
-Lacks before now (Some r) lacked = lacked ≡ lacks_memory r
+abbrev pub LackIsTold : Counts → Counts → Option Report → Bool → Type 0
+LackIsTold before now None lacked = (AnyRose before now → ⊥) ↔ (lacked ≡ true)
+LackIsTold before now (Some r) lacked = lacked ≡ lacks_memory r
 
 -- which parts failed, as the counts tell: each with its cause, and none is left out
 pub record Causes (before now : Counts) (failed : Failures) : Type 0 where
@@ -231,7 +232,7 @@ pub record Records (options : RecordOptions) (out feed : List ℕ) (old new : Sc
   pub spares : SparesOutput out feed old.world new.world
   -- these two names are opened; both outputs are told of the report, of its troubles, and of which part failed
   pub lacked : Bool
-  pub lacks : Lacks (counts_in old) (counts_in new) report lacked
+  pub lacks : LackIsTold (counts_in old) (counts_in new) report lacked
   pub ran : Ran (files_of out feed) old new entries (report_text report) (findings_of out feed report lacked) status
   pub failed : Failures
   pub causes : Causes (counts_in old) (counts_in new) failed

@@ -1,5 +1,7 @@
 //! Recording a feed under one name into a file under another.
 ghost use Rattle.std.specs.Prelude.{◌≡◌, ◌≤◌, ◌<◌, ◌^◌, ℕ, length, Some, true, false};
+ghost use Rattle.mcap_wire.specs.Layout.{content_limit};
+ghost use Rattle.mcap_wire.specs.Limits.{buffer_limit, chunk_size_limit};
 ghost use Rattle.command_base.specs.Printing.{Takes};
 ghost use Rattle.command_base.specs.Ran.{scene};
 ghost use Rattle.record_command.specs.Record.{AreAllowed, report_text, NamesRecorded, Records};
@@ -49,9 +51,9 @@ fn record_names<W: World>(
     world: &mut W,
 ) -> Outcome
     requires some { 1 ≤ options.now.limit }
-    requires small { options.now.limit ≤ 1073741824 }
-    requires size { (n : ℕ) → options.now.file.chunk ≡ Some n → (1 ≤ n) × (n ≤ 67108864) }
-    requires profile { length options.now.file.profile ≤ 268435456 }
+    requires small { options.now.limit ≤ buffer_limit }
+    requires size { (n : ℕ) → options.now.file.chunk ≡ Some n → (1 ≤ n) × (n ≤ chunk_size_limit) }
+    requires profile { length options.now.file.profile ≤ content_limit }
     requires world_fits { (W.state world.old).faults < 2 ^ 64 }
     requires inputs_fit { (W.state world.old).input_faults < 2 ^ 64 }
     requires outputs_fit { (W.state world.old).output_faults < 2 ^ 64 }

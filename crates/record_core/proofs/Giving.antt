@@ -20,7 +20,7 @@ use Rattle.id_table.specs.declared.given.IdRefused.TheVariants.{TooManySchemas, 
 use Rattle.record_core.specs.declared.answers.DeclareRefused.{DeclareRefused}
 use Rattle.record_core.specs.declared.answers.DeclareRefused.TheVariants as declaring
 use Rattle.record_core.specs.Ids.{Ids, schemas_in, channels_in, with_ids, same_schema, fields_of_schema, fields_with, fields_of_channel, schema_place, id_at, schema_id, channel_place, channel_id, new_schema_at, new_schema, new_at, new_records}
-use Rattle.record_core.specs.Tables.{content_in, ids_in, HasSchema, HasSchemas, GivesAt, GivesSchema, Gives, schemas_lack, ids_lack, IdsDeclared, AreLast, number_of, id_of, schema_with}
+use Rattle.record_core.specs.Tables.{content_in, ids_in, HasSchema, HasSchemas, GivesAt, GivesSchema, GivesIds, schemas_lack, ids_lack, IdsDeclared, AreLast, number_of, id_of, schema_with}
 use Rattle.record_core.proofs.Places.{map_same, found_more, found_last}
 use Rattle.record_core.proofs.Searches.{schema_own, schemas_more, channels_more}
 use Rattle.record_core.proofs.TableIds.{schema_stands, schema_missed, schema_lacking, schema_found, channel_missed, some_none}
@@ -49,12 +49,12 @@ next_given None count (Known id) none e = absurd e
 next_given None count (New id) none e = e
 
 -- the channel's id is the one that it is to get
-pub given_id : (ids : Ids) (c : ChannelDef) (given : GivenIds) → channel_place ids c ≡ None → Gives ids c given → number_of given.channel ≡ channel_id ids c
+pub given_id : (ids : Ids) (c : ChannelDef) (given : GivenIds) → channel_place ids c ≡ None → GivesIds ids c given → number_of given.channel ≡ channel_id ids c
 given_id ids c given none gives =
     next_given (channel_place ids c) (length ids.channels) given.channel none gives.channel ∙ ap (λ (o : Option ℕ). id_at o (length ids.channels)) (sym none)
 
 -- the records of the ids that are new are those that the declaration adds
-pub given_records : (ids : Ids) (c : ChannelDef) (given : GivenIds) → channel_place ids c ≡ None → Gives ids c given
+pub given_records : (ids : Ids) (c : ChannelDef) (given : GivenIds) → channel_place ids c ≡ None → GivesIds ids c given
     → schema_with c.schema given.schema ++ channel_of (number_of given.channel) (fields_with c (id_of given.schema)) ∷ [] ≡ new_records ids c
 given_records ids c given none gives =
     let schema = given_schema ids c.schema given.schema gives.schema in
@@ -268,7 +268,7 @@ answers_given t after c given has once none few_schemas few_channels is =
     let schema = subst (λ (l : List SchemaDef). Entered t l c.schema) (sym is.schemas) (entered t c.schema given.schema is.schema) in
     let channels = channel_new t after c given.channel none is.channel is.channels in
     let left : IsFull t.channels c → ⊥ = λ full. omega (arith, few_channels, full.1, ap length channels, length-append t.channels (c ∷ [])) in
-    let gives : Gives (ids_in t) c given = record {
+    let gives : GivesIds (ids_in t) c given = record {
       schema = offers_schema t c.schema given.schema once is.schema;
       channel = offers_channel t c (channel_place (ids_in t) c) given.channel refl none is.channel;
     } in

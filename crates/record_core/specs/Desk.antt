@@ -1,5 +1,6 @@
 -- A desk: what it is to its callers, what each of its calls answers, and what the call makes of it.
-use Rattle.std.specs.Prelude.{◌≡◌, ℕ, ◌+◌, ◌^◌, ◌≤◌, List, [], ◌∷◌, ◌++◌, length, nat_lt, nat_le, if◌then◌else◌, Option, Some, None, Result, Ok, Err}
+use Rattle.std.specs.Prelude.{◌≡◌, ℕ, ◌+◌, ◌≤◌, List, [], ◌∷◌, ◌++◌, length, nat_lt, nat_le, if◌then◌else◌, Option, Some, None, Result, Ok, Err}
+use Rattle.mcap_wire.specs.Limits.{data_limit, declaration_limit, record_count_limit}
 use Rattle.rec_data.specs.declared.owned.Rec.{Rec}
 use Rattle.rec_data.specs.declared.schema.SchemaDef.{SchemaDef}
 use Rattle.rec_data.specs.declared.channel.ChannelDef.{ChannelDef}
@@ -66,7 +67,7 @@ ended d end = record d { end = end_or d.end end (accepted d) }
 abbrev pub publish_open : DeskView → ℕ → Option PublishRefused
 publish_open d channel =
     if is_known d.ids channel
-    then (if nat_le (2 ^ 48) (accepted d) then Some (publishing.TooManyRecords (accepted d))
+    then (if nat_le record_count_limit (accepted d) then Some (publishing.TooManyRecords (accepted d))
     else (if nat_le d.limit (held d) then Some (publishing.Full (held d)) else None))
     else Some publishing.UnknownChannel
 
@@ -77,7 +78,7 @@ publish_ended (Some (Stopped reason, at)) d channel = Some (publishing.Stopped a
 
 -- the first reason to refuse a message with so many bytes of data
 abbrev pub publish_refusal : DeskView → ℕ → ℕ → Option PublishRefused
-publish_refusal d channel len = if nat_lt 33554432 len then Some (publishing.TooLarge len) else publish_ended d.end d channel
+publish_refusal d channel len = if nat_lt data_limit len then Some (publishing.TooLarge len) else publish_ended d.end d channel
 
 -- ---- declaring
 
@@ -91,7 +92,7 @@ declared_size c = schema_size c.schema + length (rec_bytes (channel_of 0 (fields
 
 abbrev pub declare_new : DeskView → ChannelDef → Option DeclareRefused
 declare_new d c =
-    if nat_le (2 ^ 48) (accepted d) then Some (declaring.TooManyRecords (accepted d))
+    if nat_le record_count_limit (accepted d) then Some (declaring.TooManyRecords (accepted d))
     else (if nat_le d.limit (held d) then Some (declaring.Full (held d)) else ids_lack d.ids c)
 
 abbrev pub declare_at : Option ℕ → DeskView → ChannelDef → Option DeclareRefused
@@ -105,7 +106,7 @@ declare_ended (Some (Stopped reason, at)) d c = Some (declaring.Stopped at reaso
 
 -- the first reason to refuse a declaration
 abbrev pub declare_refusal : DeskView → ChannelDef → Option DeclareRefused
-declare_refusal d c = if nat_lt 1048576 (declared_size c) then Some (declaring.TooLarge (declared_size c)) else declare_ended d.end d c
+declare_refusal d c = if nat_lt declaration_limit (declared_size c) then Some (declaring.TooLarge (declared_size c)) else declare_ended d.end d c
 
 -- ---- what the calls answer
 

@@ -1,5 +1,6 @@
 -- What a desk holds: a buffer of records, and a table that gives the ids of the history's contents.
-use Rattle.std.specs.Prelude.{◌+◌, ◌^◌, ◌≤◌, length}
+use Rattle.std.specs.Prelude.{◌+◌, ◌≤◌, length}
+use Rattle.mcap_wire.specs.Limits.{record_count_limit}
 use Rattle.record_core.specs.declared.desk.Desk.TheInside.{Inside}
 use Rattle.record_core.specs.Desk.{DeskView, EndIsLast}
 use Rattle.record_core.specs.Tables.{ids_in, HasSchemas}
@@ -8,6 +9,6 @@ abbrev pub view_of : Inside → DeskView
 view_of d = record { limit = d.primary.limit; taken = d.taken; primary = d.primary.records; end = d.end; ids = ids_in d.ids }
 
 pub record IsDesk (d : Inside) : Type 0 where
-  pub few : d.taken + length d.primary.records ≤ 2 ^ 48 + 1
+  pub few : d.taken + length d.primary.records ≤ record_count_limit + 1
   pub schemas : HasSchemas d.ids
   pub last : EndIsLast (view_of d)

@@ -1,5 +1,6 @@
 -- Parts of a desk's calls.
 use Rattle.std.specs.Prelude.{◌≡◌, ℕ, ◌+◌, ◌^◌, ◌<◌, ◌≤◌, List, [], ◌∷◌, length, Option, Some, None, Result, Ok, Err}
+use Rattle.mcap_wire.specs.Limits.{declaration_limit, record_count_limit}
 use Rattle.mcap_wire.specs.Maps.{pair_texts}
 use Rattle.rec_data.specs.declared.schema.SchemaDef.{SchemaDef}
 use Rattle.rec_data.specs.declared.channel.ChannelDef.{ChannelDef}
@@ -30,9 +31,9 @@ pub record DefFits (c : ChannelDef) : Type 0 where
 pub record IsOpen (d : DeskView) (c : ChannelDef) : Type 0 where
   pub refusal : declare_refusal d c ≡ ids_lack d.ids c
   pub is_new : channel_place d.ids c ≡ None
-  pub small : declared_size c ≤ 1048576
+  pub small : declared_size c ≤ declaration_limit
   pub room : held d < d.limit
-  pub few : accepted d < 2 ^ 48
+  pub few : accepted d < record_count_limit
 
 -- What is seen of a declaration before ids are given: that it is refused, that its content has an id, or that the content is new and
 -- only ids and memory may lack.
@@ -58,4 +59,4 @@ FirstFits (r ∷ rs) = RecFits r
 -- the Schema may be kept, and is short enough with its Channel
 abbrev pub SchemaKept : List Rec → Rec → Type 0
 SchemaKept [] channel = Unit {0}
-SchemaKept (r ∷ rs) channel = IsKept r × (length (rec_bytes r) + length (rec_bytes channel) ≤ 1048576)
+SchemaKept (r ∷ rs) channel = IsKept r × (length (rec_bytes r) + length (rec_bytes channel) ≤ declaration_limit)

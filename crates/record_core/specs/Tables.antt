@@ -1,5 +1,6 @@
 -- The table of ids beside the ids of a history, and what it gives.
 use Rattle.std.specs.Prelude.{◌≡◌, ℕ, ◌+◌, ◌≤◌, List, [], ◌∷◌, length, map, Bool, ◌&&◌, nat_lt, nat_le, if◌then◌else◌, Option, Some, None, Result, Ok, Err}
+use Rattle.mcap_wire.specs.Limits.{id_limit}
 use Rattle.rec_data.specs.declared.schema.SchemaDef.{SchemaDef}
 use Rattle.rec_data.specs.declared.channel.ChannelDef.{ChannelDef}
 use Rattle.rec_data.specs.declared.owned.Rec.{Rec}
@@ -58,23 +59,23 @@ GivesSchema ids None (Some given) = ⊥
 GivesSchema ids (Some s) None = ⊥
 GivesSchema ids (Some s) (Some given) = GivesAt (schema_place ids s) (length ids.schemas) given
 
-pub record Gives (ids : Ids) (c : ChannelDef) (given : GivenIds) : Type 0 where
+pub record GivesIds (ids : Ids) (c : ChannelDef) (given : GivenIds) : Type 0 where
   pub schema : GivesSchema ids c.schema given.schema
   pub channel : GivesAt (channel_place ids c) (length ids.channels) given.channel
 
 -- a new schema is needed, and all ids are given
 abbrev pub schemas_lack : Ids → Option SchemaDef → Bool
-schemas_lack ids schema = nat_lt 0 (length (new_schema ids schema)) && nat_le 65535 (length ids.schemas)
+schemas_lack ids schema = nat_lt 0 (length (new_schema ids schema)) && nat_le id_limit (length ids.schemas)
 
 -- why no ids are given to a new channel: a new one is needed and 65,535 are given
 abbrev pub ids_lack : Ids → ChannelDef → Option DeclareRefused
 ids_lack ids c =
     if schemas_lack ids c.schema then Some declaring.TooManySchemas
-    else (if nat_le 65535 (length ids.channels) then Some declaring.TooManyChannels else None)
+    else (if nat_le id_limit (length ids.channels) then Some declaring.TooManyChannels else None)
 
 -- ids are given to a channel that is new, or nothing changes
 abbrev pub IdsDeclared : Ids → ChannelDef → Result GivenIds IdRefused → Ids → Type 0
-IdsDeclared ids c (Ok given) after = (ids_lack ids c ≡ None) × Gives ids c given × (after ≡ with_ids ids (new_records ids c))
+IdsDeclared ids c (Ok given) after = (ids_lack ids c ≡ None) × GivesIds ids c given × (after ≡ with_ids ids (new_records ids c))
 IdsDeclared ids c (Err Memory) after = (ids_lack ids c ≡ None) × (after ≡ ids)
 IdsDeclared ids c (Err TooManySchemas) after = (ids_lack ids c ≡ Some declaring.TooManySchemas) × (after ≡ ids)
 IdsDeclared ids c (Err TooManyChannels) after = (ids_lack ids c ≡ Some declaring.TooManyChannels) × (after ≡ ids)
@@ -89,8 +90,8 @@ TakenBack t given after = (before : tables.Ids) (c : ChannelDef) → Declares be
 
 -- how many ids there are at most
 pub record IsTable (ids : Ids) : Type 0 where
-  pub few_schemas : length ids.schemas ≤ 65535
-  pub few_channels : length ids.channels ≤ 65535
+  pub few_schemas : length ids.schemas ≤ id_limit
+  pub few_channels : length ids.channels ≤ id_limit
 
 -- ---- parts of a declaration
 

@@ -1,5 +1,6 @@
 //! The desk: records are accepted into a buffer, and ids are given by content.
-ghost use Rattle.std.specs.Prelude.{◌≡◌, ◌≤◌, ◌<◌, ◌+◌, ◌^◌, [], ◌∷◌, length, None, true, IfOk, OnOk};
+ghost use Rattle.std.specs.Prelude.{◌≡◌, ◌≤◌, ◌<◌, ◌+◌, [], ◌∷◌, length, None, true, IfOk, OnOk};
+ghost use Rattle.mcap_wire.specs.Limits.{buffer_limit, data_limit, record_count_limit};
 ghost use Rattle.mcap_model.specs.declared.ends.End.TheVariants.{Closed, Stopped};
 ghost use Rattle.record_core.specs.Ids.{is_known};
 ghost use Rattle.record_core.specs.Tables.{IsTable};
@@ -8,7 +9,7 @@ ghost use Rattle.mcap_model.specs.History.{message_of};
 ghost use Rattle.record_cache.specs.Offers.{Offered};
 ghost use Rattle.record_core.specs.Machine.{start, swap, close, stop};
 ghost use Rattle.record_core.specs.Sights.{DefFits, IsOpen, SightOf};
-ghost use Rattle.record_core.specs.Stands.{StandsFor, Steps, Stays, PublishSteps, DeclareSteps};
+ghost use Rattle.record_core.specs.Stands.{DeskStandsFor, Steps, Stays, PublishSteps, DeclareSteps};
 
 use crate::answers::{DeclareRefused, Declared, Empty, Found, NewMessage, PublishRefused};
 use crate::framing::{declared_size, offer_declared};
@@ -55,9 +56,9 @@ enum Sight {
 impl Desk {
     /// An empty desk, with nothing accepted.
     pub fn open(alloc: Global, limit: u64) -> Result<Desk, Memory>
-        requires { limit ≤ 1073741824 }
+        requires { limit ≤ buffer_limit }
         ensures empty { IfOk result (λ desk. desk ≡ new_desk limit) }
-        ensures stands { IfOk result (λ desk. StandsFor desk start) }
+        ensures stands { IfOk result (λ desk. DeskStandsFor desk start) }
     {
         let ids = match IdTable::new(alloc) {
             Ok(ids) => ids,
@@ -79,7 +80,7 @@ impl Desk {
     // From how many bytes on the buffer is full.
     pub(crate) fn limit(&self) -> u64
         ensures limit { result ≡ self.now.limit }
-        ensures small { result ≤ 1073741824 }
+        ensures small { result ≤ buffer_limit }
     {
         let _held = self.primary.held();
         self.primary.limit()
@@ -95,7 +96,7 @@ impl Desk {
     /// How many records were accepted.
     pub fn count(&self) -> u64
         ensures count { result ≡ accepted self.now }
-        ensures few { result ≤ 2 ^ 48 + 1 }
+        ensures few { result ≤ record_count_limit + 1 }
     {
         self.taken + self.primary.count()
     }
@@ -331,7 +332,7 @@ impl Desk {
 
 // Offers a message to a buffer.
 fn offer_message(buffer: &mut Cache, m: &NewMessage<'_>) -> Result<(), OfferRefused>
-    requires { length m.now.payload.now ≤ 33554432 }
+    requires { length m.now.payload.now ≤ data_limit }
     ensures { Offered buffer.old (message_of m.now.channel (fields_of_message m.now) ∷ []) result buffer.new }
 {
     buffer.offer(RecRef::Message(Message {
@@ -347,7 +348,7 @@ fn offer_message(buffer: &mut Cache, m: &NewMessage<'_>) -> Result<(), OfferRefu
 #[cfg(test)]
 pub(crate) fn desk_that_counts(alloc: Global, limit: u64, taken: u64) -> Result<Desk, Memory>
     requires limit { limit ≤ 1000 }
-    requires few { taken ≤ 2 ^ 48 }
+    requires few { taken ≤ record_count_limit }
 {
     let mut desk = Desk::open(alloc, limit)?;
     desk.taken = taken;

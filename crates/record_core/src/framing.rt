@@ -1,5 +1,6 @@
 //! The records of a declaration.
 ghost use Rattle.std.specs.Prelude.{◌≡◌, ◌≤◌, ◌++◌, ◌∷◌, [], Some};
+ghost use Rattle.mcap_wire.specs.Limits.{declaration_limit};
 ghost use Rattle.mcap_model.specs.History.{schema_of, channel_of};
 ghost use Rattle.record_cache.specs.Offers.{rec_of};
 ghost use Rattle.record_core.specs.Ids.{fields_of_schema, fields_with};
@@ -115,7 +116,7 @@ pub(crate) fn offer_declared(
     id: u16,
 ) -> Result<u8, OfferRefused>
     requires fits { DefFits channel.now }
-    requires small { declared_size channel.now ≤ 1048576 }
+    requires small { declared_size channel.now ≤ declaration_limit }
     ensures { CountedOffer buffer.old (schema_with channel.now.schema schema.now ++ channel_of id (fields_with channel.now (id_of schema.now)) ∷ []) result buffer.new }
 {
     let first = new_schema_ref(&channel.schema, schema);

@@ -1,5 +1,5 @@
 -- What the steps of the writer come to.
-use Rattle.std.proofs.Common.{◌≡◌, ℕ, Bool, true, false, not, ◌+◌, ◌<◌, List, [], ◌∷◌, length, refl, sym, ap, subst, arith}
+use Rattle.std.proofs.Common.{◌≡◌, ℕ, ◌+◌, ◌<◌, List, [], ◌∷◌, length, refl, sym, ap, subst, arith}
 use Rattle.mcap_model.specs.declared.ends.Stop.{Stop}
 use Rattle.mcap_model.specs.declared.ends.Stop.TheVariants as stops
 use Rattle.record_core.specs.Desk.{DeskView, accepted, IsCause}
@@ -73,10 +73,6 @@ module _ {T : Type 0} (phase : T → Phase) (failures : T → ℕ) (tape later :
 
 pub continues_same : (phase : Phase) (n : ℕ) → phase ≡ phases.Going → Continues phase n n
 continues_same phase n is = subst (λ (p : Phase). Continues p n n) (sym is) refl
-
-pub not_false : (b : Bool) → not b ≡ false → b ≡ true
-not_false true is = refl
-not_false false is = sym is
 
 pub shorter : {X : Type 0} (xs ys : List X) → ys ≡ [] → (xs ≡ [] → ⊥) → length ys < length xs
 shorter [] ys none some = absurd (some refl)

@@ -2,6 +2,7 @@
 use Rattle.std.proofs.Common.{◌≡◌, ℕ, ◌+◌, List, [], ◌∷◌, ◌++◌, length, All, get_or, Option, Some, None, Result, Err, refl, sym, ap, subst, ◌∙◌, arith}
 use Rattle.std.proofs.lemmas.List.{take-append-drop}
 use Rattle.std.proofs.lemmas.List.Elements.{All-append}
+use Rattle.std.proofs.lemmas.Option.{none-some}
 use Rattle.rec_data.specs.declared.owned.Rec.{Rec}
 use Rattle.mcap_io.specs.Outside.{SourceState}
 use Rattle.mcap_model.specs.declared.ends.End.{End}
@@ -14,8 +15,7 @@ use Rattle.mcap_model.proofs.Lists.{each_cons}
 use Rattle.record_cache.specs.Buffers.{IsKept}
 use Rattle.record_core.specs.Desk.{DeskView, new_desk, accepted, end_of, ended}
 use Rattle.record_core.specs.Machine.{State, start, end_with}
-use Rattle.record_core.specs.Stands.{StandsFor}
-use Rattle.record_core.specs.declared.answers.Found.{Found}
+use Rattle.record_core.specs.Stands.{DeskStandsFor}
 use Rattle.chunk_writer.specs.declared.tape.Written.{Written}
 use Rattle.chunk_writer.specs.declared.phase.Phase.{Phase}
 use Rattle.chunk_writer.specs.declared.phase.Phase.TheVariants as phases
@@ -28,7 +28,7 @@ use Rattle.recorder.specs.declared.lone.LoneDesk.{LoneDesk}
 use Rattle.recorder.specs.declared.report.Report.{Report}
 use Rattle.recorder.specs.declared.report.WriterReport.{WriterReport}
 use Rattle.recorder.specs.Shown.{ShownBy}
-use Rattle.recorder.specs.Assembled.{LanePart, LaneStands}
+use Rattle.recorder.specs.Assembled.{LanePart, LanePartStands}
 use Rattle.recorder.specs.Recorded.{lane_of, answer_of}
 use Rattle.recorder.specs.Lone.{FoundBefore, IsAlone}
 use Rattle.recorder.specs.Writing.{Continues}
@@ -41,12 +41,6 @@ use Rattle.recorder.proofs.Handing.{ended_stands}
 
 -- ---- the beginning
 
-none_found : {f : Found} → None ≡ Some f → ⊥
-none_found e = cc
-
-none_end : {e : End} → None ≡ Some e → ⊥
-none_end e = cc
-
 pub some_end : {a b : End} → Some a ≡ Some b → a ≡ b
 some_end e = cc
 
@@ -56,10 +50,10 @@ stopped_closed e = cc
 abbrev lone_at : DeskView → LoneDesk
 lone_at desk = record { desk = desk; found = None }
 
-started : (limit : ℕ) → StandsFor (new_desk limit) start
+started : (limit : ℕ) → DeskStandsFor (new_desk limit) start
 started limit = record { desk = refl; within = omega arith; numbered = λ n r at. absurd (at_none n r at) }
 
-alone_at : (limit : ℕ) (desk : DeskView) (s : State) → StandsFor desk s → s.history ≡ [] → desk.limit ≡ limit → (end_of desk ≡ Some ends.Closed → ⊥) → IsAlone (lone_at desk) s (no_calls limit)
+alone_at : (limit : ℕ) (desk : DeskView) (s : State) → DeskStandsFor desk s → s.history ≡ [] → desk.limit ≡ limit → (end_of desk ≡ Some ends.Closed → ⊥) → IsAlone (lone_at desk) s (no_calls limit)
 alone_at limit desk s stands empty same unclosed = record {
   stands = stands;
   shows = record {
@@ -68,8 +62,8 @@ alone_at limit desk s stands empty same unclosed = record {
     ids = λ n pair at. absurd (at_none n pair at);
     fulls = λ n full at. absurd (at_none n full at);
     lacks = λ n pair at. absurd (at_none n pair at);
-    found = λ f is. absurd (none_found is);
-    there = λ f is. absurd (none_found is);
+    found = λ f is. absurd (none-some _ is);
+    there = λ f is. absurd (none-some _ is);
     limit = sym same;
   };
   found = refl;
@@ -86,7 +80,7 @@ module _ {T : Type 0} (grows : T → T → List Rec → Type 0) (phase : T → P
       → IsIntake grows phase failures tape (beside lone tape) start (no_calls limit)
   begun none limit tape lone desk is new going = record {
     alone = subst (λ (l : LoneDesk). IsAlone l start (no_calls limit)) (sym (is ∙ ap lone_at new))
-        (alone_at limit (new_desk limit) start (started limit) refl refl (λ closed. none_end closed));
+        (alone_at limit (new_desk limit) start (started limit) refl refl (λ closed. none-some _ closed));
     grown = none tape;
     kept = λ k d lt. absurd (omega (arith, lt));
     continues = continues_same (phase tape) (failures tape) going;
@@ -131,7 +125,7 @@ each_of P xs all n x at =
     let within = at_within xs n x at in
     subst P (at_one xs n (get_or xs n x) x (at_read xs n x within) at) (all n x within)
 
-pub all_kept : (d : DeskView) (s : State) → StandsFor d s → All IsKept (taken_of s) → All IsKept d.primary → Each IsKept s.history
+pub all_kept : (d : DeskView) (s : State) → DeskStandsFor d s → All IsKept (taken_of s) → All IsKept d.primary → Each IsKept s.history
 all_kept d s stands before behind =
     let p = parts d s stands in
     let whole : taken_of s ++ d.primary ≡ s.history = ap (λ (l : List Rec). taken_of s ++ l) p.primary ∙ take-append-drop s.taken s.history in
@@ -139,7 +133,7 @@ all_kept d s stands before behind =
 
 -- the recording's end is the one that the lane may have found
 pub same_end : (phase : Phase) (stood : Option End) (end : End) → EndsAs phase stood → ((stop : Stop) → phase ≡ phases.Stopped stop → end ≡ ends.Stopped stop) → (e : End) → stood ≡ Some e → end ≡ e
-same_end phases.Going stood end is stopped e found = absurd (none_end (sym is ∙ found))
+same_end phases.Going stood end is stopped e found = absurd (none-some _ (sym is ∙ found))
 same_end (phases.Stopped stop) stood end is stopped e found = stopped stop refl ∙ some_end (sym is ∙ found)
 same_end phases.Ended stood end is stopped e found = absurd is
 
@@ -181,7 +175,7 @@ is_reported limit before now lone s pass r f alone limited unfull only reports s
       unfull = unfull;
       assembled = record {
         numbered = alone.stands.numbered;
-        stand = each_cons (LaneStands limit s.history r.writer.end) lane [] (record {
+        stand = each_cons (LanePartStands limit s.history r.writer.end) lane [] (record {
           fits = reports.fits;
           shown = shown_by lone s pass r.writer.end alone same;
           limit_is = limited;
@@ -197,7 +191,7 @@ is_reported limit before now lone s pass r f alone limited unfull only reports s
     }
 
 -- where a desk was stopped before its first record there is none
-pub nothing_more : (limit : ℕ) (stop : Stop) (desk : DeskView) (s : State) → StandsFor desk s → desk ≡ ended (new_desk limit) (ends.Stopped stop) → s.history ≡ []
+pub nothing_more : (limit : ℕ) (stop : Stop) (desk : DeskView) (s : State) → DeskStandsFor desk s → desk ≡ ended (new_desk limit) (ends.Stopped stop) → s.history ≡ []
 nothing_more limit stop desk s stands is = empty s.history (omega (arith, (parts desk s stands).count, ap accepted is))
   where
     empty : (l : List Rec) → length l ≡ 0 → l ≡ []

@@ -16,7 +16,7 @@ use Rattle.record_core.specs.declared.answers.DeclareRefused.{DeclareRefused}
 use Rattle.record_core.specs.declared.answers.DeclareRefused.TheVariants as declaring
 use Rattle.record_core.proofs.Searches.{schemas_counted, channels_counted, schemas_more, channels_more, schema_content, channel_content}
 use Rattle.feed_lane.specs.Pass.{FullAt, full_at, placed_from}
-use Rattle.recorder.specs.Shown.{SchemaStands, ChannelStands, LacksSchema, LacksChannel, Lacks, HeldThere, FoundThere}
+use Rattle.recorder.specs.Shown.{SchemaStands, ChannelStands, LacksSchema, LacksChannel, IdsLack, HeldThere, FoundThere}
 use Rattle.recorder.specs.Lone.{FoundBefore}
 
 -- ---- places
@@ -126,7 +126,7 @@ lacks_channel_on history more d spares lacks =
       }),
     )
 
-pub lacks_on : (history more : List Rec) (d : ChannelDef) (refusal : DeclareRefused) → Spares history more → Lacks history d refusal → Lacks (history ++ more) d refusal
+pub lacks_on : (history more : List Rec) (d : ChannelDef) (refusal : DeclareRefused) → Spares history more → IdsLack history d refusal → IdsLack (history ++ more) d refusal
 lacks_on history more d (declaring.TooLarge len) spares lacks = lacks
 lacks_on history more d (declaring.Closed at) spares lacks = lacks
 lacks_on history more d (declaring.Stopped at stop) spares lacks = lacks

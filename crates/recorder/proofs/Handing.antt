@@ -10,7 +10,7 @@ use Rattle.record_cache.specs.Buffers.{IsKept}
 use Rattle.record_core.specs.Ids.{Ids}
 use Rattle.record_core.specs.Desk.{DeskView, accepted, end_or, first_of, end_of, found_of, swapped, ended}
 use Rattle.record_core.specs.Machine.{State, desk_of, end_with}
-use Rattle.record_core.specs.Stands.{StandsFor}
+use Rattle.record_core.specs.Stands.{DeskStandsFor}
 use Rattle.chunk_writer.specs.declared.phase.Phase.{Phase}
 use Rattle.chunk_writer.specs.declared.phase.Phase.TheVariants as phases
 use Rattle.feed_lane.specs.Pass.{PassState}
@@ -27,7 +27,7 @@ use Rattle.recorder.proofs.Draining.{written_limit, written_count}
 abbrev all_taken : State → State
 all_taken s = record s { taken = length s.history }
 
-pub swapped_stands : (d : DeskView) (s : State) → StandsFor d s → StandsFor (swapped d) (all_taken s)
+pub swapped_stands : (d : DeskView) (s : State) → DeskStandsFor d s → DeskStandsFor (swapped d) (all_taken s)
 swapped_stands d s stands =
     let size : length s.history ≡ s.taken + length (drop s.taken s.history) = omega (arith, length-drop s.taken s.history, stands.within) in
     let nothing : drop (length s.history) s.history ≡ [] = drop_all (length s.history) s.history (omega arith) in
@@ -39,7 +39,7 @@ swapped_stands d s stands =
       numbered = stands.numbered;
     }
 
-pub ended_stands : (d : DeskView) (s : State) (end : End) → StandsFor d s → StandsFor (ended d end) (end_with end s)
+pub ended_stands : (d : DeskView) (s : State) (end : End) → DeskStandsFor d s → DeskStandsFor (ended d end) (end_with end s)
 ended_stands d s end stands =
     let size : length s.history ≡ s.taken + length (drop s.taken s.history) = omega (arith, length-drop s.taken s.history, stands.within) in
     record {
@@ -55,11 +55,11 @@ state_behind s phases.Ended = all_taken s
 
 -- what a state behind a step keeps of the one before
 record IsBehind (d : DeskView) (s : State) (phase : Phase) : Type 0 where
-  pub stands : StandsFor (written d phase) (state_behind s phase)
+  pub stands : DeskStandsFor (written d phase) (state_behind s phase)
   pub history : (state_behind s phase).history ≡ s.history
   pub taken : (state_behind s phase).taken ≡ length s.history
 
-behind : (d : DeskView) (s : State) (phase : Phase) → StandsFor d s → IsBehind d s phase
+behind : (d : DeskView) (s : State) (phase : Phase) → DeskStandsFor d s → IsBehind d s phase
 behind d s phases.Going stands = record { stands = swapped_stands d s stands; history = refl; taken = refl }
 behind d s (phases.Stopped stop) stands = record { stands = ended_stands (swapped d) (all_taken s) (ends.Stopped stop) (swapped_stands d s stands); history = refl; taken = refl }
 behind d s phases.Ended stands = record { stands = swapped_stands d s stands; history = refl; taken = refl }

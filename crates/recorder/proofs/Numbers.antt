@@ -1,15 +1,16 @@
 -- Ids by content, of a history and of what a declaration adds to it.
 use Rattle.std.proofs.Common.{◌≡◌, ℕ, ◌+◌, ◌<◌, ◌≤◌, Bool, true, false, List, [], ◌∷◌, ◌++◌, length, take, Option, Some, None, refl, sym, ap, subst, inl, inr, ◌∙◌, append-nil, append_assoc, length-append, arith}
 use Rattle.std.specs.Prelude.{position, nat_lt, nat_le, ◌&&◌}
-use Rattle.std.proofs.lemmas.Bool.{and_parts, ltb-true, leb-true, cases_lt}
+use Rattle.std.proofs.lemmas.Bool.{and_parts, ltb-true, leb-true}
+use Rattle.std.proofs.lemmas.List.{nil_from_length}
 use Rattle.rec_data.specs.declared.owned.Rec.{Rec}
 use Rattle.rec_data.specs.declared.schema.SchemaDef.{SchemaDef}
 use Rattle.rec_data.specs.declared.channel.ChannelDef.{ChannelDef}
 use Rattle.mcap_model.specs.Places.{At, Has}
 use Rattle.mcap_model.specs.Fields.{SchemaFields, ChannelFields, MessageFields}
 use Rattle.mcap_model.specs.History.{schema_of, channel_of, message_of, SchemaFollows, ChannelFollows, Numbered}
-use Rattle.mcap_model.proofs.Places.{at_one, at_within, has_kept, has_last}
-use Rattle.mcap_model.proofs.Lists.{cut_at, has_taken, at_taken}
+use Rattle.mcap_model.proofs.Places.{at_within, has_kept, has_last}
+use Rattle.mcap_model.proofs.Lists.{cut_at, has_taken}
 use Rattle.record_core.specs.Ids.{Ids, schemas_in, channels_in, same_schema, same_channel, fields_of_schema, fields_with, schema_place, id_at, schema_id, fields_of_channel, channel_place, channel_id, new_schema_at, new_schema, new_at, new_records}
 use Rattle.record_core.specs.Tables.{schemas_lack}
 use Rattle.record_core.proofs.Numbering.{HasContents, schema_at, channel_at}
@@ -19,6 +20,7 @@ use Rattle.feed_lane.specs.Pass.{PassState, AreAdded, GetsId}
 use Rattle.recorder.specs.Shown.{SchemaStands, ChannelStands, LacksSchema, LacksChannel}
 use Rattle.recorder.proofs.Growing.{Spares}
 use Rattle.recorder.proofs.Reasons.{MayHave}
+use Rattle.recorder.proofs.NumberedOnce.{schema_id_one}
 
 -- ---- numbers
 
@@ -30,25 +32,6 @@ schema_below history n id f numbered at =
     let size : length (schemas_in history) ≡ length (schemas_in (take n history) ++ schemas_in (schema_of id f ∷ more)) =
     ap (λ (l : List Rec). length (schemas_in l)) whole ∙ ap length (schemas_more (take n history) (schema_of id f ∷ more)) in
     omega (arith, follows.numbered, schemas_counted (take n history), size, length-append (schemas_in (take n history)) (schemas_in (schema_of id f ∷ more)))
-
--- no two Schemas have the same fields
-schema_apart : (history : List Rec) (n m a b : ℕ) (f : SchemaFields) → Numbered history → At history n (schema_of a f) → At history m (schema_of b f) → n < m → ⊥
-schema_apart history n m a b f numbered one other lt =
-    let follows : SchemaFollows (take m history) b f = numbered m (schema_of b f) other in
-    follows.is_new n a (at_taken history m n (schema_of a f) lt one)
-
-same_id : (a b : ℕ) (f : SchemaFields) → schema_of a f ≡ schema_of b f → a ≡ b
-same_id a b f e = cc
-
-schema_once : (history : List Rec) (n m a b : ℕ) (f : SchemaFields) → Numbered history → At history n (schema_of a f) → At history m (schema_of b f) → a ≡ b
-schema_once history n m a b f numbered one other = elim (cases_lt n m) [
-  | inl lt ↦ absurd (schema_apart history n m a b f numbered one other lt)
-  | inr le ↦ elim (cases_lt m n) [
-    | inl lt ↦ absurd (schema_apart history m n b a f numbered other one lt)
-    | inr ge ↦ let same : n ≡ m = omega (arith, le, ge) in
-        same_id a b f (at_one history m (schema_of a f) (schema_of b f) (subst (λ (k : ℕ). At history k (schema_of a f)) same one) other)
-  ]
-]
 
 -- ---- what is found
 
@@ -176,10 +159,6 @@ added_by ids c None = added_new ids c c.schema refl
 pub are_added : (ids : Ids) (c : ChannelDef) → AreAdded c (channel_id ids c) (new_records ids c)
 are_added ids c = added_by ids c (channel_place ids c)
 
-empty : {X : Type 0} (xs : List X) → length xs ≡ 0 → xs ≡ []
-empty [] e = refl
-empty (x ∷ xs) e = absurd (omega (arith, e))
-
 pub message_spares : (history : List Rec) (channel : ℕ) (m : MessageFields) → Spares history (message_of channel m ∷ [])
 message_spares history channel m = record { schemas = λ full. refl; channels = λ full. (refl, refl) }
 
@@ -189,7 +168,7 @@ spares_by ids history c (Some k) has schemas channels = record { schemas = λ fu
 spares_by ids history c None has schemas channels =
     let added = new_at None ids c in
     record {
-      schemas = λ full. empty (schemas_in added) (omega (arith, full, schemas_counted history, ap length has.schemas, length-append ids.schemas (schemas_in added), schemas));
+      schemas = λ full. nil_from_length (schemas_in added) (omega (arith, full, schemas_counted history, ap length has.schemas, length-append ids.schemas (schemas_in added), schemas));
       channels = λ full. absurd (omega (arith, full, channels_counted history, ap length has.channels, length-append ids.channels (channels_in added), channels_by ids c, channels));
     }
 
@@ -219,7 +198,7 @@ schema_is_by : (ids : Ids) (history : List Rec) (s : SchemaDef) (id : ℕ) (plac
     → Has history (schema_of id (fields_of_schema s)) → id ≡ id_at place (length ids.schemas)
 schema_is_by ids history s id (Some k) has numbered is (n, at) =
     let there = schema_found ids history s k has numbered is in
-    schema_once history n there.0 id (k + 1) (fields_of_schema s) numbered at there.1
+    schema_id_one history n there.0 id (k + 1) (fields_of_schema s) numbered at there.1
 schema_is_by ids history s id None has numbered is there = absurd (no_schema_found ids history s id has is there)
 
 schema_is : (ids : Ids) (history : List Rec) (schema : Option SchemaDef) (id : ℕ) → HasContents ids history → Numbered history → SchemaStands history id schema → id ≡ schema_id ids schema

@@ -1,10 +1,8 @@
 -- The bytes of a feed and the report on it decide the history.
-use Rattle.std.proofs.Common.{◌≡◌, ◌⊎◌, ℕ, zero, suc, ◌<◌, List, [], ◌∷◌, ◌++◌, length, Option, Some, None, refl, sym, ap, subst, inl, inr, ◌∙◌, append_assoc}
-use Rattle.std.specs.Prelude.{slice_get, ◌==◌}
+use Rattle.std.proofs.Common.{◌≡◌, ◌⊎◌, ℕ, zero, suc, ◌<◌, List, [], ◌∷◌, ◌++◌, length, Some, refl, sym, ap, subst, inl, inr, ◌∙◌, append_assoc}
+use Rattle.std.specs.Prelude.{slice_get}
 use Rattle.std.proofs.lemmas.Grind.{flat_map-append}
-use Rattle.std.proofs.lemmas.List.Elements.{filter-append}
 use Rattle.rec_data.specs.declared.owned.Rec.{Rec}
-use Rattle.rec_data.specs.declared.schema.SchemaDef.{SchemaDef}
 use Rattle.mcap_io.specs.Outside.{SourceState}
 use Rattle.mcap_wire.specs.Layout.{magic}
 use Rattle.mcap_model.specs.declared.ends.End.{End}
@@ -19,25 +17,15 @@ use Rattle.mcap_model.proofs.Flat.{good_lists_agree}
 use Rattle.feed_lane.specs.declared.report.FeedReport.{FeedReport}
 use Rattle.feed_lane.specs.declared.report.FeedEnd.{FeedEnd}
 use Rattle.feed_lane.specs.declared.report.FeedEnd.TheVariants as feed_ends
-use Rattle.feed_lane.specs.Lanes.{Lists, messages, IsOn, SchemaShown, IsGiven}
+use Rattle.feed_lane.specs.Lanes.{Lists, IsGiven}
 use Rattle.feed_lane.specs.Feeds.{FeedEnds, reported}
-use Rattle.recorder.specs.Assembled.{LanePart, LaneStands, Assembled}
+use Rattle.feed_lane.proofs.Growing.{schema_more, on_more, message_more}
+use Rattle.recorder.specs.Assembled.{LanePart, LanePartStands, Assembled}
 use Rattle.recorder.specs.Recorded.{lane_of}
 use Rattle.recorder.specs.Laws.{RecordingsAreGiven}
 use Rattle.recorder.proofs.OneHistory.{Says, DeclaredOnce, lane_says, given_both, histories_same}
 
 -- ---- what was said of some records is so with more behind them
-
-message_more : (records more : List Top) (index : ℕ) (t : Top) → At (messages records) index t → At (messages (records ++ more)) index t
-message_more records more index t at =
-    subst (λ (l : List Top). At l index t) (sym (filter-append (λ (u : Top). u.op == 5) records more)) (at_kept (messages records) (messages more) index t at)
-
-on_more : (records more : List Top) (index channel : ℕ) → IsOn records index channel → IsOn (records ++ more) index channel
-on_more records more index channel on = record { top = on.top; message = on.message; at = message_more records more index on.top on.at; is = on.is }
-
-schema_more : (records more : List Top) (id : ℕ) (schema : Option SchemaDef) → SchemaShown records id schema → SchemaShown (records ++ more) id schema
-schema_more records more id None shown = shown
-schema_more records more id (Some s) shown = record { place = shown.place; top = shown.top; at = at_kept records more shown.place shown.top shown.at; is = shown.is }
 
 says_more : (records more : List Top) (lists : Lists) (history : List Rec) → Says records lists history → Says (records ++ more) lists history
 says_more records more lists history says = record {
@@ -151,8 +139,8 @@ record IsAlone (tops : List Top) (lane : LanePart) (history : List Rec) : Type 0
 
 alone_front : (tops others : List Top) (lane other_lane : LanePart) (one other : List Rec) → IsFront tops others → lane.lists ≡ other_lane.lists → IsAlone tops lane one → IsAlone others other_lane other → one ≡ other
 alone_front tops others lane other_lane one other (more, longer) lists it also =
-    let stands : LaneStands it.limit one it.end lane = it.is.stand 0 lane refl in
-    let other_stands : LaneStands also.limit other also.end other_lane = also.is.stand 0 other_lane refl in
+    let stands : LanePartStands it.limit one it.end lane = it.is.stand 0 lane refl in
+    let other_stands : LanePartStands also.limit other also.end other_lane = also.is.stand 0 other_lane refl in
     let records : other_lane.records ≡ lane.records ++ flat more = also.records_are ∙ ap flat longer ∙ flat_map-append flattened tops more ∙ ap (λ (l : List Top). l ++ flat more) (sym it.records_are) in
     let agree : EachBehind Agrees other_lane.records = subst (EachBehind Agrees) (sym also.records_are) (good_lists_agree reading_limits others also.good).1 in
     let once : DeclaredOnce other_lane.records lane.lists.declared = subst (λ (l : Lists). DeclaredOnce other_lane.records l.declared) (sym lists) other_stands.fits.once in

@@ -1,7 +1,6 @@
 -- The lists of the reports decide the history.
 use Rattle.std.proofs.Common.{◌≡◌, ℕ, zero, suc, ◌+◌, ◌-◌, ◌<◌, ◌≤◌, List, [], ◌∷◌, length, take, Option, Some, None, refl, sym, ap, subst, inl, inr, ◌∙◌, arith}
 use Rattle.std.specs.Prelude.{IsPermutation}
-use Rattle.std.specs.List.{AllZip}
 use Rattle.std.proofs.lemmas.Bool.{cases_eq}
 use Rattle.std.proofs.lemmas.List.Sorted.{IsPermutation-sym, IsPermutation-trans}
 use Rattle.rec_data.specs.declared.owned.Rec.{Rec}
@@ -18,16 +17,19 @@ use Rattle.mcap_model.specs.History.{schema_of, channel_of, message_of, schema_c
 use Rattle.mcap_model.proofs.Places.{at_none, at_one, at_within}
 use Rattle.mcap_model.proofs.Lists.{at_taken, has_taken}
 use Rattle.mcap_model.proofs.Maps.{message_once, same_is}
+use Rattle.mcap_model.proofs.NamedTopics.{zip_front, zip_back}
 use Rattle.record_core.specs.Ids.{fields_of_schema, fields_with}
 use Rattle.feed_lane.specs.declared.report.Accepted.{Accepted}
 use Rattle.feed_lane.specs.declared.report.DeclaredAt.{DeclaredAt}
-use Rattle.feed_lane.specs.Pass.{PassState, placed_from, AreAdded}
+use Rattle.feed_lane.specs.Pass.{PassState, AreAdded}
 use Rattle.feed_lane.specs.Lanes.{Lists, messages, IsOn, SchemaShown, Describes, Declares, Accepts, IsGiven}
+use Rattle.feed_lane.proofs.Growing.{on_one}
 use Rattle.recorder.specs.Shown.{SchemaStands, ChannelStands}
-use Rattle.recorder.specs.Assembled.{LanePart, LaneStands}
+use Rattle.recorder.specs.Assembled.{LanePart, LanePartStands}
 use Rattle.recorder.specs.Laws.{Assembly, SameLists, HistoriesAreGiven}
 use Rattle.recorder.proofs.NumberedOnce.{numbered_front, schema_place_one, schema_some, schema_id_one, channel_place_one}
-use Rattle.recorder.proofs.AgreedFields.{channel_same, SameDef, def_same, on_one}
+use Rattle.recorder.proofs.AgreedFields.{channel_same, SameDef, def_same}
+use Rattle.recorder.proofs.Growing.{placed_there}
 
 -- ---- lists
 
@@ -60,19 +62,6 @@ take_step {X} (y ∷ xs) (z ∷ ys) (suc p) x same one other =
     tail : List X → List X
     tail [] = []
     tail (v ∷ l) = l
-
--- what stands in two zipped lists at a place
-zip_at : {X Y : Type 0} (R : X → Y → Type 0) (xs : List X) (ys : List Y) (n : ℕ) (x : X) → AllZip R xs ys → At xs n x → (y : Y) × At ys n y × R x y
-zip_at R [] ys n x zip at = absurd (at_none n x at)
-zip_at R (z ∷ xs) [] n x zip at = absurd zip
-zip_at {X} {Y} R (z ∷ xs) (y ∷ ys) zero x zip at = (y, refl, subst (λ (v : X). R v y) (at_one (z ∷ xs) zero z x refl at) zip.0)
-zip_at R (z ∷ xs) (y ∷ ys) (suc n) x zip at = zip_at R xs ys n x zip.1 at
-
-zip_back : {X Y : Type 0} (R : X → Y → Type 0) (xs : List X) (ys : List Y) (n : ℕ) (y : Y) → AllZip R xs ys → At ys n y → (x : X) × At xs n x × R x y
-zip_back R xs [] n y zip at = absurd (at_none n y at)
-zip_back R [] (z ∷ ys) n y zip at = absurd zip
-zip_back {X} {Y} R (x ∷ xs) (z ∷ ys) zero y zip at = (x, refl, subst (λ (v : Y). R x v) (at_one (z ∷ ys) zero z y refl at) zip.0)
-zip_back R (x ∷ xs) (z ∷ ys) (suc n) y zip at = zip_back R xs ys n y zip.1 at
 
 -- ---- what the lists of a lane say of the history
 
@@ -107,16 +96,6 @@ pub record Says (records : List Top) (lists : Lists) (history : List Rec) : Type
 abbrev pub DeclaredOnce : List Top → List DeclaredAt → Type 0
 DeclaredOnce records declared = (j k : ℕ) (d e : DeclaredAt) (source : ℕ) → At declared j d → At declared k e → IsOn records d.index source → IsOn records e.index source → j ≡ k
 
-placed_has : (first : ℕ) (rs : List Rec) (k : ℕ) (r : Rec) → At rs k r → At (placed_from first rs) k (first + k, r)
-placed_has first [] k r at = absurd (at_none k r at)
-placed_has first (x ∷ rs) zero r at =
-    let here : first ≡ first + 0 = omega arith in
-    let same : x ≡ r = at_one (x ∷ rs) zero x r refl at in
-    cc
-placed_has first (x ∷ rs) (suc k) r at =
-    let place : first + 1 + k ≡ first + suc k = omega arith in
-    subst (λ (n : ℕ). At (placed_from (first + 1) rs) k (n, r)) place (placed_has (first + 1) rs k r at)
-
 adds_there : (records : List Top) (history : List Rec) (pass : PassState) (d : DeclaredAt) → Each (λ pair. At history pair.0 pair.1) pass.own → Each (λ pair. ChannelStands history pair.0 pair.1) pass.named
     → Declares records pass d → AddsThere records history d
 adds_there records history pass d own named was = record {
@@ -129,7 +108,7 @@ adds_there records history pass d own named was = record {
   are = was.are;
   many = was.many;
   there = λ k r at.
-      let has = was.own k (d.first + k, r) (placed_has d.first was.added k r at) in
+      let has = was.own k (d.first + k, r) (placed_there d.first was.added k r at) in
       own has.0 (d.first + k, r) has.1;
 }
 
@@ -147,7 +126,7 @@ stands_as records declared history pass a own was = record {
   there = own was.own.0 (a.place, message_of was.by.channel was.message) was.own.1;
 }
 
-pub lane_says : (limit : ℕ) (history : List Rec) (end : End) (lane : LanePart) → LaneStands limit history end lane → Says lane.records lane.lists history
+pub lane_says : (limit : ℕ) (history : List Rec) (end : End) (lane : LanePart) → LanePartStands limit history end lane → Says lane.records lane.lists history
 lane_says limit history end lane stands = record {
   accepts = λ k a at. stands_as lane.records lane.lists.declared history lane.pass a stands.shown.own (stands.fits.accepts k a at);
   declares = λ k d at. adds_there lane.records history lane.pass d stands.shown.own stands.shown.named (stands.fits.declares k d at);
@@ -350,8 +329,8 @@ histories_same one other alike back = all_same one other (all_at one other alike
 lanes_both : (one other : Assembly) (k place : ℕ) (lane other_lane : LanePart) → At one.lanes k lane → At other.lanes k other_lane → EachBehind Agrees lane.records → SameLists lane other_lane
     → take place one.history ≡ take place other.history → IsGiven lane.lists place → StandsInBoth one.history other.history place
 lanes_both one other k place lane other_lane at other_at agree same front given =
-    let stands : LaneStands one.limit one.history one.end lane = one.is.stand k lane at in
-    let other_stands : LaneStands other.limit other.history other.end other_lane = other.is.stand k other_lane other_at in
+    let stands : LanePartStands one.limit one.history one.end lane = one.is.stand k lane at in
+    let other_stands : LanePartStands other.limit other.history other.end other_lane = other.is.stand k other_lane other_at in
     let other_says : Says lane.records lane.lists other.history = subst (λ (r : List Top). Says r lane.lists other.history) (sym same.records)
     (subst (λ (l : Lists). Says other_lane.records l other.history) (sym same.lists) (lane_says other.limit other.history other.end other_lane other_stands)) in
     given_both lane.records lane.lists agree stands.fits.once one.history other.history place one.is.numbered other.is.numbered front
@@ -363,7 +342,7 @@ histories_are_given one other agree zip = histories_same one.history other.histo
     to : GivenAlike one.history other.history
     to place less front =
         let (k, lane, at, given) = one.is.given place less in
-        let (other_lane, other_at, same) = zip_at SameLists one.lanes other.lanes k lane zip at in
+        let (other_lane, other_at, same) = zip_front SameLists one.lanes other.lanes k lane zip at in
         lanes_both one other k place lane other_lane at other_at (agree k lane at) same front given
 
     back : GivenAlike other.history one.history

@@ -3,21 +3,20 @@ use Rattle.std.proofs.Common.{◌≡◌, ◌⊎◌, ℕ, ◌+◌, ◌-◌, ◌<�
 use Rattle.std.specs.Prelude.{nat_lt, nat_le, Bool, true, false, ◌&&◌}
 use Rattle.std.proofs.lemmas.List.{length-drop, take-append-le, take_all}
 use Rattle.std.proofs.lemmas.Bool.{and_parts, ltb-true, leb-true}
+use Rattle.std.proofs.lemmas.Option.{same_Some, none-some}
 use Rattle.rec_data.specs.declared.owned.Rec.{Rec}
 use Rattle.rec_data.specs.declared.channel.ChannelDef.{ChannelDef}
-use Rattle.mcap_model.specs.declared.ends.End.{End}
 use Rattle.mcap_model.specs.declared.ends.End.TheVariants as ends
 use Rattle.mcap_model.specs.declared.options.FileOptions.{FileOptions}
 use Rattle.mcap_model.specs.Places.{At, Each}
 use Rattle.mcap_model.specs.Fields.{MessageFields}
 use Rattle.mcap_model.specs.History.{message_of, schema_count, channel_count, history_bytes}
-use Rattle.mcap_model.proofs.Places.{at_none}
-use Rattle.mcap_model.proofs.Lists.{each_cons, each_joined}
+use Rattle.mcap_model.proofs.OneMore.{each_last}
 use Rattle.record_core.specs.Ids.{Ids, schemas_in, channels_in, is_known, ids_of, with_ids, channel_place, channel_id, new_records}
 use Rattle.record_core.specs.Tables.{IsTable}
 use Rattle.record_core.specs.Desk.{DeskView, accepted, added, first_of, end_of, found_of, EndIsLast, fields_of_message, publish_refusal, declare_refusal, Published, DeclaredBy}
 use Rattle.record_core.specs.Machine.{State, desk_of, publish, declare, accept, unless}
-use Rattle.record_core.specs.Stands.{StandsFor, Steps, PublishSteps, DeclareSteps}
+use Rattle.record_core.specs.Stands.{DeskStandsFor, Steps, PublishSteps, DeclareSteps}
 use Rattle.record_core.specs.declared.answers.Declared.{Declared}
 use Rattle.record_core.specs.declared.answers.Found.{Found}
 use Rattle.record_core.specs.declared.answers.NewMessage.{NewMessage}
@@ -29,7 +28,7 @@ use Rattle.record_core.proofs.Numbering.{HasContents}
 use Rattle.record_core.proofs.Searches.{schemas_counted, channels_counted, channels_more}
 use Rattle.feed_lane.specs.Pass.{FullAt, Reason, for_size, for_close, for_stop, for_channel, for_count, for_room, for_id, PassState, placed_from, Finds, full_at, with_found, with_refused, with_reason, with_full, with_lack, with_declared, message_record, MayTake, HasPlace, IsUnnamed, AreAdded, GetsId}
 use Rattle.recorder.specs.declared.lone.LoneDesk.{LoneDesk}
-use Rattle.recorder.specs.Shown.{ChannelStands, Lacks, HeldThere, FoundThere}
+use Rattle.recorder.specs.Shown.{ChannelStands, IdsLack, HeldThere, FoundThere}
 use Rattle.recorder.specs.Lone.{FoundBefore, Showing, IsAlone, GoesOn, looked, looked_in, PublishesAlone, DeclaresAlone}
 use Rattle.recorder.proofs.Growing.{placed_at, placed_more, Spares, channel_stands_on, lacks_on, held_there_on, found_there_on}
 use Rattle.recorder.proofs.Reasons.{PublishReason, HasRecords, publish_reason, declare_reason, narrow}
@@ -47,7 +46,7 @@ pub record Parts (d : DeskView) (s : State) : Type 0 where
   pub count : accepted d ≡ length s.history
   pub held : d.taken ≤ accepted d
 
-pub parts : (d : DeskView) (s : State) → StandsFor d s → Parts d s
+pub parts : (d : DeskView) (s : State) → DeskStandsFor d s → Parts d s
 parts d s stands =
     let same : d ≡ desk_of d.limit s = sym stands.desk in
     let taken : d.taken ≡ s.taken = ap (λ (x : DeskView). x.taken) same in
@@ -77,12 +76,6 @@ finds lone s before alone =
       within = p.held;
     }
 
-some_found : {x y : Found} → Some x ≡ Some y → x ≡ y
-some_found e = cc
-
-none_some : {x : End} → None ≡ Some x → ⊥
-none_some e = cc
-
 -- ---- a call that added nothing
 
 goes_on_same : (s : State) → GoesOn s s
@@ -95,7 +88,7 @@ found_self d unclosed = record {
   unclosed = unclosed;
 }
 
-full_there : (d : DeskView) (s : State) → StandsFor d s → HeldThere s.history (full_at (found_of d))
+full_there : (d : DeskView) (s : State) → DeskStandsFor d s → HeldThere s.history (full_at (found_of d))
 full_there d s stands =
     let p = parts d s stands in
     let n = accepted d - d.taken in
@@ -107,7 +100,7 @@ full_there d s stands =
       held = ap (λ (l : List Rec). length (history_bytes l)) (sym same);
     }
 
-found_there : (d : DeskView) (s : State) → StandsFor d s → FoundThere s.history (found_of d)
+found_there : (d : DeskView) (s : State) → DeskStandsFor d s → FoundThere s.history (found_of d)
 found_there d s stands =
     let p = parts d s stands in
     let all : take (accepted d) s.history ≡ s.history = take_all (accepted d) s.history (omega (arith, p.count)) in
@@ -120,7 +113,7 @@ found_there d s stands =
 -- what a call that was refused showed beside how it found the desk
 record Shown (history : List Rec) (fulls : List FullAt) (lacks : List (ChannelDef × DeclareRefused)) : Type 0 where
   pub fulls_are : Each (HeldThere history) fulls
-  pub lacks_are : Each (λ pair. Lacks history pair.0 pair.1) lacks
+  pub lacks_are : Each (λ pair. IdsLack history pair.0 pair.1) lacks
 
 abbrev showing : PassState → Found → List FullAt → List (ChannelDef × DeclareRefused) → List Reason → PassState
 showing before found fulls lacks reasons = record before { fulls = fulls; lacks = lacks; reasons = reasons; found = Some found }
@@ -128,15 +121,15 @@ showing before found fulls lacks reasons = record before { fulls = fulls; lacks 
 refused : (old new : LoneDesk) (s : State) (before : PassState) (fulls : List FullAt) (lacks : List (ChannelDef × DeclareRefused)) (reasons : List Reason) → IsAlone old s before
     → new.desk ≡ old.desk → new.found ≡ Some (found_of old.desk) → Shown s.history fulls lacks → IsAlone new s (showing before (found_of old.desk) fulls lacks reasons)
 refused old new s before fulls lacks reasons alone same looked shown = record {
-  stands = subst (λ (d : DeskView). StandsFor d s) (sym same) alone.stands;
+  stands = subst (λ (d : DeskView). DeskStandsFor d s) (sym same) alone.stands;
   shows = record {
     own = alone.shows.own;
     named = alone.shows.named;
     ids = alone.shows.ids;
     fulls = shown.fulls_are;
     lacks = shown.lacks_are;
-    found = λ f is. subst (FoundBefore new.desk) (some_found is) (subst (λ (d : DeskView). FoundBefore d (found_of old.desk)) (sym same) (found_self old.desk alone.unclosed));
-    there = λ f is. subst (FoundThere s.history) (some_found is) (found_there old.desk s alone.stands);
+    found = λ f is. subst (FoundBefore new.desk) (same_Some _ _ is) (subst (λ (d : DeskView). FoundBefore d (found_of old.desk)) (sym same) (found_self old.desk alone.unclosed));
+    there = λ f is. subst (FoundThere s.history) (same_Some _ _ is) (found_there old.desk s alone.stands);
     limit = alone.shows.limit ∙ ap (λ (d : DeskView). d.limit) (sym same);
   };
   found = sym looked;
@@ -149,7 +142,7 @@ same_shown lone s before alone = record { fulls_are = alone.shows.fulls; lacks_a
 -- nothing was looked at
 unseen : (old new : LoneDesk) (s : State) (before : PassState) (reason : Reason) → IsAlone old s before → new.desk ≡ old.desk → new.found ≡ old.found → IsAlone new s (with_reason before reason)
 unseen old new s before reason alone same looked = record {
-  stands = subst (λ (d : DeskView). StandsFor d s) (sym same) alone.stands;
+  stands = subst (λ (d : DeskView). DeskStandsFor d s) (sym same) alone.stands;
   shows = subst (λ (d : DeskView). Showing d s.history (with_reason before reason)) (sym same) (record {
     own = alone.shows.own;
     named = alone.shows.named;
@@ -164,23 +157,20 @@ unseen old new s before reason alone same looked = record {
   unclosed = subst (λ (d : DeskView). end_of d ≡ Some ends.Closed → ⊥) (sym same) alone.unclosed;
 }
 
-one_more : {X : Type 0} (P : X → Type 0) (xs : List X) (x : X) → Each P xs → P x → Each P (xs ++ x ∷ [])
-one_more P xs x each it = each_joined P xs (x ∷ []) each (each_cons P x [] it (λ n y at. absurd (at_none n y at)))
-
 with_a_full : (lone : LoneDesk) (s : State) (before : PassState) → IsAlone lone s before → Shown s.history (before.fulls ++ full_at (found_of lone.desk) ∷ []) before.lacks
 with_a_full lone s before alone = record {
-  fulls_are = one_more (HeldThere s.history) before.fulls (full_at (found_of lone.desk)) alone.shows.fulls (full_there lone.desk s alone.stands);
+  fulls_are = each_last (HeldThere s.history) before.fulls (full_at (found_of lone.desk)) alone.shows.fulls (full_there lone.desk s alone.stands);
   lacks_are = alone.shows.lacks;
 }
 
 abbrev lack : ChannelDef → DeclareRefused → ChannelDef × DeclareRefused
 lack c refusal = (c, refusal)
 
-with_a_lack : (lone : LoneDesk) (s : State) (before : PassState) (c : ChannelDef) (refusal : DeclareRefused) → IsAlone lone s before → Lacks s.history c refusal
+with_a_lack : (lone : LoneDesk) (s : State) (before : PassState) (c : ChannelDef) (refusal : DeclareRefused) → IsAlone lone s before → IdsLack s.history c refusal
     → Shown s.history before.fulls (before.lacks ++ lack c refusal ∷ [])
 with_a_lack lone s before c refusal alone lacks = record {
   fulls_are = alone.shows.fulls;
-  lacks_are = one_more (λ pair. Lacks s.history pair.0 pair.1) before.lacks (lack c refusal) alone.shows.lacks lacks;
+  lacks_are = each_last (λ pair. IdsLack s.history pair.0 pair.1) before.lacks (lack c refusal) alone.shows.lacks lacks;
 }
 
 -- ---- a call that added records
@@ -196,8 +186,8 @@ found_grown d records unended =
         channels = omega (arith, length-append d.ids.channels (channels_in records));
         end = λ e is. is;
       };
-      all = λ e is. absurd (none_some (sym none ∙ is));
-      unclosed = λ is. none_some (sym none ∙ is);
+      all = λ e is. absurd (none-some _ (sym none ∙ is));
+      unclosed = λ is. none-some _ (sym none ∙ is);
     }
 
 -- the ids that stood, and the one more, where a channel was declared
@@ -219,7 +209,7 @@ were_named lone s before alone = record { stand = alone.shows.named; ids = alone
 abbrev grown : PassState → Found → List Rec → List (ℕ × ChannelDef) → PassState
 grown before found records named = record before { own = before.own ++ placed_from found.count records; named = named; found = Some found }
 
-adds : (old new : LoneDesk) (s : State) (before : PassState) (records : List Rec) (named : List (ℕ × ChannelDef)) → IsAlone old s before → StandsFor new.desk (accept 0 records s)
+adds : (old new : LoneDesk) (s : State) (before : PassState) (records : List Rec) (named : List (ℕ × ChannelDef)) → IsAlone old s before → DeskStandsFor new.desk (accept 0 records s)
     → new.desk ≡ added old.desk records → old.desk.end ≡ None → new.found ≡ Some (found_of old.desk) → Spares s.history records → Named (s.history ++ records) named
     → IsAlone new (accept 0 records s) (grown before (found_of old.desk) records named)
 adds old new s before records named alone stands is unended looked spares are =
@@ -236,15 +226,15 @@ adds old new s before records named alone stands is unended looked spares are =
         ids = are.ids;
         fulls = λ k full at. held_there_on s.history records full (alone.shows.fulls k full at);
         lacks = λ k pair at. lacks_on s.history records pair.0 pair.1 spares (alone.shows.lacks k pair at);
-        found = λ f same. subst (FoundBefore new.desk) (some_found same) (subst (λ (d : DeskView). FoundBefore d (found_of old.desk)) (sym is) (found_grown old.desk records unended));
-        there = λ f same. subst (FoundThere (s.history ++ records)) (some_found same) (found_there_on s.history records (found_of old.desk) (found_there old.desk s alone.stands));
+        found = λ f same. subst (FoundBefore new.desk) (same_Some _ _ same) (subst (λ (d : DeskView). FoundBefore d (found_of old.desk)) (sym is) (found_grown old.desk records unended));
+        there = λ f same. subst (FoundThere (s.history ++ records)) (same_Some _ _ same) (found_there_on s.history records (found_of old.desk) (found_there old.desk s alone.stands));
         limit = alone.shows.limit ∙ ap (λ (d : DeskView). d.limit) (sym is);
       };
       found = sym looked;
-      unclosed = λ closed. none_some (sym unclosed ∙ closed);
+      unclosed = λ closed. none-some _ (sym unclosed ∙ closed);
     }
 
-goes_on : (d : DeskView) (s : State) (records : List Rec) → StandsFor d s → GoesOn s (accept 0 records s)
+goes_on : (d : DeskView) (s : State) (records : List Rec) → DeskStandsFor d s → GoesOn s (accept 0 records s)
 goes_on d s records stands = record { taken = refl; front = take-append-le s.taken s.history records stands.within }
 
 some_options : FileOptions
@@ -252,11 +242,11 @@ some_options = record { profile = []; chunk = None }
 
 -- ---- messages
 
-published_state : (d after : DeskView) (s : State) (channel : ℕ) (m : MessageFields) → publish_refusal d channel (length m.payload) ≡ None → Steps d (publish 0 channel m) after → StandsFor d s
-    → StandsFor after (accept 0 (message_of channel m ∷ []) s)
+published_state : (d after : DeskView) (s : State) (channel : ℕ) (m : MessageFields) → publish_refusal d channel (length m.payload) ≡ None → Steps d (publish 0 channel m) after → DeskStandsFor d s
+    → DeskStandsFor after (accept 0 (message_of channel m ∷ []) s)
 published_state d after s channel m none steps stands =
     let open_there : publish_refusal (desk_of d.limit s) channel (length m.payload) ≡ None = ap (λ (x : DeskView). publish_refusal x channel (length m.payload)) stands.desk ∙ none in
-    subst (λ (r : Option PublishRefused). StandsFor after (unless r 0 (message_of channel m ∷ []) s)) open_there (steps some_options s stands)
+    subst (λ (r : Option PublishRefused). DeskStandsFor after (unless r 0 (message_of channel m ∷ []) s)) open_there (steps some_options s stands)
 
 known_id : (ids : Ids) (channel : ℕ) → is_known ids channel ≡ true → (1 ≤ channel) × (channel ≤ length ids.channels)
 known_id ids channel known =
@@ -361,12 +351,12 @@ published old new m (Err publishing.Memory) last is steps looked s before alone 
 
 -- ---- declarations
 
-declared_state : (d after : DeskView) (s : State) (c : ChannelDef) → declare_refusal d c ≡ None → Steps d (declare 0 c) after → StandsFor d s
-    → StandsFor after (accept 0 (new_records d.ids c) s)
+declared_state : (d after : DeskView) (s : State) (c : ChannelDef) → declare_refusal d c ≡ None → Steps d (declare 0 c) after → DeskStandsFor d s
+    → DeskStandsFor after (accept 0 (new_records d.ids c) s)
 declared_state d after s c none steps stands =
     let open_there : declare_refusal (desk_of d.limit s) c ≡ None = ap (λ (x : DeskView). declare_refusal x c) stands.desk ∙ none in
-    let there = subst (λ (r : Option DeclareRefused). StandsFor after (unless r 0 (new_records (ids_of s.history) c) s)) open_there (steps some_options s stands) in
-    subst (λ (ids : Ids). StandsFor after (accept 0 (new_records ids c) s)) (sym (parts d s stands).ids) there
+    let there = subst (λ (r : Option DeclareRefused). DeskStandsFor after (unless r 0 (new_records (ids_of s.history) c) s)) open_there (steps some_options s stands) in
+    subst (λ (ids : Ids). DeskStandsFor after (accept 0 (new_records ids c) s)) (sym (parts d s stands).ids) there
 
 -- a content that isn't found got no id
 unnamed : (lone : LoneDesk) (s : State) (before : PassState) (c : ChannelDef) → IsAlone lone s before → channel_place lone.desk.ids c ≡ None → IsUnnamed before c
@@ -382,8 +372,8 @@ naming channel c = (channel, c)
 named_more : (history records : List Rec) (named : List (ℕ × ChannelDef)) (channel : ℕ) (c : ChannelDef) → Named (history ++ records) named
     → ChannelStands (history ++ records) channel c → (1 ≤ channel) × (channel ≤ length (channels_in (history ++ records))) → Named (history ++ records) (named ++ naming channel c ∷ [])
 named_more history records named channel c are stands id = record {
-  stand = one_more (λ pair. ChannelStands (history ++ records) pair.0 pair.1) named (naming channel c) are.stand stands;
-  ids = one_more (λ pair. (1 ≤ pair.0) × (pair.0 ≤ length (channels_in (history ++ records)))) named (naming channel c) are.ids id;
+  stand = each_last (λ pair. ChannelStands (history ++ records) pair.0 pair.1) named (naming channel c) are.stand stands;
+  ids = each_last (λ pair. (1 ≤ pair.0) × (pair.0 ≤ length (channels_in (history ++ records)))) named (naming channel c) are.ids id;
 }
 
 pub declared : (old new : LoneDesk) (c : ChannelDef) (result : Result Declared DeclareRefused) → EndIsLast old.desk → IsTable new.desk.ids

@@ -17,7 +17,7 @@ pub record LanePart : Type 0 where
   pub pass : PassState
 
 -- its lists are true of its records and of the history, over a buffer with that limit
-pub record LaneStands (limit : ℕ) (history : List Rec) (end : End) (lane : LanePart) : Type 0 where
+pub record LanePartStands (limit : ℕ) (history : List Rec) (end : End) (lane : LanePart) : Type 0 where
   pub fits : LaneFits lane.records lane.handled lane.lists lane.pass
   pub shown : ShownBy history end lane.pass
   pub limit_is : lane.pass.limit ≡ limit
@@ -26,6 +26,6 @@ pub record LaneStands (limit : ℕ) (history : List Rec) (end : End) (lane : Lan
 -- place is given by just one lane.
 pub record Assembled (limit : ℕ) (lanes : List LanePart) (history : List Rec) (end : End) : Type 0 where
   pub numbered : Numbered history
-  pub stand : Each (LaneStands limit history end) lanes
+  pub stand : Each (LanePartStands limit history end) lanes
   pub given : (place : ℕ) → place < length history → (k : ℕ) × (lane : LanePart) × At lanes k lane × IsGiven lane.lists place
   pub once : (j k place : ℕ) (one other : LanePart) → At lanes j one → At lanes k other → IsGiven one.lists place → IsGiven other.lists place → j ≡ k

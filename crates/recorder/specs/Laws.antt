@@ -1,6 +1,8 @@
 -- Laws of recordings.
-use Rattle.std.specs.Prelude.{◌≡◌, ℕ, ◌≤◌, List, [], length, filter, Some, IsUtf8}
+use Rattle.std.specs.Prelude.{◌≡◌, ℕ, ◌≤◌, List, [], length, filter, Some, IsUtf8, ◌-◌}
 use Rattle.std.specs.List.{AllZip}
+use Rattle.mcap_wire.specs.Layout.{content_limit}
+use Rattle.mcap_wire.specs.Limits.{chunk_size_limit}
 use Rattle.rec_data.specs.declared.owned.Rec.{Rec}
 use Rattle.mcap_model.specs.declared.ends.End.{End}
 use Rattle.mcap_model.specs.declared.ends.End.TheVariants as ends
@@ -25,8 +27,8 @@ use Rattle.recorder.specs.Recorded.{Sides, Recorded}
 -- any, is closed at 64 MiB or sooner.
 pub record AreReadable (options : FileOptions) : Type 0 where
   pub profile : IsUtf8 options.profile
-  pub short : length options.profile ≤ 268435439
-  pub size : (n : ℕ) → options.chunk ≡ Some n → (1 ≤ n) × (n ≤ 67108864)
+  pub short : length options.profile ≤ content_limit - 17
+  pub size : (n : ℕ) → options.chunk ≡ Some n → (1 ≤ n) × (n ≤ chunk_size_limit)
 
 -- a file is read to its Data End: its flat records are those of a history, and its messages too, in order
 pub record ReadsAs (file : List ℕ) (history : List Rec) : Type 0 where

@@ -8,7 +8,7 @@ use Rattle.mcap_model.specs.Places.{Each}
 use Rattle.record_core.specs.Ids.{channels_in}
 use Rattle.record_core.specs.Desk.{DeskView, accepted, held, end_of, found_of}
 use Rattle.record_core.specs.Machine.{State}
-use Rattle.record_core.specs.Stands.{StandsFor}
+use Rattle.record_core.specs.Stands.{DeskStandsFor}
 use Rattle.record_core.specs.declared.answers.Declared.{Declared}
 use Rattle.record_core.specs.declared.answers.DeclareRefused.{DeclareRefused}
 use Rattle.record_core.specs.declared.answers.DeclareRefused.TheVariants as declaring
@@ -17,7 +17,7 @@ use Rattle.record_core.specs.declared.answers.NewMessage.{NewMessage}
 use Rattle.record_core.specs.declared.answers.PublishRefused.{PublishRefused}
 use Rattle.record_core.specs.declared.answers.PublishRefused.TheVariants as publishing
 use Rattle.feed_lane.specs.Pass.{PassState, placed_from, IsLater, PublishedBy, DeclaredInto}
-use Rattle.recorder.specs.Shown.{ChannelStands, Lacks, HeldThere, FoundThere}
+use Rattle.recorder.specs.Shown.{ChannelStands, IdsLack, HeldThere, FoundThere}
 use Rattle.recorder.specs.declared.lone.LoneDesk.{LoneDesk}
 
 -- The desk was found so, and has but grown since. Where an end stood, which isn't that it was closed, nothing was accepted
@@ -33,14 +33,14 @@ pub record Showing (d : DeskView) (history : List Rec) (pass : PassState) : Type
   pub named : Each (λ pair. ChannelStands history pair.0 pair.1) pass.named
   pub ids : Each (λ pair. (1 ≤ pair.0) × (pair.0 ≤ length (channels_in history))) pass.named
   pub fulls : Each (HeldThere history) pass.fulls
-  pub lacks : Each (λ pair. Lacks history pair.0 pair.1) pass.lacks
+  pub lacks : Each (λ pair. IdsLack history pair.0 pair.1) pass.lacks
   pub found : (f : Found) → pass.found ≡ Some f → FoundBefore d f
   pub there : (f : Found) → pass.found ≡ Some f → FoundThere history f
   pub limit : pass.limit ≡ d.limit
 
 -- The desk stands for a state of the machine, whose records are the lane's own; it isn't closed.
 pub record IsAlone (lone : LoneDesk) (s : State) (pass : PassState) : Type 0 where
-  pub stands : StandsFor lone.desk s
+  pub stands : DeskStandsFor lone.desk s
   pub shows : Showing lone.desk s.history pass
   pub found : pass.found ≡ lone.found
   pub unclosed : end_of lone.desk ≡ Some ends.Closed → ⊥

@@ -1,5 +1,6 @@
 -- That what a pass showed is so of the history of a recording.
 use Rattle.std.specs.Prelude.{◌≡◌, ℕ, ◌-◌, ◌≤◌, List, length, take, drop, Option, Some, None}
+use Rattle.mcap_wire.specs.Limits.{id_limit}
 use Rattle.rec_data.specs.declared.owned.Rec.{Rec}
 use Rattle.rec_data.specs.declared.schema.SchemaDef.{SchemaDef}
 use Rattle.rec_data.specs.declared.channel.ChannelDef.{ChannelDef}
@@ -29,22 +30,22 @@ pub record ChannelStands (history : List Rec) (id : ℕ) (d : ChannelDef) : Type
 -- all ids of schemas were given, and none to this schema
 abbrev pub LacksSchema : List Rec → Option SchemaDef → Type 0
 LacksSchema history None = ⊥
-LacksSchema history (Some s) = (schema_count history ≡ 65535) × ((id : ℕ) → Has history (schema_of id (fields_of_schema s)) → ⊥)
+LacksSchema history (Some s) = (schema_count history ≡ id_limit) × ((id : ℕ) → Has history (schema_of id (fields_of_schema s)) → ⊥)
 
 -- all ids of channels were given, and none to this content
 abbrev pub LacksChannel : List Rec → ChannelDef → Type 0
-LacksChannel history d = (channel_count history ≡ 65535) × ((id : ℕ) → ChannelStands history id d → ⊥)
+LacksChannel history d = (channel_count history ≡ id_limit) × ((id : ℕ) → ChannelStands history id d → ⊥)
 
 -- why a declaration got no id
-abbrev pub Lacks : List Rec → ChannelDef → DeclareRefused → Type 0
-Lacks history d (declaring.TooLarge len) = ⊥
-Lacks history d (declaring.Closed at) = ⊥
-Lacks history d (declaring.Stopped at stop) = ⊥
-Lacks history d (declaring.TooManyRecords count) = ⊥
-Lacks history d (declaring.Full held) = ⊥
-Lacks history d declaring.TooManySchemas = LacksSchema history d.schema
-Lacks history d declaring.TooManyChannels = LacksChannel history d
-Lacks history d declaring.Memory = ⊥
+abbrev pub IdsLack : List Rec → ChannelDef → DeclareRefused → Type 0
+IdsLack history d (declaring.TooLarge len) = ⊥
+IdsLack history d (declaring.Closed at) = ⊥
+IdsLack history d (declaring.Stopped at stop) = ⊥
+IdsLack history d (declaring.TooManyRecords count) = ⊥
+IdsLack history d (declaring.Full held) = ⊥
+IdsLack history d declaring.TooManySchemas = LacksSchema history d.schema
+IdsLack history d declaring.TooManyChannels = LacksChannel history d
+IdsLack history d declaring.Memory = ⊥
 
 -- ---- a pass
 
@@ -75,5 +76,5 @@ pub record ShownBy (history : List Rec) (end : End) (pass : PassState) : Type 0 
   pub own : Each (λ pair. At history pair.0 pair.1) pass.own
   pub named : Each (λ pair. ChannelStands history pair.0 pair.1) pass.named
   pub fulls : Each (HeldThere history) pass.fulls
-  pub lacks : Each (λ pair. Lacks history pair.0 pair.1) pass.lacks
+  pub lacks : Each (λ pair. IdsLack history pair.0 pair.1) pass.lacks
   pub found : (found : Found) → pass.found ≡ Some found → FoundIn history end found

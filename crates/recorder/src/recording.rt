@@ -1,5 +1,7 @@
 //! Recording one feed into one store.
 ghost use Rattle.std.specs.Prelude.{◌≡◌, ◌≤◌, ℕ, List, [], ◌∷◌, length, vec_capacity, None, Some, IfOk};
+ghost use Rattle.mcap_wire.specs.Layout.{content_limit};
+ghost use Rattle.mcap_wire.specs.Limits.{buffer_limit, chunk_size_limit};
 ghost use Rattle.rec_data.specs.declared.owned.Rec.{Rec};
 ghost use Rattle.record_core.specs.Desk.{IsCause};
 ghost use Rattle.chunk_writer.specs.declared.phase.Phase.TheVariants as phases;
@@ -51,7 +53,7 @@ struct Nowhere<S> {
 // Makes the room for a recording.
 fn make_room(alloc: Global, limit: u64) -> Result<Room, Memory>
     requires some { 1 ≤ limit }
-    requires small { limit ≤ 1073741824 }
+    requires small { limit ≤ buffer_limit }
     ensures { IfOk result (λ room. IsRoom limit room) }
 {
     let mut feeds = Vec::new(alloc);
@@ -140,9 +142,9 @@ pub fn record<S: Source, L: LiveStore>(
     live: L,
 ) -> Recording<S, L>
     requires some { 1 ≤ options.now.limit }
-    requires small { options.now.limit ≤ 1073741824 }
-    requires size { (n : ℕ) → options.now.file.chunk ≡ Some n → (1 ≤ n) × (n ≤ 67108864) }
-    requires profile { length options.now.file.profile ≤ 268435456 }
+    requires small { options.now.limit ≤ buffer_limit }
+    requires size { (n : ℕ) → options.now.file.chunk ≡ Some n → (1 ≤ n) × (n ≤ chunk_size_limit) }
+    requires profile { length options.now.file.profile ≤ content_limit }
     ensures refused { result.report ≡ None → (result.feed ≡ feed) × (result.live ≡ live) }
     ensures stays { S.stays feed result.feed }
     ensures recorded { (r : _) → result.report ≡ Some r → Recorded options.now (sides (S.state feed) (L.state live)) (sides (S.state result.feed) (L.state result.live)) r }

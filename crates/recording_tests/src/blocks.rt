@@ -1,5 +1,6 @@
 //! Blocks byte by byte: where they are cut, and what stands in their Chunk and their Message Indexes.
 ghost use Rattle.std.specs.Prelude.{◌≤◌};
+ghost use Rattle.mcap_wire.specs.Limits.{chunk_size_limit};
 
 use crate::same::{holds, holds_at, same};
 use chunk_build::Chunker;
@@ -115,7 +116,7 @@ fn blocks_of(
     is_framed: bool,
 ) -> Result<Vec<Block>, Fail>
     requires some { 1 ≤ size }
-    requires within { size ≤ 67108864 }
+    requires within { size ≤ chunk_size_limit }
 {
     let mut found = Vec::new(alloc);
     let mut chunker = Chunker::new(alloc, size)?;
@@ -163,7 +164,7 @@ fn is_block(block: &Block, wanted: &Wanted<'_>) -> bool {
 // Whether the blocks of some records are these, where each is put as a value and as its bytes.
 fn are_cut(alloc: Global, size: u64, records: &[&[u8]], wanted: &[Wanted<'_>]) -> Result<bool, Fail>
     requires some { 1 ≤ size }
-    requires within { size ≤ 67108864 }
+    requires within { size ≤ chunk_size_limit }
 {
     let one = blocks_of(alloc, size, records, false)?;
     let other = blocks_of(alloc, size, records, true)?;

@@ -1,5 +1,6 @@
 //! Small recordings: their files, their reports, and what a store that fails leaves of both.
 ghost use Rattle.std.specs.Prelude.{◌≡◌, ◌≤◌, ℕ, Some};
+ghost use Rattle.mcap_wire.specs.Limits.{buffer_limit, chunk_size_limit};
 
 use crate::same::{holds, same};
 use mcap_io::{FailingWrite, MemoryLive, QuietSource};
@@ -55,8 +56,8 @@ fn record_small(
     failing: &[u64],
 ) -> Result<Outcome, Fail>
     requires some { 1 ≤ limit }
-    requires small { limit ≤ 1073741824 }
-    requires size { (n : ℕ) → chunk ≡ Some n → (1 ≤ n) × (n ≤ 67108864) }
+    requires small { limit ≤ buffer_limit }
+    requires size { (n : ℕ) → chunk ≡ Some n → (1 ≤ n) × (n ≤ chunk_size_limit) }
 {
     let file = FileOptions {
         profile: Text::copied(alloc, "")?,

@@ -1,6 +1,7 @@
 //! The lengths of small files that are written record by record and buffer by buffer, what each failing append leaves of them,
 //! the entries of blocks, and the limits.
 ghost use Rattle.std.specs.Prelude.{◌≡◌, ◌≤◌, ℕ, Some};
+ghost use Rattle.mcap_wire.specs.Limits.{chunk_size_limit};
 ghost use Rattle.record_cache.specs.Buffers.{IsKept};
 ghost use Rattle.record_cache.specs.Offers.{rec_of};
 ghost use Rattle.chunk_writer.specs.declared.phase.Phase.TheVariants as phases;
@@ -187,7 +188,7 @@ fn write(
     messages: usize,
     failing: Vec<FailingWrite>,
 ) -> Result<Outcome, Fail>
-    requires { (n : ℕ) → chunk ≡ Some n → (1 ≤ n) × (n ≤ 67108864) }
+    requires { (n : ℕ) → chunk ≡ Some n → (1 ≤ n) × (n ≤ chunk_size_limit) }
 {
     let options = FileOptions {
         profile: Text::copied(alloc, "")?,
@@ -259,7 +260,7 @@ fn leaves_a_front(
     taken: u64,
     whole: &[u8],
 ) -> Result<Option<(u64, u64)>, Fail>
-    requires { (n : ℕ) → chunk ≡ Some n → (1 ≤ n) × (n ≤ 67108864) }
+    requires { (n : ℕ) → chunk ≡ Some n → (1 ≤ n) × (n ≤ chunk_size_limit) }
 {
     let mut failing = Vec::new(alloc);
     failing.push(FailingWrite { call, taken })?;

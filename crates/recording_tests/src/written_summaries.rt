@@ -1,5 +1,6 @@
 //! Summaries byte by byte: the records are spelled by hand from their layouts, the Footers' CRCs are zlib's.
 ghost use Rattle.std.specs.Prelude.{◌≡◌, ◌+◌, ◌^◌, ◌<◌, ◌≤◌, List, length, IfOk, IfSome};
+ghost use Rattle.mcap_wire.specs.Limits.{chunk_size_limit};
 ghost use Rattle.rec_data.specs.declared.owned.Rec.{Rec};
 ghost use Rattle.rec_data.specs.Owned.{LengthsFit};
 ghost use Rattle.mcap_model.specs.Built.{IsBlock};
@@ -161,7 +162,7 @@ fn noted(summary: &mut Summary, at: u64, closed: &Option<Block>) -> Result<u64, 
 // Notes records and their blocks, of which the first stands at 34, and gives the offset behind the last.
 fn note_all(alloc: Global, summary: &mut Summary, size: u64, records: &[&[u8]]) -> Result<u64, Fail>
     requires some { 1 ≤ size }
-    requires within { size ≤ 67108864 }
+    requires within { size ≤ chunk_size_limit }
     requires few { length records.now ≤ 10 }
     requires messages { summary.old.messages ≡ 0 }
     requires blocks { summary.old.blocks ≡ 0 }

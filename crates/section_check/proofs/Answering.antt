@@ -10,7 +10,3 @@ on_ok P Q (Err e) p f = tt
 pub not_true : (b : Bool) → not b ≡ true → b ≡ false
 not_true true e = absurd (both_ways false refl e)
 not_true false e = refl
-
-pub not_false : (b : Bool) → not b ≡ false → b ≡ true
-not_false true e = refl
-not_false false e = absurd (both_ways true e refl)

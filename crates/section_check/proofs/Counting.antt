@@ -17,6 +17,7 @@ use Rattle.mcap_model.proofs.Places.{at_kept, at_last, at_more, has_kept, has_la
 use Rattle.mcap_model.proofs.Logging.{few_filtered}
 use Rattle.mcap_model.proofs.Maps.{schema_once, shows_once}
 use Rattle.mcap_model.proofs.Spans.{times_other, times_with}
+use Rattle.mcap_model.proofs.OneMore.{zip_push, channel_kept, channel_either}
 use Rattle.index_check.specs.Ids.{AddsOnce}
 use Rattle.section_check.specs.declared.record_counts.RecordCounts.{RecordCounts}
 use Rattle.section_check.specs.MessageCounts.{IsOneMore}
@@ -35,12 +36,6 @@ count_same op xs t is = ap length (filter_yes (λ (u : Top). eqb u.op op) xs t (
 
 pub count_other : (op : ℕ) (xs : List Top) (t : Top) → (t.op ≡ op → ⊥) → count_of op (xs ++ t ∷ []) ≡ count_of op xs
 count_other op xs t other = ap length (filter_no (λ (u : Top). eqb u.op op) xs t (ne_eqb t.op op other))
-
-zip_more : {X Y : Type 0} (R : X → Y → Type 0) (xs : List X) (ys : List Y) (x : X) (y : Y) → AllZip R xs ys → R x y → AllZip R (xs ++ x ∷ []) (ys ++ y ∷ [])
-zip_more R [] [] x y zip here = (here, tt)
-zip_more R [] (z ∷ ys) x y zip here = absurd zip
-zip_more R (w ∷ xs) [] x y zip here = absurd zip
-zip_more R (w ∷ xs) (z ∷ ys) x y zip here = (zip.0, zip_more R xs ys x y zip.1 here)
 
 zip_long : {X Y : Type 0} (R : X → Y → Type 0) (xs : List X) (ys : List Y) → AllZip R xs ys → length xs ≡ length ys
 zip_long R [] [] zip = refl
@@ -81,15 +76,6 @@ schema_either records t j has = elim (at_more records t has.place has.top has.at
 schemas_stay : (records : List Top) (t : Top) (ids : List ℕ) → (t.op ≡ 3 → ⊥) → AreIds (HasSchema records) ids → AreIds (HasSchema (records ++ t ∷ [])) ids
 schemas_stay records t ids other are = ids_stay (HasSchema records) (HasSchema (records ++ t ∷ [])) ids are (schema_kept records t)
     (λ j has. elim (schema_either records t j has) [ inl old ↦ old | inr (f, is) ↦ absurd (other is.kind) ])
-
-channel_kept : (records : List Top) (t : Top) (id : ℕ) → HasChannel records id → HasChannel (records ++ t ∷ []) id
-channel_kept records t id has = record { place = has.place; top = has.top; shown = has.shown; at = at_kept records (t ∷ []) has.place has.top has.at; is = has.is }
-
-channel_either : (records : List Top) (t : Top) (j : ℕ) → HasChannel (records ++ t ∷ []) j → HasChannel records j ⊎ ((f : ChannelFields) × IsChannel t j f)
-channel_either records t j has = elim (at_more records t has.place has.top has.at) [
-  | inl old ↦ inl (record { place = has.place; top = has.top; shown = has.shown; at = old; is = has.is })
-  | inr (_, same) ↦ inr (has.shown, subst (λ (u : Top). IsChannel u j has.shown) same has.is)
-]
 
 channels_stay : (records : List Top) (t : Top) (ids : List ℕ) → (t.op ≡ 4 → ⊥) → AreIds (HasChannel records) ids → AreIds (HasChannel (records ++ t ∷ [])) ids
 channels_stay records t ids other are = ids_stay (HasChannel records) (HasChannel (records ++ t ∷ [])) ids are (channel_kept records t)
@@ -151,7 +137,7 @@ counted_message records t old new by_channel channel m was is few more hears = r
       (record { any = hears.any; first_least = hears.first_least; first_greatest = hears.first_greatest; least = hears.least; greatest = hears.greatest });
   channels_of = was.channels_of ++ channel ∷ [];
   are_channels = subst (λ (l : List Top). AllZip (λ u c. (f : MessageFields) × IsMessage u c f) l (was.channels_of ++ channel ∷ [])) (sym (filter_yes is_message_top records t (eq-eqb t.op 5 five)))
-      (zip_more (λ u c. (f : MessageFields) × IsMessage u c f) (filter is_message_top records) was.channels_of t channel was.are_channels (m, is));
+      (zip_push (λ u c. (f : MessageFields) × IsMessage u c f) (filter is_message_top records) was.channels_of t channel was.are_channels (m, is));
   by_channel = λ id. ap (λ (l : List ℕ). slice_index l id) hears.by_channel ∙ by id (eqb id channel) refl;
   schemas = subst (AreIds (HasSchema (records ++ t ∷ []))) (sym hears.schemas) (schemas_stay records t old.schemas (λ e. omega (arith, e, five)) was.schemas);
   channels = subst (AreIds (HasChannel (records ++ t ∷ []))) (sym hears.channels) (channels_stay records t old.channels (λ e. omega (arith, e, five)) was.channels);

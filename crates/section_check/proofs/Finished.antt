@@ -14,6 +14,7 @@ use Rattle.mcap_model.proofs.Cutting.{last_of}
 use Rattle.mcap_model.proofs.Flat.{flat_more}
 use Rattle.mcap_model.proofs.Lists.{filter_has}
 use Rattle.mcap_model.proofs.Places.{at_within, each_at}
+use Rattle.mcap_model.proofs.TakenRecords.{ended_more}
 use Rattle.index_check.specs.declared.spots.Spot.{Spot}
 use Rattle.index_check.specs.declared.tally.Tally.{Tally}
 use Rattle.index_check.specs.declared.tally.IdCounts.{IdCounts}
@@ -32,10 +33,6 @@ has_end [] t (inl is) = inr is
 has_end [] t (inr none) = absurd none
 has_end (x ∷ xs) t (inl is) = inl (inl is)
 has_end (x ∷ xs) t (inr more) = elim (has_end xs t more) [ inl old ↦ inl (inr old) | inr last ↦ inr last ]
-
-ended_more : (tops : List Top) (t : Top) → t.op ≡ 15 → HasDataEnd (tops ++ t ∷ [])
-ended_more [] t is = inl is
-ended_more (x ∷ xs) t is = inr (ended_more xs t is)
 
 pub data_section : (tops : List Top) → Good reading_limits tops → HasDataEnd tops → (section : List Top) × IsSection tops section
 data_section [] good ended = absurd ended

@@ -1,10 +1,10 @@
 -- The Schemas, Channels and Messages of one record more, and how few they are.
-use Rattle.std.proofs.Common.{◌≡◌, ℕ, zero, suc, ◌+◌, ◌<◌, ◌≤◌, Bool, true, false, List, [], ◌∷◌, length, take, drop, cond, refl, ap, ◌∙◌, arith}
+use Rattle.std.proofs.Common.{◌≡◌, ◌+◌, ◌<◌, ◌≤◌, Bool, true, false, List, [], ◌∷◌, length, cond, refl, ap, ◌∙◌, arith}
 use Rattle.std.specs.Prelude.{nat_lt}
 use Rattle.std.proofs.lemmas.Bool.{or_parts, ltb-false, ne_eqb, eq-eqb}
-use Rattle.std.proofs.lemmas.List.{length-append, length-take, length-drop}
+use Rattle.std.proofs.lemmas.List.{length-append}
 use Rattle.mcap_model.specs.Places.{Each}
-use Rattle.mcap_model.specs.Tops.{Top, top_bytes, spelled, offset_behind, first_top, behind_first, begins_record, first_records, records_in, chunk_records, is_chunk, inner_tops, opened, is_flat_kind, flattened, flat}
+use Rattle.mcap_model.specs.Tops.{Top, top_bytes, spelled, offset_behind, records_in, chunk_records, is_chunk, inner_tops, opened, is_flat_kind, flattened, flat}
 use Rattle.mcap_model.specs.Fields.{ChunkFields, IsChunk}
 use Rattle.mcap_model.specs.Rules.{V6}
 use Rattle.mcap_model.specs.Kept.{reading_limits, Fits}
@@ -12,6 +12,7 @@ use Rattle.mcap_model.proofs.Flat.{named_or}
 use Rattle.mcap_model.proofs.Logging.{few_filtered}
 use Rattle.mcap_model.proofs.Readings.{length-top}
 use Rattle.mcap_model.proofs.Unpacking.{chunks_are_opened}
+use Rattle.mcap_model.proofs.FewRecords.{records_short, chunk_short}
 
 -- ---- what a record holds
 
@@ -28,25 +29,6 @@ pub chunk_meets : (tops : List Top) (t : Top) (f : ChunkFields) → IsChunk t f 
 chunk_meets tops t f is fits = (fits.v8 f is (named_or t f f.compression is refl fits.plain)).layouts
 
 -- ---- they are fewer than the bytes
-
-first_short : (n : ℕ) (bytes : List ℕ) → length (first_records n bytes) ≤ n
-first_short zero bytes = omega arith
-first_short (suc n) bytes = by (begins_record bytes) (first_short n (behind_first bytes))
-  where
-    by : (b : Bool) → length (first_records n (behind_first bytes)) ≤ n → length (cond b (first_top bytes ∷ first_records n (behind_first bytes)) []) ≤ suc n
-    by true short = omega (arith, short)
-    by false short = omega arith
-
-records_short : (bytes : List ℕ) → length (records_in bytes) ≤ length bytes
-unfolding records_in
-records_short bytes = first_short (length bytes) bytes
-
-part_short : (bytes : List ℕ) (n at : ℕ) → length (take n (drop at bytes)) ≤ length bytes
-part_short bytes n at = omega (arith, length-take n (drop at bytes), length-drop at bytes)
-
-chunk_short : (content : List ℕ) → length (chunk_records content) ≤ length content
-unfolding chunk_records
-chunk_short content = part_short content _ _
 
 pub opened_short : (t : Top) → length (opened t) ≤ length (top_bytes t)
 opened_short t = by (is_chunk t)

@@ -1,29 +1,19 @@
 -- The answers of a reading.
-use Rattle.std.proofs.Common.{◌≡◌, List, [], ◌∷◌, ◌++◌, length, Err, refl, sym, ap, subst, inl, inr, ◌∙◌, arith}
+use Rattle.std.proofs.Common.{List, [], ◌∷◌, ◌++◌, length, Err, ap, inl, inr, arith}
 use Rattle.mcap_io.specs.Outside.{SourceState}
 use Rattle.mcap_model.specs.Tops.{Top}
-use Rattle.mcap_model.proofs.Places.{at_none}
-use Rattle.mcap_scan.specs.declared.answers.ScanRefused.{ScanRefused}
 use Rattle.mcap_scan.specs.declared.reader.Reader.{Reader}
 use Rattle.mcap_scan.specs.declared.reader.Stage.{Stage}
 use Rattle.mcap_scan.specs.declared.reader.Stage.TheVariants as stages
-use Rattle.mcap_scan.specs.Scanning.{Stands, StageStands, IsGoing, IsEnded, RefusalStands, Refuses, MemoryStands}
+use Rattle.mcap_scan.specs.Scanning.{Stands, StageStands, IsGoing, IsEnded, MemoryStands}
 use Rattle.mcap_model.specs.declared.tables.Tables.{Tables}
 use Rattle.std.specs.Prelude.{ℕ}
 use Rattle.std.proofs.lemmas.List.{length-append}
 use Rattle.section_check.specs.declared.gathering.Gathering.{Gathering}
 use Rattle.section_check.specs.declared.last_chunk.TakeRefused.{TakeRefused}
 use Rattle.section_check.specs.declared.last_chunk.TakeRefused.TheVariants as takings
-use Rattle.section_check.specs.Gathering.{RecordTaken}
+use Rattle.section_check.specs.Gathering.{RecordGathered}
 use Rattle.section_check.specs.Reading.{AreRead, Reads, refused_as}
-
--- nothing was read, for want of memory
-pub nothing_read : (before : SourceState) → MemoryStands before before []
-nothing_read before = record {
-  still = refl;
-  good = λ n t at. absurd (at_none n t at);
-  leaves = λ bytes told. inl (refl, told);
-}
 
 -- memory lacked behind the Data End
 pub lacks_at_end : (tables : Tables) (offset : ℕ) (before now : SourceState) (tops : List Top) → IsEnded tables offset before now tops → MemoryStands before now tops
@@ -45,15 +35,7 @@ read_so_far reader before now tops t = by reader.stage
     by stages.Ended going was = record { still = was.still; good = was.good; read = was.read }
     by (stages.Stopped why) going was = absurd going
 
--- the refusal that a reader hands out is the one that it keeps
-pub refusal_stands : (reader : Reader) (before now : SourceState) (tops : List Top) (why : ScanRefused) → Refuses reader before now tops → reader.stage ≡ stages.Stopped why → RefusalStands why before now tops
-refusal_stands reader before now tops why refuses is =
-    subst (λ (w : ScanRefused). RefusalStands w before now tops) (same (sym refuses.stage ∙ is)) refuses.stands
-  where
-    same : {a b : ScanRefused} → stages.Stopped a ≡ stages.Stopped b → a ≡ b
-    same e = cc
-
 -- a record that was read wasn't taken
-pub not_taken : (before now : SourceState) (tops : List Top) (g : Gathering) (why : TakeRefused) → RecordTaken tops g (Err why) → MemoryStands before now tops → AreRead before now tops → Reads before now (Err (refused_as why))
+pub not_taken : (before now : SourceState) (tops : List Top) (g : Gathering) (why : TakeRefused) → RecordGathered tops g (Err why) → MemoryStands before now tops → AreRead before now tops → Reads before now (Err (refused_as why))
 not_taken before now tops g (takings.Index offset) fails lacks read = (tops, record { are_read = read; fails = fails })
 not_taken before now tops g takings.Memory fails lacks read = (tops, lacks)

@@ -20,7 +20,7 @@ pub record GatheredOf (tops : List Top) (g : Gathering) : Type 0 where
   pub at_top : (g.has_messages ≡ true) ↔ HasMessage tops
 
 -- the last of these records was taken
-abbrev pub RecordTaken : List Top → Gathering → Result Unit TakeRefused → Type 0
-RecordTaken tops g (Ok it) = GatheredOf tops g
-RecordTaken tops g (Err (refusals.Index offset)) = IndexFails tops offset
-RecordTaken tops g (Err refusals.Memory) = Unit {0}
+abbrev pub RecordGathered : List Top → Gathering → Result Unit TakeRefused → Type 0
+RecordGathered tops g (Ok it) = GatheredOf tops g
+RecordGathered tops g (Err (refusals.Index offset)) = IndexFails tops offset
+RecordGathered tops g (Err refusals.Memory) = Unit {0}

@@ -9,7 +9,7 @@ ghost use Rattle.mcap_model.specs.Whole.{IsSection};
 ghost use Rattle.mcap_model.specs.Made.{top};
 ghost use Rattle.index_check.specs.Section.{SectionOf};
 ghost use Rattle.index_check.specs.Tally.{TallyOf};
-ghost use Rattle.section_check.specs.Gathering.{GatheredOf, RecordTaken};
+ghost use Rattle.section_check.specs.Gathering.{GatheredOf, RecordGathered};
 
 use crate::indexed_records::IndexedRecords;
 use crate::last_chunk::{LastChunk, TakeRefused};
@@ -53,7 +53,7 @@ impl Gathering {
         requires chunks { Each (λ s. s.offset < offset) self.old.indexed.chunks.spots }
         requires attachments { Each (λ s. s.offset < offset) self.old.indexed.attachments.spots }
         requires metadata { Each (λ s. s.offset < offset) self.old.indexed.metadata.spots }
-        ensures { (tops : List Top) → GatheredOf tops self.old → Fits reading_limits tops (top op content.now) → offset ≡ offset_behind tops → RecordTaken (tops ++ top op content.now ∷ []) self.new result }
+        ensures { (tops : List Top) → GatheredOf tops self.old → Fits reading_limits tops (top op content.now) → offset ≡ offset_behind tops → RecordGathered (tops ++ top op content.now ∷ []) self.new result }
     {
         match self.last.take(alloc, op, offset, content) {
             Ok(()) => {}

@@ -14,9 +14,11 @@ use Rattle.mcap_model.specs.Whole.{AreShort}
 use Rattle.mcap_model.specs.Valid.{Flaw, flaw_4, flaw_5}
 use Rattle.mcap_model.specs.Plain.{cut_top}
 use Rattle.mcap_model.proofs.Flat.{map-append}
-use Rattle.mcap_model.proofs.Lists.{each_cons, each_joined}
+use Rattle.mcap_model.proofs.Lists.{each_joined}
 use Rattle.mcap_model.proofs.Places.{at_none, at_within, at_more}
 use Rattle.mcap_model.proofs.Readings.{length-top}
+use Rattle.mcap_model.proofs.TakenRecords.{spelled_more}
+use Rattle.mcap_model.proofs.OneMore.{each_last}
 use Rattle.summary_read.specs.Parts.{tops_of}
 use Rattle.summary_read.proofs.Walking.{declared_there, opcode_there}
 use Rattle.summary_check.specs.declared.refusals.SummaryRefused.{SummaryRefused}
@@ -26,7 +28,7 @@ use Rattle.summary_check.specs.Cutting.{IsRead, CutsTo, AreCut}
 
 -- ---- why none is cut
 
-inner_is : (rest : List ℕ) → take (length (rest ++ magic) - 8) (rest ++ magic) ≡ rest
+pub inner_is : (rest : List ℕ) → take (length (rest ++ magic) - 8) (rest ++ magic) ≡ rest
 inner_is rest =
     let size : length (rest ++ magic) - 8 ≡ length rest = omega (arith, length-append rest magic) in
     ap (λ (k : ℕ). take k (rest ++ magic)) size ∙ take_at rest magic (length rest) refl
@@ -89,12 +91,6 @@ long_refused bytes at len offset tops fails there =
 
 -- ---- one record more
 
-pub each_last : {X : Type 0} (P : X → Type 0) (xs : List X) (x : X) → Each P xs → P x → Each P (xs ++ x ∷ [])
-each_last P xs x each one = each_joined P xs (x ∷ []) each (each_cons P x [] one (λ n y at. absurd (at_none n y at)))
-
-pub spelled_last : (tops : List Top) (t : Top) → spelled (tops ++ t ∷ []) ≡ spelled tops ++ top_bytes t
-spelled_last tops t = flat_map-append top_bytes tops (t ∷ []) ∙ ap (λ (l : List ℕ). spelled tops ++ l) (append-nil (top_bytes t))
-
 pub cuts_none : (bytes : List ℕ) → CutsTo bytes 0 []
 cuts_none bytes = record {
   within = omega arith;
@@ -111,7 +107,7 @@ cuts_more bytes at cuts c so_far is =
     let stands = is.stands in
     let size : length t.content ≡ c.to - c.from = omega (arith, length-take (c.to - c.from) (drop c.from bytes), length-drop c.from bytes, stands.ends) in
     let tops_are : tops_of bytes (cuts ++ c ∷ []) ≡ tops_of bytes cuts ++ t ∷ [] = map-append (cut_top bytes) cuts (c ∷ []) in
-    let text : spelled (tops_of bytes (cuts ++ c ∷ [])) ≡ spelled (tops_of bytes cuts) ++ top_bytes t = ap spelled tops_are ∙ spelled_last (tops_of bytes cuts) t in
+    let text : spelled (tops_of bytes (cuts ++ c ∷ [])) ≡ spelled (tops_of bytes cuts) ++ top_bytes t = ap spelled tops_are ∙ spelled_more (tops_of bytes cuts) t in
     record {
       within = stands.ends;
       split = so_far.split

@@ -18,6 +18,7 @@ use Rattle.mcap_model.proofs.Flat.{map-append}
 use Rattle.mcap_model.proofs.Lists.{each_joined}
 use Rattle.mcap_model.proofs.Places.{at_none, at_within, at_kept, at_last, last_apart}
 use Rattle.mcap_model.proofs.Readings.{short_there}
+use Rattle.mcap_model.proofs.TakenRecords.{ended_more}
 use Rattle.index_check.specs.declared.section.Section.{Section}
 use Rattle.summary_read.specs.Parts.{tops_of, AreInside}
 use Rattle.summary_read.proofs.FileEnds.{footer_size}
@@ -25,16 +26,12 @@ use Rattle.summary_check.specs.Closing.{IsOfFooter, NoFooter}
 use Rattle.summary_check.specs.Cutting.{ArePlaced, AreCut}
 use Rattle.summary_check.specs.Files.{file_of}
 use Rattle.summary_check.specs.Filed.{records_of, Filed}
-use Rattle.summary_check.specs.Laid.{IsEnded, IsFront}
+use Rattle.summary_check.specs.Laid.{EndsWithDataEnd, IsFront}
 use Rattle.summary_check.specs.Sectioned.{IsSectioned}
 use Rattle.summary_check.proofs.Cuts.{size_of}
 use Rattle.summary_check.proofs.Onward.{length-tops}
 
 -- ---- the data section
-
-has_last : (section : List Top) (end : Top) → end.op ≡ 15 → HasDataEnd (section ++ end ∷ [])
-has_last [] end kind = inl kind
-has_last (x ∷ xs) end kind = inr (has_last xs end kind)
 
 nothing_behind : (tops section behind : List Top) (end : Top) → Good reading_limits tops → tops ≡ section ++ end ∷ behind → end.op ≡ 15 → behind ≡ []
 nothing_behind tops section [] end good joined kind = refl
@@ -43,9 +40,9 @@ nothing_behind tops section (t ∷ ts) end good joined kind =
     let at : At tops (length (section ++ end ∷ [])) t = subst (λ (l : List Top). At l (length (section ++ end ∷ [])) t) (sym same) (at_last (section ++ end ∷ []) t ts) in
     let front : take (length (section ++ end ∷ [])) tops ≡ section ++ end ∷ [] = ap (take (length (section ++ end ∷ []))) same ∙ take-append_seam (section ++ end ∷ []) (t ∷ ts) in
     let fits = good (length (section ++ end ∷ [])) t at in
-    absurd (fits.unended (subst HasDataEnd (sym front) (has_last section end kind)))
+    absurd (fits.unended (subst HasDataEnd (sym front) (ended_more section end kind)))
 
-pub sectioned_ended : (tops : List Top) (s : Section) → IsSectioned tops s → IsEnded tops
+pub sectioned_ended : (tops : List Top) (s : Section) → IsSectioned tops s → EndsWithDataEnd tops
 sectioned_ended tops s is =
     let kept = is.kept in
     let section = kept.is in
@@ -160,7 +157,7 @@ end_flaw tops all rest offset whole bad there =
     subst (Flaw (file_of tops rest) 17) same (flaw_17 (inr (all, whole, bad)))
 
 -- nothing stands behind the Data End
-pub nothing_flaw : (tops : List Top) (bytes : List ℕ) (offset : ℕ) → IsEnded tops → AreShort tops → AreCut bytes [] → offset ≡ offset_behind tops + (length bytes + 8) - 37 → Flaw (file_of tops bytes) 17 offset
+pub nothing_flaw : (tops : List Top) (bytes : List ℕ) (offset : ℕ) → EndsWithDataEnd tops → AreShort tops → AreCut bytes [] → offset ≡ offset_behind tops + (length bytes + 8) - 37 → Flaw (file_of tops bytes) 17 offset
 nothing_flaw tops bytes offset ended short are there =
     end_flaw tops tops bytes offset (record { split = ap (λ (l : List ℕ). magic ++ (spelled tops ++ (l ++ magic))) are.split; short = short })
     (no_end tops ended.section ended.end ended.joined (λ summary offsets crc footer. omega (arith, ended.kind, footer.kind))) there

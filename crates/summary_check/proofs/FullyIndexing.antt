@@ -19,14 +19,14 @@ use Rattle.index_check.specs.declared.chunk_indexes.Chunks.{Chunks}
 use Rattle.index_check.specs.Chunks.{HasMessage, ChunksOf, ChunksNamed}
 use Rattle.index_check.proofs.Spotted.{one_place, note_there}
 use Rattle.mcap_wire.specs.declared.faults.Cut.{Cut}
+use Rattle.mcap_model.proofs.Once.{chunk_index_once}
 use Rattle.summary_read.specs.Parts.{tops_of}
 use Rattle.summary_read.specs.Steps.{Judged}
 use Rattle.summary_check.specs.Offsets.{Spans}
 use Rattle.summary_check.proofs.Onward.{op_there, tops_within}
-use Rattle.summary_check.specs.Laid.{all_of, IsEnded, IsFront}
+use Rattle.summary_check.specs.Laid.{all_of, EndsWithDataEnd, IsFront}
 use Rattle.summary_check.specs.FullIndex.{EmptyIsRight, EmptyRight, HasStatistics, IsFull}
 use Rattle.summary_check.proofs.Laying.{length-all, body_there, foot_there, body_back, body_within, within_body, front_not}
-use Rattle.summary_check.proofs.Once.{chunk_index_once}
 
 -- ---- lists
 
@@ -80,7 +80,7 @@ seven t is = eqb-true t.op 7 is
 
 -- ---- the file
 
-module _ (file : List ℕ) (tops body : List Top) (foot : Top) (valid : Valid file (all_of tops body foot)) (ended : IsEnded tops) (kinds : Each IsFront tops) (judged : Each (λ t. Judged t None) body) (foot_is : foot.op ≡ 2) where
+module _ (file : List ℕ) (tops body : List Top) (foot : Top) (valid : Valid file (all_of tops body foot)) (ended : EndsWithDataEnd tops) (kinds : Each IsFront tops) (judged : Each (λ t. Judged t None) body) (foot_is : foot.op ≡ 2) where
   abbrev all : List Top
   all = all_of tops body foot
 

@@ -11,7 +11,7 @@ use Rattle.mcap_model.specs.Rules.{HasDataEnd}
 use Rattle.mcap_model.specs.Whole.{offset_of, behind_end, StartsWith, EndsWith, IsGroup}
 use Rattle.mcap_model.proofs.Places.{at_none, at_within, at_kept, at_last}
 use Rattle.mcap_model.proofs.Lists.{at_either, at_second, at_taken, cut_at}
-use Rattle.summary_check.specs.Laid.{all_of, IsEnded}
+use Rattle.summary_check.specs.Laid.{all_of, EndsWithDataEnd}
 use Rattle.summary_check.proofs.Laying.{length-all, body_there, body_back, before_body, within_body, behind_ended, end_within, has_end}
 
 at_dropped : {X : Type 0} (n : ℕ) (xs : List X) (k : ℕ) (x : X) → At (drop n xs) k x → At xs (n + k) x
@@ -44,7 +44,7 @@ some_first : (op : ℕ) (group : List Top) → StartsWith op group → 0 < lengt
 some_first op group (x, others, is, kind) = let size_is = ap length is in omega (arith, size_is)
 
 -- a group begins with a record of the summary
-pub group_first : (tops body : List Top) (foot : Top) → IsEnded tops → (op offset size : ℕ) (g : IsGroup (all_of tops body foot) op offset size)
+pub group_first : (tops body : List Top) (foot : Top) → EndsWithDataEnd tops → (op offset size : ℕ) (g : IsGroup (all_of tops body foot) op offset size)
     → (k : ℕ) × (x : Top) × (length g.front ≡ length tops + k) × (k < length body) × At body k x × (x.op ≡ op)
 group_first tops body foot ended op offset size g =
     let (x, others, is, kind) = g.starts in
@@ -57,7 +57,7 @@ group_first tops body foot ended op offset size g =
     let (k, place, less) = within_body tops body foot ended (length g.front) (subst HasDataEnd (sym front) g.within, room) in
     (k, x, place, less, body_back tops body foot k x less (subst (λ (m : ℕ). At (all_of tops body foot) m x) place there), kind)
 
-module _ (tops body : List Top) (foot : Top) (ended : IsEnded tops) (op i j : ℕ) (t u : Top) (at_i : At body i t) (is_i : t.op ≡ op) (at_j : At body j u) (is_j : u.op ≡ op) (between : (k : ℕ) (x : Top) → At body k x → x.op ≡ op → (i ≤ k) × (k ≤ j)) where
+module _ (tops body : List Top) (foot : Top) (ended : EndsWithDataEnd tops) (op i j : ℕ) (t u : Top) (at_i : At body i t) (is_i : t.op ≡ op) (at_j : At body j u) (is_j : u.op ≡ op) (between : (k : ℕ) (x : Top) → At body k x → x.op ≡ op → (i ≤ k) × (k ≤ j)) where
   abbrev all : List Top
   all = all_of tops body foot
 

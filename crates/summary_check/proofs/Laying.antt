@@ -14,11 +14,11 @@ use Rattle.mcap_model.proofs.Flat.{at_mapped}
 use Rattle.mcap_model.proofs.Places.{at_within, at_kept, at_last}
 use Rattle.mcap_model.proofs.Lists.{at_either, at_second, take_second}
 use Rattle.mcap_model.proofs.Readings.{length-top}
-use Rattle.index_check.proofs.Apart.{taken_more}
+use Rattle.mcap_model.proofs.TakenRecords.{ended_more, spelled_more}
+use Rattle.mcap_model.proofs.OneMore.{taken_more}
 use Rattle.summary_read.specs.Parts.{tops_of}
-use Rattle.summary_check.specs.Laid.{all_of, IsEnded, IsFront, Laid}
+use Rattle.summary_check.specs.Laid.{all_of, EndsWithDataEnd, IsFront, Laid}
 use Rattle.summary_check.proofs.Onward.{length-tops}
-use Rattle.summary_check.proofs.Cuts.{spelled_last}
 
 -- ---- Data Ends
 
@@ -33,12 +33,8 @@ end_taken [] (suc n) has = absurd has
 end_taken (x ∷ xs) (suc n) (inl here) = inl here
 end_taken (x ∷ xs) (suc n) (inr later) = inr (end_taken xs n later)
 
-end_last : (xs : List Top) (end : Top) → end.op ≡ 15 → HasDataEnd (xs ++ end ∷ [])
-end_last [] end kind = inl kind
-end_last (x ∷ xs) end kind = inr (end_last xs end kind)
-
-pub has_end : (tops : List Top) → IsEnded tops → HasDataEnd tops
-has_end tops e = subst HasDataEnd (sym e.joined) (end_last e.section e.end e.kind)
+pub has_end : (tops : List Top) → EndsWithDataEnd tops → HasDataEnd tops
+has_end tops e = subst HasDataEnd (sym e.joined) (ended_more e.section e.end e.kind)
 
 behind_last : (xs : List Top) (end : Top) (rest : List Top) → end.op ≡ 15 → (HasDataEnd xs → ⊥) → behind_end (xs ++ end ∷ rest) ≡ rest
 behind_last [] end rest kind none = ap (λ (b : Bool). if b then rest else behind_end rest) (eq-eqb end.op 15 kind)
@@ -46,12 +42,12 @@ behind_last (x ∷ xs) end rest kind none =
     ap (λ (b : Bool). if b then xs ++ end ∷ rest else behind_end (xs ++ end ∷ rest)) (ne_eqb x.op 15 (λ e. none (inl e)))
     ∙ behind_last xs end rest kind (λ e. none (inr e))
 
-pub behind_ended : (tops rest : List Top) → IsEnded tops → behind_end (tops ++ rest) ≡ rest
+pub behind_ended : (tops rest : List Top) → EndsWithDataEnd tops → behind_end (tops ++ rest) ≡ rest
 behind_ended tops rest e =
     ap (λ (l : List Top). behind_end (l ++ rest)) e.joined ∙ ap behind_end (append_assoc e.section (e.end ∷ []) rest) ∙ behind_last e.section e.end rest e.kind e.unended
 
 -- in front of a record of the section stands no Data End
-pub unended_front : (tops more : List Top) (n : ℕ) → IsEnded tops → n < length tops → HasDataEnd (take n (tops ++ more)) → ⊥
+pub unended_front : (tops more : List Top) (n : ℕ) → EndsWithDataEnd tops → n < length tops → HasDataEnd (take n (tops ++ more)) → ⊥
 unended_front tops more n e less has =
     let size = ap length e.joined in
     let few : n ≤ length e.section = omega (arith, less, size, length-append e.section (e.end ∷ [])) in
@@ -90,7 +86,7 @@ module _ (tops body : List Top) (foot : Top) where
   pub before_body : (k : ℕ) → k ≤ length body → take (length tops + k) (all_of tops body foot) ≡ tops ++ take k body
   before_body k few = take_second tops (body ++ foot ∷ []) k ∙ ap (λ (l : List Top). tops ++ l) (take-append-le k body (foot ∷ []) few)
 
-  module _ (ended : IsEnded tops) where
+  module _ (ended : EndsWithDataEnd tops) where
     pub body_within : (k : ℕ) → k < length body → InSummary (all_of tops body foot) (length tops + k)
     body_within k less = (
       subst HasDataEnd (sym (before_body k (omega (arith, less)))) (end_within tops (take k body) (has_end tops ended)),
@@ -130,7 +126,7 @@ module _ (tops : List Top) (bytes : List ℕ) (cuts : List Cut) (start : ℕ) (f
       let placed = laid.placed k c at in
       let inside = laid.inside k c at in
       let more = taken_more body k t (at_mapped (cut_top bytes) cuts k c at) in
-      let text = ap length (ap spelled more ∙ spelled_last (take k body) t) in
+      let text = ap length (ap spelled more ∙ spelled_more (take k body) t) in
       let size : length t.content ≡ c.to - c.from = omega (arith, length-take (c.to - c.from) (drop c.from bytes), length-drop c.from bytes, inside.1) in
       let next : suc (length tops + k) ≡ length tops + (k + 1) = omega arith in
       ap (offset_of (all_of tops body foot)) next

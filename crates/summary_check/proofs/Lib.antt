@@ -1,6 +1,5 @@
 pub mod Cuts
 pub mod Onward
-pub mod Once
 pub mod Ordered
 pub mod Telling
 pub mod Declaring

@@ -12,13 +12,13 @@ use Rattle.mcap_model.proofs.Flat.{at_mapped}
 use Rattle.mcap_model.proofs.ReadBack.{at_map}
 use Rattle.mcap_model.proofs.Places.{at_none, at_within, at_kept, at_last, at_more, at_one, has_kept, has_last}
 use Rattle.mcap_model.proofs.Lists.{at_either}
+use Rattle.mcap_model.proofs.Once.{summary_offset_once}
 use Rattle.summary_read.specs.Parts.{tops_of}
 use Rattle.summary_check.specs.Laid.{all_of, IsFront, Laid}
 use Rattle.summary_check.specs.Offsets.{Spans, SpanIs, AreNamed, OffsetTaken}
 use Rattle.summary_check.proofs.Laying.{front_not, body_there, offset_cut, offset_behind_cut}
 use Rattle.summary_check.proofs.Grouping.{group_first, group_there, group_offset, group_end}
 use Rattle.index_check.proofs.Spotted.{offsets_rise}
-use Rattle.summary_check.proofs.Once.{summary_offset_once}
 
 -- ---- the span of the records of one opcode
 

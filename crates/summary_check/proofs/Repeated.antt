@@ -1,7 +1,6 @@
 -- The Channels of a file's messages that its summary repeats.
 use Rattle.std.proofs.Common.{◌≡◌, ℕ, zero, suc, ◌+◌, Bool, false, List, [], ◌∷◌, ◌++◌, length, None, refl, sym, ap, subst, inl, inr, ◌∙◌, append_assoc, arith}
 use Rattle.std.specs.Prelude.{filter, if◌then◌else◌}
-use Rattle.std.specs.List.{AllZip}
 use Rattle.std.proofs.lemmas.Bool.{eq-eqb, ne_eqb}
 use Rattle.std.proofs.lemmas.Grind.{flat_map-append}
 use Rattle.std.proofs.lemmas.Option.{same_Some}
@@ -15,28 +14,16 @@ use Rattle.mcap_model.proofs.Front.{IsTail, tail_not}
 use Rattle.mcap_model.proofs.Lists.{at_either, at_flat, filter_has, filter_passed, each_cons, each_joined}
 use Rattle.mcap_model.proofs.Maps.{message_once}
 use Rattle.mcap_model.proofs.Places.{at_none, at_within, at_kept}
+use Rattle.mcap_model.proofs.NamedTopics.{zip_front, zip_back}
 use Rattle.index_check.specs.declared.tally.Tally.{Tally}
 use Rattle.index_check.specs.Tally.{TallyOf}
 use Rattle.summary_read.specs.Steps.{Judged}
 use Rattle.summary_check.specs.Declaring.{AreDeclared}
-use Rattle.summary_check.specs.Laid.{all_of, IsEnded}
+use Rattle.summary_check.specs.Laid.{all_of, EndsWithDataEnd}
 use Rattle.summary_check.specs.Repeating.{AreRepeated}
 use Rattle.summary_check.proofs.Laying.{body_there, body_back, body_within, within_body}
 
 -- ---- lists of pairs
-
-zip_left : {X Y : Type 0} (Q : X → Y → Type 0) (xs : List X) (ys : List Y) (k : ℕ) (x : X) → AllZip Q xs ys → At xs k x → (y : Y) × At ys k y × Q x y
-zip_left Q [] ys k x zip at = absurd (at_none k x at)
-zip_left Q (x ∷ xs) [] k z zip at = absurd zip
-zip_left Q (x ∷ xs) (y ∷ ys) zero z zip at = (y, refl, subst (λ (w : _). Q w y) (same_Some x z at) zip.0)
-zip_left Q (x ∷ xs) (y ∷ ys) (suc k) z zip at = zip_left Q xs ys k z zip.1 at
-
-zip_right : {X Y : Type 0} (Q : X → Y → Type 0) (xs : List X) (ys : List Y) (k : ℕ) (y : Y) → AllZip Q xs ys → At ys k y → (x : X) × At xs k x × Q x y
-zip_right Q [] [] k y zip at = absurd (at_none k y at)
-zip_right Q [] (z ∷ zs) k y zip at = absurd zip
-zip_right Q (x ∷ xs) [] k y zip at = absurd (at_none k y at)
-zip_right Q (x ∷ xs) (z ∷ zs) zero y zip at = (x, refl, subst (Q x) (same_Some z y at) zip.0)
-zip_right Q (x ∷ xs) (z ∷ zs) (suc k) y zip at = zip_right Q xs zs k y zip.1 at
 
 -- ---- where a file's messages stand
 
@@ -58,7 +45,7 @@ no_message records none n t at five =
         let has = (filter_passed is_flat_kind (u ∷ []) j t here).0 in
         alone u has.0 has.1
 
-module _ (tops body : List Top) (foot : Top) (ended : IsEnded tops) (judged : Each (λ t. Judged t None) body) (foot_is : foot.op ≡ 2) where
+module _ (tops body : List Top) (foot : Top) (ended : EndsWithDataEnd tops) (judged : Each (λ t. Judged t None) body) (foot_is : foot.op ≡ 2) where
   abbrev all : List Top
   all = all_of tops body foot
 
@@ -100,7 +87,7 @@ module _ (tops body : List Top) (foot : Top) (ended : IsEnded tops) (judged : Ea
     repeated each n channel t m at is = elim (at_either (flat ended.section) (flat rest) n t (subst (λ (l : List Top). At l n t) flat_split at)) [
       | inl first ↦
           let heard = filter_has is_message_top (flat ended.section) n t first (eq-eqb t.op 5 is.kind) in
-          let (own, at_own, on) = zip_left OnChannel (filter is_message_top (flat ended.section)) are.channels_of heard.0 t are.are_channels heard.1 in
+          let (own, at_own, on) = zip_front OnChannel (filter is_message_top (flat ended.section)) are.channels_of heard.0 t are.are_channels heard.1 in
           let same = (message_once t channel own m on.0 is on.1).0 in
           let counts = are.counts in
           let (k, entry, at_entry, key) = counts.all own (heard.0, at_own) in
@@ -112,7 +99,7 @@ module _ (tops body : List Top) (foot : Top) (ended : IsEnded tops) (judged : Ea
     each_repeated all_repeated k entry at =
         let counts = are.counts in
         let has = (counts.right entry.0 entry.1 (k, at)).0 in
-        let (t, at_t, on) = zip_right OnChannel (filter is_message_top (flat ended.section)) are.channels_of has.0 entry.0 are.are_channels has.1 in
+        let (t, at_t, on) = zip_back OnChannel (filter is_message_top (flat ended.section)) are.channels_of has.0 entry.0 are.are_channels has.1 in
         let heard = (filter_passed is_message_top (flat ended.section) has.0 t at_t).0 in
         let there = subst (λ (l : List Top). At l heard.0 t) (sym flat_split) (at_kept (flat ended.section) (flat rest) heard.0 t heard.1) in
         (declared entry.0).1 (channel_back entry.0 (all_repeated heard.0 entry.0 t on.0 there on.1))

@@ -3,25 +3,16 @@ use Rattle.std.proofs.Common.{◌≡◌, ◌⊎◌, ℕ, List, [], ◌∷◌, �
 use Rattle.mcap_model.specs.Places.{Has}
 use Rattle.mcap_model.specs.Tops.{Top}
 use Rattle.mcap_model.specs.Fields.{ChannelFields, IsChannel}
-use Rattle.mcap_model.specs.Rules.{HasChannel}
 use Rattle.mcap_model.proofs.Maps.{shows_once}
-use Rattle.mcap_model.proofs.Places.{at_none, at_kept, at_last, at_more, has_kept, has_last}
+use Rattle.mcap_model.proofs.Places.{at_none, at_last, at_more, has_kept, has_last}
+use Rattle.mcap_model.proofs.OneMore.{channel_kept, channel_either}
 use Rattle.index_check.specs.Ids.{AddsOnce}
 use Rattle.summary_check.specs.Declaring.{AreDeclared}
-
-channel_kept : (before : List Top) (t : Top) (id : ℕ) → HasChannel before id → HasChannel (before ++ t ∷ []) id
-channel_kept before t id has = record { place = has.place; top = has.top; shown = has.shown; at = at_kept before (t ∷ []) has.place has.top has.at; is = has.is }
-
-channel_back : (before : List Top) (t : Top) (id : ℕ) → HasChannel (before ++ t ∷ []) id → HasChannel before id ⊎ ((f : ChannelFields) × IsChannel t id f)
-channel_back before t id has = elim (at_more before t has.place has.top has.at) [
-  | inl old ↦ inl (record { place = has.place; top = has.top; shown = has.shown; at = old; is = has.is })
-  | inr (_, same) ↦ inr (has.shown, subst (λ (x : Top). IsChannel x id has.shown) same has.is)
-]
 
 pub declared_other : (before : List Top) (t : Top) (ids : List ℕ) → AreDeclared before ids → ((id : ℕ) (f : ChannelFields) → IsChannel t id f → ⊥) → AreDeclared (before ++ t ∷ []) ids
 declared_other before t ids was other id = (
   λ has. channel_kept before t id ((was id).0 has),
-  λ has. elim (channel_back before t id has) [
+  λ has. elim (channel_either before t id has) [
     | inl old ↦ (was id).1 old
     | inr (f, is) ↦ absurd (other id f is)
   ],
@@ -33,7 +24,7 @@ declared_once before t own f old new was is adds id = (
     | inl there ↦ channel_kept before t id ((was id).0 there)
     | inr same ↦ record { place = length before; top = t; shown = f; at = at_last before t []; is = subst (λ (n : ℕ). IsChannel t n f) (sym same) is }
   ],
-  λ has. elim (channel_back before t id has) [
+  λ has. elim (channel_either before t id has) [
     | inl there ↦ kept ((was id).1 there)
     | inr (g, other) ↦ subst (Has new) (shows_once t own id f g is other).0 added
   ],

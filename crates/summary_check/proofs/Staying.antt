@@ -19,7 +19,7 @@ use Rattle.index_check.specs.Spots.{SpotsOf, NotesOf, NamedBefore, NamedBy}
 use Rattle.index_check.specs.Chunks.{NotesChunk, ChunksOf}
 use Rattle.index_check.specs.Extras.{NotesAttachment, NotesMetadata, AttachmentsOf, MetadataOf}
 use Rattle.index_check.proofs.Spotted.{one_place}
-use Rattle.summary_check.specs.Laid.{IsEnded}
+use Rattle.summary_check.specs.Laid.{EndsWithDataEnd}
 
 -- ---- places
 
@@ -91,7 +91,7 @@ while_few (x ∷ xs) end none = by (is_index x) refl (while_few xs end none)
     by true is few = let size = ap length (take_while-cons is_index x (xs ++ end ∷ []) ∙ ap (λ (b : Bool). cond b (x ∷ take_while is_index (xs ++ end ∷ [])) []) is) in omega (arith, size, few)
     by false is few = let size = ap length (take_while-cons is_index x (xs ++ end ∷ []) ∙ ap (λ (b : Bool). cond b (x ∷ take_while is_index (xs ++ end ∷ [])) []) is) in omega (arith, size)
 
-module _ (tops more : List Top) (ended : IsEnded tops) where
+module _ (tops more : List Top) (ended : EndsWithDataEnd tops) where
   end_other : is_index ended.end ≡ false
   end_other = let end = ended.end in ne_eqb end.op 7 (λ e. omega (arith, e, ended.kind))
 

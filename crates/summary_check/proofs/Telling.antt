@@ -7,6 +7,7 @@ use Rattle.mcap_model.specs.Tops.{Top}
 use Rattle.mcap_model.specs.Fields.{IsChunkIndex, IsAttachmentIndex, IsMetadataIndex}
 use Rattle.mcap_model.specs.Whole.{ChunkIndexIsRight, AttachmentIndexIsRight, MetadataIndexIsRight}
 use Rattle.mcap_model.proofs.Places.{at_one}
+use Rattle.mcap_model.proofs.Once.{chunk_index_once, attachment_index_once, metadata_index_once}
 use Rattle.index_check.specs.declared.spots.Spot.{Spot}
 use Rattle.index_check.specs.declared.chunk_indexes.Chunks.{Chunks}
 use Rattle.index_check.specs.declared.extras.Attachments.{Attachments}
@@ -16,7 +17,6 @@ use Rattle.index_check.specs.Chunks.{IndexesChunk, ChunksOf, ChunksNamed}
 use Rattle.index_check.specs.Extras.{IndexesAttachment, IndexesMetadata, AttachmentsOf, AttachmentsNamed, MetadataOf, MetadataNamed}
 use Rattle.summary_check.specs.declared.told.Told.{Told}
 use Rattle.summary_check.specs.Told.{ToldOf, IndexTaken}
-use Rattle.summary_check.proofs.Once.{chunk_index_once, attachment_index_once, metadata_index_once}
 
 -- a record that is no index names none
 pub unnamed_next : (Names : Top → ℕ → Type 0) (tops : List Top) (n : ℕ) (u : Top) (spots : List Spot) → NamedBy Names tops n spots → At tops n u → ((o : ℕ) → Names u o → ⊥) → NamedBy Names tops (suc n) spots

@@ -11,7 +11,7 @@ abbrev pub all_of : List Top → List Top → Top → List Top
 all_of tops body foot = tops ++ (body ++ foot ∷ [])
 
 -- the last of these records is the one Data End among them
-pub record IsEnded (tops : List Top) : Type 0 where
+pub record EndsWithDataEnd (tops : List Top) : Type 0 where
   pub section : List Top
   pub end : Top
   pub joined : tops ≡ section ++ end ∷ []
@@ -24,7 +24,7 @@ IsFront t = (t.op ≡ 1) ⊎ (stands_in_section t.op ≡ true)
 
 -- these bytes, in which these records were cut, stand behind a data section from that offset on
 pub record Laid (tops : List Top) (bytes : List ℕ) (cuts : List Cut) (start : ℕ) : Type 0 where
-  pub ended : IsEnded tops
+  pub ended : EndsWithDataEnd tops
   pub kinds : Each IsFront tops
   pub there : start ≡ offset_behind tops
   pub inside : AreInside bytes cuts

@@ -4,7 +4,7 @@ ghost use Rattle.mcap_model.specs.Tops.{Top, offset_behind};
 ghost use Rattle.mcap_model.specs.Whole.{AreShort};
 ghost use Rattle.summary_check.specs.Closing.{IsOfFooter, NoFooter};
 ghost use Rattle.summary_check.specs.Files.{file_of, IsRefused};
-ghost use Rattle.summary_check.specs.Laid.{IsEnded};
+ghost use Rattle.summary_check.specs.Laid.{EndsWithDataEnd};
 ghost use Rattle.summary_check.specs.Closing.{SummaryCut};
 
 use crate::cutting::cut_records;
@@ -51,7 +51,7 @@ pub(crate) fn cut_summary(
 ) -> Result<Summary, SummaryRefused>
     requires { start + length bytes.now + 8 < 2 ^ 64 }
     ensures ok { IfOk result (λ s. SummaryCut bytes.now s) }
-    ensures err { IfErr result (λ why. (tops : List Top) → IsEnded tops → AreShort tops → start ≡ offset_behind tops → IsRefused (file_of tops bytes.now) why) }
+    ensures err { IfErr result (λ why. (tops : List Top) → EndsWithDataEnd tops → AreShort tops → start ≡ offset_behind tops → IsRefused (file_of tops bytes.now) why) }
 {
     let mut cuts = match cut_records(alloc, bytes, start) {
         Ok(cuts) => cuts,

@@ -11,8 +11,6 @@ use Rattle.mcap_wire.specs.Contents.{Values}
 use Rattle.mcap_wire.proofs.Contents.{shows_decided}
 use Rattle.rec_data.specs.Fields.{HeaderFields}
 use Rattle.rec_data.specs.Records.{header_kinds, header_values, ShowsHeader}
-use Rattle.rec_index.specs.Fields.{StatisticsFields}
-use Rattle.rec_index.specs.Records.{statistics_kinds, statistics_values}
 use Rattle.mcap_model.specs.Places.{At, Has}
 use Rattle.mcap_model.specs.Tops.{Top}
 use Rattle.mcap_model.specs.Fields.{IsSchema, IsChannel, IsStatistics}
@@ -20,6 +18,7 @@ use Rattle.mcap_model.proofs.Places.{at_none, at_one}
 use Rattle.mcap_model.proofs.Lists.{pairs_at, pairs_from}
 use Rattle.mcap_model.proofs.Maps.{schema_once, shows_once}
 use Rattle.mcap_model.proofs.NamedTopics.{unmapped}
+use Rattle.mcap_model.proofs.Once.{statistics_once}
 use Rattle.summary_read.specs.Parts.{Parts}
 use Rattle.summary_info.specs.Firsts.{IsFirst, AreFirsts}
 use Rattle.summary_info.specs.Json.{Info}
@@ -107,11 +106,6 @@ header_once : (content : List ℕ) (f g : HeaderFields) → ShowsHeader content 
 header_once content f g one other =
     let same = shows_decided header_kinds content (header_values f) (header_values g) one other in
     ap (λ (v : Values header_kinds). header_of v.0 v.1.0) same
-
-statistics_once : (t : Top) (f g : StatisticsFields) → IsStatistics t f → IsStatistics t g → f ≡ g
-statistics_once t f g one other =
-    let same = shows_decided statistics_kinds t.content (statistics_values f) (statistics_values g) one.layout other.layout in
-    ap (λ (v : Values statistics_kinds). record { messages = v.0; schemas = v.1.0; channels = v.1.1.0; attachments = v.1.1.1.0; metadata = v.1.1.1.1.0; chunks = v.1.1.1.1.1.0; start = v.1.1.1.1.1.1.0; end = v.1.1.1.1.1.1.1.0; counts = v.1.1.1.1.1.1.1.1.0 }) same
 
 told_once : (p : Parts) (i j : Info) → IsTold p i → IsTold p j → i ≡ j
 told_once p i j one other =

@@ -1,20 +1,13 @@
 -- The table of the places where ids stand first, and the places in the order of the ids.
-use Rattle.std.proofs.Common.{◌≡◌, ◌⊎◌, ℕ, suc, ◌+◌, ◌<◌, List, [], ◌∷◌, ◌++◌, length, take, get_or, set, drop, ◌-◌, sym, ap, subst, inl, inr, ◌∙◌, arith}
+use Rattle.std.proofs.Common.{◌≡◌, ◌⊎◌, ℕ, suc, ◌+◌, ◌<◌, List, [], ◌∷◌, ◌++◌, length, get_or, set, drop, ◌-◌, sym, ap, subst, inl, inr, ◌∙◌, arith}
 use Rattle.std.proofs.lemmas.List.{length-set}
 use Rattle.std.proofs.lemmas.Bool.{cases_order}
-use Rattle.std.proofs.Math.Seq.{take-suc, drop-cons}
+use Rattle.std.proofs.Math.Seq.{drop-cons}
 use Rattle.mcap_model.specs.Places.{At, Has, Each}
 use Rattle.mcap_model.proofs.Places.{at_within, at_one, at_kept, at_last, at_more, at_read, at_set, has_kept, has_last}
 use Rattle.summary_info.specs.Firsts.{StandsFirst, IsPlaceTable}
 
 -- ---- one element more
-
-pub take_more : {X : Type 0} (xs : List X) (i : ℕ) (x : X) → At xs i x → take (i + 1) xs ≡ take i xs ++ x ∷ []
-take_more {X} xs i x at =
-    let within = at_within xs i x at in
-    let next : i + 1 ≡ suc i = omega arith in
-    ap (λ (n : ℕ). take n xs) next ∙ take-suc xs i x within
-    ∙ ap (λ (y : X). take i xs ++ y ∷ []) (at_one xs i (get_or xs i x) x (at_read xs i x within) at)
 
 pub drop_less : {X : Type 0} (xs : List X) (i : ℕ) (x : X) → 0 < i → At xs (i - 1) x → drop (i - 1) xs ≡ x ∷ drop i xs
 drop_less {X} xs i x some at =

@@ -8,10 +8,11 @@ use Rattle.mcap_wire.proofs.Numbers.{length-le}
 use Rattle.mcap_wire.proofs.Framing.{number_decided, number_not_refused}
 use Rattle.rec_data.specs.declared.owned.Rec.{Rec}
 use Rattle.rec_data.specs.declared.owned.Rec.TheVariants.{Schema, Channel, Message}
-use Rattle.rec_data.specs.Owned.{rec_opcode, rec_text}
+use Rattle.rec_data.specs.Owned.{rec_text}
 use Rattle.chunk_build.specs.declared.building.Mark.{Mark}
 use Rattle.chunk_build.specs.Building.{mark_of}
 use Rattle.chunk_build.specs.Chunker.{AreFramed}
+use Rattle.chunk_build.proofs.Marks.{first_is}
 use Rattle.summary_write.specs.Tally.{Tally, id_of, with_id_once, with_bytes_once, with_record}
 use Rattle.summary_write.proofs.Tallying.{schema_after, channel_after}
 
@@ -55,9 +56,6 @@ make schema_ids schemas channel_ids channels t = record {
   chunk_indexes = t.chunk_indexes;
 }
 
-opcode_is : (bytes : List ℕ) (r : Rec) → AreFramed bytes r → get_or bytes 0 0 ≡ rec_opcode r
-opcode_is bytes r is = ap (λ (l : List ℕ). get_or l 0 0) is.spelled
-
 some_mark : (m : Mark) → None ≡ Some m → ⊥
 some_mark m same = cc
 
@@ -67,14 +65,14 @@ pub schema_noted : (t : Tally) (bytes : List ℕ) (r : Rec) (id : ℕ) (ids fram
 schema_noted t bytes (Schema own schema) id ids framed is first own_id one other =
     schema_after t own schema (Schema own schema) ids framed refl (one ∙ ap (with_id_once t.schema_ids) own_id)
     (other ∙ ap (λ (k : ℕ). with_bytes_once t.schema_ids k t.schemas bytes) own_id ∙ ap (with_bytes_once t.schema_ids own t.schemas) is.spelled)
-schema_noted t bytes (Channel own schema topic encoding metadata) id ids framed is first own_id one other = absurd (omega (arith, first, opcode_is bytes (Channel own schema topic encoding metadata) is))
+schema_noted t bytes (Channel own schema topic encoding metadata) id ids framed is first own_id one other = absurd (omega (arith, first, first_is bytes (Channel own schema topic encoding metadata) is))
 schema_noted t bytes (Message own sequence log_time publish_time payload) id ids framed is first own_id one other =
-    absurd (omega (arith, first, opcode_is bytes (Message own sequence log_time publish_time payload) is))
+    absurd (omega (arith, first, first_is bytes (Message own sequence log_time publish_time payload) is))
 
 -- a Channel is declared
 pub channel_noted : (t : Tally) (bytes : List ℕ) (r : Rec) (id : ℕ) (ids framed : List ℕ) → AreFramed bytes r → None ≡ mark_of r → (get_or bytes 0 0 ≡ 3 → ⊥) → id ≡ id_of r → ids ≡ with_id_once t.channel_ids id
     → framed ≡ with_bytes_once t.channel_ids id t.channels bytes → make t.schema_ids t.schemas ids framed t ≡ with_record t r
-channel_noted t bytes (Schema own schema) id ids framed is none other_op own_id one other = absurd (other_op (opcode_is bytes (Schema own schema) is))
+channel_noted t bytes (Schema own schema) id ids framed is none other_op own_id one other = absurd (other_op (first_is bytes (Schema own schema) is))
 channel_noted t bytes (Channel own schema topic encoding metadata) id ids framed is none other_op own_id one other =
     channel_after t own schema topic encoding metadata (Channel own schema topic encoding metadata) ids framed refl (one ∙ ap (with_id_once t.channel_ids) own_id)
     (other ∙ ap (λ (k : ℕ). with_bytes_once t.channel_ids k t.channels bytes) own_id ∙ ap (with_bytes_once t.channel_ids own t.channels) is.spelled)

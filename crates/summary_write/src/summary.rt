@@ -1,5 +1,6 @@
 //! The summary as it grows (MCAP specification, "Summary Section").
 ghost use Rattle.std.specs.Prelude.{◌≡◌, ◌+◌, ◌^◌, ◌<◌, ◌≤◌, ◌++◌, ◌==◌, Some, List, map, min, if◌then◌else◌, All, IfOk, OnOk, OnErr};
+ghost use Rattle.mcap_wire.specs.Limits.{record_count_limit};
 ghost use Rattle.rec_data.specs.declared.owned.Rec.{Rec};
 ghost use Rattle.rec_data.specs.Owned.{LengthsFit};
 ghost use Rattle.chunk_build.specs.Building.{mark_of};
@@ -73,7 +74,7 @@ impl Summary {
     /// changes.
     pub fn note_record(&mut self, r: &Rec) -> Result<(), Memory>
         requires fits { LengthsFit r.now }
-        requires few { self.old.messages < 2 ^ 48 }
+        requires few { self.old.messages < record_count_limit }
         ensures ok { OnOk result ((n : Noted) → StandsFor self.old n → StandsFor self.new (with_noted_record n r.now)) }
         ensures err { OnErr result (self.new ≡ self.old) }
         ensures messages { self.new.messages ≤ self.old.messages + 1 }
@@ -98,7 +99,7 @@ impl Summary {
     /// Does the same with a record that is given by its framed bytes.
     pub fn note_framed(&mut self, bytes: &[u8]) -> Result<(), Memory>
         requires framed { (r : Rec) × AreFramed bytes.now r }
-        requires few { self.old.messages < 2 ^ 48 }
+        requires few { self.old.messages < record_count_limit }
         ensures ok { OnOk result ((r : Rec) → AreFramed bytes.now r → (n : Noted) → StandsFor self.old n → StandsFor self.new (with_noted_record n r)) }
         ensures err { OnErr result (self.new ≡ self.old) }
         ensures messages { self.new.messages ≤ self.old.messages + 1 }
@@ -126,7 +127,7 @@ impl Summary {
 
     // Notes a message.
     fn note_message(&mut self, channel: u16, time: u64) -> Result<(), Memory>
-        requires few { self.old.messages < 2 ^ 48 }
+        requires few { self.old.messages < record_count_limit }
         ensures ok { OnOk result ((r : Rec) → mark_of r ≡ Some (record { channel = channel; time = time }) → self.new ≡ with_record self.old r) }
         ensures err { OnErr result (self.new ≡ self.old) }
         ensures messages { self.new.messages ≤ self.old.messages + 1 }

@@ -3,12 +3,13 @@ use Rattle.mcap_model.specs.Tops.{Top, flat}
 use Rattle.mcap_model.specs.Made.{top}
 use Rattle.mcap_scan.specs.Scanning.{Stands, offset_of}
 use Rattle.mcap_scan.proofs.Scanning.{good_stand, lacks_behind}
+use Rattle.mcap_scan.proofs.Refused.{refusal_stands}
 use Rattle.feed_lane.specs.Pass.{no_calls}
 use Rattle.feed_lane.specs.Lanes.{messages}
 use Rattle.feed_lane.specs.Steps.{AreKnown}
 use Rattle.feed_lane.specs.Feeds.{Reports}
 use Rattle.feed_lane.proofs.Walking.{waits_more, passed_more}
-use Rattle.feed_lane.proofs.Feeding.{ready, known, meets, place_stands, read_so_far, fed, refusal_stands, report_of, reports_done, reports_refused, reports_over, reports_nothing}
+use Rattle.feed_lane.proofs.Feeding.{ready, known, meets, place_stands, read_so_far, fed, report_of, reports_done, reports_refused, reports_over, reports_nothing}
 use Rattle.feed_lane.proofs.feed.publish_feed.Goals as goal
 
 pub returns-in-Err-clause-reports : goal.returns-in-Err-clause-reports

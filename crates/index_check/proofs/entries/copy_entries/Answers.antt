@@ -1,5 +1,5 @@
 use Rattle.std.proofs.Common.{◌++◌, ◌∷◌, [], ℕ, List, sym, ap, ◌∙◌}
-use Rattle.index_check.proofs.Apart.{taken_more}
+use Rattle.mcap_model.proofs.OneMore.{taken_more}
 use Rattle.index_check.proofs.entries.copy_entries.Goals as goal
 
 pub entries-preserved : goal.entries-preserved

@@ -1,11 +1,12 @@
 use Rattle.std.proofs.Common.{◌≡◌, List, [], ◌++◌, true, refl, sym, ap, ◌∙◌, append-nil, arith}
 use Rattle.std.proofs.lemmas.Grind.{common_steps}
 use Rattle.std.proofs.lemmas.List.Elements.{All-append}
+use Rattle.std.proofs.lemmas.Bool.{not-false}
 use Rattle.rec_data.specs.declared.owned.Rec.{Rec}
 use Rattle.record_cache.specs.Buffers.{IsKept}
 use Rattle.record_core.specs.Desk.{DeskView, accepted}
 use Rattle.recorder.specs.Writing.{empty_buffer}
-use Rattle.recorder.proofs.Draining.{written_empty, written_limit, written_count, continues_on, continues_same, may_later, not_false, shorter}
+use Rattle.recorder.proofs.Draining.{written_empty, written_limit, written_count, continues_on, continues_same, may_later, shorter}
 use Rattle.recorder.proofs.writer.drain.Goals as goal
 
 pub steps-init : goal.steps-init
@@ -31,7 +32,7 @@ steps-preserved g c =
     let old = c.steps.desk in
     let tape = c.steps.tape in
     let step = c.write_once-step in
-    let took : step.result.took ≡ true = not_false step.result.took c.if-not-step.false in
+    let took : step.result.took ≡ true = not-false step.result.took c.if-not-step.false in
     let wrote = step.ensures.wrote took in
     let phase = g.T.Tape.phase in
     let empty : step.new.desk.primary ≡ [] = ap (λ (d : DeskView). d.primary) wrote.0 ∙ written_empty old (phase step.new.tape) in (
@@ -51,7 +52,7 @@ steps-preserved g c =
 pub steps-smaller : goal.steps-smaller
 steps-smaller g c =
     let step = c.write_once-step in
-    let took : step.result.took ≡ true = not_false step.result.took c.if-not-step.false in
+    let took : step.result.took ≡ true = not-false step.result.took c.if-not-step.false in
     let wrote = step.ensures.wrote took in
     let empty : step.new.desk.primary ≡ [] = ap (λ (d : DeskView). d.primary) wrote.0 ∙ written_empty c.steps.desk (g.T.Tape.phase step.new.tape) in
     let some = step.ensures.some took in

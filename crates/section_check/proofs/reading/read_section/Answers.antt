@@ -6,10 +6,11 @@ use Rattle.mcap_model.specs.Kept.{reading_limits, Fits}
 use Rattle.mcap_model.proofs.Places.{each_at}
 use Rattle.mcap_scan.specs.Scanning.{Stands}
 use Rattle.mcap_scan.proofs.Scanning.{good_stand, lacks_behind}
+use Rattle.mcap_scan.proofs.Refused.{nothing_read, refusal_stands}
 use Rattle.index_check.proofs.Spotted.{spots_below}
 use Rattle.section_check.specs.declared.reading.SectionRefused.{SectionRefused}
 use Rattle.section_check.specs.Reading.{Reads}
-use Rattle.section_check.proofs.ReadOut.{nothing_read, read_so_far, not_taken, lacks_at_end, read_to_end, refusal_stands}
+use Rattle.section_check.proofs.ReadOut.{read_so_far, not_taken, lacks_at_end, read_to_end}
 use Rattle.section_check.proofs.reading.read_section.Goals as goal
 
 pub take-requires-clause-chunks : goal.take-requires-clause-chunks

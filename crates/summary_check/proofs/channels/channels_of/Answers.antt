@@ -3,8 +3,8 @@ use Rattle.std.specs.Prelude.{take}
 use Rattle.std.proofs.lemmas.List.{take_all}
 use Rattle.mcap_model.specs.Tops.{Top}
 use Rattle.mcap_model.specs.Made.{top}
+use Rattle.mcap_model.proofs.OneMore.{taken_more}
 use Rattle.summary_read.specs.Parts.{tops_of}
-use Rattle.index_check.proofs.Apart.{taken_more}
 use Rattle.summary_check.specs.Declaring.{AreDeclared}
 use Rattle.summary_check.proofs.Onward.{length-tops}
 use Rattle.summary_check.proofs.channels.channels_of.Goals as goal

@@ -3,7 +3,7 @@ use Rattle.std.specs.Prelude.{take}
 use Rattle.std.proofs.lemmas.List.{take_all}
 use Rattle.mcap_wire.specs.declared.faults.Cut.{Cut}
 use Rattle.mcap_model.proofs.Places.{at_read}
-use Rattle.index_check.proofs.Apart.{taken_more}
+use Rattle.mcap_model.proofs.OneMore.{taken_more}
 use Rattle.summary_check.specs.Offsets.{SpanIs}
 use Rattle.summary_check.proofs.offsets.span_of.Goals as goal
 

@@ -1,9 +1,9 @@
 use Rattle.std.proofs.Common.{List, sym, subst, arith}
 use Rattle.std.specs.Prelude.{take}
 use Rattle.mcap_model.specs.Tops.{Top}
+use Rattle.mcap_model.proofs.OneMore.{taken_more}
 use Rattle.summary_read.specs.Parts.{tops_of}
 use Rattle.index_check.specs.Order.{OrderOf}
-use Rattle.index_check.proofs.Apart.{taken_more}
 use Rattle.summary_check.specs.Body.{known, InOrder, OpTaken}
 use Rattle.summary_check.proofs.Onward.{tops_within, onward}
 use Rattle.summary_check.proofs.ordering.find_misplaced.Goals as goal

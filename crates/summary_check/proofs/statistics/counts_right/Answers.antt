@@ -3,7 +3,7 @@ use Rattle.rec_index.specs.Parsed.{statistics_fields}
 use Rattle.mcap_model.specs.Made.{top}
 use Rattle.mcap_model.specs.Fields.{IsStatistics}
 use Rattle.mcap_model.specs.Whole.{StatisticsAreRight}
-use Rattle.summary_check.proofs.Once.{statistics_once}
+use Rattle.mcap_model.proofs.Once.{statistics_once}
 use Rattle.summary_check.proofs.statistics.counts_right.Goals as goal
 
 pub returns-in-Ok : goal.returns-in-Ok

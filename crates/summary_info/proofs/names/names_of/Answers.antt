@@ -3,8 +3,8 @@ use Rattle.rec_index.specs.Parsed.{chunk_index_fields}
 use Rattle.mcap_model.specs.Tops.{Top}
 use Rattle.std.specs.List.Sorted.{IsStrictlySortedBy}
 use Rattle.std.specs.BTreeSet.{insert_key}
+use Rattle.mcap_model.proofs.OneMore.{taken_more}
 use Rattle.summary_info.specs.Told.{AreNames}
-use Rattle.summary_info.proofs.Places.{take_more}
 use Rattle.summary_info.proofs.Named.{Key, name_of, key_cmp, names_more}
 use Rattle.summary_info.proofs.names.names_of.Goals as goal
 
@@ -17,5 +17,5 @@ indexes-preserved c =
     let old : List Key = c.indexes.names.keys in
     let sorted : IsStrictlySortedBy key_cmp (insert_key key_cmp old key) = subst (IsStrictlySortedBy key_cmp) c.in-Ok.ensures.keys c.insert.ensures.ordered in
     subst (λ (l : List Key). AreNames (take (i + 1) indexes) (map name_of l)) (sym c.in-Ok.ensures.keys)
-    (subst (λ (l : List Top). AreNames l (map name_of (insert_key key_cmp old key))) (sym (take_more indexes i given.0 given.1))
+    (subst (λ (l : List Top). AreNames l (map name_of (insert_key key_cmp old key))) (sym (taken_more indexes i given.0 given.1))
     (names_more (take i indexes) given.0 (chunk_index_fields c.chunk_index.result) old key given.2 refl sorted c.indexes.invariant))

@@ -3,7 +3,7 @@ use Rattle.mcap_model.proofs.Places.{at_within}
 use Rattle.record_core.specs.declared.answers.NewMessage.{NewMessage}
 use Rattle.feed_lane.specs.declared.report.Accepted.{Accepted}
 use Rattle.feed_lane.specs.Lanes.{messages}
-use Rattle.feed_lane.specs.Steps.{lists_of, Stands, IsRefusal, publish_cause, fields_of}
+use Rattle.feed_lane.specs.Steps.{lists_of, ListsStand, IsRefusal, publish_cause, fields_of}
 use Rattle.feed_lane.proofs.Accepting.{accepted_at, accepted_stands}
 use Rattle.feed_lane.proofs.Calls.{named_there, publish_refused, published_limit}
 use Rattle.feed_lane.proofs.lane.Lane.publish.Goals as goal
@@ -23,8 +23,8 @@ returns-in-Ok-clause-taken g c = λ begun before since.
           let index : c.handled-index.result ≡ handled = c.handled-index.ensures ∙ sym stands.fits.count in
           let listed : c.add.new.list.items ≡ l.accepted.items ++ accepted_at handled found.count ∷ [] =
           c.add.ensures ∙ ap (λ (n : ℕ). l.accepted.items ++ accepted_at n c.in-Ok.place ∷ []) index ∙ ap (λ (n : ℕ). l.accepted.items ++ accepted_at handled n ∷ []) call.3 in
-          subst (λ (accepted : List Accepted). Stands records (handled + 1) (handled + 1) l.ids (record { accepted = accepted; declared = l.declared.items; refused = l.refused.items }) after) (sym listed)
-          (subst (Stands records (handled + 1) (handled + 1) l.ids (record { accepted = l.accepted.items ++ accepted_at handled found.count ∷ []; declared = l.declared.items; refused = l.refused.items })) (sym call.4)
+          subst (λ (accepted : List Accepted). ListsStand records (handled + 1) (handled + 1) l.ids (record { accepted = accepted; declared = l.declared.items; refused = l.refused.items }) after) (sym listed)
+          (subst (ListsStand records (handled + 1) (handled + 1) l.ids (record { accepted = l.accepted.items ++ accepted_at handled found.count ∷ []; declared = l.declared.items; refused = l.refused.items })) (sym call.4)
           (accepted_stands records handled l.ids (lists_of l) before found m source t stands call.2.finds call.2.unended (record { id = has; at = at; is = is; small = call.1 }))),
     )
 

@@ -3,8 +3,9 @@ use Rattle.mcap_model.specs.Tops.{Top}
 use Rattle.mcap_model.specs.Made.{top}
 use Rattle.mcap_model.specs.Declarations.{TablesOf}
 use Rattle.mcap_model.specs.Judging.{FirstJudged}
+use Rattle.mcap_model.proofs.TakenRecords.{first_by}
 use Rattle.mcap_scan.specs.Scanning.{Advanced}
-use Rattle.mcap_scan.proofs.Scanning.{moved, magic_refused, magic_taken, record_refused, stepped, refused_step, first_judged}
+use Rattle.mcap_scan.proofs.Scanning.{moved, magic_refused, magic_taken, record_refused, stepped, refused_step}
 use Rattle.mcap_scan.proofs.reader.Reader.begin.Goals as goal
 
 pub returns-in-Err-clause-steps : goal.returns-in-Err-clause-steps
@@ -17,7 +18,7 @@ returns-in-Ok-take_record-clause-steps g c = λ before tops was.
     let reading = magic_taken c.args.self.now.tables c.args.self.now.offset before (g.S.Source.state c.args.source.now) (g.S.Source.state c.take_magic.new.source) tops was c.in-Ok.ensures.cause c.in-Ok.ensures.taken in
     let content = c.take_record.new.room.items in
     let first : FirstJudged (top c.in-Ok-take_record.op content) c.judge_first-judged.result = subst (λ (l : List ℕ). FirstJudged (top c.in-Ok-take_record.op l) c.judge_first-judged.result) c.deref.ensures.value c.judge_first-judged.ensures in
-    let there = first_judged c.in-Ok-take_record.op content c.give.new.self.tables c.judge_first-judged.result first (subst (TablesOf []) (sym c.give.ensures.tables) was.tables_are) in
+    let there = first_by c.in-Ok-take_record.op content c.give.new.self.tables c.judge_first-judged.result first (subst (TablesOf []) (sym c.give.ensures.tables) was.tables_are) in
     subst (λ (l : List Top). Advanced c.give.new.self before (g.S.Source.state c.take_record.new.source) l c.give.result) (sym was.none)
     (stepped c.give.new.self c.args.self.now.tables c.args.self.now.offset before (g.S.Source.state c.take_magic.new.source) (g.S.Source.state c.take_record.new.source) [] c.in-Ok-take_record.op content c.judge_first-judged.result c.give.result
     reading c.in-Ok-take_record.ensures.cause c.in-Ok-take_record.ensures.taken c.in-Ok-take_record.ensures.takable there c.give.ensures.given (ap (λ v. v.items) c.give.ensures.room))

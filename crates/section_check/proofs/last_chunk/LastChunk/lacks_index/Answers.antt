@@ -1,7 +1,7 @@
 use Rattle.std.proofs.Common.{◌∷◌, ◌++◌, [], sym, subst}
-use Rattle.std.proofs.lemmas.Bool.{both_ways}
+use Rattle.std.proofs.lemmas.Bool.{both_ways, not-false}
 use Rattle.section_check.specs.LastChunk.{IndexFails}
-use Rattle.section_check.proofs.Answering.{not_true, not_false}
+use Rattle.section_check.proofs.Answering.{not_true}
 use Rattle.section_check.proofs.Followed.{keeps_apart, keeps_closed, fails_closed}
 use Rattle.section_check.proofs.last_chunk.LastChunk.lacks_index.Goals as goal
 
@@ -21,4 +21,4 @@ returns-clause-keeps c = λ e tops t last other keeps.
     let chunk = c.args.self.now in
     let kept = last.kept c.if-not-self.false in
     let judged = c.has_indexes.ensures tops [] t kept.is other in
-    keeps_closed tops t chunk.messages chunk.channels kept.is keeps other (judged.0 (not_false c.has_indexes.result e))
+    keeps_closed tops t chunk.messages chunk.channels kept.is keeps other (judged.0 (not-false c.has_indexes.result e))
