@@ -7,7 +7,7 @@ use mcap_model::Stop;
 /// The most blocks, 2^32 - 1, and the most bytes, 2^40.
 const MOST_BLOCKS: u64 = 4_294_967_295;
 
-const MOST_BYTES: u64 = 1_099_511_627_776;
+pub(crate) const MOST_BYTES: u64 = 1_099_511_627_776;
 
 /// Whether a piece with so many blocks may be appended behind so many blocks and bytes.
 pub(crate) fn keep_limit(blocks: u64, bytes: u64, more: u64, piece: &[u8]) -> Result<(), Stop>
