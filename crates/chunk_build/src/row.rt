@@ -28,6 +28,11 @@ fn place_of(rows: &[Row], channel: u16) -> Result<usize, usize>
     requires { RowsRise rows.now }
     ensures { FoundRow rows.now channel result }
 {
+    // Channels are numbered from 1, so that a row mostly stands there.
+    let guess = channel.saturating_sub(1) as usize;
+    if guess < rows.len() && rows[guess].channel == channel {
+        return Ok(guess);
+    }
     let mut low = 0;
     let mut high = rows.len();
     'halves: while low < high {

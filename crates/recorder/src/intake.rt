@@ -20,6 +20,10 @@ use rec_data::ChannelDef;
 use record_cache::Cache;
 use record_core::{DeclareRefused, Declared, Desk, Found, NewMessage, PublishRefused};
 
+/// From how many bytes on what waits is handed over: few enough that they stay in the processor's cache, and as many as a file
+/// gathers before it writes them.
+const RIPE: u64 = 262_144;
+
 /// The desk of a lane, the tape and the empty buffer of its writer, and from how many bytes on what waits is handed over.
 pub(crate) struct Intake<T> {
     pub lone: LoneDesk,
@@ -48,7 +52,7 @@ fn end_by(answer: Result<(), Stop>) -> End
 }
 
 impl<T: Tape> Intake<T> {
-    /// An intake at a new desk. What waits is handed over from 1 MiB on, and before the buffer is full.
+    /// An intake at a new desk. What waits is handed over from so many bytes on, and before the buffer is full.
     pub(crate) fn new(desk: Desk, spare: Cache, tape: T) -> Intake<T>
         requires spare { spare ≡ empty_buffer desk.limit }
         requires some { 1 ≤ desk.limit }
@@ -56,7 +60,7 @@ impl<T: Tape> Intake<T> {
         ensures tape { result.tape ≡ tape }
     {
         let limit = spare.limit();
-        let ripe = if limit < 1_048_576 { limit } else { 1_048_576 };
+        let ripe = limit.min(RIPE);
         Intake {
             lone: LoneDesk { desk, found: None },
             spare: Some(spare),

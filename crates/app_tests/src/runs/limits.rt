@@ -127,8 +127,8 @@ fn a_channel_that_no_id_is_left_for_is_left_out(rt: HostRuntime) -> Result<(), F
     Ok(())
 }
 
-// Behind the Channel of 27 bytes, 16 messages of 65,536 bytes reach the mebibyte from which on a buffer is written. So where
-// the append behind the front fails, that shows at the seventeenth message.
+// Behind the Channel of 27 bytes, four messages of 65,536 bytes reach the 262,144 bytes from which on a buffer is written, and
+// twelve a chunk's size. So where the append behind the front fails, that shows at the fifth message or at the thirteenth.
 #[test]
 fn a_buffer_is_written_before_more_is_taken(rt: HostRuntime) -> Result<(), Fail> {
     let alloc = rt.alloc();
@@ -140,14 +140,16 @@ fn a_buffer_is_written_before_more_is_taken(rt: HostRuntime) -> Result<(), Fail>
         records.extend_from_slice(&data)?;
     }
     let feed = feed_of(alloc, &[&records])?;
-    let lines = "feed 1 accepted=16 refused=1 passed=0 ended\n\
-        file records=17 blocks=0 bytes=34 stopped fault\n";
     let failing = Failing {
         appends: &[FailingWrite { call: 1, taken: 0 }],
         ..NOTHING
     };
-    let wanted = recorded(3, lines, OUT_FAULT, FRONT);
-    for words in [RECORD, PLAIN] {
+    for (words, accepted, records) in [(RECORD, 12, 13), (PLAIN, 4, 5)] {
+        let lines = format!(in alloc;
+            "feed 1 accepted={accepted} refused=1 passed=0 ended\n\
+            file records={records} blocks=0 bytes=34 stopped fault\n"
+        )?;
+        let wanted = recorded(3, lines.as_str(), OUT_FAULT, FRONT);
         let _ran = expect(&rt, words, &feed, failing, &wanted)?;
     }
     Ok(())
