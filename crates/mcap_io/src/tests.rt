@@ -1,4 +1,5 @@
 use super::*;
+use crate::blocks::Blocks;
 use crate::callers::read_front;
 use std::alloc::Global;
 use std::fs;
@@ -309,7 +310,7 @@ fn a_world_gives_stores_and_takes_them_back(rt: HostRuntime) -> Result<(), Fail>
 }
 
 // A file that is open as a store isn't opened as an output. Bytes are read at any place, and where the file has fallen
-// short since the question for its length, the read fails.
+// short since the question for its length, a read of what was never read fails.
 #[test]
 fn a_file_is_read_at_any_place(rt: HostRuntime) -> Result<(), Fail> {
     fs::write(&rt, "stored", b"abcdef")?;
@@ -333,17 +334,33 @@ fn a_file_is_read_at_any_place(rt: HostRuntime) -> Result<(), Fail> {
     let mut room = [0; 2];
     let mut cut = Ok(());
     if len == 6 {
-        assert!(rt; store.read_at(4, &mut room) == Ok(()));
-        assert_eq!(rt; room, *b"ef");
-        assert!(rt; store.read_at(0, &mut room) == Ok(()));
-        assert_eq!(rt; room, *b"ab");
         cut = fs::write(&rt, "stored", b"abc");
         assert!(rt; store.read_at(2, &mut room) == Err(Failed));
+        assert!(rt; store.read_at(1, &mut room) == Ok(()));
+        assert_eq!(rt; room, *b"bc");
+        assert!(rt; store.read_at(0, &mut room) == Ok(()));
+        assert_eq!(rt; room, *b"ab");
     }
     assert_eq!(rt; (store.asked(), store.faults()), (6, 1));
     assert!(rt; world.keep_store("stored", store) == Ok(()));
     cut?;
     fs::remove_file(&rt, "stored")?;
     assert_eq!(rt; (world.faults(), world.input_faults()), (3, 1));
+    Ok(())
+}
+
+// Two bytes where two blocks meet, and two of which the file has only the first.
+#[test]
+fn blocks_give_parts(rt: HostRuntime) -> Result<(), Fail> {
+    let mut bytes = vec![in rt.alloc(); 0; 16_384]?;
+    bytes.push(7)?;
+    fs::write(&rt, "blocks", &bytes)?;
+    let file = fs::File::open(&rt, "blocks")?;
+    let mut blocks = Blocks::new(rt.alloc());
+    let mut room = [1; 2];
+    assert!(rt; blocks.read(&file, 16_383, &mut room));
+    assert_eq!(rt; room, [0, 7]);
+    assert!(rt; !blocks.read(&file, 16_384, &mut room));
+    fs::remove_file(&rt, "blocks")?;
     Ok(())
 }
