@@ -184,16 +184,17 @@ fn show_content<T: Store>(
     }
 }
 
-/// Adds the messages to which a Message Index leads, if their channel is wanted.
+/// Adds the messages to which a Message Index leads that a Chunk Index at that offset names, if their channel is wanted.
 pub(crate) fn show_list<T: Store>(
     alloc: Global,
     store: &mut T,
     request: &Request,
+    at: u64,
     spot: Spot,
     shown: &mut Vec<Shown>,
 ) -> Result<(), ReplayRefused>
     requires { request.now.len ≤ (T.state store.old).known }
-    ensures told { Shows (T.state store.old).bytes request.now spot (shown.old.items, shown.new.items) result }
+    ensures told { Shows (T.state store.old).bytes request.now at spot (shown.old.items, shown.new.items) result }
     ensures cause { ReplayCause (T.state store.old).faults (T.state store.new).faults result }
     ensures stays { Stays (T.state store.old) (T.state store.new) }
     ensures asks { AsksList request.now spot (T.state store.old) (T.state store.new) }
@@ -207,7 +208,7 @@ pub(crate) fn show_list<T: Store>(
         None => {
             return Err(ReplayRefused::Flaw {
                 rule: 12,
-                offset: spot.list,
+                offset: at,
             });
         }
     }
