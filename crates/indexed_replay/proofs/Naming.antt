@@ -9,7 +9,7 @@ use Rattle.mcap_model.proofs.Places.{at_none}
 use Rattle.indexed_replay.specs.declared.answers.ReplayRefused.{ReplayRefused}
 use Rattle.indexed_replay.specs.declared.answers.ReplayRefused.TheVariants as refusals
 use Rattle.indexed_replay.specs.declared.spots.Request.{Request}
-use Rattle.indexed_replay.specs.Reaching.{IsReached, Breaks, no_chunk, NamesNone}
+use Rattle.indexed_replay.specs.Reaching.{IsReached, Breaks, no_chunk, at_chunk, NamesNone}
 use Rattle.indexed_replay.specs.Replaying.{IsReason}
 use Rattle.indexed_replay.specs.Steps.{Adds}
 use Rattle.indexed_replay.specs.Lists.{IsLedBy}
@@ -99,5 +99,5 @@ chunk_reason file request at f (refusals.NotIndexed why) refused reached = absur
 chunk_reason file request at f (refusals.Flaw rule offset) (twelve, here, lacks) reached =
     subst (λ (r : ℕ). Breaks file request.range r offset) (sym twelve) (subst (λ (o : ℕ). Breaks file request.range 12 o) (sym here) (no_chunk at f reached lacks))
 chunk_reason file request at f (refusals.Compressed offset name) (here, packed) reached = record { at = at; index = f; reached = reached; place = sym here; chunk = packed.chunk; there = subst (λ (o : ℕ). Rattle.mcap_model.specs.Led.IsThere file o packed.chunk) (sym here) packed.there; kind = packed.kind; named = packed.named; some = packed.some }
-chunk_reason file request at f (refusals.Limit offset) refused reached = absurd refused
+chunk_reason file request at f (refusals.Limit offset) (here, past) reached = at_chunk at f offset reached (sym here) past
 chunk_reason file request at f refusals.Memory refused reached = tt

@@ -1,5 +1,5 @@
 -- What a chunk adds to a replay.
-use Rattle.std.specs.Prelude.{◌≡◌, ◌≢◌, ℕ, ◌+◌, ◌≤◌, List, [], length, sum, Option, Some, Result, Ok, Err}
+use Rattle.std.specs.Prelude.{◌≡◌, ◌≢◌, ℕ, ◌+◌, ◌≤◌, List, [], length, drop, sum, Option, Some, Result, Ok, Err}
 use Rattle.std.specs.List.{AllZip}
 use Rattle.mcap_io.specs.Stores.{StoreState}
 use Rattle.mcap_wire.specs.Reading.{text_length, text_bytes}
@@ -9,6 +9,7 @@ use Rattle.mcap_model.specs.Places.{Has}
 use Rattle.mcap_model.specs.Tops.{Top}
 use Rattle.mcap_model.specs.Fields.{ChunkFields, IsChunk, ChunkIndexFields}
 use Rattle.mcap_model.specs.Led.{IsThere}
+use Rattle.summary_read.specs.Reached.{DeclaresPast}
 use Rattle.indexed_replay.specs.declared.answers.ReplayRefused.{ReplayRefused}
 use Rattle.indexed_replay.specs.declared.answers.ReplayRefused.TheVariants as refusals
 use Rattle.indexed_replay.specs.declared.spots.Spot.{Spot}
@@ -34,7 +35,7 @@ ChunkRefused file index at (refusals.Fault faults) = Unit {0}
 ChunkRefused file index at (refusals.NotIndexed why) = ⊥
 ChunkRefused file index at (refusals.Flaw rule offset) = (rule ≡ 12) × (offset ≡ index) × LacksChunk file at
 ChunkRefused file index at (refusals.Compressed offset name) = (offset ≡ at) × PackedAt file at name
-ChunkRefused file index at (refusals.Limit offset) = ⊥
+ChunkRefused file index at (refusals.Limit offset) = (offset ≡ at) × DeclaresPast (drop offset file)
 ChunkRefused file index at refusals.Memory = Unit {0}
 
 abbrev pub ChunkChecked : List ℕ → ℕ → ℕ → Result ℕ ReplayRefused → Type 0

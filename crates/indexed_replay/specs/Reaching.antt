@@ -99,10 +99,11 @@ pub record IsPacked (file : List ℕ) (range : Range) (offset : ℕ) (name : Lis
   pub named : text_bytes chunk.content 28 ≡ name
   pub some : name ≢ []
 
--- A limit is passed on the ends of the file or in its summary; or a Message Index that is named, or a record to which an
--- entry leads, declares a content past the limit.
+-- A limit is passed on the ends of the file or in its summary; or what stands where a Chunk Index, its map or an entry
+-- leads declares a content past the limit, whether or not it is whole.
 pub data PassesLimit (file : List ℕ) (range : Range) : ℕ → Type 0 where
   while_loading : (offset : ℕ) → Passes file offset → PassesLimit file range offset
+  at_chunk : (at : ℕ) (f : ChunkIndexFields) (offset : ℕ) → IsReached file range at f → f.offset ≡ offset → DeclaresPast (drop offset file) → PassesLimit file range offset
   at_index : (at : ℕ) (f : ChunkIndexFields) (channel offset : ℕ) → Names file range at f channel offset → DeclaresPast (drop offset file) → PassesLimit file range offset
   at_message : (at : ℕ) (f : ChunkIndexFields) (channel list offset : ℕ) (entry : ℕ × ℕ) → LeadsTo file range at f channel list entry → offset ≡ f.offset + 49 + entry.1 → DeclaresPast (drop offset file) → PassesLimit file range offset
 

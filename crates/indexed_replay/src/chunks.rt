@@ -6,7 +6,7 @@ ghost use Rattle.indexed_replay.specs.Steps.{Stays};
 ghost use Rattle.indexed_replay.specs.Chunks.{AsksChunk, AsksFront, AsksNames, ChecksChunk, NamesPack, ShowsChunk, ShowsNames};
 
 use crate::answers::{NotIndexed, ReplayRefused};
-use crate::fronts::read_front;
+use crate::fronts::{Front, read_front};
 use crate::lists::show_list;
 use crate::spots::{Request, Spot};
 use mcap_io::{Failed, ReadRefused, Store, read_part};
@@ -85,8 +85,9 @@ fn check_chunk<T: Store>(
         }
     };
     let head = match found {
-        Some(head) => head,
-        None => return Err(missing),
+        Front::Whole(head) => head,
+        Front::Long => return Err(ReplayRefused::Limit { offset }),
+        Front::Absent => return Err(missing),
     };
     if head.op != CHUNK {
         return Err(missing);
