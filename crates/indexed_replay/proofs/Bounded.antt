@@ -76,7 +76,7 @@ module _ (file : List ℕ) (tops : List Top) (full : FullyIndexed file tops) (se
           let inner = weights_fit (timely_size range) records s.inner s.inner_apart in
           (s.costs, s.are, omega (arith, sum_is s.costs, s.few, lists, inner, spelled_size indexes, timely_sum range records, all.2))
 
-  costs_up : (ts : List Top) (fs : List ChunkIndexFields) (costs : List ℕ) → AllZip IsChunkIndex ts fs → AllZip (ChunkCosts file range) fs costs → Each (λ t. (f : ChunkIndexFields) → IsChunkIndex t f → HasChunkIndex file f) ts → AllZip (CostsUpTo file range) ts costs
+  costs_up : (ts : List Top) (fs : List ChunkIndexFields) (costs : List ℕ) → AllZip IsChunkIndex ts fs → AllZip (ChunkCosts file range) fs costs → Each (λ t. (f : ChunkIndexFields) → IsChunkIndex t f → (at : ℕ) × HasChunkIndex file at f) ts → AllZip (CostsUpTo file range) ts costs
   costs_up [] [] [] zip are has = tt
   costs_up [] [] (cost ∷ costs) zip are has = absurd are
   costs_up [] (f ∷ fs) costs zip are has = absurd zip
@@ -85,7 +85,8 @@ module _ (file : List ℕ) (tops : List Top) (full : FullyIndexed file tops) (se
   costs_up (t ∷ ts) (f ∷ fs) (cost ∷ costs) zip are has = (
     λ g is meets.
         let same = chunk_index_once t f g zip.0 is in
-        let there = of_chunk file tops full section more joined ended messages scan range g (has 0 t refl g is) in
+        let (at, indexed) = has 0 t refl g is in
+        let there = of_chunk file tops full section more joined ended messages scan range at g indexed in
         chunk_costs g cost there meets (subst (λ (h : ChunkIndexFields). ChunkCosts file range h cost) same are.0),
     costs_up ts fs costs zip.1 are.1 (λ n u at. has (suc n) u at),
   )
@@ -101,6 +102,7 @@ asked_bound file tops end bound before now range (all, full) halts asked few =
     let kept = halts.kept in
     let (messages, scan, once) = good_lists_are_scanned reading_limits tops kept.good in
     let costs = costs_up file all full tops more joined ended messages scan range (of_kind 8 asked.summary) asked.indexes asked.costs asked.are_indexes asked.are_costs (λ n t at f is.
-    record { start = asked.start; summary = asked.summary; has = asked.has; index = t; indexed = (filter_passed (λ (u : Top). u.op == 8) asked.summary n t at).0; is = is }) in
+    let (place, there) = (filter_passed (λ (u : Top). u.op == 8) asked.summary n t at).0 in
+    (asked.start + offset_among asked.summary place, record { start = asked.start; summary = asked.summary; has = asked.has; place = place; index = t; indexed = there; is = is; there = refl })) in
     let least = few asked.start asked.summary asked.header asked.costs asked.has asked.first costs in
     omega (arith, least, asked.sum_is)

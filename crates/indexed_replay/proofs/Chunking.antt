@@ -11,7 +11,7 @@ use Rattle.mcap_model.specs.Fields.{IsChunk}
 use Rattle.mcap_model.specs.Led.{IsThere}
 use Rattle.mcap_model.proofs.Readings.{length-top}
 use Rattle.indexed_replay.specs.declared.answers.ReplayRefused.{ReplayRefused}
-use Rattle.indexed_replay.specs.Reaching.{LacksChunk}
+use Rattle.indexed_replay.specs.Reaching.{EndsAt, LacksChunk}
 use Rattle.indexed_replay.specs.Steps.{FrontStands, LacksRecord}
 use Rattle.indexed_replay.specs.Chunks.{PackedAt, PackRefused, ChunkChecked}
 use Rattle.indexed_replay.proofs.Headed.{there_begun}
@@ -130,6 +130,14 @@ lacks_text file name at n t there size long same bad = λ u g here is.
     let own = subst (λ (v : Top). IsChunk v g) (same_there file at u t here there) is in
     bad (subst IsUtf8 (sym (name_is t g own) ∙ name_read file name at n t there size long same) (name_utf8 t g own))
 
-pub pack_checked : (file : List ℕ) (at : ℕ) (result : Result Unit ReplayRefused) → PackRefused file at result → ChunkChecked file at result
-pack_checked file at (Ok it) refused = tt
-pack_checked file at (Err why) refused = refused
+pub pack_checked : (file : List ℕ) (index at : ℕ) (result : Result ℕ ReplayRefused) → PackRefused file index at result → ChunkChecked file index at result
+pack_checked file index at (Ok end) refused = absurd refused
+pack_checked file index at (Err why) refused = refused
+
+-- where a chunk ends whose front was read
+pub chunk_ends : (file out : List ℕ) (at op len end : ℕ) → FrontStands file at out op len → end ≡ at + 9 + len → EndsAt file at end
+chunk_ends file out at op len end front is = record {
+  chunk = first_top (drop at file);
+  there = front.there;
+  is = omega (arith, is, length-top (first_top (drop at file)), front_size file out at op len front);
+}

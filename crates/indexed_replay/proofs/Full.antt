@@ -1,20 +1,23 @@
 -- On a fully indexed file that is read to its Data End no reason holds to refuse a replay, but for a failed store, a limit
 -- and memory.
-use Rattle.std.proofs.Common.{◌≡◌, ℕ, ◌+◌, ◌^◌, ◌<◌, Bool, List, [], ◌∷◌, ◌++◌, length, take, drop, refl, sym, ap, subst, ◌∙◌, eqb, arith}
-use Rattle.std.specs.Prelude.{◌≢◌, ◌==◌, Option, Err, if◌then◌else◌}
-use Rattle.std.specs.List.{list_any}
+use Rattle.std.proofs.Common.{◌≡◌, ℕ, zero, suc, ◌+◌, ◌^◌, ◌<◌, ◌≤◌, Bool, true, false, cond, List, [], ◌∷◌, ◌++◌, length, take, drop, refl, sym, ap, subst, inl, inr, ◌∙◌, eqb, arith}
+use Rattle.std.specs.Prelude.{◌≢◌, ◌==◌, Option, Err, take_while, if◌then◌else◌}
+use Rattle.std.specs.List.{list_any, prefix_len}
 use Rattle.std.proofs.lemmas.Bool.{eq-eqb}
+use Rattle.std.proofs.lemmas.List.{length-append, length-take, take-take}
+use Rattle.std.proofs.lemmas.Option.{same_Some}
 use Rattle.mcap_wire.specs.Reading.{text_bytes}
 use Rattle.mcap_model.specs.declared.replay.Range.{Range}
 use Rattle.mcap_model.specs.Places.{At, Has, Each}
-use Rattle.mcap_model.specs.Tops.{Top, inner_tops, is_chunk, is_flat_kind, flattened, flat}
+use Rattle.mcap_model.specs.Tops.{Top, top_bytes, spelled, inner_tops, is_chunk, is_flat_kind, flattened, flat}
 use Rattle.mcap_model.specs.Fields.{MessageFields, IsMessage, IsMessageIndex, ChunkIndexFields, IsChunkIndex}
 use Rattle.mcap_model.specs.Rules.{HasDataEnd}
 use Rattle.mcap_model.specs.Scan.{Seen, Scan}
-use Rattle.mcap_model.specs.Whole.{offset_of, offset_among, IsWhole, IsEntryOf, ChunkIndexIsRight}
+use Rattle.mcap_model.specs.Whole.{offset_of, offset_among, is_index, indexes_behind, IsWhole, IsEntryOf, NamesIndexes, ChunkIndexIsRight}
 use Rattle.mcap_model.specs.Valid.{Valid, FullyIndexed}
 use Rattle.mcap_model.specs.Led.{HasSummary, IsThere}
-use Rattle.mcap_model.proofs.Places.{at_kept}
+use Rattle.mcap_model.proofs.Places.{at_none, at_within, at_kept}
+use Rattle.mcap_model.proofs.Readings.{length-top}
 use Rattle.mcap_model.proofs.Lists.{at_second, cut_flat, filter_has, filter_passed}
 use Rattle.mcap_model.proofs.Flat.{named_or}
 use Rattle.mcap_laws.proofs.Leading.{Ends, ends_of, ended_front, summary_of, in_summary, from_summary, summary_there, from_there, there_same, is_there, opened, named_of, index_right, index_stands}
@@ -23,12 +26,45 @@ use Rattle.indexed_replay.specs.declared.answers.NotIndexed.{NotIndexed}
 use Rattle.indexed_replay.specs.declared.answers.NotIndexed.TheVariants as lacks
 use Rattle.indexed_replay.specs.declared.answers.ReplayRefused.{ReplayRefused}
 use Rattle.indexed_replay.specs.declared.answers.ReplayRefused.TheVariants as refusals
-use Rattle.indexed_replay.specs.Reaching.{HasChunkIndex, IsReached, Names, LeadsTo, LacksChunk, LacksIndex, LacksMessage, Breaks, at_loading, no_chunk, no_index, no_message, IsPacked, CountsDiffer, NamesNone, LacksChannel, IsNotIndexed}
+use Rattle.indexed_replay.specs.Reaching.{HasChunkIndex, IsReached, Names, LeadsTo, LacksChunk, LacksIndex, LacksMessage, IsElsewhere, Breaks, at_loading, no_chunk, no_index, index_elsewhere, no_message, IsPacked, CountsDiffer, NamesNone, LacksChannel, IsNotIndexed}
 use Rattle.indexed_replay.specs.Replaying.{IsReason, IsScanReplayed}
 use Rattle.indexed_replay.proofs.Summed.{summary_once}
 use Rattle.indexed_replay.proofs.Chunking.{name_is}
 use Rattle.indexed_replay.proofs.Counted.{statistics_count}
 use Rattle.indexed_replay.proofs.Sound.{some_summary, none_fails}
+
+-- ---- Message Indexes behind a chunk
+
+-- the length of the records up to one behind a place
+behind_size : (xs : List Top) (k p : ℕ) (t : Top) → At xs k t → (n : ℕ) → n ≡ suc k + p → length (spelled (take n xs)) ≡ length (spelled (take k xs)) + length (top_bytes t) + length (spelled (take p (drop (suc k) xs)))
+behind_size [] k p t at n is = absurd (at_none k t at)
+behind_size (x ∷ xs) k p t at zero is = absurd (omega (arith, is))
+behind_size (x ∷ xs) zero p t at (suc m) is =
+    let same : m ≡ p = omega (arith, is) in
+    omega (arith, ap (λ (u : Top). length (top_bytes u)) (same_Some x t at), length-append (top_bytes x) (spelled (take m xs)), ap (λ (q : ℕ). length (spelled (take q xs))) same)
+behind_size (x ∷ xs) (suc k) p t at (suc m) is =
+    omega (arith, behind_size xs k p t at m (omega (arith, is)), length-append (top_bytes x) (spelled (take m xs)), length-append (top_bytes x) (spelled (take k xs)))
+
+-- a front of the first ones that keep a test is a front of all
+taken_while : (test : Top → Bool) (xs : List Top) (p : ℕ) (t : Top) → At (take_while test xs) p t → take p (take_while test xs) ≡ take p xs
+taken_while test xs p t at =
+    let n = prefix_len test xs in
+    let within : p < length (take n xs) = at_within (take_while test xs) p t at in
+    take-take p n xs (omega (arith, within, length-take n xs))
+
+-- one of the Message Indexes behind the chunk at a place stands behind the chunk, and ends within their bytes
+index_behind : (tops : List Top) (k : ℕ) (chunk : Top) (p : ℕ) (t : Top) → At tops k chunk → At (indexes_behind tops k) p t
+    → (offset_of tops (suc k + p) ≡ offset_of tops k + length (top_bytes chunk) + length (spelled (take p (indexes_behind tops k)))) × (length (spelled (take p (indexes_behind tops k))) + 9 ≤ length (spelled (indexes_behind tops k)))
+index_behind tops k chunk p t at there =
+    let (more, cut) = cut_flat top_bytes (indexes_behind tops k) p t there in
+    let front = spelled (take p (indexes_behind tops k)) in (
+      omega (arith, behind_size tops k p chunk at (suc k + p) refl, ap (λ (l : List Top). length (spelled l)) (taken_while is_index (drop (suc k) tops) p t there)),
+      omega (arith, ap length cut, length-append front (top_bytes t ++ spelled more), length-append (top_bytes t) (spelled more), length-top t),
+    )
+
+names_size : (tops : List Top) (k : ℕ) (f : ChunkIndexFields) (channel offset : ℕ) → NamesIndexes tops k f → Has {X = ℕ × ℕ} f.indexes (channel, offset) → f.indexes_size ≡ length (spelled (indexes_behind tops k))
+names_size tops k f channel offset (inl none) (n, at) = absurd (at_none {X = ℕ × ℕ} n (channel, offset) (subst (λ (l : List (ℕ × ℕ)). At {X = ℕ × ℕ} l n (channel, offset)) none at))
+names_size tops k f channel offset (inr all) has = all.2
 
 -- a record in a chunk is among the flat ones
 flat_has : (tops : List Top) (c j : ℕ) (chunk u : Top) → At tops c chunk → chunk.op ≡ 6 → At (inner_tops chunk) j u → u.op ≡ 5 → Has (flat tops) u
@@ -73,10 +109,10 @@ module _ (file : List ℕ) (tops : List Top) (full : FullyIndexed file tops) (se
   summary_is : (start : ℕ) (summary : List Top) → HasSummary file start summary → summary ≡ summary_of e
   summary_is start summary has = let ends = e in summary_once file start ends.start summary (summary_of ends) has (summary_there file tops whole ends)
 
-  pub of_chunk : (f : ChunkIndexFields) → HasChunkIndex file f → OfChunk file tops f
-  of_chunk f h =
-      let (i, at_i) = subst (λ (l : List Top). Has l h.index) (summary_is h.start h.summary h.has) h.indexed in
-      let (n, at) = from_summary tops e i h.index at_i in
+  pub of_chunk : (spot : ℕ) (f : ChunkIndexFields) → HasChunkIndex file spot f → OfChunk file tops f
+  of_chunk spot f h =
+      let at_i = subst (λ (l : List Top). At l h.place h.index) (summary_is h.start h.summary h.has) h.indexed in
+      let (n, at) = from_summary tops e h.place h.index at_i in
       let v = valid in
       let rule = v.v12 in
       let right = rule n h.index at f h.is in
@@ -97,9 +133,9 @@ module _ (file : List ℕ) (tops : List Top) (full : FullyIndexed file tops) (se
 
   -- ---- where Chunk Indexes lead
 
-  some_chunk : (f : ChunkIndexFields) → IsReached file range f → LacksChunk file f.offset → ⊥
-  some_chunk f reached lacks =
-      let c = of_chunk f reached.indexed in
+  some_chunk : (spot : ℕ) (f : ChunkIndexFields) → IsReached file range spot f → LacksChunk file f.offset → ⊥
+  some_chunk spot f reached lacks =
+      let c = of_chunk spot f reached.indexed in
       let right = c.right in
       let of = right.is in
       lacks right.chunk right.shown c.there of.is
@@ -108,7 +144,7 @@ module _ (file : List ℕ) (tops : List Top) (full : FullyIndexed file tops) (se
   none_packed offset name packed =
       let f = packed.index in
       let reached = packed.reached in
-      let c = of_chunk f reached.indexed in
+      let c = of_chunk packed.at f reached.indexed in
       let right = c.right in
       let of = right.is in
       let there = c.there in
@@ -117,20 +153,40 @@ module _ (file : List ℕ) (tops : List Top) (full : FullyIndexed file tops) (se
       let some = packed.some in
       some (sym packed.named ∙ ap (λ (t : Top). text_bytes t.content 28) same ∙ name_is right.chunk right.shown of.is ∙ c.plain)
 
-  some_index : (f : ChunkIndexFields) (channel offset : ℕ) → Names file range f channel offset → LacksIndex file channel offset → ⊥
-  some_index f channel offset names lacks =
+  some_index : (spot : ℕ) (f : ChunkIndexFields) (channel offset : ℕ) → Names file range spot f channel offset → LacksIndex file channel offset → ⊥
+  some_index spot f channel offset names lacks =
       let reached = names.reached in
-      let c = of_chunk f reached.indexed in
+      let c = of_chunk spot f reached.indexed in
       let right = c.right in
       let (entries, named) = named_of tops right.k f channel offset right.names names.named in
       let (rest, stands, short) = index_stands file tops full section more joined ended messages scan range right.k named.place offset named.top named.at named.there in
       lacks named.top entries (is_there file offset named.top rest stands short) named.is
 
-  of_entry : (f : ChunkIndexFields) (channel offset : ℕ) (entry : ℕ × ℕ) → LeadsTo file range f channel offset entry → OfEntry file tops f channel entry
-  of_entry f channel offset entry leads =
+  -- a Message Index that a map names stands behind the chunk, within the bytes that the Chunk Index states
+  none_elsewhere : (spot : ℕ) (f : ChunkIndexFields) (channel offset : ℕ) → Names file range spot f channel offset → IsElsewhere file f offset → ⊥
+  none_elsewhere spot f channel offset names elsewhere =
+      let reached = names.reached in
+      let c = of_chunk spot f reached.indexed in
+      let right = c.right in
+      let of = right.is in
+      let there = c.there in
+      let stands = there.stands in
+      let ends = elsewhere.ends in
+      let same = there_same file f.offset right.chunk ends.chunk stands.rest stands.there there.short ends.there in
+      let size : length (top_bytes ends.chunk) ≡ length (top_bytes right.chunk) = ap (λ (t : Top). length (top_bytes t)) same in
+      let (entries, named) = named_of tops right.k f channel offset right.names names.named in
+      let behind = index_behind tops right.k right.chunk named.place named.top of.at named.at in
+      let total : f.indexes_size ≡ length (spelled (indexes_behind tops right.k)) = names_size tops right.k f channel offset right.names names.named in
+      elim elsewhere.outside [
+        | inl early ↦ omega (arith, early, ends.is, size, of.offset, named.there, behind.0)
+        | inr late ↦ omega (arith, late, ends.is, size, of.offset, named.there, behind.0, behind.1, total)
+      ]
+
+  of_entry : (spot : ℕ) (f : ChunkIndexFields) (channel offset : ℕ) (entry : ℕ × ℕ) → LeadsTo file range spot f channel offset entry → OfEntry file tops f channel entry
+  of_entry spot f channel offset entry leads =
       let names = leads.names in
       let reached = names.reached in
-      let c = of_chunk f reached.indexed in
+      let c = of_chunk spot f reached.indexed in
       let right = c.right in
       let of = right.is in
       let is_six = of.is in
@@ -155,12 +211,12 @@ module _ (file : List ℕ) (tops : List Top) (full : FullyIndexed file tops) (se
         flat_there = flat_has tops right.k found.place right.chunk found.top of.at is_six.kind found.at is.kind;
       }
 
-  some_message : (f : ChunkIndexFields) (channel offset : ℕ) (entry : ℕ × ℕ) → LeadsTo file range f channel offset entry → LacksMessage file f.offset channel entry → ⊥
-  some_message f channel offset entry leads lacks = let m = of_entry f channel offset entry leads in lacks m.top m.message m.there m.is (sym m.time)
+  some_message : (spot : ℕ) (f : ChunkIndexFields) (channel offset : ℕ) (entry : ℕ × ℕ) → LeadsTo file range spot f channel offset entry → LacksMessage file f.offset channel entry → ⊥
+  some_message spot f channel offset entry leads lacks = let m = of_entry spot f channel offset entry leads in lacks m.top m.message m.there m.is (sym m.time)
 
   some_channel : (id : ℕ) → LacksChannel file range id → ⊥
   some_channel id lacks =
-      let m = of_entry lacks.index id lacks.offset lacks.entry lacks.leads in
+      let m = of_entry lacks.at lacks.index id lacks.offset lacks.entry lacks.leads in
       let channels = full.channels in
       let (n, at) = m.flat_there in
       let has = channels n id m.top m.message at m.is in
@@ -173,7 +229,7 @@ module _ (file : List ℕ) (tops : List Top) (full : FullyIndexed file tops) (se
   some_names : (chunk : ℕ) → NamesNone file range chunk → ⊥
   some_names chunk none =
       let reached = none.reached in
-      let c = of_chunk none.index reached.indexed in
+      let c = of_chunk none.at none.index reached.indexed in
       let empty = full.empty_maps in
       let timed = none.timed in
       timed (empty c.place c.index none.index c.at c.is none.none)
@@ -205,9 +261,10 @@ module _ (file : List ℕ) (tops : List Top) (full : FullyIndexed file tops) (se
 
   none_breaks : length file < 2 ^ 64 → (rule offset : ℕ) → Breaks file range rule offset → ⊥
   none_breaks few rule offset (at_loading number place fails) = none_fails file tops full few number place fails
-  none_breaks few rule offset (no_chunk f reached none) = some_chunk f reached none
-  none_breaks few rule offset (no_index f channel place names none) = some_index f channel place names none
-  none_breaks few rule offset (no_message f channel place entry leads none) = some_message f channel place entry leads none
+  none_breaks few rule offset (no_chunk spot f reached none) = some_chunk spot f reached none
+  none_breaks few rule offset (no_index spot f channel place names none) = some_index spot f channel place names none
+  none_breaks few rule offset (index_elsewhere spot f channel place names elsewhere) = none_elsewhere spot f channel place names elsewhere
+  none_breaks few rule offset (no_message spot f channel place entry leads none) = some_message spot f channel place entry leads none
 
   pub none_refuses : length file < 2 ^ 64 → (topic : Option (List ℕ)) (why : ReplayRefused) → IsReason file range why → IsScanReplayed range topic messages (Err why)
   none_refuses few topic (refusals.Fault faults) is = tt

@@ -46,7 +46,7 @@ content_lacks file request spot entries why (is, timely, none) = subst (λ (w : 
 
 -- ---- a Message Index
 
-module _ (file : List ℕ) (request : Request) (spot : Spot) (content : List ℕ) (entries : List (ℕ × ℕ)) (there : IsThere file spot.list (top 7 content)) (shows : ShowsMessageIndex content spot.channel entries) where
+module _ (file : List ℕ) (request : Request) (at : ℕ) (spot : Spot) (content : List ℕ) (entries : List (ℕ × ℕ)) (there : IsThere file spot.list (top 7 content)) (shows : ShowsMessageIndex content spot.channel entries) where
   is_index : IsMessageIndex (top 7 content) spot.channel entries
   is_index = record { kind = refl; layout = shows }
 
@@ -81,22 +81,23 @@ module _ (file : List ℕ) (request : Request) (spot : Spot) (content : List ℕ
         wanted = is.wanted;
       }
 
-  leads : (f : ChunkIndexFields) (entry : ℕ × ℕ) → Names file request.range f spot.channel spot.list → Has {X = ℕ × ℕ} entries entry → Rattle.mcap_model.specs.Scan.InRange request.range entry.0 → LeadsTo file request.range f spot.channel spot.list entry
+  leads : (f : ChunkIndexFields) (entry : ℕ × ℕ) → Names file request.range at f spot.channel spot.list → Has {X = ℕ × ℕ} entries entry → Rattle.mcap_model.specs.Scan.InRange request.range entry.0 → LeadsTo file request.range at f spot.channel spot.list entry
   leads f entry names has in_range = record { names = names; list = top 7 content; entries = entries; there = there; is = is_index; entry_there = has; in_range = in_range }
 
-  entry_reason : (why : ReplayRefused) (f : ChunkIndexFields) (entry : ℕ × ℕ) → f.offset ≡ spot.chunk → LeadsTo file request.range f spot.channel spot.list entry → EntryRefused file spot entry why → IsReason file request.range why
+  entry_reason : (why : ReplayRefused) (f : ChunkIndexFields) (entry : ℕ × ℕ) → f.offset ≡ spot.chunk → LeadsTo file request.range at f spot.channel spot.list entry → EntryRefused file spot entry why → IsReason file request.range why
   entry_reason (refusals.Fault faults) f entry place to refused = tt
   entry_reason (refusals.NotIndexed why) f entry place to refused = absurd refused
-  entry_reason (refusals.Flaw rule offset) f entry place to (nine, at, lacking) =
-      subst (λ (r : ℕ). Breaks file request.range r offset) (sym nine) (subst (λ (o : ℕ). Breaks file request.range 9 o) (sym at)
-      (no_message f spot.channel spot.list entry to (subst (λ (o : ℕ). LacksMessage file o spot.channel entry) (sym place) lacking)))
+  entry_reason (refusals.Flaw rule offset) f entry place to (nine, here, lacking) =
+      subst (λ (r : ℕ). Breaks file request.range r offset) (sym nine) (subst (λ (o : ℕ). Breaks file request.range 9 o) (sym here)
+      (no_message at f spot.channel spot.list entry to (subst (λ (o : ℕ). LacksMessage file o spot.channel entry) (sym place) lacking)))
   entry_reason (refusals.Compressed offset name) f entry place to refused = absurd refused
-  entry_reason (refusals.Limit offset) f entry place to (at, past) = at_message f spot.channel spot.list offset entry to (at ∙ ap (λ (o : ℕ). o + 49 + entry.1) (sym place)) past
+  entry_reason (refusals.Limit offset) f entry place to (here, past) = at_message at f spot.channel spot.list offset entry to (here ∙ ap (λ (o : ℕ). o + 49 + entry.1) (sym place)) past
   entry_reason refusals.Memory f entry place to refused = tt
 
-  content_reason : (why : ReplayRefused) → Knows file request.tables.now.channels → ContentRefused file request spot entries why → ListRefused file request spot why
+  content_reason : (why : ReplayRefused) → Knows file request.tables.now.channels → ContentRefused file request spot entries why → ListRefused file request at spot why
   content_reason why knows (at_entry w entry has in_range refused) = λ f place names. entry_reason w f entry place (leads f entry names has in_range) refused
   content_reason why knows (no_channel timely none) = λ f place names. record {
+    at = at;
     index = f;
     offset = spot.list;
     entry = timely.0;
@@ -104,18 +105,18 @@ module _ (file : List ℕ) (request : Request) (spot : Spot) (content : List ℕ
     start = knows.start;
     summary = knows.summary;
     has = knows.has;
-    none = λ n t at g is. let covers = knows.covers in let (k, d, here, same) = covers t spot.channel g (n, at) is in none k d here same;
+    none = λ n t found g is. let covers = knows.covers in let (k, d, here, same) = covers t spot.channel g (n, found) is in none k d here same;
   }
 
-  pub list_shown : (shown : List Shown × List Shown) (result : Result Unit ReplayRefused) → Knows file request.tables.now.channels → ContentShown file request spot entries shown result → ListShown file request spot shown result
+  pub list_shown : (shown : List Shown × List Shown) (result : Result Unit ReplayRefused) → Knows file request.tables.now.channels → ContentShown file request spot entries shown result → ListShown file request at spot shown result
   list_shown shown (Ok it) knows adds = adds_same (IsShownBy file request spot entries) (IsLedBy file request spot) shown.0 shown.1 adds led listed
   list_shown shown (Err why) knows refused = content_reason why knows refused
 
-pub lacks_reason : (file : List ℕ) (request : Request) (spot : Spot) → LacksIndex file spot.channel spot.list → ListRefused file request spot (refusals.Flaw 12 spot.list)
-lacks_reason file request spot none = λ f place names. no_index f spot.channel spot.list names none
+pub lacks_reason : (file : List ℕ) (request : Request) (at : ℕ) (spot : Spot) → LacksIndex file spot.channel spot.list → ListRefused file request at spot (refusals.Flaw 12 at)
+lacks_reason file request at spot none = λ f place names. no_index at f spot.channel spot.list names none
 
-pub limit_reason : (file : List ℕ) (request : Request) (spot : Spot) (offset : ℕ) → (offset ≡ spot.list) × DeclaresPast (drop offset file) → ListRefused file request spot (refusals.Limit offset)
-limit_reason file request spot offset (at, past) = λ f place names. at_index f spot.channel offset (subst (λ (o : ℕ). Names file request.range f spot.channel o) (sym at) names) past
+pub limit_reason : (file : List ℕ) (request : Request) (at : ℕ) (spot : Spot) (offset : ℕ) → (offset ≡ spot.list) × DeclaresPast (drop offset file) → ListRefused file request at spot (refusals.Limit offset)
+limit_reason file request at spot offset (here, past) = λ f place names. at_index at f spot.channel offset (subst (λ (o : ℕ). Names file request.range at f spot.channel o) (sym here) names) past
 
 -- ---- what is asked for
 

@@ -9,7 +9,7 @@ use Rattle.mcap_model.proofs.Places.{at_none}
 use Rattle.indexed_replay.specs.declared.answers.ReplayRefused.{ReplayRefused}
 use Rattle.indexed_replay.specs.declared.answers.ReplayRefused.TheVariants as refusals
 use Rattle.indexed_replay.specs.declared.spots.Request.{Request}
-use Rattle.indexed_replay.specs.Reaching.{IsReached, Breaks, no_chunk, NamesNone}
+use Rattle.indexed_replay.specs.Reaching.{IsReached, Breaks, no_chunk, at_chunk, NamesNone}
 use Rattle.indexed_replay.specs.Replaying.{IsReason}
 use Rattle.indexed_replay.specs.Steps.{Adds}
 use Rattle.indexed_replay.specs.Lists.{IsLedBy}
@@ -84,8 +84,8 @@ pub named_empty : (file : List ℕ) (request : Request) (chunk : ℕ) (indexes :
 named_empty file request chunk [] old none = named_none file request chunk [] old
 named_empty file request chunk (p ∷ indexes) old none = absurd (omega (arith, none))
 
-pub names_none : (file : List ℕ) (request : Request) (f : ChunkIndexFields) → length f.indexes ≡ 0 → ((f.start ≡ 0) × (f.end ≡ 0) → ⊥) → IsReached file request.range f → NamesNone file request.range f.offset
-names_none file request f none timed reached = record { index = f; reached = reached; place = refl; none = empty f.indexes none; timed = timed }
+pub names_none : (file : List ℕ) (request : Request) (at : ℕ) (f : ChunkIndexFields) → length f.indexes ≡ 0 → ((f.start ≡ 0) × (f.end ≡ 0) → ⊥) → IsReached file request.range at f → NamesNone file request.range f.offset
+names_none file request at f none timed reached = record { at = at; index = f; reached = reached; place = refl; none = empty f.indexes none; timed = timed }
   where
     empty : (l : List (ℕ × ℕ)) → length l ≡ 0 → l ≡ []
     empty [] is = refl
@@ -93,11 +93,11 @@ names_none file request f none timed reached = record { index = f; reached = rea
 
 -- ---- a chunk that is refused
 
-pub chunk_reason : (file : List ℕ) (request : Request) (f : ChunkIndexFields) (why : ReplayRefused) → ChunkRefused file f.offset why → IsReached file request.range f → IsReason file request.range why
-chunk_reason file request f (refusals.Fault faults) refused reached = tt
-chunk_reason file request f (refusals.NotIndexed why) refused reached = absurd refused
-chunk_reason file request f (refusals.Flaw rule offset) (twelve, at, lacks) reached =
-    subst (λ (r : ℕ). Breaks file request.range r offset) (sym twelve) (subst (λ (o : ℕ). Breaks file request.range 12 o) (sym at) (no_chunk f reached lacks))
-chunk_reason file request f (refusals.Compressed offset name) (at, packed) reached = record { index = f; reached = reached; place = sym at; chunk = packed.chunk; there = subst (λ (o : ℕ). Rattle.mcap_model.specs.Led.IsThere file o packed.chunk) (sym at) packed.there; kind = packed.kind; named = packed.named; some = packed.some }
-chunk_reason file request f (refusals.Limit offset) refused reached = absurd refused
-chunk_reason file request f refusals.Memory refused reached = tt
+pub chunk_reason : (file : List ℕ) (request : Request) (at : ℕ) (f : ChunkIndexFields) (why : ReplayRefused) → ChunkRefused file at f.offset why → IsReached file request.range at f → IsReason file request.range why
+chunk_reason file request at f (refusals.Fault faults) refused reached = tt
+chunk_reason file request at f (refusals.NotIndexed why) refused reached = absurd refused
+chunk_reason file request at f (refusals.Flaw rule offset) (twelve, here, lacks) reached =
+    subst (λ (r : ℕ). Breaks file request.range r offset) (sym twelve) (subst (λ (o : ℕ). Breaks file request.range 12 o) (sym here) (no_chunk at f reached lacks))
+chunk_reason file request at f (refusals.Compressed offset name) (here, packed) reached = record { at = at; index = f; reached = reached; place = sym here; chunk = packed.chunk; there = subst (λ (o : ℕ). Rattle.mcap_model.specs.Led.IsThere file o packed.chunk) (sym here) packed.there; kind = packed.kind; named = packed.named; some = packed.some }
+chunk_reason file request at f (refusals.Limit offset) (here, past) reached = at_chunk at f offset reached (sym here) past
+chunk_reason file request at f refusals.Memory refused reached = tt

@@ -19,7 +19,8 @@ use Rattle.mcap_model.specs.Led.{HasSummary, FirstTopic, IsInChunk, Led}
 use Rattle.mcap_model.proofs.Lists.{pairs_at, pairs_from, filter_passed, filter_has}
 use Rattle.mcap_model.proofs.NamedTopics.{zip_front, zip_back}
 use Rattle.indexed_replay.specs.declared.spots.Request.{Request}
-use Rattle.summary_read.specs.Parts.{of_kind}
+use Rattle.summary_read.specs.Parts.{of_kind, offsets_of_kind}
+use Rattle.summary_read.proofs.Listing.{offset_at}
 use Rattle.indexed_replay.specs.Replaying.{IsLed}
 use Rattle.indexed_replay.specs.Steps.{Adds, led_as}
 use Rattle.indexed_replay.specs.Lists.{Wanted, Knows}
@@ -37,15 +38,10 @@ seen_of s topic = record { place = s.place; channel = s.channel; topic = topic; 
 abbrev is_index_top : Top → Rattle.std.proofs.Common.Bool
 is_index_top t = t.op == 8
 
-pub are_indexed : (file : List ℕ) (start : ℕ) (summary tops : List Top) → HasSummary file start summary → tops ≡ of_kind 8 summary → AreIndexed file tops
-are_indexed file start summary tops has are = λ n t f at is. record {
-  start = start;
-  summary = summary;
-  has = has;
-  index = t;
-  indexed = (filter_passed is_index_top summary n t (subst (λ (l : List Top). At l n t) are at)).0;
-  is = is;
-}
+pub are_indexed : (file : List ℕ) (start : ℕ) (summary tops : List Top) (offsets : List ℕ) → HasSummary file start summary → tops ≡ of_kind 8 summary → offsets ≡ offsets_of_kind 8 start summary → AreIndexed file tops offsets
+are_indexed file start summary tops offsets has are placed = λ n t f at here is found.
+    let (place, stands, there) = offset_at 8 start summary n t at (subst (λ (l : List Top). At l n t) are here) (subst (λ (l : List ℕ). At l n at) placed found) in
+    record { start = start; summary = summary; has = has; place = place; index = t; indexed = stands; is = is; there = there }
 
 module _ (file : List ℕ) (request : Request) (start : ℕ) (summary tops : List Top) (has : HasSummary file start summary) (are : tops ≡ of_kind 8 summary) (known : Knows file request.tables.now.channels) where
   own : known.summary ≡ summary

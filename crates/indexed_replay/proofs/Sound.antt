@@ -16,7 +16,8 @@ use Rattle.mcap_model.proofs.Lists.{cut_flat}
 use Rattle.mcap_model.proofs.Readings.{Begun, top_of, all_short, one_follows, begun, length-top}
 use Rattle.mcap_model.proofs.Flaws.{flaws_exclude_validity}
 use Rattle.mcap_laws.proofs.Leading.{Ends, ends_of, summary_of, front_of, whole_bytes, start_is, summary_there, at_dropped}
-use Rattle.summary_read.specs.Reached.{HasNoSummary, EndsIn, StartsAt, summary_part, BreaksFirst, breaks_4, breaks_5, breaks_6, FailsInside, Fails, at_end, by_start, inside}
+use Rattle.summary_read.specs.Reached.{HasNoSummary, EndsIn, StartsAt, summary_part, BreaksFirst, breaks_4, breaks_5, breaks_6, FailsInside, Fails, at_ends, by_start, inside}
+use Rattle.summary_read.proofs.Flawed.{flawed}
 use Rattle.indexed_replay.proofs.Summed.{footer_size, start_same}
 
 -- a Data End stands in front of a place behind it
@@ -111,7 +112,7 @@ module _ (file : List ℕ) (tops : List Top) (full : FullyIndexed file tops) whe
       by (t ∷ ts) joined left small = kept_first xs ts t rest rule small joined (left ∙ append_assoc (top_bytes t) (spelled ts) []) breaks
 
   pub none_fails : length file < 2 ^ 64 → (rule offset : ℕ) → Fails file rule offset → ⊥
-  none_fails few rule offset (at_end number place flaw) = flaws_exclude_validity file number place flaw (tops, valid)
+  none_fails few rule offset (at_ends number place fails) = flaws_exclude_validity file number place (flawed file number place fails) (tops, valid)
   none_fails few rule offset (by_start f ends some (inl early)) = omega (arith, early, starts_there f ends, inside_file.0)
   none_fails few rule offset (by_start f ends some (inr late)) = omega (arith, late, starts_there f ends, inside_file.1)
   none_fails few rule offset (inside start number place starts fails) = none_inside few start number place starts fails

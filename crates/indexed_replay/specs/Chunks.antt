@@ -1,5 +1,5 @@
 -- What a chunk adds to a replay.
-use Rattle.std.specs.Prelude.{◌≡◌, ◌≢◌, ℕ, ◌+◌, ◌≤◌, List, [], length, sum, Option, Some, Result, Ok, Err}
+use Rattle.std.specs.Prelude.{◌≡◌, ◌≢◌, ℕ, ◌+◌, ◌≤◌, List, [], length, drop, sum, Option, Some, Result, Ok, Err}
 use Rattle.std.specs.List.{AllZip}
 use Rattle.mcap_io.specs.Stores.{StoreState}
 use Rattle.mcap_wire.specs.Reading.{text_length, text_bytes}
@@ -9,11 +9,12 @@ use Rattle.mcap_model.specs.Places.{Has}
 use Rattle.mcap_model.specs.Tops.{Top}
 use Rattle.mcap_model.specs.Fields.{ChunkFields, IsChunk, ChunkIndexFields}
 use Rattle.mcap_model.specs.Led.{IsThere}
+use Rattle.summary_read.specs.Reached.{DeclaresPast}
 use Rattle.indexed_replay.specs.declared.answers.ReplayRefused.{ReplayRefused}
 use Rattle.indexed_replay.specs.declared.answers.ReplayRefused.TheVariants as refusals
 use Rattle.indexed_replay.specs.declared.spots.Spot.{Spot}
 use Rattle.indexed_replay.specs.declared.spots.Request.{Request}
-use Rattle.indexed_replay.specs.Reaching.{IsReached, LacksChunk}
+use Rattle.indexed_replay.specs.Reaching.{IsReached, EndsAt, LacksChunk}
 use Rattle.indexed_replay.specs.Replaying.{IsReason}
 use Rattle.indexed_replay.specs.Steps.{Adds}
 use Rattle.indexed_replay.specs.Lists.{Knows, IsLedBy, ListCost}
@@ -28,28 +29,29 @@ pub record PackedAt (file : List ℕ) (offset : ℕ) (name : List ℕ) : Type 0 
   pub named : text_bytes chunk.content 28 ≡ name
   pub some : name ≢ []
 
-abbrev pub ChunkRefused : List ℕ → ℕ → ReplayRefused → Type 0
-ChunkRefused file at (refusals.Fault faults) = Unit {0}
-ChunkRefused file at (refusals.NotIndexed why) = ⊥
-ChunkRefused file at (refusals.Flaw rule offset) = (rule ≡ 12) × (offset ≡ at) × LacksChunk file at
-ChunkRefused file at (refusals.Compressed offset name) = (offset ≡ at) × PackedAt file at name
-ChunkRefused file at (refusals.Limit offset) = ⊥
-ChunkRefused file at refusals.Memory = Unit {0}
+-- why a chunk that a Chunk Index at the first offset leads to, at the other, isn't looked into
+abbrev pub ChunkRefused : List ℕ → ℕ → ℕ → ReplayRefused → Type 0
+ChunkRefused file index at (refusals.Fault faults) = Unit {0}
+ChunkRefused file index at (refusals.NotIndexed why) = ⊥
+ChunkRefused file index at (refusals.Flaw rule offset) = (rule ≡ 12) × (offset ≡ index) × LacksChunk file at
+ChunkRefused file index at (refusals.Compressed offset name) = (offset ≡ at) × PackedAt file at name
+ChunkRefused file index at (refusals.Limit offset) = (offset ≡ at) × DeclaresPast (drop offset file)
+ChunkRefused file index at refusals.Memory = Unit {0}
 
-abbrev pub ChunkChecked : List ℕ → ℕ → Result Unit ReplayRefused → Type 0
-ChunkChecked file at (Ok it) = Unit {0}
-ChunkChecked file at (Err why) = ChunkRefused file at why
+abbrev pub ChunkChecked : List ℕ → ℕ → ℕ → Result ℕ ReplayRefused → Type 0
+ChunkChecked file index at (Ok end) = EndsAt file at end
+ChunkChecked file index at (Err why) = ChunkRefused file index at why
 
-abbrev pub ChecksChunk : Option (List ℕ) → ℕ → ℕ → Result Unit ReplayRefused → Type 0
-ChecksChunk told len at result = (file : List ℕ) → told ≡ Some file → length file ≡ len → ChunkChecked file at result
+abbrev pub ChecksChunk : Option (List ℕ) → ℕ → ℕ → ℕ → Result ℕ ReplayRefused → Type 0
+ChecksChunk told len index at result = (file : List ℕ) → told ≡ Some file → length file ≡ len → ChunkChecked file index at result
 
-abbrev pub PackRefused : List ℕ → ℕ → Result Unit ReplayRefused → Type 0
-PackRefused file at (Ok it) = ⊥
-PackRefused file at (Err why) = ChunkRefused file at why
+abbrev pub PackRefused : List ℕ → ℕ → ℕ → Result ℕ ReplayRefused → Type 0
+PackRefused file index at (Ok end) = ⊥
+PackRefused file index at (Err why) = ChunkRefused file index at why
 
 -- a chunk that stands there with a compression of that length is refused so
-abbrev pub NamesPack : Option (List ℕ) → ℕ → ℕ → Result Unit ReplayRefused → Type 0
-NamesPack told at size result = (file : List ℕ) (t : Top) → told ≡ Some file → IsThere file at t → t.op ≡ 6 → text_length t.content 28 ≡ size → 40 + size ≤ length t.content → size ≢ 0 → PackRefused file at result
+abbrev pub NamesPack : Option (List ℕ) → ℕ → ℕ → ℕ → Result ℕ ReplayRefused → Type 0
+NamesPack told index at size result = (file : List ℕ) (t : Top) → told ≡ Some file → IsThere file at t → t.op ≡ 6 → text_length t.content 28 ≡ size → 40 + size ≤ length t.content → size ≢ 0 → PackRefused file index at result
 
 -- of a chunk without a compression no more is asked for
 abbrev pub AsksFront : ℕ → ℕ → StoreState → StoreState → Type 0
@@ -66,12 +68,17 @@ pub record IsLedAmong (file : List ℕ) (request : Request) (chunk : ℕ) (index
   pub there : Has {X = ℕ × ℕ} indexes named
   pub led : IsLedBy file request (spot_of chunk named) s
 
-abbrev pub ChunkShown : List ℕ → Request → ChunkIndexFields → (List Shown × List Shown) → Result Unit ReplayRefused → Type 0
-ChunkShown file request f shown (Ok it) = Adds (IsLedAmong file request f.offset f.indexes) shown.0 shown.1
-ChunkShown file request f shown (Err why) = IsReached file request.range f → IsReason file request.range why
+-- a Chunk Index at that offset
+abbrev pub ChunkShown : List ℕ → Request → ℕ → ChunkIndexFields → (List Shown × List Shown) → Result Unit ReplayRefused → Type 0
+ChunkShown file request at f shown (Ok it) = Adds (IsLedAmong file request f.offset f.indexes) shown.0 shown.1
+ChunkShown file request at f shown (Err why) = IsReached file request.range at f → IsReason file request.range why
 
-abbrev pub ShowsChunk : Option (List ℕ) → Request → ChunkIndexFields → (List Shown × List Shown) → Result Unit ReplayRefused → Type 0
-ShowsChunk told request f shown result = (file : List ℕ) → told ≡ Some file → length file ≡ request.len → Knows file request.tables.now.channels → ChunkShown file request f shown result
+abbrev pub ShowsChunk : Option (List ℕ) → Request → ℕ → ChunkIndexFields → (List Shown × List Shown) → Result Unit ReplayRefused → Type 0
+ShowsChunk told request at f shown result = (file : List ℕ) → told ≡ Some file → length file ≡ request.len → Knows file request.tables.now.channels → ChunkShown file request at f shown result
+
+-- the same where the chunk ends at that offset
+abbrev pub ShowsNames : Option (List ℕ) → Request → ℕ → ℕ → ChunkIndexFields → (List Shown × List Shown) → Result Unit ReplayRefused → Type 0
+ShowsNames told request at end f shown result = (file : List ℕ) → told ≡ Some file → length file ≡ request.len → Knows file request.tables.now.channels → EndsAt file f.offset end → ChunkShown file request at f shown result
 
 -- ---- what is asked for
 

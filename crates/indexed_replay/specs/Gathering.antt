@@ -53,16 +53,16 @@ pub record IsLedFrom (file : List ℕ) (request : Request) (tops : List Top) (s 
   pub meets : Meets request.range shown
   pub led : IsLedAmong file request shown.offset shown.indexes s
 
--- each of these records that is a Chunk Index stands in the summary
-abbrev pub AreIndexed : List ℕ → List Top → Type 0
-AreIndexed file tops = (n : ℕ) (t : Top) (f : ChunkIndexFields) → At tops n t → IsChunkIndex t f → HasChunkIndex file f
+-- each of these records that is a Chunk Index stands in the summary, at the offset beside it
+abbrev pub AreIndexed : List ℕ → List Top → List ℕ → Type 0
+AreIndexed file tops offsets = (n : ℕ) (t : Top) (f : ChunkIndexFields) (at : ℕ) → At tops n t → IsChunkIndex t f → At offsets n at → HasChunkIndex file at f
 
-abbrev pub AllShown : List ℕ → Request → List Top → (List Shown × List Shown) → Result Unit ReplayRefused → Type 0
-AllShown file request tops shown (Ok it) = Adds (IsLedFrom file request tops) shown.0 shown.1
-AllShown file request tops shown (Err why) = AreIndexed file tops → IsReason file request.range why
+abbrev pub AllShown : List ℕ → Request → List Top → List ℕ → (List Shown × List Shown) → Result Unit ReplayRefused → Type 0
+AllShown file request tops offsets shown (Ok it) = Adds (IsLedFrom file request tops) shown.0 shown.1
+AllShown file request tops offsets shown (Err why) = AreIndexed file tops offsets → IsReason file request.range why
 
-abbrev pub Gathers : Option (List ℕ) → Request → List Top → (List Shown × List Shown) → Result Unit ReplayRefused → Type 0
-Gathers told request tops shown result = (file : List ℕ) → told ≡ Some file → length file ≡ request.len → Knows file request.tables.now.channels → AllShown file request tops shown result
+abbrev pub Gathers : Option (List ℕ) → Request → List Top → List ℕ → (List Shown × List Shown) → Result Unit ReplayRefused → Type 0
+Gathers told request tops offsets shown result = (file : List ℕ) → told ≡ Some file → length file ≡ request.len → Knows file request.tables.now.channels → AllShown file request tops offsets shown result
 
 -- ---- what is asked for
 

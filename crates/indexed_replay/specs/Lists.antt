@@ -81,16 +81,16 @@ pub record IsLedBy (file : List ℕ) (request : Request) (spot : Spot) (s : Show
   pub led : LedByIndex file request.range spot.chunk spot.list (led_as s)
   pub wanted : Wanted request.tables.now.channels s.channel (asked_topic request.topic)
 
--- why its messages aren't shown, where a Chunk Index that is reached names it
-abbrev pub ListRefused : List ℕ → Request → Spot → ReplayRefused → Type 0
-ListRefused file request spot why = (f : ChunkIndexFields) → f.offset ≡ spot.chunk → Names file request.range f spot.channel spot.list → IsReason file request.range why
+-- why its messages aren't shown, where a Chunk Index that is reached at that offset names it
+abbrev pub ListRefused : List ℕ → Request → ℕ → Spot → ReplayRefused → Type 0
+ListRefused file request at spot why = (f : ChunkIndexFields) → f.offset ≡ spot.chunk → Names file request.range at f spot.channel spot.list → IsReason file request.range why
 
-abbrev pub ListShown : List ℕ → Request → Spot → (List Shown × List Shown) → Result Unit ReplayRefused → Type 0
-ListShown file request spot shown (Ok it) = Adds (IsLedBy file request spot) shown.0 shown.1
-ListShown file request spot shown (Err why) = ListRefused file request spot why
+abbrev pub ListShown : List ℕ → Request → ℕ → Spot → (List Shown × List Shown) → Result Unit ReplayRefused → Type 0
+ListShown file request at spot shown (Ok it) = Adds (IsLedBy file request spot) shown.0 shown.1
+ListShown file request at spot shown (Err why) = ListRefused file request at spot why
 
-abbrev pub Shows : Option (List ℕ) → Request → Spot → (List Shown × List Shown) → Result Unit ReplayRefused → Type 0
-Shows told request spot shown result = (file : List ℕ) → told ≡ Some file → length file ≡ request.len → Knows file request.tables.now.channels → ListShown file request spot shown result
+abbrev pub Shows : Option (List ℕ) → Request → ℕ → Spot → (List Shown × List Shown) → Result Unit ReplayRefused → Type 0
+Shows told request at spot shown result = (file : List ℕ) → told ≡ Some file → length file ≡ request.len → Knows file request.tables.now.channels → ListShown file request at spot shown result
 
 -- what its reading asks for: all of it, and the messages in the range
 pub record ListCost (file : List ℕ) (range : Range) (spot : Spot) (cost : ℕ) : Type 0 where

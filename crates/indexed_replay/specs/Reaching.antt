@@ -1,12 +1,13 @@
 -- What a replay by the index reaches of a file: the Chunk Indexes of its summary that meet a range, the Message Indexes that
 -- they name, and the messages to which these lead. Why such a file isn't indexed, and where a rule fails on what is reached.
-use Rattle.std.specs.Prelude.{◌≡◌, ◌≢◌, ℕ, ◌+◌, List, [], length, drop, Some}
+use Rattle.std.specs.Prelude.{◌≡◌, ◌≢◌, ◌⊎◌, ℕ, ◌+◌, ◌<◌, ◌≤◌, List, [], length, drop, Some}
 use Rattle.mcap_wire.specs.Reading.{text_bytes}
 use Rattle.mcap_model.specs.declared.replay.Range.{Range}
-use Rattle.mcap_model.specs.Places.{Has, Each}
-use Rattle.mcap_model.specs.Tops.{Top}
+use Rattle.mcap_model.specs.Places.{At, Has, Each}
+use Rattle.mcap_model.specs.Tops.{Top, top_bytes}
 use Rattle.mcap_model.specs.Fields.{ChannelFields, IsChannel, MessageFields, IsMessage, ChunkFields, IsChunk, IsMessageIndex, ChunkIndexFields, IsChunkIndex, StatisticsFields, IsStatistics}
 use Rattle.mcap_model.specs.Scan.{InRange}
+use Rattle.mcap_model.specs.Whole.{offset_among}
 use Rattle.mcap_model.specs.Led.{HasSummary, IsThere, Meets}
 use Rattle.summary_read.specs.Reached.{HasNoSummary, Fails, Passes, DeclaresPast}
 use Rattle.summary_read.specs.Parts.{of_kind, first_of_kind}
@@ -15,28 +16,30 @@ use Rattle.indexed_replay.specs.declared.answers.NotIndexed.TheVariants as lacks
 
 -- ---- what is reached
 
--- a Chunk Index of the summary shows these fields
-pub record HasChunkIndex (file : List ℕ) (f : ChunkIndexFields) : Type 0 where
+-- a Chunk Index of the summary stands at that offset of the file, and shows these fields
+pub record HasChunkIndex (file : List ℕ) (at : ℕ) (f : ChunkIndexFields) : Type 0 where
   pub start : ℕ
   pub summary : List Top
   pub has : HasSummary file start summary
+  pub place : ℕ
   pub index : Top
-  pub indexed : Has summary index
+  pub indexed : At summary place index
   pub is : IsChunkIndex index f
+  pub there : at ≡ start + offset_among summary place
 
 -- and it meets the range
-pub record IsReached (file : List ℕ) (range : Range) (f : ChunkIndexFields) : Type 0 where
-  pub indexed : HasChunkIndex file f
+pub record IsReached (file : List ℕ) (range : Range) (at : ℕ) (f : ChunkIndexFields) : Type 0 where
+  pub indexed : HasChunkIndex file at f
   pub meets : Meets range f
 
 -- its map has this offset for that channel
-pub record Names (file : List ℕ) (range : Range) (f : ChunkIndexFields) (channel offset : ℕ) : Type 0 where
-  pub reached : IsReached file range f
+pub record Names (file : List ℕ) (range : Range) (at : ℕ) (f : ChunkIndexFields) (channel offset : ℕ) : Type 0 where
+  pub reached : IsReached file range at f
   pub named : Has {X = ℕ × ℕ} f.indexes (channel, offset)
 
 -- there stands a Message Index of that channel, with this log time and offset, and the log time lies in the range
-pub record LeadsTo (file : List ℕ) (range : Range) (f : ChunkIndexFields) (channel offset : ℕ) (entry : ℕ × ℕ) : Type 0 where
-  pub names : Names file range f channel offset
+pub record LeadsTo (file : List ℕ) (range : Range) (at : ℕ) (f : ChunkIndexFields) (channel offset : ℕ) (entry : ℕ × ℕ) : Type 0 where
+  pub names : Names file range at f channel offset
   pub list : Top
   pub entries : List (ℕ × ℕ)
   pub there : IsThere file offset list
@@ -50,7 +53,20 @@ pub record LeadsTo (file : List ℕ) (range : Range) (f : ChunkIndexFields) (cha
 abbrev pub LacksChunk : List ℕ → ℕ → Type 0
 LacksChunk file offset = (t : Top) (g : ChunkFields) → IsThere file offset t → IsChunk t g → ⊥
 
--- no Message Index of that channel does
+-- a chunk stands at the first offset and ends at the other
+pub record EndsAt (file : List ℕ) (offset end : ℕ) : Type 0 where
+  pub chunk : Top
+  pub there : IsThere file offset chunk
+  pub is : end ≡ offset + length (top_bytes chunk)
+
+-- The offset isn't in the bytes behind the chunk, of which there are as many as the Chunk Index states for its Message
+-- Indexes.
+pub record IsElsewhere (file : List ℕ) (f : ChunkIndexFields) (offset : ℕ) : Type 0 where
+  pub end : ℕ
+  pub ends : EndsAt file f.offset end
+  pub outside : (offset < end) ⊎ (end + f.indexes_size ≤ offset)
+
+-- no Message Index of that channel stands at that offset
 abbrev pub LacksIndex : List ℕ → ℕ → ℕ → Type 0
 LacksIndex file channel offset = (t : Top) (entries : List (ℕ × ℕ)) → IsThere file offset t → IsMessageIndex t channel entries → ⊥
 
@@ -60,20 +76,22 @@ LacksMessage file chunk channel entry = (t : Top) (m : MessageFields) → IsTher
 
 -- ---- where a rule fails
 
--- The rule of that number fails at that offset: on the ends of the file or on its summary; where a Chunk Index leads to no
--- Chunk, or to no Message Index of a channel (V12, at the offset that it names); or at a Message Index with an entry in
--- the range that leads to no such message (V9).
+-- The rule of that number fails at that offset: on the ends of the file or on its summary; at a Chunk Index that leads to
+-- no Chunk, or whose map leads to no Message Index of a channel or to another place than behind the chunk (V12); or at a
+-- Message Index with an entry in the range that leads to no such message (V9).
 pub data Breaks (file : List ℕ) (range : Range) : ℕ → ℕ → Type 0 where
   at_loading : (rule offset : ℕ) → Fails file rule offset → Breaks file range rule offset
-  no_chunk : (f : ChunkIndexFields) → IsReached file range f → LacksChunk file f.offset → Breaks file range 12 f.offset
-  no_index : (f : ChunkIndexFields) (channel offset : ℕ) → Names file range f channel offset → LacksIndex file channel offset → Breaks file range 12 offset
-  no_message : (f : ChunkIndexFields) (channel offset : ℕ) (entry : ℕ × ℕ) → LeadsTo file range f channel offset entry → LacksMessage file f.offset channel entry → Breaks file range 9 offset
+  no_chunk : (at : ℕ) (f : ChunkIndexFields) → IsReached file range at f → LacksChunk file f.offset → Breaks file range 12 at
+  no_index : (at : ℕ) (f : ChunkIndexFields) (channel offset : ℕ) → Names file range at f channel offset → LacksIndex file channel offset → Breaks file range 12 at
+  index_elsewhere : (at : ℕ) (f : ChunkIndexFields) (channel offset : ℕ) → Names file range at f channel offset → IsElsewhere file f offset → Breaks file range 12 at
+  no_message : (at : ℕ) (f : ChunkIndexFields) (channel offset : ℕ) (entry : ℕ × ℕ) → LeadsTo file range at f channel offset entry → LacksMessage file f.offset channel entry → Breaks file range 9 offset
 
 -- The chunk of a Chunk Index that is reached stands at that offset, and has this compression, which isn't empty: the
 -- text behind two times, the size and the CRC.
 pub record IsPacked (file : List ℕ) (range : Range) (offset : ℕ) (name : List ℕ) : Type 0 where
+  pub at : ℕ
   pub index : ChunkIndexFields
-  pub reached : IsReached file range index
+  pub reached : IsReached file range at index
   pub place : index.offset ≡ offset
   pub chunk : Top
   pub there : IsThere file offset chunk
@@ -81,12 +99,13 @@ pub record IsPacked (file : List ℕ) (range : Range) (offset : ℕ) (name : Lis
   pub named : text_bytes chunk.content 28 ≡ name
   pub some : name ≢ []
 
--- A limit is passed on the ends of the file or in its summary; or a Message Index that is named, or a record to which an
--- entry leads, declares a content past the limit.
+-- A limit is passed on the ends of the file or in its summary; or what stands where a Chunk Index, its map or an entry
+-- leads declares a content past the limit, whether or not it is whole.
 pub data PassesLimit (file : List ℕ) (range : Range) : ℕ → Type 0 where
   while_loading : (offset : ℕ) → Passes file offset → PassesLimit file range offset
-  at_index : (f : ChunkIndexFields) (channel offset : ℕ) → Names file range f channel offset → DeclaresPast (drop offset file) → PassesLimit file range offset
-  at_message : (f : ChunkIndexFields) (channel list offset : ℕ) (entry : ℕ × ℕ) → LeadsTo file range f channel list entry → offset ≡ f.offset + 49 + entry.1 → DeclaresPast (drop offset file) → PassesLimit file range offset
+  at_chunk : (at : ℕ) (f : ChunkIndexFields) (offset : ℕ) → IsReached file range at f → f.offset ≡ offset → DeclaresPast (drop offset file) → PassesLimit file range offset
+  at_index : (at : ℕ) (f : ChunkIndexFields) (channel offset : ℕ) → Names file range at f channel offset → DeclaresPast (drop offset file) → PassesLimit file range offset
+  at_message : (at : ℕ) (f : ChunkIndexFields) (channel list offset : ℕ) (entry : ℕ × ℕ) → LeadsTo file range at f channel list entry → offset ≡ f.offset + 49 + entry.1 → DeclaresPast (drop offset file) → PassesLimit file range offset
 
 -- ---- why a file isn't indexed
 
@@ -105,18 +124,20 @@ pub record CountsDiffer (file : List ℕ) (stated found : ℕ) : Type 0 where
 
 -- the map of a Chunk Index is empty, and one of its times isn't 0
 pub record NamesNone (file : List ℕ) (range : Range) (chunk : ℕ) : Type 0 where
+  pub at : ℕ
   pub index : ChunkIndexFields
-  pub reached : IsReached file range index
+  pub reached : IsReached file range at index
   pub place : index.offset ≡ chunk
   pub none : index.indexes ≡ []
   pub timed : (index.start ≡ 0) × (index.end ≡ 0) → ⊥
 
 -- the summary has no Channel of the id of a Message Index with an entry in the range
 pub record LacksChannel (file : List ℕ) (range : Range) (id : ℕ) : Type 0 where
+  pub at : ℕ
   pub index : ChunkIndexFields
   pub offset : ℕ
   pub entry : ℕ × ℕ
-  pub leads : LeadsTo file range index id offset entry
+  pub leads : LeadsTo file range at index id offset entry
   pub start : ℕ
   pub summary : List Top
   pub has : HasSummary file start summary

@@ -1,8 +1,7 @@
 -- The steps of a replay by the index.
-use Rattle.std.specs.Prelude.{◌≡◌, ℕ, ◌+◌, ◌-◌, ◌≤◌, List, [], ◌++◌, length, take, drop, sum_by, if◌then◌else◌, Option, Some, None, Result, Ok, Err, Vec}
+use Rattle.std.specs.Prelude.{◌≡◌, ℕ, ◌+◌, ◌-◌, ◌≤◌, List, [], ◌++◌, length, take, drop, sum_by, Bool, true, if◌then◌else◌, Option, Some, None, Result, Ok, Err, Vec}
 use Rattle.mcap_io.specs.Stores.{StoreState}
 use Rattle.mcap_io.specs.declared.outside.Failed.{Failed}
-use Rattle.mcap_wire.specs.declared.faults.Head.{Head}
 use Rattle.rec_index.specs.Records.{ShowsMessageIndex}
 use Rattle.mcap_model.specs.declared.replay.Place.{Place}
 use Rattle.mcap_model.specs.declared.replay.Range.{Range}
@@ -16,6 +15,8 @@ use Rattle.mcap_model.specs.Led.{IsThere, IsInChunk}
 use Rattle.summary_read.specs.Reached.{DeclaresPast}
 use Rattle.indexed_replay.specs.declared.answers.ReplayRefused.{ReplayRefused}
 use Rattle.indexed_replay.specs.declared.answers.ReplayRefused.TheVariants as refusals
+use Rattle.indexed_replay.specs.declared.fronts.Front.{Front}
+use Rattle.indexed_replay.specs.declared.fronts.Front.TheVariants as fronts
 use Rattle.indexed_replay.specs.declared.spots.Spot.{Spot}
 use Rattle.indexed_replay.specs.Reaching.{LacksIndex, LacksMessage}
 
@@ -42,19 +43,30 @@ pub record FrontStands (file : List ℕ) (at : ℕ) (out : List ℕ) (op len : �
 abbrev pub LacksRecord : List ℕ → ℕ → ℕ → Type 0
 LacksRecord file at size = (t : Top) → IsThere file at t → size ≤ length (top_bytes t) → (t.op ≡ 0 → ⊥) → ⊥
 
-abbrev pub FrontIs : List ℕ → ℕ → List ℕ → Result (Option Head) Failed → Type 0
-FrontIs file at out (Ok (Some head)) = FrontStands file at out head.op head.len
-FrontIs file at out (Ok None) = LacksRecord file at (length out)
+-- what stands there, by so many bytes of its front
+abbrev pub FrontIs : List ℕ → ℕ → List ℕ → Result Front Failed → Type 0
+FrontIs file at out (Ok (fronts.Whole head)) = FrontStands file at out head.op head.len
+FrontIs file at out (Ok fronts.Long) = DeclaresPast (drop at file)
+FrontIs file at out (Ok fronts.Absent) = LacksRecord file at (length out)
 FrontIs file at out (Err why) = Unit {0}
 
+-- where the store tells and has nine bytes there, a head that is said to be long declares a content past the limit
+abbrev pub HeadIs : List ℕ → ℕ → Result Bool Failed → Type 0
+HeadIs file at (Ok long) = long ≡ true → DeclaresPast (drop at file)
+HeadIs file at (Err why) = Unit {0}
+
+abbrev pub TellsHead : Option (List ℕ) → ℕ → Result Bool Failed → Type 0
+TellsHead told at result = (file : List ℕ) → told ≡ Some file → at + 9 ≤ length file → HeadIs file at result
+
 -- the record lies within so many bytes, and has at least so many
-abbrev pub IsInside : ℕ → ℕ → ℕ → Result (Option Head) Failed → Type 0
-IsInside len at size (Ok (Some head)) = (at + 9 + head.len ≤ len) × (size ≤ 9 + head.len)
-IsInside len at size (Ok None) = Unit {0}
+abbrev pub IsInside : ℕ → ℕ → ℕ → Result Front Failed → Type 0
+IsInside len at size (Ok (fronts.Whole head)) = (at + 9 + head.len ≤ len) × (size ≤ 9 + head.len)
+IsInside len at size (Ok fronts.Long) = Unit {0}
+IsInside len at size (Ok fronts.Absent) = Unit {0}
 IsInside len at size (Err why) = Unit {0}
 
 -- where the store tells a file of that length
-abbrev pub TellsFront : Option (List ℕ) → ℕ → ℕ → List ℕ → Result (Option Head) Failed → Type 0
+abbrev pub TellsFront : Option (List ℕ) → ℕ → ℕ → List ℕ → Result Front Failed → Type 0
 TellsFront told len at out result = (file : List ℕ) → told ≡ Some file → length file ≡ len → FrontIs file at out result
 
 -- ---- a message

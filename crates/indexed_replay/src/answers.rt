@@ -23,8 +23,8 @@ pub enum ReplayRefused {
     Fault { faults: u64 },
     /// The file isn't indexed. A scan can still show its messages.
     NotIndexed { why: NotIndexed },
-    /// The rule of that number fails at that offset. Where an index leads to nothing of its kind, V12 fails at the offset
-    /// that a Chunk Index names, and V9 at a Message Index.
+    /// The rule of that number fails at that offset. Where an index leads to nothing of its kind, V12 fails at the Chunk
+    /// Index, and V9 at the Message Index.
     Flaw { rule: u8, offset: u64 },
     /// The chunk at that offset has this compression.
     Compressed { offset: u64, name: Text },

@@ -3,10 +3,10 @@ ghost use Rattle.std.specs.Prelude.{◌+◌, ◌^◌, ◌<◌, ◌≤◌};
 ghost use Rattle.rec_index.specs.Parsed.{chunk_index_fields};
 ghost use Rattle.indexed_replay.specs.Replaying.{ReplayCause};
 ghost use Rattle.indexed_replay.specs.Steps.{Stays};
-ghost use Rattle.indexed_replay.specs.Chunks.{AsksChunk, AsksFront, AsksNames, ChecksChunk, NamesPack, ShowsChunk};
+ghost use Rattle.indexed_replay.specs.Chunks.{AsksChunk, AsksFront, AsksNames, ChecksChunk, NamesPack, ShowsChunk, ShowsNames};
 
 use crate::answers::{NotIndexed, ReplayRefused};
-use crate::fronts::read_front;
+use crate::fronts::{Front, read_front};
 use crate::lists::show_list;
 use crate::spots::{Request, Spot};
 use mcap_io::{Failed, ReadRefused, Store, read_part};
@@ -15,19 +15,23 @@ use mcap_wire::{Text, take_u32};
 use rec_index::{CHUNK, ChunkIndex};
 use std::alloc::Global;
 
+/// The bytes of a record in front of its content.
+const HEAD_LENGTH: u64 = 9;
+
 /// Where the compression stands in a chunk, behind the record's head, two times, the size, the CRC and its length.
 const NAME_OFFSET: u64 = 41;
 
-// Refuses a chunk that names a compression of that length.
+// Refuses a chunk that names a compression of that length. The Chunk Index that leads to it stands at `index`.
 fn refuse_packed<T: Store>(
     alloc: Global,
     store: &mut T,
+    index: u64,
     offset: u64,
     name_length: u64,
-) -> Result<(), ReplayRefused>
+) -> Result<u64, ReplayRefused>
     requires fits { offset + 41 + name_length < 2 ^ 64 }
     requires known { offset + 41 + name_length ≤ (T.state store.old).known }
-    ensures told { NamesPack (T.state store.old).bytes offset name_length result }
+    ensures told { NamesPack (T.state store.old).bytes index offset name_length result }
     ensures cause { ReplayCause (T.state store.old).faults (T.state store.new).faults result }
     ensures stays { Stays (T.state store.old) (T.state store.new) }
 {
@@ -45,24 +49,32 @@ fn refuse_packed<T: Store>(
             offset,
             name: Text::new(name),
         }),
-        Err(_) => return Err(ReplayRefused::Flaw { rule: 12, offset }),
+        Err(_) => return Err(ReplayRefused::Flaw {
+            rule: 12,
+            offset: index,
+        }),
     }
 }
 
-// Reads the front of the chunk at that offset: whether one stands there, and without a compression.
+// Reads the front of the chunk at that offset: whether one stands there, and without a compression. Says where it ends. The
+// Chunk Index that leads to it stands at `index`.
 fn check_chunk<T: Store>(
     alloc: Global,
     store: &mut T,
     len: u64,
+    index: u64,
     offset: u64,
-) -> Result<(), ReplayRefused>
+) -> Result<u64, ReplayRefused>
     requires { len ≤ (T.state store.old).known }
-    ensures told { ChecksChunk (T.state store.old).bytes len offset result }
+    ensures told { ChecksChunk (T.state store.old).bytes len index offset result }
     ensures cause { ReplayCause (T.state store.old).faults (T.state store.new).faults result }
     ensures stays { Stays (T.state store.old) (T.state store.new) }
     ensures asks { AsksFront len offset (T.state store.old) (T.state store.new) }
 {
-    let missing = ReplayRefused::Flaw { rule: 12, offset };
+    let missing = ReplayRefused::Flaw {
+        rule: 12,
+        offset: index,
+    };
     let mut front = [0; 49];
     let found = match read_front(store, len, offset, &mut front) {
         Ok(found) => found,
@@ -73,8 +85,9 @@ fn check_chunk<T: Store>(
         }
     };
     let head = match found {
-        Some(head) => head,
-        None => return Err(missing),
+        Front::Whole(head) => head,
+        Front::Long => return Err(ReplayRefused::Limit { offset }),
+        Front::Absent => return Err(missing),
     };
     if head.op != CHUNK {
         return Err(missing);
@@ -84,24 +97,27 @@ fn check_chunk<T: Store>(
         Err(_) => unreachable!(),
     };
     if name_length == 0 {
-        return Ok(());
+        return Ok(offset + HEAD_LENGTH + head.len);
     }
     if name_length > head.len - 40 {
         return Err(missing);
     }
-    return refuse_packed(alloc, store, offset, name_length);
+    return refuse_packed(alloc, store, index, offset, name_length);
 }
 
-// Adds the messages to which the Message Indexes lead that a Chunk Index names.
+// Adds the messages to which the Message Indexes lead that a Chunk Index at that offset names. They stand behind the chunk,
+// which ends at `end`.
 fn show_names<T: Store>(
     alloc: Global,
     store: &mut T,
     request: &Request,
+    at: u64,
+    end: u64,
     index: &ChunkIndex,
     shown: &mut Vec<Shown>,
 ) -> Result<(), ReplayRefused>
     requires { request.now.len ≤ (T.state store.old).known }
-    ensures told { ShowsChunk (T.state store.old).bytes request.now (chunk_index_fields index.now) (shown.old.items, shown.new.items) result }
+    ensures told { ShowsNames (T.state store.old).bytes request.now at end (chunk_index_fields index.now) (shown.old.items, shown.new.items) result }
     ensures cause { ReplayCause (T.state store.old).faults (T.state store.new).faults result }
     ensures stays { Stays (T.state store.old) (T.state store.new) }
     ensures asks { AsksNames request.now (chunk_index_fields index.now) (T.state store.old) (T.state store.new) }
@@ -113,7 +129,13 @@ fn show_names<T: Store>(
             list,
             channel,
         };
-        match show_list(alloc, store, request, spot, shown) {
+        if list < end || list - end >= index.message_index_length {
+            return Err(ReplayRefused::Flaw {
+                rule: 12,
+                offset: at,
+            });
+        }
+        match show_list(alloc, store, request, at, spot, shown) {
             Ok(()) => {}
             Err(why) => return Err(why),
         }
@@ -121,16 +143,17 @@ fn show_names<T: Store>(
     return Ok(());
 }
 
-/// Adds the messages to which a Chunk Index leads, which meets the range.
+/// Adds the messages to which a Chunk Index at that offset leads, which meets the range.
 pub(crate) fn show_chunk<T: Store>(
     alloc: Global,
     store: &mut T,
     request: &Request,
+    at: u64,
     index: &ChunkIndex,
     shown: &mut Vec<Shown>,
 ) -> Result<(), ReplayRefused>
     requires { request.now.len ≤ (T.state store.old).known }
-    ensures told { ShowsChunk (T.state store.old).bytes request.now (chunk_index_fields index.now) (shown.old.items, shown.new.items) result }
+    ensures told { ShowsChunk (T.state store.old).bytes request.now at (chunk_index_fields index.now) (shown.old.items, shown.new.items) result }
     ensures cause { ReplayCause (T.state store.old).faults (T.state store.new).faults result }
     ensures stays { Stays (T.state store.old) (T.state store.new) }
     ensures asks { AsksChunk request.now (chunk_index_fields index.now) (T.state store.old) (T.state store.new) }
@@ -145,9 +168,9 @@ pub(crate) fn show_chunk<T: Store>(
             },
         });
     }
-    match check_chunk(alloc, store, request.len, index.chunk_start_offset) {
-        Ok(()) => {}
+    let end = match check_chunk(alloc, store, request.len, at, index.chunk_start_offset) {
+        Ok(end) => end,
         Err(why) => return Err(why),
-    }
-    return show_names(alloc, store, request, index, shown);
+    };
+    return show_names(alloc, store, request, at, end, index, shown);
 }

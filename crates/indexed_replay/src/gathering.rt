@@ -35,7 +35,7 @@ pub(crate) fn gather<T: Store>(
     shown: &mut Vec<Shown>,
 ) -> Result<(), ReplayRefused>
     requires { request.now.len ≤ (T.state store.old).known }
-    ensures told { Gathers (T.state store.old).bytes request.now loaded.now.chunk_indexes (shown.old.items, shown.new.items) result }
+    ensures told { Gathers (T.state store.old).bytes request.now loaded.now.chunk_indexes loaded.now.chunk_index_offsets (shown.old.items, shown.new.items) result }
     ensures cause { ReplayCause (T.state store.old).faults (T.state store.new).faults result }
     ensures stays { Stays (T.state store.old) (T.state store.new) }
     ensures asks { AsksAll request.now loaded.now.chunk_indexes (T.state store.old) (T.state store.new) }
@@ -45,7 +45,8 @@ pub(crate) fn gather<T: Store>(
         if !meets(request.range, &index) {
             continue;
         }
-        match show_chunk(alloc, store, request, &index, shown) {
+        let at = loaded.chunk_index_offset(i);
+        match show_chunk(alloc, store, request, at, &index, shown) {
             Ok(()) => {}
             Err(why) => return Err(why),
         }

@@ -8,11 +8,11 @@ ghost use Rattle.indexed_replay.specs.Lists.{AsksContent, AsksList, HasTimely, S
 
 use crate::answers::{NotIndexed, ReplayRefused};
 use crate::entries::show_entries;
-use crate::fronts::read_front;
+use crate::fronts::{Front, read_front};
 use crate::spots::{Request, Spot};
 use mcap_io::{Failed, ReadRefused, Store, read_part};
 use mcap_model::{Range, Shown, Tables, is_within};
-use mcap_wire::{CONTENT_LIMIT, EntriesRef, Text};
+use mcap_wire::{EntriesRef, Text};
 use rec_data::Channel;
 use rec_index::{MESSAGE_INDEX, MessageIndex};
 use std::alloc::Global;
@@ -40,14 +40,12 @@ fn read_list<T: Store>(
         }
     };
     let head = match found {
-        Some(head) => head,
-        None => return Ok(None),
+        Front::Whole(head) => head,
+        Front::Long => return Err(ReplayRefused::Limit { offset: at }),
+        Front::Absent => return Ok(None),
     };
     if head.op != MESSAGE_INDEX {
         return Ok(None);
-    }
-    if head.len > CONTENT_LIMIT {
-        return Err(ReplayRefused::Limit { offset: at });
     }
     match read_part(alloc, store, at + 9, head.len) {
         Ok(content) => return Ok(Some(content)),
@@ -184,16 +182,17 @@ fn show_content<T: Store>(
     }
 }
 
-/// Adds the messages to which a Message Index leads, if their channel is wanted.
+/// Adds the messages to which a Message Index leads that a Chunk Index at that offset names, if their channel is wanted.
 pub(crate) fn show_list<T: Store>(
     alloc: Global,
     store: &mut T,
     request: &Request,
+    at: u64,
     spot: Spot,
     shown: &mut Vec<Shown>,
 ) -> Result<(), ReplayRefused>
     requires { request.now.len ≤ (T.state store.old).known }
-    ensures told { Shows (T.state store.old).bytes request.now spot (shown.old.items, shown.new.items) result }
+    ensures told { Shows (T.state store.old).bytes request.now at spot (shown.old.items, shown.new.items) result }
     ensures cause { ReplayCause (T.state store.old).faults (T.state store.new).faults result }
     ensures stays { Stays (T.state store.old) (T.state store.new) }
     ensures asks { AsksList request.now spot (T.state store.old) (T.state store.new) }
@@ -207,7 +206,7 @@ pub(crate) fn show_list<T: Store>(
         None => {
             return Err(ReplayRefused::Flaw {
                 rule: 12,
-                offset: spot.list,
+                offset: at,
             });
         }
     }

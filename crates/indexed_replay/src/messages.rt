@@ -4,10 +4,10 @@ ghost use Rattle.indexed_replay.specs.Replaying.{ReplayCause};
 ghost use Rattle.indexed_replay.specs.Steps.{AsksMessage, Stays, TellsMessage};
 
 use crate::answers::ReplayRefused;
-use crate::fronts::read_front;
+use crate::fronts::{Front, read_front};
 use mcap_io::{Failed, ReadRefused, Store, read_part};
 use mcap_model::{Place, Shown};
-use mcap_wire::{Bytes, CONTENT_LIMIT};
+use mcap_wire::Bytes;
 use rec_data::{MESSAGE, Message};
 use std::alloc::Global;
 
@@ -38,8 +38,9 @@ pub(crate) fn read_message<T: Store>(
     };
     let mut front = [0; 31];
     let head = match read_front(store, len, at, &mut front) {
-        Ok(Some(head)) => head,
-        Ok(None) => return Ok(None),
+        Ok(Front::Whole(head)) => head,
+        Ok(Front::Long) => return Err(ReplayRefused::Limit { offset: at }),
+        Ok(Front::Absent) => return Ok(None),
         Err(Failed) => {
             return Err(ReplayRefused::Fault {
                 faults: store.faults(),
@@ -48,9 +49,6 @@ pub(crate) fn read_message<T: Store>(
     };
     if head.op != MESSAGE {
         return Ok(None);
-    }
-    if head.len > CONTENT_LIMIT {
-        return Err(ReplayRefused::Limit { offset: at });
     }
     let message = match Message::parse(&front[9..]) {
         Ok(message) => message,

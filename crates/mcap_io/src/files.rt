@@ -354,7 +354,7 @@ where
             return Err(OpenRefused::Failed);
         };
         self.inputs.push(id).unwrap();
-        Ok(FileStore::new(file, id))
+        Ok(FileStore::new(self.runtime.alloc(), file, id))
     }
 
     fn live(&mut self, name: &str) -> Result<FileLive<R::File>, OpenRefused> {

@@ -3,6 +3,7 @@
 #![tactic(auto)]
 
 mod ahead;
+mod blocks;
 mod files;
 mod gather;
 mod inputs;

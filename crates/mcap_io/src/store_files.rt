@@ -3,16 +3,20 @@ ghost use Rattle.std.specs.Prelude.{◌≡◌, ◌+◌, ◌≤◌, ◌^◌, leng
 ghost use Rattle.mcap_io.specs.Files.{nothing};
 ghost use Rattle.mcap_io.specs.Stores.{IsUnused, Measures, ReadsPart};
 
+use crate::blocks::Blocks;
 use crate::inputs::FileId;
 use crate::outside::Failed;
 use crate::store::Store;
+use std::alloc::Global;
 use std::fs::OpenFile;
 use std::os::unix::fs::FileExt;
 
-/// A store over a file. It reads at offsets, and leaves the file's own position where it is.
+/// A store over a file. It reads at offsets, and leaves the file's own position where it is. A short part is copied from
+/// blocks of 16,384 bytes, of which it keeps 64; a longer one is read as it is asked for.
 pub struct FileStore<F> {
     file: F,
     id: FileId,
+    blocks: Blocks,
     known: u64,
     asked: u128,
     faults: u64,
@@ -20,13 +24,14 @@ pub struct FileStore<F> {
 
 impl<F: OpenFile + FileExt + Drop> FileStore<F> {
     // The store of an opened file, none of whose bytes was asked for.
-    pub(crate) fn new(file: F, id: FileId) -> Self
+    pub(crate) fn new(alloc: Global, file: F, id: FileId) -> Self
         ensures unused { IsUnused (⟦<FileStore<F> as Store>⟧.state result) }
         ensures id { result.id ≡ id }
     {
         FileStore {
             file,
             id,
+            blocks: Blocks::new(alloc),
             known: 0,
             asked: 0,
             faults: 0,
@@ -40,6 +45,7 @@ impl<F: OpenFile + FileExt + Drop> FileStore<F> {
         let FileStore {
             file: _,
             id,
+            blocks: _,
             known: _,
             asked: _,
             faults: _,
@@ -74,6 +80,9 @@ impl<F: OpenFile + FileExt + Drop> Store for FileStore<F> {
         ensures id { self.new.id ≡ self.old.id }
     {
         self.asked = self.asked.saturating_add(out.len() as u128);
+        if self.blocks.read(&self.file, at, out) {
+            return Ok(());
+        }
         match self.file.read_exact_at(out, at) {
             Ok(()) => return Ok(()),
             Err(_) => {

@@ -147,14 +147,14 @@ fn refusals_say_why(rt: HostRuntime) -> Result<(), Fail> {
             })
         ),
     );
-    // another opcode in place of the Message Index's
+    // another opcode in place of the Message Index's: the Chunk Index stands at 278
     holds(
         &rt,
         matches!(
             refusal(alloc, chunked(), (142, 9), &[])?,
             Some(ReplayRefused::Flaw {
                 rule: 12,
-                offset: 142
+                offset: 278
             })
         ),
     );

@@ -9,7 +9,7 @@ use Rattle.mcap_model.specs.Made.{top}
 use Rattle.summary_read.specs.declared.refusals.LoadRefused.{LoadRefused}
 use Rattle.summary_read.specs.declared.refusals.LoadRefused.TheVariants as refusals
 use Rattle.summary_read.specs.Reached.{EndsIn, StartsAt, summary_part, inside, record_passes, FailsInside, PassesInside}
-use Rattle.summary_read.specs.Parts.{Parts, IsLoaded, IsListed, tops_of}
+use Rattle.summary_read.specs.Parts.{Parts, IsLoaded, IsListed, offsets_of_kind, tops_of}
 use Rattle.summary_read.specs.Loading.{IsRefused, AskedFor}
 use Rattle.summary_read.specs.Steps.{NamesPart, HasHeader, AreCut, SummaryCut}
 
@@ -44,6 +44,7 @@ loaded file header bytes f cuts p names has is part cut listed =
       split = subst (λ (g : Footer). summary_part file g.summary_start ≡ spelled (tops_of bytes cuts)) footer split;
       sound = cut.sound;
       listed = listed.listed;
+      placed = subst (λ (g : Footer). p.chunk_index_offsets ≡ offsets_of_kind 8 g.summary_start (tops_of bytes cuts)) footer listed.placed;
       file_fits = names.file_fits;
       summary_fits = omega (arith, ap length split, length-take (length file - 37 - f.summary_start) (drop f.summary_start file), names.summary_fits);
     }

@@ -9,9 +9,9 @@ use Rattle.rec_data.specs.Records.{ShowsFooter as ShowsContent}
 use Rattle.rec_data.proofs.Contents.{length-footer_text, footer_decided}
 use Rattle.mcap_model.specs.Tops.{Top, top_bytes}
 use Rattle.mcap_model.specs.Whole.{V2}
-use Rattle.mcap_model.specs.Valid.{EndsWithFooter, flaw_2, flaw_17}
+use Rattle.mcap_model.specs.Valid.{EndsWithFooter}
 use Rattle.mcap_model.proofs.Readings.{length-top}
-use Rattle.summary_read.specs.Reached.{ShowsFooter, EndsIn, HasNoSummary, Fails, at_end, by_start}
+use Rattle.summary_read.specs.Reached.{ShowsFooter, EndsIn, HasNoSummary, Fails, at_ends, last_magic, no_footer, by_start}
 use Rattle.summary_read.specs.Steps.{EndsWithMagic, BeginsWithFooter}
 
 -- ---- the Footer
@@ -72,14 +72,14 @@ no_other file f ends none = one_start file f none.0 ends none.1 ∙ none.2
 
 pub footer_lacks : (file : List ℕ) (offset : ℕ) → offset ≡ length file - 37 → ((f : Footer) → EndsIn file f → ⊥) → Fails file 17 offset
 footer_lacks file offset is none =
-    subst (Fails file 17) (sym is) (at_end 17 (length file - 37) (flaw_17 (inl (λ ends. none (footer_of ends) (record {
+    subst (Fails file 17) (sym is) (at_ends 17 (length file - 37) (no_footer (λ ends. none (footer_of ends) (record {
       before = ends.0;
       top = ends.2;
       last = ends.1;
       split = ends.3;
       size = ends.4;
       is = ends.5.3;
-    })))))
+    }))))
   where
     footer_of : EndsWithFooter file → Footer
     footer_of ends = record { summary_start = ends.5.0; summary_offset_start = ends.5.1; summary_crc = ends.5.2 }
@@ -104,7 +104,7 @@ magic_ends file end len size whole is ends = (
 
 pub magic_lacks : (file end : List ℕ) (len offset : ℕ) → length file ≡ len → 37 ≤ len → drop (len - 37) file ≡ end → offset ≡ len - 8 → (EndsWithMagic end → ⊥) → Fails file 2 offset
 magic_lacks file end len offset size whole is there none =
-    subst (Fails file 2) (sym (there ∙ ap (λ (n : ℕ). n - 8) (sym size))) (at_end 2 (length file - 8) (flaw_2 (λ v2. none (end_has_magic file end len size whole is v2))))
+    subst (Fails file 2) (sym (there ∙ ap (λ (n : ℕ). n - 8) (sym size))) (at_ends 2 (length file - 8) (last_magic (λ v2. none (end_has_magic file end len size whole is v2))))
 
 pub start_lies : (file : List ℕ) (len offset : ℕ) (f : Footer) → length file ≡ len → offset ≡ len - 37 → EndsIn file f → f.summary_start ≢ 0 → (f.summary_start < 8) ⊎ (len < f.summary_start + 37) → Fails file 11 offset
 start_lies file len offset f size there ends some lies =

@@ -1,5 +1,5 @@
 -- The magic and the Header with which a file begins.
-use Rattle.std.proofs.Common.{◌≡◌, ℕ, zero, suc, ◌+◌, ◌-◌, ◌^◌, ◌<◌, ◌≤◌, List, [], ◌∷◌, ◌++◌, length, get_or, take, drop, refl, sym, ap, subst, inr, ◌∙◌, append_assoc, append-nil, arith}
+use Rattle.std.proofs.Common.{◌≡◌, ℕ, zero, suc, ◌+◌, ◌-◌, ◌^◌, ◌<◌, ◌≤◌, false, List, [], ◌∷◌, ◌++◌, length, get_or, take, drop, refl, sym, ap, subst, inr, ◌∙◌, append_assoc, append-nil, arith}
 use Rattle.std.specs.Prelude.{slice_index}
 use Rattle.std.proofs.lemmas.Bool.{lt-leb, le-leb}
 use Rattle.std.proofs.lemmas.List.{length-append, length-drop, length-take, take_at, take-append-drop, drop-append-le, take-append-le}
@@ -8,14 +8,12 @@ use Rattle.mcap_wire.specs.declared.faults.HeadFault.TheVariants as head_faults
 use Rattle.mcap_wire.specs.Layout.{le, number, magic, content_limit}
 use Rattle.mcap_wire.specs.Reading.{HeadAt, HeadFails}
 use Rattle.mcap_wire.proofs.Numbers.{length-le, number-le}
-use Rattle.mcap_model.specs.Tops.{top_bytes, opcode, declared_length}
+use Rattle.mcap_model.specs.Tops.{top_bytes, opcode, declared_length, is_whole}
 use Rattle.mcap_model.specs.Fields.{IsHeader}
 use Rattle.mcap_model.specs.Made.{top}
 use Rattle.mcap_model.specs.Rules.{V1}
-use Rattle.mcap_model.specs.Valid.{flaw_1, flaw_3, flaw_4}
-use Rattle.mcap_model.proofs.Places.{at_none}
 use Rattle.mcap_model.proofs.Readings.{begun, length-top}
-use Rattle.summary_read.specs.Reached.{Fails, at_end, Passes, header_passes}
+use Rattle.summary_read.specs.Reached.{Fails, at_ends, first_magic, no_header, header_cut, Passes, header_passes}
 use Rattle.summary_read.specs.Steps.{HasHead, HasHeader}
 
 -- ---- the magic
@@ -28,7 +26,7 @@ magic_front file front is v1 =
     (v1.0 ++ drop 17 file, sym (take-append-drop 17 file) ∙ ap (λ (l : List ℕ). l ++ drop 17 file) (is ∙ v1.1))
 
 pub magic_missing : (file front : List ℕ) → take 17 file ≡ front → (V1 front → ⊥) → Fails file 1 0
-magic_missing file front is none = at_end 1 0 (flaw_1 (λ v1. none (front_magic file front is v1)))
+magic_missing file front is none = at_ends 1 0 (first_magic (λ v1. none (front_magic file front is v1)))
 
 -- ---- the head of the Header
 
@@ -45,9 +43,9 @@ behind_magic file front is size =
     ∙ drop-append-le 8 front (drop 17 file) (omega (arith, size))
     ∙ ap (λ (l : List ℕ). l ++ drop 17 file) (drop_one 8 front (omega (arith, size)))
 
-pub no_header : (file front : List ℕ) → take 17 file ≡ front → length front ≡ 17 → (slice_index front 8 ≡ 1 → ⊥) → Fails file 3 8
-no_header file front is size other =
-    at_end 3 8 (flaw_3 (λ starts.
+pub other_header : (file front : List ℕ) → take 17 file ≡ front → length front ≡ 17 → (slice_index front 8 ≡ 1 → ⊥) → Fails file 3 8
+other_header file front is size other =
+    at_ends 3 8 (no_header (λ starts.
     let op_is : slice_index front 8 ≡ starts.0.op = ap opcode (sym (behind_magic file front is size) ∙ starts.1.there) in
     other (op_is ∙ starts.2.kind)))
 
@@ -91,8 +89,8 @@ declared_front front more long =
     ap (λ (l : List ℕ). number (take 8 l)) (drop-append-le 1 front more (omega (arith, long)))
     ∙ ap number (take-append-le 8 (drop 1 front) more (omega (arith, long, length-drop 1 front)))
 
-pub header_cut : (file front : List ℕ) (op len : ℕ) → take 17 file ≡ front → length front ≡ 17 → 37 ≤ length file → HeadAt front 8 op len → op ≡ 1 → len < 2 ^ 64 → V1 front → length file < 25 + len → Fails file 4 8
-header_cut file front op len is size whole head kind fits v1 past =
+pub header_falls_short : (file front : List ℕ) (op len : ℕ) → take 17 file ≡ front → length front ≡ 17 → 37 ≤ length file → HeadAt front 8 op len → op ≡ 1 → len < 2 ^ 64 → V1 front → length file < 25 + len → Fails file 4 8
+header_falls_short file front op len is size whole head kind fits v1 past =
     let rest = drop 8 file in
     let inner = take (length rest - 8) rest in
     let there : length rest ≡ length file - 8 = length-drop 8 file in
@@ -100,15 +98,11 @@ header_cut file front op len is size whole head kind fits v1 past =
     let same : declared_length rest ≡ declared_length inner =
     ap declared_length (sym (take-append-drop (length rest - 8) rest)) ∙ declared_front inner (drop (length rest - 8) rest) (omega (arith, long, whole)) in
     let declares = declared_is file len fits (head_is file front op len is size head kind) in
-    let v = magic_front file front is v1 in
-    at_end 4 8 (flaw_4 8 (record {
-      tops = [];
-      rest = rest;
-      stand = record { split = v.1 ∙ ap (λ (l : List ℕ). magic ++ l) (sym (ap (drop 8) v.1)) };
-      short = λ n t at. absurd (at_none n t at);
-      there = refl;
-      inside = omega (arith, whole);
-      cut = inr (lt-leb (9 + declared_length inner) (length inner) (omega (arith, long, same, declares, past, whole)));
+    let size_is : length rest - 8 ≡ length file - 8 - 8 = omega (arith, there) in
+    at_ends 4 8 (header_cut (record {
+      v1 = magic_front file front is v1;
+      some = omega (arith, whole);
+      cut = inr (subst (λ (n : ℕ). is_whole (take n rest) ≡ false) size_is (lt-leb (9 + declared_length inner) (length inner) (omega (arith, long, same, declares, past, whole))));
     }))
 
 -- ---- the Header
@@ -134,7 +128,7 @@ pub header_fails : (file content : List ℕ) (len : ℕ) → HasHead file len �
 header_fails file content len head is fits none =
     let has = header_stands file content len head is in
     let size : length content ≡ len = omega (arith, ap length is, length-take len (drop 17 file), length-drop 17 file, head.whole) in
-    at_end 3 8 (flaw_3 (λ starts.
+    at_ends 3 8 (no_header (λ starts.
     let t = starts.0 in
     let long : length t.content < 2 ^ 64 = omega (arith, fits, length-drop 8 file, ap length starts.1.there, length-append (top_bytes t) starts.1.rest, length-top t) in
     let one = begun (drop 8 file) (top 1 content) has.stands.rest has.stands.there (omega (arith, size, head.within)) in

@@ -5,3 +5,4 @@ pub mod FileFront
 pub mod Holding
 pub mod Listing
 pub mod Composing
+pub mod Flawed

@@ -1,8 +1,8 @@
 -- Records that are cut from a summary one after the other.
-use Rattle.std.proofs.Common.{◌≡◌, ℕ, ◌+◌, ◌-◌, ◌≤◌, true, List, [], ◌∷◌, ◌++◌, length, get_or, take, drop, Some, sym, ap, subst, inl, inr, ◌∙◌, append_assoc, append-nil, arith}
+use Rattle.std.proofs.Common.{◌≡◌, ℕ, ◌+◌, ◌-◌, ◌≤◌, true, List, [], ◌∷◌, ◌++◌, length, get_or, take, drop, Some, refl, sym, ap, subst, inl, inr, ◌∙◌, append_assoc, append-nil, arith}
 use Rattle.std.specs.Prelude.{slice_index}
 use Rattle.std.proofs.lemmas.Bool.{le-leb, lt-leb}
-use Rattle.std.proofs.lemmas.List.{length-append, length-drop, length-take, drop-drop, get_or-drop}
+use Rattle.std.proofs.lemmas.List.{append-nil, length-append, length-drop, length-take, drop-drop, get_or-drop, nil_from_length}
 use Rattle.std.proofs.lemmas.Grind.{flat_map-append}
 use Rattle.mcap_wire.specs.declared.faults.Cut.{Cut}
 use Rattle.mcap_wire.specs.declared.faults.CutFault.TheVariants as cut_faults
@@ -18,7 +18,7 @@ use Rattle.mcap_model.proofs.Places.{at_none}
 use Rattle.mcap_model.proofs.Readings.{length-top}
 use Rattle.summary_read.specs.Reached.{BreaksFirst, breaks_4, breaks_5, breaks_6, DeclaresPast}
 use Rattle.summary_read.specs.Parts.{tops_of, IsSound}
-use Rattle.summary_read.specs.Steps.{Judged, IsTaken, CutsTo}
+use Rattle.summary_read.specs.Steps.{Judged, IsTaken, InRow, CutsTo, AreCut}
 
 -- ---- what stands at an offset
 
@@ -67,6 +67,10 @@ each_more P xs x each one = each_joined P xs (x ∷ []) each (each_cons P x [] o
 spelled_more : (tops : List Top) (t : Top) → spelled (tops ++ t ∷ []) ≡ spelled tops ++ top_bytes t
 spelled_more tops t = flat_map-append top_bytes tops (t ∷ []) ∙ ap (λ (l : List ℕ). spelled tops ++ l) (append-nil (top_bytes t))
 
+row_more : (at end : ℕ) (cuts : List Cut) (c : Cut) → InRow at cuts end → c.from ≡ end + 9 → InRow at (cuts ++ c ∷ []) c.to
+row_more at end [] c row next = (next ∙ ap (λ (n : ℕ). n + 9) (sym row), refl)
+row_more at end (d ∷ ds) c row next = (row.0, row_more d.to end ds c row.1 next)
+
 pub cuts_more : (bytes : List ℕ) (at : ℕ) (cuts : List Cut) (c : Cut) → CutsTo bytes at cuts → IsTaken bytes at c → CutsTo bytes c.to (cuts ++ c ∷ [])
 cuts_more bytes at cuts c so_far taken =
     let t = cut_top bytes c in
@@ -90,6 +94,7 @@ cuts_more bytes at cuts c so_far taken =
         stands.head,
         stands.begins,
       );
+      row = row_more 0 at cuts c so_far.row stands.head;
       inside = each_more (λ (d : Cut). (d.from ≤ d.to) × (d.to ≤ length bytes)) cuts c so_far.inside (stands.begins, stands.ends);
       sound = subst (Each IsSound) (sym tops_are) (
           each_more IsSound (tops_of bytes cuts) t so_far.sound (record {
@@ -98,4 +103,17 @@ cuts_more bytes at cuts c so_far taken =
             short = omega (arith, size, taken.is.within);
           })
           );
+    }
+
+-- all of them
+pub all_cut : (bytes : List ℕ) (at : ℕ) (cuts : List Cut) → CutsTo bytes at cuts → length bytes ≤ at → AreCut bytes cuts
+all_cut bytes at cuts to past =
+    let end : at ≡ length bytes = omega (arith, past, to.within) in
+    record {
+      split = to.split
+          ∙ ap (λ (l : List ℕ). spelled (tops_of bytes cuts) ++ l) (nil_from_length (drop at bytes) (omega (arith, length-drop at bytes, past)))
+          ∙ append-nil (spelled (tops_of bytes cuts));
+      row = subst (InRow 0 cuts) end to.row;
+      inside = to.inside;
+      sound = to.sound;
     }

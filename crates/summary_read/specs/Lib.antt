@@ -2,3 +2,4 @@ pub mod Reached
 pub mod Parts
 pub mod Loading
 pub mod Steps
+pub mod Laws

@@ -1,12 +1,12 @@
 -- What is loaded of a file.
-use Rattle.std.specs.Prelude.{◌≡◌, ℕ, ◌≤◌, List, length, filter, map, slice_get, ◌==◌, Option, Some, None, true}
+use Rattle.std.specs.Prelude.{◌≡◌, ℕ, ◌+◌, ◌-◌, ◌≤◌, List, [], ◌∷◌, length, filter, map, slice_get, ◌==◌, if◌then◌else◌, Option, Some, None, true}
 use Rattle.mcap_wire.specs.declared.faults.Cut.{Cut}
 use Rattle.mcap_wire.specs.Layout.{part, content_limit}
 use Rattle.rec_data.specs.declared.footer.Footer.{Footer}
 use Rattle.rec_index.specs.declared.summary_statistics.Statistics.{Statistics}
 use Rattle.rec_index.specs.Parsed.{statistics_fields}
 use Rattle.mcap_model.specs.Places.{At, Each}
-use Rattle.mcap_model.specs.Tops.{Top, spelled, StandsIn}
+use Rattle.mcap_model.specs.Tops.{Top, top_bytes, spelled, StandsIn}
 use Rattle.mcap_model.specs.Fields.{IsHeader, IsStatistics}
 use Rattle.mcap_model.specs.Rules.{V1, V6}
 use Rattle.mcap_model.specs.Whole.{V2, stands_in_summary}
@@ -15,7 +15,7 @@ use Rattle.mcap_model.specs.Plain.{cut_top}
 use Rattle.summary_read.specs.Reached.{file_limit, summary_limit, EndsIn, StartsAt, summary_part}
 
 -- The Header and the Footer; the first Statistics of the summary, if it has one; and the other known records of the
--- summary by their kinds, each list in the order of the file.
+-- summary by their kinds, each list in the order of the file. Of the Chunk Indexes the offsets in the file too.
 pub record Parts : Type 0 where
   pub header : Top
   pub footer : Footer
@@ -23,6 +23,7 @@ pub record Parts : Type 0 where
   pub schemas : List Top
   pub channels : List Top
   pub chunk_indexes : List Top
+  pub chunk_index_offsets : List ℕ
   pub attachment_indexes : List Top
   pub metadata_indexes : List Top
   pub summary_offsets : List Top
@@ -34,6 +35,13 @@ of_kind op tops = filter (λ t. t.op == op) tops
 -- the first record of that opcode
 abbrev pub first_of_kind : ℕ → List Top → Option Top
 first_of_kind op tops = slice_get (of_kind op tops) 0
+
+-- the offsets of the records of that opcode, where the first of all stands at the second number
+abbrev pub offsets_of_kind : ℕ → ℕ → List Top → List ℕ
+offsets_of_kind op at [] = []
+offsets_of_kind op at (t ∷ ts) =
+    let behind = offsets_of_kind op (at + length (top_bytes t)) ts in
+    if t.op == op then at ∷ behind else behind
 
 -- all records of the summary are listed
 pub record AreListed (tops : List Top) (p : Parts) : Type 0 where
@@ -63,6 +71,7 @@ pub record IsLoaded (file : List ℕ) (p : Parts) : Type 0 where
   pub split : summary_part file p.footer.summary_start ≡ spelled tops
   pub sound : Each IsSound tops
   pub listed : AreListed tops p
+  pub placed : p.chunk_index_offsets ≡ offsets_of_kind 8 p.footer.summary_start tops
   pub file_fits : length file ≤ file_limit
   pub summary_fits : length (spelled tops) ≤ summary_limit
 
@@ -71,6 +80,7 @@ pub record IsLoaded (file : List ℕ) (p : Parts) : Type 0 where
 -- a record that was cut from the summary stands in it, and its content can be read
 pub record IsHeld (summary : List ℕ) (op : ℕ) (c : Cut) : Type 0 where
   pub kind : c.op ≡ op
+  pub head : 9 ≤ c.from
   pub begins : c.from ≤ c.to
   pub ends : c.to ≤ length summary
   pub layout : V6 (cut_top summary c)
@@ -90,11 +100,16 @@ IsContentAt summary cuts i content = (c : Cut) × At cuts i c × (content ≡ pa
 abbrev pub tops_of : List ℕ → List Cut → List Top
 tops_of summary cuts = map (cut_top summary) cuts
 
+-- the offsets of the records that were cut from a summary which starts there: their heads have nine bytes
+abbrev pub offsets_of : ℕ → List Cut → List ℕ
+offsets_of start cuts = map (λ c. start + (c.from - 9)) cuts
+
 -- the Header of that content, the Footer, and the records that were cut, listed
 pub record IsListed (header : List ℕ) (footer : Footer) (summary : List ℕ) (cuts : List Cut) (p : Parts) : Type 0 where
   pub header_is : p.header ≡ top 1 header
   pub footer_is : p.footer ≡ footer
   pub listed : AreListed (tops_of summary cuts) p
+  pub placed : p.chunk_index_offsets ≡ offsets_of_kind 8 footer.summary_start (tops_of summary cuts)
 
 -- ---- what is given of them
 

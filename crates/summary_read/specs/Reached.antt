@@ -5,9 +5,9 @@ use Rattle.mcap_wire.specs.Layout.{part, content_limit}
 use Rattle.rec_data.specs.declared.footer.Footer.{Footer}
 use Rattle.mcap_model.specs.Tops.{Top, top_bytes, spelled, opcode, declared_length, has_head, is_whole}
 use Rattle.mcap_model.specs.Fields.{IsFooter}
-use Rattle.mcap_model.specs.Rules.{V6}
-use Rattle.mcap_model.specs.Whole.{stands_in_summary}
-use Rattle.mcap_model.specs.Valid.{Flaw}
+use Rattle.mcap_model.specs.Rules.{V1, V6}
+use Rattle.mcap_model.specs.Whole.{V2, stands_in_summary}
+use Rattle.mcap_model.specs.Valid.{StartsWithHeader, EndsWithFooter}
 
 -- ---- limits
 
@@ -70,10 +70,25 @@ pub data BreaksFirst (rest : List ℕ) : ℕ → Type 0 where
 abbrev pub FailsInside : List ℕ → ℕ → ℕ → ℕ → Type 0
 FailsInside summary start rule offset = (tops : List Top) × (rest : List ℕ) × CutTo summary start tops rest offset × (rest ≢ []) × BreaksFirst rest rule
 
--- The rule of that number fails at that offset: on the file's ends, on the Footer, which names no place of a summary, or
--- on a record of the summary.
+-- The file begins with the magic, and in front of its last eight bytes no whole record begins behind that.
+pub record CutsFirst (file : List ℕ) : Type 0 where
+  pub v1 : V1 file
+  pub some : 16 < length file
+  pub cut : let inner = part 8 (length file - 8) file in (has_head inner ≡ false) ⊎ (is_whole inner ≡ false)
+
+-- The rule of that number fails at that offset, on the ends of the file: a magic isn't there; or behind the first one no
+-- Header stands, or no whole record; or in front of the last eight bytes no Footer.
+pub data FailsAtEnds (file : List ℕ) : ℕ → ℕ → Type 0 where
+  first_magic : (V1 file → ⊥) → FailsAtEnds file 1 0
+  last_magic : (V2 file → ⊥) → FailsAtEnds file 2 (length file - 8)
+  no_header : (StartsWithHeader file → ⊥) → FailsAtEnds file 3 8
+  header_cut : CutsFirst file → FailsAtEnds file 4 8
+  no_footer : (EndsWithFooter file → ⊥) → FailsAtEnds file 17 (length file - 37)
+
+-- The rule of that number fails at that offset: on the file's ends; on the Footer, which names no place of a summary; or on
+-- a record of the summary.
 pub data Fails (file : List ℕ) : ℕ → ℕ → Type 0 where
-  at_end : (rule offset : ℕ) → Flaw file rule offset → Fails file rule offset
+  at_ends : (rule offset : ℕ) → FailsAtEnds file rule offset → Fails file rule offset
   by_start : (f : Footer) → EndsIn file f → f.summary_start ≢ 0 → (f.summary_start < 8) ⊎ (length file < f.summary_start + 37) → Fails file 11 (length file - 37)
   inside : (start rule offset : ℕ) → StartsAt file start → FailsInside (summary_part file start) start rule offset → Fails file rule offset
 

@@ -1,5 +1,5 @@
 -- The steps of loading.
-use Rattle.std.specs.Prelude.{◌≡◌, ◌⊎◌, ℕ, ◌+◌, ◌-◌, ◌≤◌, List, ◌∷◌, ◌++◌, length, take, drop, true, false, Option, Some, None, Result, Ok, Err, Vec, vec_len}
+use Rattle.std.specs.Prelude.{◌≡◌, ◌⊎◌, ℕ, ◌+◌, ◌-◌, ◌≤◌, List, [], ◌∷◌, ◌++◌, length, take, drop, true, false, Option, Some, None, Result, Ok, Err, Vec, vec_len}
 use Rattle.mcap_io.specs.Stores.{StoreState}
 use Rattle.mcap_wire.specs.declared.faults.Cut.{Cut}
 use Rattle.mcap_wire.specs.Layout.{le, magic, content_limit}
@@ -129,17 +129,24 @@ RecordTaken bytes at start (Err (refusals.Grammar offset rule)) = (offset ≡ st
 RecordTaken bytes at start (Err (refusals.Limit offset)) = (offset ≡ start + at) × DeclaresPast (drop at bytes)
 RecordTaken bytes at start (Err refusals.Memory) = ⊥
 
+-- the records stand one behind the other, the first at the first offset, and the last ends at the other
+abbrev pub InRow : ℕ → List Cut → ℕ → Type 0
+InRow at [] end = at ≡ end
+InRow at (c ∷ cs) end = (c.from ≡ at + 9) × InRow c.to cs end
+
 -- so far these records were cut
 pub record CutsTo (bytes : List ℕ) (at : ℕ) (cuts : List Cut) : Type 0 where
   pub within : at ≤ length bytes
   pub split : bytes ≡ spelled (tops_of bytes cuts) ++ drop at bytes
   pub there : at ≡ length (spelled (tops_of bytes cuts))
+  pub row : InRow 0 cuts at
   pub inside : AreInside bytes cuts
   pub sound : Each IsSound (tops_of bytes cuts)
 
 -- all records of the summary were cut
 pub record AreCut (bytes : List ℕ) (cuts : List Cut) : Type 0 where
   pub split : bytes ≡ spelled (tops_of bytes cuts)
+  pub row : InRow 0 cuts (length bytes)
   pub inside : AreInside bytes cuts
   pub sound : Each IsSound (tops_of bytes cuts)
 

@@ -3,6 +3,7 @@ ghost use Rattle.std.specs.Prelude.{◌≡◌, ◌<◌, length};
 ghost use Rattle.rec_data.specs.Parsed.{header_fields, schema_fields, channel_fields};
 ghost use Rattle.rec_data.specs.Records.{ShowsHeader};
 ghost use Rattle.rec_index.specs.Parsed.{chunk_index_fields, attachment_index_fields};
+ghost use Rattle.mcap_model.specs.Places.{At};
 ghost use Rattle.mcap_model.specs.Fields.{IsSchema, IsChannel, IsChunkIndex, IsAttachmentIndex, IsMetadataIndex, IsSummaryOffset};
 ghost use Rattle.summary_read.specs.Parts.{AreInside, IsContentAt, Gives, GivesStatistics};
 
@@ -10,6 +11,9 @@ use mcap_wire::Cut;
 use rec_data::{Channel, Footer, Header, Schema};
 use rec_index::{AttachmentIndex, ChunkIndex, MetadataIndex, Statistics, SummaryOffset};
 use std::marker::Model;
+
+/// The bytes of a record in front of its content.
+const HEAD_LENGTH: u64 = 9;
 
 /// What was loaded of a file: its Header, its Footer, and the known records of its summary, of several Statistics the
 /// first. Each list is in the order of the file. Contracts see the records.
@@ -28,10 +32,10 @@ pub struct Loaded {
 }
 
 impl Model for Loaded {
-    ghost use Rattle.std.specs.Prelude.{slice_get};
+    ghost use Rattle.std.specs.Prelude.{◌+◌, ◌^◌, ◌<◌, length, slice_get};
     ghost use Rattle.mcap_model.specs.Fields.{IsHeader};
     ghost use Rattle.mcap_model.specs.Made.{top};
-    ghost use Rattle.summary_read.specs.Parts.{Parts, AreHeld, tops_of};
+    ghost use Rattle.summary_read.specs.Parts.{Parts, AreHeld, offsets_of, tops_of};
 
     ghost Value = { Parts };
 
@@ -42,6 +46,7 @@ impl Model for Loaded {
       schemas = tops_of l.summary.items l.schemas.items;
       channels = tops_of l.summary.items l.channels.items;
       chunk_indexes = tops_of l.summary.items l.chunk_indexes.items;
+      chunk_index_offsets = offsets_of l.footer.summary_start l.chunk_indexes.items;
       attachment_indexes = tops_of l.summary.items l.attachment_indexes.items;
       metadata_indexes = tops_of l.summary.items l.metadata_indexes.items;
       summary_offsets = tops_of l.summary.items l.summary_offsets.items;
@@ -54,7 +59,8 @@ impl Model for Loaded {
         × AreHeld l.summary.items 8 l.chunk_indexes.items
         × AreHeld l.summary.items 10 l.attachment_indexes.items
         × AreHeld l.summary.items 13 l.metadata_indexes.items
-        × AreHeld l.summary.items 14 l.summary_offsets.items };
+        × AreHeld l.summary.items 14 l.summary_offsets.items
+        × (l.footer.summary_start + length l.summary.items < 2 ^ 64) };
 }
 
 // The content of the record at that place among those that were cut.
@@ -150,6 +156,14 @@ impl Loaded {
             Ok(parsed) => return parsed,
             Err(_) => unreachable!(),
         }
+    }
+
+    /// The offset in the file of the Chunk Index at that place.
+    pub fn chunk_index_offset(&self, i: usize) -> u64
+        requires { i < length self.now.chunk_indexes }
+        ensures { At self.now.chunk_index_offsets i result }
+    {
+        self.footer.summary_start + (self.chunk_indexes[i].from - HEAD_LENGTH)
     }
 
     /// How many Attachment Indexes there are.

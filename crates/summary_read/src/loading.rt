@@ -1,5 +1,5 @@
 //! Loading: the ends of a file are read and judged, then its summary.
-ghost use Rattle.std.specs.Prelude.{◌≡◌, ◌+◌, ◌≤◌, IfOk};
+ghost use Rattle.std.specs.Prelude.{◌≡◌, ◌+◌, ◌^◌, ◌<◌, ◌≤◌, length, IfOk};
 ghost use Rattle.mcap_model.specs.Fields.{IsHeader};
 ghost use Rattle.mcap_model.specs.Made.{top};
 ghost use Rattle.summary_read.specs.Loading.{Loads, LoadCause, AsksLittle, Leaves};
@@ -119,6 +119,7 @@ fn list_records(
 ) -> Result<Loaded, Memory>
     requires is { IsHeader (top 1 header.items) }
     requires cut { AreCut summary.items cuts.now }
+    requires fits { footer.summary_start + length summary.items < 2 ^ 64 }
     ensures { IfOk result (IsListed header.items footer summary.items cuts.now) }
 {
     let Ok(statistics) = of_kind(alloc, cuts, STATISTICS) else {

@@ -332,7 +332,7 @@ fn a_world_gives_stores_and_takes_them_back(rt: HostRuntime) -> Result<(), Fail>
 }
 
 // A file that is open as a store isn't opened as an output. Bytes are read at any place, and where the file has fallen
-// short since the question for its length, the read fails.
+// short since the question for its length, a read of what was never read fails.
 #[test]
 fn a_file_is_read_at_any_place(rt: HostRuntime) -> Result<(), Fail> {
     fs::write(&rt, "stored", b"abcdef")?;
@@ -360,17 +360,34 @@ fn a_file_is_read_at_any_place(rt: HostRuntime) -> Result<(), Fail> {
     let mut room = [0; 2];
     let mut cut = Ok(());
     if len == 6 {
-        holds(&rt, store.read_at(4, &mut room) == Ok(()));
-        same(&rt, &room, &*b"ef");
-        holds(&rt, store.read_at(0, &mut room) == Ok(()));
-        same(&rt, &room, &*b"ab");
         cut = fs::write(&rt, "stored", b"abc");
         holds(&rt, store.read_at(2, &mut room) == Err(Failed));
+        holds(&rt, store.read_at(1, &mut room) == Ok(()));
+        same(&rt, &room, &*b"bc");
+        holds(&rt, store.read_at(0, &mut room) == Ok(()));
+        same(&rt, &room, &*b"ab");
     }
     same(&rt, &(store.asked(), store.faults()), &(6, 1));
     holds(&rt, world.keep_store("stored", store) == Ok(()));
     cut?;
     fs::remove_file(&rt, "stored")?;
     same(&rt, &(world.faults(), world.input_faults()), &(3, 1));
+    Ok(())
+}
+
+// Two bytes where two blocks that are read ahead meet.
+#[test]
+fn a_part_in_two_blocks_is_read(rt: HostRuntime) -> Result<(), Fail> {
+    let mut bytes = vec![in rt.alloc(); 0; 16_384]?;
+    bytes.push(7)?;
+    fs::write(&rt, "blocks", &bytes)?;
+    let mut world = FileWorld::new(&rt);
+    let mut store = world.store("blocks").ok().ok_or("it is there")?;
+    let mut room = [1; 2];
+    let is_read = matches!(store.len(), Ok(16_385)) && store.read_at(16_383, &mut room) == Ok(());
+    holds(&rt, world.keep_store("blocks", store) == Ok(()));
+    holds(&rt, is_read);
+    same(&rt, &room, &[0, 7]);
+    fs::remove_file(&rt, "blocks")?;
     Ok(())
 }

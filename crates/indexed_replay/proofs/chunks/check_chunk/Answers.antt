@@ -1,30 +1,35 @@
-use Rattle.std.proofs.Common.{◌≡◌, ℕ, length, refl, sym, subst, ◌∙◌, arith}
+use Rattle.std.proofs.Common.{◌≡◌, ℕ, ◌+◌, length, refl, sym, subst, ◌∙◌, arith}
 use Rattle.mcap_model.specs.Tops.{first_top}
-use Rattle.indexed_replay.proofs.Chunking.{lacks_front, lacks_name, none_named, front_name, front_size, pack_checked}
+use Rattle.indexed_replay.proofs.Chunking.{lacks_front, lacks_name, none_named, front_name, front_size, pack_checked, chunk_ends}
 use Rattle.indexed_replay.proofs.chunks.check_chunk.Goals as goal
 
-pub returns-in-None-clause-told : goal.returns-in-None-clause-told
-returns-in-None-clause-told g c = λ file told size.
-    (refl, refl, lacks_front file c.args.offset (length c.read_front.new.out) (omega arith) (rw c.in-None.is at (c.in-Ok.ensures.told file told size)))
+pub returns-in-Absent-clause-told : goal.returns-in-Absent-clause-told
+returns-in-Absent-clause-told g c = λ file told size.
+    (refl, refl, lacks_front file c.args.offset (length c.read_front.new.out) (omega arith) (rw c.in-Absent.is at (c.in-Ok.ensures.told file told size)))
+
+pub returns-then-name_length-eq0-clause-told : goal.returns-then-name_length-eq0-clause-told
+returns-then-name_length-eq0-clause-told g c = λ file told size.
+    let front = rw c.in-Whole.is at (c.in-Ok.ensures.told file told size) in
+    chunk_ends file c.read_front.new.out c.args.offset c.in-Whole.head.op c.in-Whole.head.len (c.args.offset + 9 + c.in-Whole.head.len) front refl
 
 pub returns-then-name_length-head-clause-told : goal.returns-then-name_length-head-clause-told
 returns-then-name_length-head-clause-told g c = λ file told size.
-    let front = rw c.in-Some.is at (c.in-Ok.ensures.told file told size) in
-    let inside = rw c.in-Some.is at c.in-Ok.ensures.inside in
-    (refl, refl, lacks_name file c.read_front.new.out c.args.offset c.in-Some.head.op c.in-Some.head.len c.in-Ok-take_u32.read.0 c.in-Ok-take_u32.read.1 front (omega arith) c.in-Ok-take_u32.ensures (omega (arith, c.if-name_length-head.true, inside.1)))
+    let front = rw c.in-Whole.is at (c.in-Ok.ensures.told file told size) in
+    let inside = rw c.in-Whole.is at c.in-Ok.ensures.inside in
+    (refl, refl, lacks_name file c.read_front.new.out c.args.offset c.in-Whole.head.op c.in-Whole.head.len c.in-Ok-take_u32.read.0 c.in-Ok-take_u32.read.1 front (omega arith) c.in-Ok-take_u32.ensures (omega (arith, c.if-name_length-head.true, inside.1)))
 
 pub returns-clause-told : goal.returns-clause-told
 returns-clause-told g c = λ file told size.
-    let front = rw c.in-Some.is at (c.in-Ok.ensures.told file told size) in
-    let inside = rw c.in-Some.is at c.in-Ok.ensures.inside in
+    let front = rw c.in-Whole.is at (c.in-Ok.ensures.told file told size) in
+    let inside = rw c.in-Whole.is at c.in-Ok.ensures.inside in
     let long : length c.read_front.new.out ≡ 49 = omega arith in
-    pack_checked file c.args.offset c.refuse_packed.result
+    pack_checked file c.args.index c.args.offset c.refuse_packed.result
     (c.refuse_packed.ensures.told file (first_top (Rattle.std.proofs.Common.drop c.args.offset file)) (c.in-Ok.ensures.takes.bytes ∙ told) front.there (front.op_is ∙ c.if-head-ne-CHUNK.false)
-    (front_name file c.read_front.new.out c.args.offset c.in-Some.head.op c.in-Some.head.len c.in-Ok-take_u32.read.0 c.in-Ok-take_u32.read.1 front long c.in-Ok-take_u32.ensures)
-    (omega (arith, front_size file c.read_front.new.out c.args.offset c.in-Some.head.op c.in-Some.head.len front, c.if-name_length-head.false, inside.1)) c.if-name_length-eq0.false)
+    (front_name file c.read_front.new.out c.args.offset c.in-Whole.head.op c.in-Whole.head.len c.in-Ok-take_u32.read.0 c.in-Ok-take_u32.read.1 front long c.in-Ok-take_u32.ensures)
+    (omega (arith, front_size file c.read_front.new.out c.args.offset c.in-Whole.head.op c.in-Whole.head.len front, c.if-name_length-head.false, inside.1)) c.if-name_length-eq0.false)
 
 pub returns-clause-asks : goal.returns-clause-asks
 returns-clause-asks g c = λ file t f told size there is plain.
-    let front = rw c.in-Some.is at (c.in-Ok.ensures.told file told size) in
+    let front = rw c.in-Whole.is at (c.in-Ok.ensures.told file told size) in
     let long : length c.read_front.new.out ≡ 49 = omega arith in
-    absurd (c.if-name_length-eq0.false (none_named file c.read_front.new.out c.args.offset c.in-Some.head.op c.in-Some.head.len c.in-Ok-take_u32.read.0 c.in-Ok-take_u32.read.1 t f front long c.in-Ok-take_u32.ensures there is plain))
+    absurd (c.if-name_length-eq0.false (none_named file c.read_front.new.out c.args.offset c.in-Whole.head.op c.in-Whole.head.len c.in-Ok-take_u32.read.0 c.in-Ok-take_u32.read.1 t f front long c.in-Ok-take_u32.ensures there is plain))

@@ -1,9 +1,11 @@
-use Rattle.std.proofs.Common.{◌≡◌, ℕ, List, ◌++◌, ◌∷◌, [], ◌+◌, ◌≤◌, take, sum, refl, ap, subst, ◌∙◌, arith}
+use Rattle.std.proofs.Common.{◌≡◌, ℕ, List, ◌++◌, ◌∷◌, [], ◌+◌, ◌≤◌, take, sum, refl, ap, subst, inl, inr, ◌∙◌, arith}
 use Rattle.std.proofs.lemmas.List.{take_all}
 use Rattle.indexed_replay.specs.Steps.{Adds}
 use Rattle.indexed_replay.specs.Lists.{ListCost}
 use Rattle.indexed_replay.specs.Chunks.{spot_of, IsLedAmong}
 use Rattle.indexed_replay.proofs.Naming.{named_none, named_more, zip_next, zip_taken, sum_joined, sum_taken}
+use Rattle.indexed_replay.specs.Reaching.{index_elsewhere}
+use Rattle.indexed_replay.proofs.chunks.show_names.Goals.{then-list-end-via-then-list-end, then-list-end-via-else-list-end+then-list-end-2}
 use Rattle.indexed_replay.proofs.chunks.show_names.Goals as goal
 
 pub names-init : goal.names-init
@@ -18,8 +20,26 @@ names-init g c = record {
 asked_more : (costs : List ℕ) (front : List ℕ) (last before mid now : ℕ) → costs ≡ front ++ last ∷ [] → mid ≤ before + sum front → now ≤ mid + last → now ≤ before + sum costs
 asked_more costs front last before mid now joined first more = omega (arith, ap sum joined, sum_joined front last, first, more)
 
+pub returns-then-list-end-clause-told : goal.returns-then-list-end-clause-told
+returns-then-list-end-clause-told g c = λ file told size knows ends reached.
+    let f = Rattle.rec_index.specs.Parsed.chunk_index_fields c.args.index.now in
+    index_elsewhere c.args.at f c.item-channel.result.0 c.item-channel.result.1 (record { reached = reached; named = (c.names.i, c.item-channel.ensures) }) (record {
+      end = c.args.end;
+      ends = ends;
+      outside = elim c.then-list-end.branch [
+        | then-list-end-via-then-list-end w ↦ inl w.if-list-end.true
+        | then-list-end-via-else-list-end+then-list-end-2 w ↦ inr (omega (arith, w.if-list-end.false, w.if-list-end-2.true))
+      ];
+    })
+
+pub returns-then-list-end-clause-asks : goal.returns-then-list-end-clause-asks
+returns-then-list-end-clause-asks g c = λ file costs told size are.
+    let i = c.names.invariant in
+    let R : ℕ × ℕ → ℕ → Type 0 = λ p cost. ListCost file c.args.request.now.range (spot_of c.args.index.now.chunk_start_offset p) cost in
+    omega (arith, i.asks file (take c.names.i costs) told size (zip_taken R c.names.i c.args.index.now.message_index_offsets costs are), sum_taken c.names.i costs)
+
 pub returns-in-Err-clause-told : goal.returns-in-Err-clause-told
-returns-in-Err-clause-told g c = λ file told size knows reached.
+returns-in-Err-clause-told g c = λ file told size knows ends reached.
     let i = c.names.invariant in
     c.in-Err.ensures.told file (i.stays.bytes ∙ told) size knows (Rattle.rec_index.specs.Parsed.chunk_index_fields c.args.index.now) refl (record { reached = reached; named = (c.names.i, c.item-channel.ensures) })
 
@@ -46,7 +66,7 @@ names-preserved g c =
     }
 
 pub returns-clause-told : goal.returns-clause-told
-returns-clause-told g c = λ file told size knows.
+returns-clause-told g c = λ file told size knows ends.
     let i = c.names.invariant in
     let whole = take_all c.names.i c.args.index.now.message_index_offsets (omega arith) in
     subst (λ (l : List (ℕ × ℕ)). Adds (IsLedAmong file c.args.request.now c.args.index.now.chunk_start_offset l) c.args.shown.now.items c.names.shown.items) whole (i.shows file told size knows)

@@ -30,6 +30,13 @@ chunks-preserved-then-not-meets g c =
           asked_more costs last.front last.last (g.T.Store.state c.args.store.now).asked (g.T.Store.state c.chunks.store).asked (g.T.Store.state c.chunks.store).asked last.joined (i.asks file last.front told size last.zipped) (omega arith);
     }
 
+pub returns-in-Err-clause-told : goal.returns-in-Err-clause-told
+returns-in-Err-clause-told g c = λ file told size knows are.
+    let i = c.chunks.invariant in
+    let (t, at, is) = c.chunk_index-index.ensures in
+    let f = chunk_index_fields c.chunk_index-index.result in
+    c.in-Err.ensures.told file (i.stays.bytes ∙ told) size knows (record { indexed = are c.chunks.i t f c.chunk_index_offset-at.result at is c.chunk_index_offset-at.ensures; meets = c.if-not-meets.ensures.0 refl })
+
 pub returns-in-Err-clause-asks : goal.returns-in-Err-clause-asks
 returns-in-Err-clause-asks g c = λ file costs told size are.
     let i = c.chunks.invariant in

@@ -9,16 +9,16 @@ use Rattle.indexed_replay.specs.Lists.{ListRefused}
 use Rattle.indexed_replay.proofs.Listing.{list_shown, lacks_reason, limit_reason, cost_front, cost_content}
 use Rattle.indexed_replay.proofs.lists.show_list.Goals as goal
 
-index_reason : (file : List ℕ) (request : Request) (spot : Spot) (why : ReplayRefused) → IndexIs {Y = Global} file spot (Rattle.std.proofs.Common.Err why) → ListRefused file request spot why
-index_reason file request spot (refusals.Fault faults) is = λ f place names. tt
-index_reason file request spot (refusals.NotIndexed why) is = absurd is
-index_reason file request spot (refusals.Flaw rule offset) is = absurd is
-index_reason file request spot (refusals.Compressed offset name) is = absurd is
-index_reason file request spot (refusals.Limit offset) is = limit_reason file request spot offset is
-index_reason file request spot refusals.Memory is = λ f place names. tt
+index_reason : (file : List ℕ) (request : Request) (at : ℕ) (spot : Spot) (why : ReplayRefused) → IndexIs {Y = Global} file spot (Rattle.std.proofs.Common.Err why) → ListRefused file request at spot why
+index_reason file request at spot (refusals.Fault faults) is = λ f place names. tt
+index_reason file request at spot (refusals.NotIndexed why) is = absurd is
+index_reason file request at spot (refusals.Flaw rule offset) is = absurd is
+index_reason file request at spot (refusals.Compressed offset name) is = absurd is
+index_reason file request at spot (refusals.Limit offset) is = limit_reason file request at spot offset is
+index_reason file request at spot refusals.Memory is = λ f place names. tt
 
 pub returns-in-Err-clause-told : goal.returns-in-Err-clause-told
-returns-in-Err-clause-told g c = λ file told size knows. index_reason file c.args.request.now c.args.spot c.in-Err.why (c.in-Err.ensures.told file told size)
+returns-in-Err-clause-told g c = λ file told size knows. index_reason file c.args.request.now c.args.at c.args.spot c.in-Err.why (c.in-Err.ensures.told file told size)
 
 pub returns-in-Err-clause-asks : goal.returns-in-Err-clause-asks
 returns-in-Err-clause-asks g c = λ file cost told size is. cost_front file c.args.request.now.range c.args.spot cost (g.T.Store.state c.args.store.now).asked (g.T.Store.state c.read_index.new.store).asked is (c.in-Err.ensures.asks file told size)
@@ -35,7 +35,7 @@ returns-in-Some-clause-told g c = λ file told size knows.
     let entries = here.1.0 in
     let shows = here.1.1 in
     let told_1 = c.in-Ok.ensures.stays.bytes ∙ told in
-    list_shown file c.args.request.now c.args.spot c.in-Some.content.items entries there shows (c.args.shown.now.items, c.show_content.new.shown.items) c.show_content.result knows
+    list_shown file c.args.request.now c.args.at c.args.spot c.in-Some.content.items entries there shows (c.args.shown.now.items, c.show_content.new.shown.items) c.show_content.result knows
     (c.show_content.ensures.told file entries told_1 size knows.declare (subst (λ (l : List ℕ). ShowsMessageIndex l c.args.spot.channel entries) (sym c.deref.ensures.value) shows))
 
 pub returns-in-Some-clause-asks : goal.returns-in-Some-clause-asks
@@ -46,7 +46,7 @@ returns-in-Some-clause-asks g c = λ file cost told size is.
     (λ shows. c.show_content.ensures.asks file is.entries told_1 size (subst (λ (l : List ℕ). ShowsMessageIndex l c.args.spot.channel is.entries) (sym c.deref.ensures.value) shows))
 
 pub returns-in-None-clause-told : goal.returns-in-None-clause-told
-returns-in-None-clause-told g c = λ file told size knows. lacks_reason file c.args.request.now c.args.spot (rw c.in-None.is at (c.in-Ok.ensures.told file told size))
+returns-in-None-clause-told g c = λ file told size knows. lacks_reason file c.args.request.now c.args.at c.args.spot (rw c.in-None.is at (c.in-Ok.ensures.told file told size))
 
 pub returns-in-None-clause-asks : goal.returns-in-None-clause-asks
 returns-in-None-clause-asks g c = λ file cost told size is. cost_front file c.args.request.now.range c.args.spot cost (g.T.Store.state c.args.store.now).asked (g.T.Store.state c.read_index.new.store).asked is (c.in-Ok.ensures.asks file told size)

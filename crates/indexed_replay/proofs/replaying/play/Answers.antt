@@ -10,7 +10,7 @@ returns-in-Err-gather-clause-plays g c = λ file told loaded.
     let size = sym (c.requires.measured file told) in
     let known = knows file c.args.loaded.now loaded c.in-Ok.tables.channels c.in-Ok.ensures in
     let listed = loaded.listed in
-    c.in-Err-gather.ensures.told file told size known (are_indexed file ((c.args.loaded.now).footer).summary_start loaded.tops (c.args.loaded.now).chunk_indexes (loaded_summary file c.args.loaded.now loaded) listed.chunk_indexes)
+    c.in-Err-gather.ensures.told file told size known (are_indexed file ((c.args.loaded.now).footer).summary_start loaded.tops (c.args.loaded.now).chunk_indexes (c.args.loaded.now).chunk_index_offsets (loaded_summary file c.args.loaded.now loaded) listed.chunk_indexes loaded.placed)
 
 pub returns-in-Ok-topics_of-clause-plays : goal.returns-in-Ok-topics_of-clause-plays
 returns-in-Ok-topics_of-clause-plays g c = λ file told loaded.

@@ -1,6 +1,6 @@
 use Rattle.std.proofs.Common.{refl, ap}
 use Rattle.std.specs.Prelude.{slice_get}
-use Rattle.summary_read.proofs.Listing.{held_of, listed_of}
+use Rattle.summary_read.proofs.Listing.{held_of, listed_of, placed_of}
 use Rattle.summary_read.proofs.loading.list_records.Goals as goal
 
 pub invariant_of-result : goal.invariant_of-result
@@ -16,6 +16,7 @@ invariant_of-result c =
       held_of text cuts c.in-Ok-of_kind-4.attachment_indexes.items 10 cut c.in-Ok-of_kind-4.ensures,
       held_of text cuts c.in-Ok-of_kind-5.metadata_indexes.items 13 cut c.in-Ok-of_kind-5.ensures,
       held_of text cuts c.in-Ok-of_kind-6.summary_offsets.items 14 cut c.in-Ok-of_kind-6.ensures,
+      c.requires.fits,
     )
 
 pub returns : goal.returns
@@ -34,4 +35,5 @@ returns c =
         metadata_indexes = listed_of text cuts c.in-Ok-of_kind-5.metadata_indexes.items 13 c.in-Ok-of_kind-5.ensures;
         summary_offsets = listed_of text cuts c.in-Ok-of_kind-6.summary_offsets.items 14 c.in-Ok-of_kind-6.ensures;
       };
+      placed = placed_of text cuts c.in-Ok-of_kind-3.chunk_indexes.items 8 c.args.footer.summary_start c.requires.cut c.in-Ok-of_kind-3.ensures;
     }
