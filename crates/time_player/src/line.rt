@@ -1,13 +1,16 @@
 //! The line that is printed of a message.
-ghost use Rattle.std.specs.Prelude.{◌≡◌, ◌+◌, ◌*◌, ◌^◌, ◌<◌, ◌≤◌, ◌++◌, ◌∷◌, [], length, vec_len, vec_capacity, OnOk, OnErr, MatchOption};
+ghost use Rattle.std.specs.Prelude.{◌≡◌, ◌+◌, ◌*◌, ◌^◌, ◌<◌, ◌≤◌, ◌++◌, ◌∷◌, [], length, vec_len, vec_capacity, drop, OnOk, OnErr, MatchOption};
 ghost use Rattle.mcap_wire.specs.Writing.{HasRoom, LacksRoom};
 ghost use Rattle.mcap_model.specs.Text.{data_text};
 ghost use Rattle.time_player.specs.Lines.{number_text, numbers_of, line_of, line_room};
 
 use crate::hex::add_hex;
-use itoa::Buffer;
+use itoa::write_digits;
 use mcap_model::Shown;
 use mcap_wire::{Memory, add_bytes, make_room};
+
+/// The length of four numbers of 20 digits, with a space behind each.
+const NUMBERS: usize = 84;
 
 // Appends the data of a message, or a dash where there is none.
 fn add_data(out: &mut Vec<u8>, payload: &[u8])
@@ -23,29 +26,31 @@ fn add_data(out: &mut Vec<u8>, payload: &[u8])
     }
 }
 
-// Appends a number in decimal digits, and a space.
-fn add_number(out: &mut Vec<u8>, number: u64)
-    requires { HasRoom out.old 21 }
-    ensures items { out.new.items ≡ out.old.items ++ number_text number }
-    ensures len { vec_len out.new ≤ vec_len out.old + 21 }
-    ensures capacity { vec_capacity out.old ≤ vec_capacity out.new }
+// Writes a number in decimal digits, and a space behind it that ends at `end`, and says where it begins.
+#[inline(always)]
+fn write_number(number: u64, text: &mut [u8; NUMBERS], end: usize) -> usize
+    requires { (21 ≤ end) × (end ≤ 84) }
+    ensures below { end ≤ result + 21 }
+    ensures len { result + length (number_text number) ≡ end }
+    ensures written { drop result text.new ≡ number_text number ++ drop end text.old }
 {
-    let mut buffer = Buffer::new();
-    add_bytes(out, buffer.format(number).as_bytes());
-    add_bytes(out, b" ");
+    text[end - 1] = b' ';
+    write_digits(number, text, end - 1)
 }
 
-// Appends the numbers of a message, each with a space behind it.
+// Appends the numbers of a message, each with a space behind it. They are written from the last to the first.
 fn add_numbers(out: &mut Vec<u8>, shown: &Shown)
     requires { HasRoom out.old 84 }
     ensures items { out.new.items ≡ out.old.items ++ numbers_of shown.now }
     ensures len { vec_len out.new ≤ vec_len out.old + 84 }
     ensures capacity { vec_capacity out.old ≤ vec_capacity out.new }
 {
-    add_number(out, shown.log_time);
-    add_number(out, shown.publish_time);
-    add_number(out, shown.channel as u64);
-    add_number(out, shown.sequence as u64);
+    let mut text = [0; NUMBERS];
+    let sequence = write_number(shown.sequence as u64, &mut text, NUMBERS);
+    let channel = write_number(shown.channel as u64, &mut text, sequence);
+    let publish_time = write_number(shown.publish_time, &mut text, channel);
+    let log_time = write_number(shown.log_time, &mut text, publish_time);
+    add_bytes(out, &text[log_time..]);
 }
 
 /// Appends the line of a message, where there is room for it.
