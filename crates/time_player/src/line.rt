@@ -2,9 +2,11 @@
 ghost use Rattle.std.specs.Prelude.{◌≡◌, ◌+◌, ◌*◌, ◌^◌, ◌<◌, ◌≤◌, ◌++◌, ◌∷◌, [], length, vec_len, vec_capacity, drop, OnOk, OnErr, MatchOption};
 ghost use Rattle.mcap_wire.specs.Writing.{HasRoom, LacksRoom};
 ghost use Rattle.mcap_model.specs.Text.{data_text};
+ghost use Rattle.time_player.specs.Lent.{shown_of};
 ghost use Rattle.time_player.specs.Lines.{number_text, numbers_of, line_of, line_room};
 
 use crate::hex::add_hex;
+use crate::lent::{Lent, lend};
 use itoa::write_digits;
 use mcap_model::Shown;
 use mcap_wire::{Memory, add_bytes, make_room};
@@ -39,38 +41,38 @@ fn write_number(number: u64, text: &mut [u8; NUMBERS], end: usize) -> usize
 }
 
 // Appends the numbers of a message, each with a space behind it. They are written from the last to the first.
-fn add_numbers(out: &mut Vec<u8>, shown: &Shown)
+fn add_numbers(out: &mut Vec<u8>, message: &Lent)
     requires { HasRoom out.old 84 }
-    ensures items { out.new.items ≡ out.old.items ++ numbers_of shown.now }
+    ensures items { out.new.items ≡ out.old.items ++ numbers_of (shown_of message.now) }
     ensures len { vec_len out.new ≤ vec_len out.old + 84 }
     ensures capacity { vec_capacity out.old ≤ vec_capacity out.new }
 {
     let mut text = [0; NUMBERS];
-    let sequence = write_number(shown.sequence as u64, &mut text, NUMBERS);
-    let channel = write_number(shown.channel as u64, &mut text, sequence);
-    let publish_time = write_number(shown.publish_time, &mut text, channel);
-    let log_time = write_number(shown.log_time, &mut text, publish_time);
+    let sequence = write_number(message.sequence as u64, &mut text, NUMBERS);
+    let channel = write_number(message.channel as u64, &mut text, sequence);
+    let publish_time = write_number(message.publish_time, &mut text, channel);
+    let log_time = write_number(message.log_time, &mut text, publish_time);
     add_bytes(out, &text[log_time..]);
 }
 
 /// Appends the line of a message, where there is room for it.
-pub(crate) fn write_line(out: &mut Vec<u8>, shown: &Shown, quoted: &[u8])
-    requires { HasRoom out.old (line_room shown.now quoted.now) }
-    ensures items { out.new.items ≡ out.old.items ++ line_of shown.now quoted.now }
+pub(crate) fn write_line(out: &mut Vec<u8>, message: &Lent, quoted: &[u8])
+    requires { HasRoom out.old (line_room (shown_of message.now) quoted.now) }
+    ensures items { out.new.items ≡ out.old.items ++ line_of (shown_of message.now) quoted.now }
     ensures capacity { vec_capacity out.old ≤ vec_capacity out.new }
 {
-    add_numbers(out, shown);
+    add_numbers(out, message);
     add_bytes(out, quoted);
     add_bytes(out, b" ");
-    add_data(out, shown.payload.as_slice());
+    add_data(out, message.payload);
     add_bytes(out, b"\n");
 }
 
 /// The room that the line of a message takes at most, if it can be had at all.
-pub(crate) fn room_of(shown: &Shown, quoted: &[u8]) -> Option<usize>
-    ensures { MatchOption result (2 ^ 64 ≤ line_room shown.now quoted.now) (λ n. n ≡ line_room shown.now quoted.now) }
+pub(crate) fn room_of(message: &Lent, quoted: &[u8]) -> Option<usize>
+    ensures { MatchOption result (2 ^ 64 ≤ line_room (shown_of message.now) quoted.now) (λ n. n ≡ line_room (shown_of message.now) quoted.now) }
 {
-    let digits = match shown.payload.as_slice().len().checked_mul(2) {
+    let digits = match message.payload.len().checked_mul(2) {
         Some(digits) => digits,
         None => return None,
     };
@@ -88,7 +90,8 @@ pub fn add_line(out: &mut Vec<u8>, shown: &Shown, quoted: &[u8]) -> Result<(), M
     ensures full { OnErr result (LacksRoom out.old (line_room shown.now quoted.now)) }
     ensures capacity { vec_capacity out.old ≤ vec_capacity out.new }
 {
-    let room = match room_of(shown, quoted) {
+    let message = lend(shown);
+    let room = match room_of(&message, quoted) {
         Some(room) => room,
         None => return Err(Memory),
     };
@@ -96,6 +99,6 @@ pub fn add_line(out: &mut Vec<u8>, shown: &Shown, quoted: &[u8]) -> Result<(), M
         Ok(()) => {}
         Err(memory) => return Err(memory),
     }
-    write_line(out, shown, quoted);
+    write_line(out, &message, quoted);
     return Ok(());
 }

@@ -1,5 +1,5 @@
 //! What a replay gives of small files, how it is refused, and what is printed.
-use crate::{Printer, cat_text, replay_scan};
+use crate::{Printer, cat_text, replay_lines, replay_scan};
 use mcap_io::{Failed, FailingWrite, MemorySink, MemorySource, QuietSource, Short, Source};
 use mcap_model::{Place, PlainRefused, Range, Replayed, Shown, Topic, replay_plain, scan_plain};
 use mcap_scan::ScanRefused;
@@ -151,6 +151,23 @@ fn play<S: Source>(
     }
 }
 
+// The lines that are printed of a source, unless it is refused.
+fn print_all<S: Source>(
+    alloc: Global,
+    source: &mut S,
+    range: Range,
+    topic: Option<&Text>,
+) -> Result<Outcome, Fail> {
+    let Ok(mut printer) = replay_lines(alloc, source, range, topic) else {
+        return Ok(Outcome::Memory);
+    };
+    let mut sink = MemorySink::new(alloc, Vec::new(alloc));
+    if printer.print(alloc, &mut sink).is_err() {
+        return Err(Fail::from("printed in part"));
+    }
+    text_of(alloc, sink.bytes())
+}
+
 // The outcome of the plain scan and the plain replay of a file.
 fn play_plainly(
     alloc: Global,
@@ -209,6 +226,9 @@ fn messages_come_by_log_time_and_place(rt: HostRuntime) -> Result<(), Fail> {
         };
         let slowly = play(alloc, &mut slow, range, topic)?;
         assert_eq!(rt; slowly, lines(alloc, text)?, "slowly");
+        let mut again = quiet(alloc, MIXED)?;
+        let printed = print_all(alloc, &mut again, range, topic)?;
+        assert_eq!(rt; printed, lines(alloc, text)?, "printed");
     }
     Ok(())
 }
