@@ -14,7 +14,7 @@ use mcap_model::Range;
 use mcap_scan::ScanRefused;
 use mcap_wire::Text;
 use std::alloc::Global;
-use time_player::{Printer, replay_scan};
+use time_player::{Printer, replay_lines};
 
 /// What the reading of a file came to.
 #[derive(Drop)]
@@ -43,17 +43,9 @@ fn read_lines<S: Source>(
 ) -> Reading
     ensures { ComesTo (selection range (asked_topic topic.entry)) (S.state source.old) (S.state source.new) result }
 {
-    let replayed = match replay_scan(alloc, source, range, topic) {
-        Ok(replayed) => replayed,
-        Err(why) => return Reading::Refused { why },
-    };
-    match Printer::new(alloc, replayed) {
+    match replay_lines(alloc, source, range, topic) {
         Ok(text) => return Reading::Lines { text },
-        Err(_) => {
-            return Reading::Refused {
-                why: ScanRefused::Memory,
-            };
-        }
+        Err(why) => return Reading::Refused { why },
     }
 }
 

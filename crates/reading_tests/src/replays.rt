@@ -6,7 +6,7 @@ use mcap_scan::ScanRefused;
 use mcap_wire::{Bytes, Text};
 use std::alloc::Global;
 use std::test::Fail;
-use time_player::{Printer, cat_text, replay_scan};
+use time_player::{Printer, cat_text, replay_lines, replay_scan};
 
 // A Header; a Channel 1 of "/a" and a Channel 2 of a topic with a quote and a line feed; a Message of log time 20; a Chunk
 // with a Channel 3 of "/a", a Message on it of log time 10, and one on Channel 2 of log time 20; a Message of the last
@@ -152,6 +152,23 @@ fn play<S: Source>(
     }
 }
 
+// The lines that are printed of a source, unless it is refused.
+fn print_all<S: Source>(
+    alloc: Global,
+    source: &mut S,
+    range: Range,
+    topic: Option<&Text>,
+) -> Result<Outcome, Fail> {
+    let Ok(mut printer) = replay_lines(alloc, source, range, topic) else {
+        return Ok(Outcome::Memory);
+    };
+    let mut sink = MemorySink::new(alloc, Vec::new(alloc));
+    if printer.print(alloc, &mut sink).is_err() {
+        return Err(Fail::from("printed in part"));
+    }
+    text_of(alloc, sink.bytes())
+}
+
 // The outcome of the plain scan and the plain replay of a file.
 fn play_plainly(
     alloc: Global,
@@ -210,6 +227,9 @@ fn messages_come_by_log_time_and_place(rt: HostRuntime) -> Result<(), Fail> {
         };
         let slowly = play(alloc, &mut slow, range, topic)?;
         same_at(&rt, &slowly, &lines(alloc, text)?, &"slowly");
+        let mut again = quiet(alloc, MIXED)?;
+        let printed = print_all(alloc, &mut again, range, topic)?;
+        same_at(&rt, &printed, &lines(alloc, text)?, &"printed");
     }
     Ok(())
 }

@@ -1,6 +1,7 @@
 -- Lines that are printed in pieces.
-use Rattle.std.proofs.Common.{◌≡◌, ℕ, ◌+◌, ◌<◌, ◌≤◌, List, [], ◌∷◌, ◌++◌, length, take, reverse, suc, Some, Ok, Err, refl, sym, ap, subst, inl, inr, ◌∙◌, append_assoc, length-append, arith}
-use Rattle.std.proofs.lemmas.List.{append-nil, take-append-le, reverse-append}
+use Rattle.std.proofs.Common.{◌≡◌, ℕ, ◌+◌, ◌<◌, ◌≤◌, List, [], ◌∷◌, ◌++◌, length, take, drop, zero, suc, Some, Ok, Err, refl, sym, ap, subst, inl, inr, ◌∙◌, append_assoc, length-append, arith}
+use Rattle.std.proofs.Math.ListN.{drop_of_length-le}
+use Rattle.std.proofs.lemmas.List.{append-nil, take-append-le}
 use Rattle.std.proofs.lemmas.Bool.{cases_lt}
 use Rattle.std.proofs.lemmas.Option.{same_Some}
 use Rattle.mcap_io.specs.declared.outside.Short.{Short}
@@ -9,6 +10,7 @@ use Rattle.mcap_io.proofs.Calls.{adds-adds, adds-part}
 use Rattle.mcap_model.specs.declared.replay.Shown.{Shown}
 use Rattle.mcap_model.specs.declared.table.Declared.{Declared}
 use Rattle.mcap_model.specs.Places.{At}
+use Rattle.mcap_model.proofs.Places.{at_none}
 use Rattle.time_player.specs.Lines.{spelling, line_of, line_room, lines_of, IsReady}
 
 -- ---- the longest line
@@ -25,25 +27,31 @@ longest_more shown table i longest room more s text at is room_is room_below bel
       (subst (λ (l : List ℕ). line_room s l ≤ more) is (omega (arith, room_is, room_below)))
 ]
 
--- ---- a vector whose last element was taken
+-- ---- the rest of a list
 
-pub popped : {X : Type 0} (old new : List X) (m : X) → old ≡ new ++ m ∷ [] → reverse old ≡ m ∷ reverse new
-popped old new m is = ap reverse is ∙ reverse-append new (m ∷ [])
+drop_at : {X : Type 0} (xs : List X) (i : ℕ) (x : X) → At xs i x → drop i xs ≡ x ∷ drop (suc i) xs
+drop_at [] i x at = absurd (at_none i x at)
+drop_at {X} (y ∷ ys) zero x at = ap (λ (z : X). z ∷ ys) (same_Some y x at)
+drop_at (y ∷ ys) (suc i) x at = drop_at ys i x at
 
-pub none_left : (table : List Declared) (old : List Shown) → length old ≡ 0 → lines_of table (reverse old) ≡ []
-none_left table [] is = refl
-none_left table (m ∷ rest) is = absurd (omega (arith, is))
+drop_next : {X : Type 0} (xs : List X) (i : ℕ) (x : X) → At xs i x → drop i xs ≡ x ∷ drop (i + 1) xs
+drop_next {X} xs i x at =
+    let next : suc i ≡ i + 1 = omega arith in
+    subst (λ (k : ℕ). drop i xs ≡ x ∷ drop k xs) next (drop_at xs i x at)
 
-pub room_for_first : (m : Shown) (rest : List Shown) (table : List Declared) (len room : ℕ) (text : List ℕ) → IsReady (m ∷ rest) table room → text ≡ spelling table m.channel → len < 65536 → len + line_room m text ≤ room
-room_for_first m rest table len room text ready is short =
-    let first = ready.fits 0 m refl in
+pub none_left : (table : List Declared) (shown : List Shown) (i : ℕ) → length shown ≤ i → lines_of table (drop i shown) ≡ []
+none_left table shown i past = ap (lines_of table) (drop_of_length-le shown past)
+
+pub room_on : (table : List Declared) (shown : List Shown) (i : ℕ) (m : Shown) (text : List ℕ) (len room : ℕ) → IsReady shown table room → At shown i m → text ≡ spelling table m.channel → len < 65536 → len + line_room m text ≤ room
+room_on table shown i m text len room ready at is short =
+    let one = ready.fits i m at in
     let same : length text ≡ length (spelling table m.channel) = ap length is in
-    omega (arith, first, same, short)
+    omega (arith, one, same, short)
 
-pub ready_rest : (m : Shown) (rest : List Shown) (table : List Declared) (room more : ℕ) → IsReady (m ∷ rest) table room → room ≤ more → IsReady rest table more
-ready_rest m rest table room more ready grows = record {
+pub ready_on : (table : List Declared) (shown : List Shown) (room more : ℕ) → IsReady shown table room → room ≤ more → IsReady shown table more
+ready_on table shown room more ready grows = record {
   apart = ready.apart;
-  fits = λ n s at. let one = ready.fits (suc n) s at in omega (arith, one, grows);
+  fits = λ n s at. let one = ready.fits n s at in omega (arith, one, grows);
 }
 
 -- ---- what was written
@@ -85,6 +93,10 @@ some_written done piece left text whole some none =
     let zero_is : length text ≡ 0 = ap length none in
     omega (arith, lengths, zero_is, length-append done (piece ++ left), length-append piece left, some)
 
+-- a text of which there is a piece is not empty
+pub not_silent : (a b : SinkState) (text piece left : List ℕ) (taken : ℕ) → Printing a b text piece left taken → 0 < length piece → text ≡ [] → ⊥
+not_silent a b text piece left taken p some none = absurd (omega (arith, some_written p.done piece left text p.whole some none))
+
 pub piece_on : (a b c : SinkState) (text piece left fresh : List ℕ) (taken more : ℕ) → Printing a b text piece left taken → WritesAll b c piece (Ok tt) → 0 < length piece → fresh ≡ [] → more ≤ taken + length piece → Printing a c text fresh left more
 piece_on a b c text piece left fresh taken more p wrote some none below = record {
   done = p.done ++ piece;
@@ -122,18 +134,11 @@ printed_part a b c text piece left taken all short p wrote below =
 
 -- ---- a message more
 
-pub message_on : (a b : SinkState) (text piece more spelled : List ℕ) (table : List Declared) (old new : List Shown) (m : Shown) (taken : ℕ) → Printing a b text piece (lines_of table (reverse old)) taken → old ≡ new ++ m ∷ []
-    → spelled ≡ spelling table m.channel → more ≡ piece ++ line_of m spelled → Printing a b text more (lines_of table (reverse new)) taken
-message_on a b text piece more spelled table old new m taken p is first gathered =
-    line_on a b text piece (lines_of table (reverse old)) more (line_of m spelled) (lines_of table (reverse new)) taken p
-    (ap (lines_of table) (popped old new m is) ∙ ap (λ (l : List ℕ). line_of m l ++ lines_of table (reverse new)) (sym first)) gathered
-
-pub ready_on : (table : List Declared) (old new : List Shown) (m : Shown) (room more : ℕ) → IsReady (reverse old) table room → old ≡ new ++ m ∷ [] → room ≤ more → IsReady (reverse new) table more
-ready_on table old new m room more ready is grows = ready_rest m (reverse new) table room more (subst (λ (l : List Shown). IsReady l table room) (popped old new m is) ready) grows
-
-pub room_on : (table : List Declared) (old new : List Shown) (m : Shown) (spelled : List ℕ) (len room : ℕ) → IsReady (reverse old) table room → old ≡ new ++ m ∷ [] → spelled ≡ spelling table m.channel → len < 65536 → len + line_room m spelled ≤ room
-room_on table old new m spelled len room ready is first short =
-    room_for_first m (reverse new) table len room spelled (subst (λ (l : List Shown). IsReady l table room) (popped old new m is) ready) first short
+pub message_on : (a b : SinkState) (text piece more spelled : List ℕ) (table : List Declared) (shown : List Shown) (i : ℕ) (m : Shown) (taken : ℕ) → Printing a b text piece (lines_of table (drop i shown)) taken → At shown i m
+    → spelled ≡ spelling table m.channel → more ≡ piece ++ line_of m spelled → Printing a b text more (lines_of table (drop (i + 1) shown)) taken
+message_on a b text piece more spelled table shown i m taken p at first gathered =
+    line_on a b text piece (lines_of table (drop i shown)) more (line_of m spelled) (lines_of table (drop (i + 1) shown)) taken p
+    (ap (lines_of table) (drop_next shown i m at) ∙ ap (λ (l : List ℕ). line_of m l ++ lines_of table (drop (i + 1) shown)) (sym first)) gathered
 
 -- an equal piece
 pub same_piece : (a b : SinkState) (text piece given left : List ℕ) (taken : ℕ) → Printing a b text piece left taken → given ≡ piece → Printing a b text given left taken

@@ -1,3 +1,7 @@
 pub mod Asking
-pub mod Replaying
+pub mod Heads
+pub mod Keeping
+pub mod Lent
 pub mod Lines
+pub mod Messages
+pub mod Replaying

@@ -5,26 +5,26 @@ ghost use Rattle.mcap_model.specs.Made.{top};
 ghost use Rattle.mcap_model.specs.Plain.{asked_topic};
 ghost use Rattle.mcap_scan.specs.Scanning.{content_of, tables_of};
 ghost use Rattle.time_player.specs.Asking.{Keeps, KeepsRecord};
+ghost use Rattle.time_player.specs.Keeping.{kept_in};
 
 use crate::asking::is_on_topic;
-use mcap_model::{InnerWalk, Place, Range, Shown, Tables, is_within};
+use crate::kept::Kept;
+use mcap_model::{InnerWalk, Place, Range, Tables, is_within};
 use mcap_scan::Reader;
-use mcap_wire::{Bytes, Memory, Text};
+use mcap_wire::{Memory, Text};
 use rec_data::{MESSAGE, Message};
 use rec_index::{CHUNK, Chunk};
-use std::alloc::Global;
 
 // Keeps the Message of that content, if it is asked for.
 fn keep_message(
-    alloc: Global,
-    shown: &mut Vec<Shown>,
+    kept: &mut Kept,
     tables: &Tables,
     range: Range,
     topic: Option<&Text>,
     place: Place,
     content: &[u8],
 ) -> Result<(), Memory>
-    ensures { OnOk result (Keeps range (asked_topic topic.entry) tables.now (record { place = place; top = top 5 content.now } ∷ []) shown.old.items shown.new.items) }
+    ensures { OnOk result (Keeps range (asked_topic topic.entry) tables.now (record { place = place; top = top 5 content.now } ∷ []) (kept_in kept.old) (kept_in kept.new)) }
 {
     let message = match Message::parse(content) {
         Ok(message) => message,
@@ -36,34 +36,19 @@ fn keep_message(
     if !is_on_topic(tables, message.channel_id, topic) {
         return Ok(());
     }
-    let payload = match Bytes::copied(alloc, message.payload) {
-        Ok(payload) => payload,
-        Err(memory) => return Err(memory),
-    };
-    match shown.push(Shown {
-        place,
-        log_time: message.log_time,
-        publish_time: message.publish_time,
-        channel: message.channel_id,
-        sequence: message.sequence,
-        payload,
-    }) {
-        Ok(()) => return Ok(()),
-        Err(_) => return Err(Memory),
-    }
+    return kept.add(place, &message);
 }
 
 // Keeps those Messages among the records of the chunk at that offset that are asked for.
 fn keep_inside(
-    alloc: Global,
-    shown: &mut Vec<Shown>,
+    kept: &mut Kept,
     tables: &Tables,
     range: Range,
     topic: Option<&Text>,
     offset: u64,
     records: &[u8],
 ) -> Result<(), Memory>
-    ensures { OnOk result (Keeps range (asked_topic topic.entry) tables.now (placed_inside offset 0 (records_in records.now)) shown.old.items shown.new.items) }
+    ensures { OnOk result (Keeps range (asked_topic topic.entry) tables.now (placed_inside offset 0 (records_in records.now)) (kept_in kept.old) (kept_in kept.new)) }
 {
     let mut walk = InnerWalk::new(records);
     'records: while let Some(inner) = walk.next() {
@@ -72,7 +57,7 @@ fn keep_inside(
                 top: offset,
                 inner: inner.offset,
             };
-            match keep_message(alloc, shown, tables, range, topic, place, inner.content) {
+            match keep_message(kept, tables, range, topic, place, inner.content) {
                 Ok(()) => {}
                 Err(memory) => return Err(memory),
             }
@@ -83,15 +68,14 @@ fn keep_inside(
 
 /// Keeps those Messages that the record which was read last is or holds and that are asked for.
 pub(crate) fn keep_messages(
-    alloc: Global,
-    shown: &mut Vec<Shown>,
+    kept: &mut Kept,
     reader: &Reader,
     range: Range,
     topic: Option<&Text>,
     op: u8,
     offset: u64,
 ) -> Result<(), Memory>
-    ensures { OnOk result (KeepsRecord range (asked_topic topic.entry) (tables_of reader.now) offset (top op (content_of reader.now)) shown.old.items shown.new.items) }
+    ensures { OnOk result (KeepsRecord range (asked_topic topic.entry) (tables_of reader.now) offset (top op (content_of reader.now)) (kept_in kept.old) (kept_in kept.new)) }
 {
     let content = reader.content();
     match op {
@@ -100,19 +84,11 @@ pub(crate) fn keep_messages(
                 top: offset,
                 inner: 0,
             };
-            return keep_message(alloc, shown, reader.tables(), range, topic, place, content);
+            return keep_message(kept, reader.tables(), range, topic, place, content);
         }
         CHUNK => match Chunk::parse(content) {
             Ok(chunk) => {
-                return keep_inside(
-                    alloc,
-                    shown,
-                    reader.tables(),
-                    range,
-                    topic,
-                    offset,
-                    chunk.records,
-                );
+                return keep_inside(kept, reader.tables(), range, topic, offset, chunk.records);
             }
             Err(_) => return Ok(()),
         },

@@ -5,12 +5,15 @@
 mod asking;
 mod hex;
 mod keeping;
+mod kept;
+mod lent;
 mod line;
 mod lines;
+mod messages;
 mod printer;
 mod replaying;
 
 pub use line::add_line;
 pub use lines::cat_text;
 pub use printer::Printer;
-pub use replaying::replay_scan;
+pub use replaying::{replay_lines, replay_scan};

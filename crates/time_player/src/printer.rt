@@ -1,16 +1,15 @@
 //! Printing the lines of messages in pieces.
-ghost use Rattle.std.specs.Prelude.{◌≡◌, ◌+◌, ◌≤◌, List, [], reverse, IfOk, IfSome, vec_capacity};
+ghost use Rattle.std.specs.Prelude.{◌≡◌, ◌+◌, ◌≤◌, List, [], IfOk, IfSome, vec_capacity};
 ghost use Rattle.mcap_io.specs.Outside.{WritesAll};
 ghost use Rattle.mcap_model.specs.Places.{Each};
-ghost use Rattle.mcap_model.specs.Scan.{Seen};
-ghost use Rattle.mcap_model.specs.Showing.{Shows};
-ghost use Rattle.mcap_model.specs.Text.{cat_text as text_of};
 ghost use Rattle.time_player.specs.Lines.{Apart, spelling, line_room, lines_of, IsReady};
+ghost use Rattle.time_player.specs.Messages.{messages_in};
 
 use crate::line::{room_of, write_line};
 use crate::lines::{quote_topics, spelled};
+use crate::messages::Messages;
 use mcap_io::{Short, Sink, write_all_of};
-use mcap_model::{Replayed, Shown, Table};
+use mcap_model::{Replayed, Table};
 use mcap_wire::Memory;
 use std::alloc::Global;
 use std::marker::Model;
@@ -22,34 +21,34 @@ const PIECE: usize = 65_536;
 /// The lines of messages that are to be printed, with all the memory that this takes. Contracts see their text.
 #[derive(Drop)]
 pub struct Printer {
-    // Those that come last stand first, so that each is dropped once its line is written.
-    shown: Vec<Shown>,
+    messages: Messages,
     quoted: Table,
     // It has room for a piece and the longest line.
     piece: Vec<u8>,
 }
 
 impl Model for Printer {
-    ghost use Rattle.std.specs.Prelude.{List, ℕ, reverse, vec_capacity};
+    ghost use Rattle.std.specs.Prelude.{List, ℕ, vec_capacity};
 
     ghost Value = { List ℕ };
 
     ghost use Rattle.time_player.specs.Lines.{lines_of, IsReady};
+    ghost use Rattle.time_player.specs.Messages.{messages_in};
 
-    ghost view = { λ p. lines_of p.quoted (reverse p.shown.items) };
+    ghost view = { λ p. lines_of p.quoted (messages_in p.messages) };
 
-    ghost invariant = { λ p. IsReady (reverse p.shown.items) p.quoted (vec_capacity p.piece) };
+    ghost invariant = { λ p. IsReady (messages_in p.messages) p.quoted (vec_capacity p.piece) };
 }
 
 // The room that the longest line takes, if it can be had at all.
-fn longest_line(shown: &[Shown], quoted: &Table) -> Option<usize>
+fn longest_line(messages: &Messages, quoted: &Table) -> Option<usize>
     requires { Apart quoted.now }
-    ensures { IfSome result (λ n. Each (λ s. line_room s (spelling quoted.now s.channel) ≤ n) shown.now) }
+    ensures { IfSome result (λ n. Each (λ s. line_room s (spelling quoted.now s.channel) ≤ n) (messages_in messages.now)) }
 {
     let mut longest = 0;
-    'messages: for i in 0..shown.len() {
-        let message = &shown[i];
-        match room_of(message, spelled(quoted, message.channel)) {
+    'messages: for i in 0..messages.len() {
+        let message = messages.get(i);
+        match room_of(&message, spelled(quoted, message.channel)) {
             Some(room) => longest = room.max(longest),
             None => return None,
         }
@@ -71,22 +70,22 @@ fn make_piece(alloc: Global, longest: usize) -> Result<Vec<u8>, Memory>
     }
 }
 
-// Writes the lines of messages, of which those that come last stand first.
+// Writes the lines of messages.
 fn write_lines<K: Sink>(
-    shown: Vec<Shown>,
+    messages: &Messages,
     quoted: &Table,
     piece: Vec<u8>,
     sink: &mut K,
 ) -> Result<(), Short>
-    requires { IsReady (reverse shown.items) quoted.now (vec_capacity piece) }
-    ensures written { WritesAll (K.state sink.old) (K.state sink.new) (lines_of quoted.now (reverse shown.items)) result }
-    ensures silent { lines_of quoted.now (reverse shown.items) ≡ [] → K.state sink.new ≡ K.state sink.old }
+    requires { IsReady (messages_in messages.now) quoted.now (vec_capacity piece) }
+    ensures written { WritesAll (K.state sink.old) (K.state sink.new) (lines_of quoted.now (messages_in messages.now)) result }
+    ensures silent { lines_of quoted.now (messages_in messages.now) ≡ [] → K.state sink.new ≡ K.state sink.old }
 {
-    let mut left = shown;
     let mut piece = piece;
     let mut taken = 0usize;
     piece.clear();
-    'messages: while let Some(message) = left.pop() {
+    'messages: for i in 0..messages.len() {
+        let message = messages.get(i);
         write_line(&mut piece, &message, spelled(quoted, message.channel));
         if piece.len() < PIECE {
             continue;
@@ -116,6 +115,30 @@ fn write_lines<K: Sink>(
 }
 
 impl Printer {
+    ghost use Rattle.mcap_model.specs.Scan.{Seen};
+    ghost use Rattle.mcap_model.specs.Showing.{Shows};
+    ghost use Rattle.mcap_model.specs.Text.{cat_text as text_of};
+
+    /// Takes messages over, and makes room for their lines; `quoted` has the topics of their channels.
+    pub(crate) fn of(alloc: Global, messages: Messages, quoted: Table) -> Result<Printer, Memory>
+        requires { Apart quoted }
+        ensures { IfOk result (λ text. text ≡ lines_of quoted (messages_in messages)) }
+    {
+        let longest = match longest_line(&messages, &quoted) {
+            Some(longest) => longest,
+            None => return Err(Memory),
+        };
+        let piece = match make_piece(alloc, longest) {
+            Ok(piece) => piece,
+            Err(memory) => return Err(memory),
+        };
+        return Ok(Printer {
+            messages,
+            quoted,
+            piece,
+        });
+    }
+
     /// Takes messages over, and makes room for their lines.
     pub fn new(alloc: Global, replayed: Replayed) -> Result<Printer, Memory>
         ensures { IfOk result (λ text. (messages : List Seen) → Shows replayed messages → text ≡ text_of messages) }
@@ -125,32 +148,24 @@ impl Printer {
             Ok(quoted) => quoted,
             Err(memory) => return Err(memory),
         };
-        let longest = match longest_line(&shown, &quoted) {
-            Some(longest) => longest,
-            None => return Err(Memory),
-        };
-        let piece = match make_piece(alloc, longest) {
-            Ok(piece) => piece,
+        match Printer::of(alloc, Messages::Owned { shown }, quoted) {
+            Ok(text) => return Ok(text),
             Err(memory) => return Err(memory),
-        };
-        let mut shown = shown;
-        shown.reverse();
-        return Ok(Printer {
-            shown,
-            quoted,
-            piece,
-        });
+        }
     }
 
-    /// Writes all of the text, and of an empty one nothing. It takes no memory, and each message is dropped once its line is
+    /// Writes all of the text, and of an empty one nothing. It takes no memory, and the messages are dropped once all is
     /// written.
     pub fn print<K: Sink>(&mut self, alloc: Global, sink: &mut K) -> Result<(), Short>
         ensures written { WritesAll (K.state sink.old) (K.state sink.new) self.old result }
         ensures silent { self.old ≡ [] → K.state sink.new ≡ K.state sink.old }
         ensures left { self.new ≡ [] }
     {
-        let shown = mem::replace(&mut self.shown, Vec::new(alloc));
+        let none = Messages::Owned {
+            shown: Vec::new(alloc),
+        };
+        let messages = mem::replace(&mut self.messages, none);
         let piece = mem::replace(&mut self.piece, Vec::new(alloc));
-        write_lines(shown, &self.quoted, piece, sink)
+        write_lines(&messages, &self.quoted, piece, sink)
     }
 }

@@ -6,27 +6,92 @@ ghost use Rattle.mcap_model.specs.Scan.{Seen, Scan};
 ghost use Rattle.mcap_model.specs.Plain.{asked_topic};
 ghost use Rattle.mcap_model.specs.Showing.{shown_as};
 ghost use Rattle.time_player.specs.Asking.{is_asked};
-ghost use Rattle.time_player.specs.Replaying.{IsTold, IsPlayed, Plays};
+ghost use Rattle.time_player.specs.Keeping.{kept_in};
+ghost use Rattle.time_player.specs.Replaying.{IsTold, IsPlayed, AreLines, ReadsKept, Plays, PlaysLines};
 
 use crate::keeping::keep_messages;
+use crate::kept::Kept;
+use crate::lines::quote_topics;
+use crate::messages::Messages;
+use crate::printer::Printer;
 use mcap_io::Source;
-use mcap_model::{Range, Replayed, Shown, Tables, put_in_order, topics_of};
+use mcap_model::{Range, Replayed, Tables, put_in_order, topics_of};
 use mcap_scan::{Reader, ScanRefused, Step};
 use mcap_wire::{Memory, Text};
 use std::alloc::Global;
 
-// Puts the messages that were kept in order, with the topics of their channels.
-fn finish(alloc: Global, tables: &Tables, shown: Vec<Shown>) -> Result<Replayed, Memory>
-    ensures { (range : Times) (topic : Option (List ℕ)) (tops : List Top) (messages : List Seen) → IsTold tops tables.now messages → shown.items ≡ map shown_as (filter (is_asked range topic) messages)
+// Puts copies of the messages that were kept in order, with the topics of their channels.
+fn finish(alloc: Global, tables: &Tables, kept: &Kept) -> Result<Replayed, Memory>
+    ensures { (range : Times) (topic : Option (List ℕ)) (tops : List Top) (messages : List Seen) → IsTold tops tables.now messages → kept_in kept.now ≡ map shown_as (filter (is_asked range topic) messages)
         → IfOk result (λ played. IsPlayed range topic messages played) }
 {
-    let mut shown = shown;
+    let mut shown = match kept.copies(alloc) {
+        Ok(shown) => shown,
+        Err(memory) => return Err(memory),
+    };
     let topics = match topics_of(alloc, tables, &shown) {
         Ok(topics) => topics,
         Err(memory) => return Err(memory),
     };
     put_in_order(&mut shown);
     return Ok(Replayed { topics, shown });
+}
+
+// Puts the messages that were kept in order, and makes ready to print them.
+fn finish_lines(alloc: Global, tables: &Tables, kept: Kept) -> Result<Printer, Memory>
+    ensures { (range : Times) (topic : Option (List ℕ)) (tops : List Top) (messages : List Seen) → IsTold tops tables.now messages → kept_in kept ≡ map shown_as (filter (is_asked range topic) messages)
+        → IfOk result (λ text. AreLines range topic messages text) }
+{
+    let mut kept = kept;
+    let few = match kept.one_of_each_channel(alloc) {
+        Ok(few) => few,
+        Err(memory) => return Err(memory),
+    };
+    let topics = match topics_of(alloc, tables, &few) {
+        Ok(topics) => topics,
+        Err(memory) => return Err(memory),
+    };
+    let quoted = match quote_topics(alloc, &topics) {
+        Ok(quoted) => quoted,
+        Err(memory) => return Err(memory),
+    };
+    kept.put_in_order();
+    match Printer::of(alloc, Messages::Kept { kept }, quoted) {
+        Ok(text) => return Ok(text),
+        Err(memory) => return Err(memory),
+    }
+}
+
+// Reads a source to its Data End, and keeps those messages that are asked for.
+fn read_kept<S: Source>(
+    alloc: Global,
+    source: &mut S,
+    range: Range,
+    topic: Option<&Text>,
+) -> Result<(Tables, Kept), ScanRefused>
+    ensures reads { ReadsKept range (asked_topic topic.entry) (S.state source.old) (S.state source.new) result }
+    ensures stays { S.stays source.old source.new }
+{
+    let mut reader = match Reader::new(alloc) {
+        Ok(reader) => reader,
+        Err(_) => return Err(ScanRefused::Memory),
+    };
+    let mut kept = Kept::new(alloc);
+    'records: loop {
+        match reader.advance(source) {
+            Step::Record { op, offset } => {
+                match keep_messages(&mut kept, &reader, range, topic, op, offset) {
+                    Ok(()) => {}
+                    Err(_) => return Err(ScanRefused::Memory),
+                }
+            }
+            Step::End { offset: _ } => return Ok((reader.into_tables(), kept)),
+            Step::Refused => match reader.into_refusal() {
+                Some(why) => return Err(why),
+                None => return Err(ScanRefused::Memory),
+            },
+        }
+    }
 }
 
 /// The messages of the source in the range, and of the topic if one is given, in the order of log time and place. The
@@ -41,27 +106,33 @@ pub fn replay_scan<S: Source>(
     ensures plays { Plays range (asked_topic topic.entry) (S.state source.old) (S.state source.new) result }
     ensures stays { S.stays source.old source.new }
 {
-    let mut reader = match Reader::new(alloc) {
-        Ok(reader) => reader,
-        Err(_) => return Err(ScanRefused::Memory),
+    let (tables, kept) = match read_kept(alloc, source, range, topic) {
+        Ok(read) => read,
+        Err(why) => return Err(why),
     };
-    let mut shown = Vec::new(alloc);
-    'records: loop {
-        match reader.advance(source) {
-            Step::Record { op, offset } => {
-                match keep_messages(alloc, &mut shown, &reader, range, topic, op, offset) {
-                    Ok(()) => {}
-                    Err(_) => return Err(ScanRefused::Memory),
-                }
-            }
-            Step::End { offset: _ } => match finish(alloc, reader.tables(), shown) {
-                Ok(played) => return Ok(played),
-                Err(_) => return Err(ScanRefused::Memory),
-            },
-            Step::Refused => match reader.into_refusal() {
-                Some(why) => return Err(why),
-                None => return Err(ScanRefused::Memory),
-            },
-        }
+    match finish(alloc, &tables, &kept) {
+        Ok(played) => return Ok(played),
+        Err(_) => return Err(ScanRefused::Memory),
+    }
+}
+
+/// The lines of the messages that `replay_scan` gives, with all the memory that their printing takes. Their payloads stand
+/// in one vector.
+pub fn replay_lines<S: Source>(
+    alloc: Global,
+    source: &mut S,
+    range: Range,
+    topic: Option<&Text>,
+) -> Result<Printer, ScanRefused>
+    ensures plays { PlaysLines range (asked_topic topic.entry) (S.state source.old) (S.state source.new) result }
+    ensures stays { S.stays source.old source.new }
+{
+    let (tables, kept) = match read_kept(alloc, source, range, topic) {
+        Ok(read) => read,
+        Err(why) => return Err(why),
+    };
+    match finish_lines(alloc, &tables, kept) {
+        Ok(text) => return Ok(text),
+        Err(_) => return Err(ScanRefused::Memory),
     }
 }

@@ -1,6 +1,7 @@
 use Rattle.std.proofs.Common.{◌++◌, ◌∷◌, []}
 use Rattle.mcap_model.specs.Plain.{asked_topic}
 use Rattle.mcap_model.specs.Walk.{walk_at, walk_rest, inner_top}
+use Rattle.time_player.specs.Keeping.{kept_in}
 use Rattle.time_player.proofs.Chosen.{walk_goes_on, keeps_message, keeps_other}
 use Rattle.time_player.proofs.keeping.keep_inside.Goals as goal
 
@@ -12,7 +13,7 @@ records-preserved-in-Ok c =
     let was = i.1 in (
       i.0 ++ inner_top inner ∷ [],
       walk_goes_on c.args.records.now (walk_at c.records.walk) (walk_at c.next.new.self) (walk_rest c.records.walk) (walk_rest c.next.new.self) inner i.0 was steps,
-      keeps_message c.args.range (asked_topic c.args.topic) c.args.tables.now c.args.offset (walk_at c.records.walk) i.0 c.args.shown.now.items c.records.shown.items c.keep_message.new.shown.items inner i.2 was.place steps.offset c.if-inner-eq-MESSAGE.true c.in-Ok.ensures,
+      keeps_message c.args.range (asked_topic c.args.topic) c.args.tables.now c.args.offset (walk_at c.records.walk) i.0 (kept_in c.args.kept.now) (kept_in c.records.kept) (kept_in c.keep_message.new.kept) inner i.2 was.place steps.offset c.if-inner-eq-MESSAGE.true c.in-Ok.ensures,
     )
 
 pub records-preserved : goal.records-preserved
@@ -21,5 +22,5 @@ records-preserved c =
     let inner = c.in-Some.inner in (
       i.0 ++ inner_top inner ∷ [],
       walk_goes_on c.args.records.now (walk_at c.records.walk) (walk_at c.next.new.self) (walk_rest c.records.walk) (walk_rest c.next.new.self) inner i.0 i.1 c.in-Some.ensures,
-      keeps_other c.args.range (asked_topic c.args.topic) c.args.tables.now c.args.offset i.0 c.args.shown.now.items c.records.shown.items inner i.2 c.if-inner-eq-MESSAGE.false,
+      keeps_other c.args.range (asked_topic c.args.topic) c.args.tables.now c.args.offset i.0 (kept_in c.args.kept.now) (kept_in c.records.kept) inner i.2 c.if-inner-eq-MESSAGE.false,
     )

@@ -1,8 +1,10 @@
-use Rattle.std.proofs.Common.{ℕ, sym, subst, List, ap, ◌≡◌, ◌++◌, ◌∷◌, [], ◌∙◌}
+use Rattle.std.proofs.Common.{ℕ, sym, subst, ap, ◌∷◌, [], ◌∙◌}
 use Rattle.mcap_model.specs.declared.replay.Shown.{Shown}
 use Rattle.mcap_model.specs.Made.{top}
 use Rattle.mcap_model.specs.Scan.{HasTopic}
 use Rattle.mcap_model.specs.Plain.{asked_topic}
+use Rattle.mcap_model.proofs.ShownMessages.{ok_then}
+use Rattle.time_player.specs.Keeping.{kept_in, shown_at}
 use Rattle.time_player.specs.Asking.{Keeps}
 use Rattle.time_player.proofs.Chosen.{read_once, untimely, off_topic, asked_for, message_dropped, message_kept}
 use Rattle.time_player.proofs.keeping.keep_message.Goals as goal
@@ -11,32 +13,27 @@ pub returns-then-not-is_within : goal.returns-then-not-is_within
 returns-then-not-is_within c =
     let m = c.in-Ok.message in
     let s : Shown = record { place = c.args.place; log_time = m.log_time; publish_time = m.publish_time; channel = m.channel_id; sequence = m.sequence; payload = m.payload.now } in
-    message_dropped c.args.range (asked_topic c.args.topic) c.args.tables.now c.args.place c.args.content.now c.args.shown.now.items
+    message_dropped c.args.range (asked_topic c.args.topic) c.args.tables.now c.args.place c.args.content.now (kept_in c.args.kept.now)
     (λ records seen knows is. untimely c.args.range (asked_topic c.args.topic) s seen (read_once records c.args.content.now s seen c.in-Ok.ensures.shown is) (sym c.is_within.ensures ∙ c.if-not-is_within.true))
 
 pub returns-then-not-is_on_topic : goal.returns-then-not-is_on_topic
 returns-then-not-is_on_topic c =
     let m = c.in-Ok.message in
     let s : Shown = record { place = c.args.place; log_time = m.log_time; publish_time = m.publish_time; channel = m.channel_id; sequence = m.sequence; payload = m.payload.now } in
-    message_dropped c.args.range (asked_topic c.args.topic) c.args.tables.now c.args.place c.args.content.now c.args.shown.now.items
+    message_dropped c.args.range (asked_topic c.args.topic) c.args.tables.now c.args.place c.args.content.now (kept_in c.args.kept.now)
     (λ records seen knows is.
     let same = read_once records c.args.content.now s seen c.in-Ok.ensures.shown is in
     let known = subst (λ (n : ℕ). HasTopic records n seen.topic) (sym (ap (λ (r : Shown). r.channel) same)) is.known in
     off_topic c.args.range (asked_topic c.args.topic) seen (sym (c.is_on_topic.ensures records seen.topic knows known) ∙ c.if-not-is_on_topic.true))
 
-pub returns-in-Ok-push : goal.returns-in-Ok-push
-returns-in-Ok-push c =
+pub returns : goal.returns
+returns c =
     let m = c.in-Ok.message in
-    let s : Shown = record { place = c.args.place; log_time = m.log_time; publish_time = m.publish_time; channel = m.channel_id; sequence = m.sequence; payload = m.payload.now } in
-    let t : Shown = record { place = c.args.place; log_time = m.log_time; publish_time = m.publish_time; channel = m.channel_id; sequence = m.sequence; payload = c.in-Ok-copied.payload } in
-    let same_payload : t ≡ s = ap (λ (p : List ℕ). made s p) c.in-Ok-copied.ensures in
-    subst (λ (l : List Shown). Keeps c.args.range (asked_topic c.args.topic) c.args.tables.now (record { place = c.args.place; top = top 5 c.args.content.now } ∷ []) c.args.shown.now.items l)
-    (sym (c.in-Ok-push.ensures.items ∙ ap (λ (r : Shown). c.args.shown.now.items ++ r ∷ []) same_payload))
-    (message_kept c.args.range (asked_topic c.args.topic) c.args.tables.now c.args.place c.args.content.now c.args.shown.now.items s
+    let s = shown_at c.args.place m in
+    ok_then c.add.result c.add.ensures (λ added.
+    subst (Keeps c.args.range (asked_topic c.args.topic) c.args.tables.now (record { place = c.args.place; top = top 5 c.args.content.now } ∷ []) (kept_in c.args.kept.now)) (sym added)
+    (message_kept c.args.range (asked_topic c.args.topic) c.args.tables.now c.args.place c.args.content.now (kept_in c.args.kept.now) s
     (λ records seen knows is.
     let same = read_once records c.args.content.now s seen c.in-Ok.ensures.shown is in
     let known = subst (λ (n : ℕ). HasTopic records n seen.topic) (sym (ap (λ (r : Shown). r.channel) same)) is.known in
-    (asked_for c.args.range (asked_topic c.args.topic) s seen same (sym c.is_within.ensures ∙ c.if-not-is_within.false) (sym (c.is_on_topic.ensures records seen.topic knows known) ∙ c.if-not-is_on_topic.false), same)))
-  where
-    made : Shown → List ℕ → Shown
-    made s payload = record { place = s.place; log_time = s.log_time; publish_time = s.publish_time; channel = s.channel; sequence = s.sequence; payload = payload }
+    (asked_for c.args.range (asked_topic c.args.topic) s seen same (sym c.is_within.ensures ∙ c.if-not-is_within.false) (sym (c.is_on_topic.ensures records seen.topic knows known) ∙ c.if-not-is_on_topic.false), same))))
