@@ -2,7 +2,7 @@
 use Rattle.std.proofs.Common.{◌≡◌, ◌≢◌, ◌⊎◌, ◌&&◌, ◌==◌, ℕ, zero, suc, Bool, true, false, not, List, [], ◌∷◌, ◌++◌, refl, sym, subst, inl, inr, ◌∙◌, arith, codes}
 use Rattle.std.specs.Str.{bytes_eq}
 use Rattle.std.proofs.lemmas.Slice.Eq.{bytes_eq-Decides}
-use Rattle.command_words.specs.Items.{Word, Item, flag, joined, apart, plain, IsBare, IsFlag, IsFree, IsItem, IsOption, words_of}
+use Rattle.command_words.specs.Items.{Word, IsBare, IsFlag, IsFree, IsOption}
 use Rattle.command_words.specs.declared.verbs.Verb.{Verb}
 use Rattle.command_words.specs.declared.verbs.Verb.TheVariants as verb
 
@@ -95,7 +95,7 @@ cut_once (c ∷ cs) (d ∷ ds) value more is isn't same =
     let both = cut_once cs ds value more (tail_is c cs is) (tail_is d ds isn't) rest in
     let names = both.0 in (cc, both.1)
 
--- ---- words at whose front no item stands
+-- ---- words that begin with `--`
 
 -- the rest of a word that begins with `--`
 pub named_same : (name other : Word) (rest after : List Word) → (codes "--" ++ name) ∷ rest ≡ (codes "--" ++ other) ∷ after → (name ≡ other) × (rest ≡ after)
@@ -103,23 +103,3 @@ named_same name other rest after same = (cc, cc)
 
 pub not_plain : (name word : Word) (rest after : List Word) → IsFree word → (codes "--" ++ name) ∷ rest ≡ word ∷ after → ⊥
 not_plain name word rest after free same = free (45 ∷ name) (cc)
-
--- a word with `=` is an option with its value, or nothing
-pub joined_bad : (verb : Verb) (named name value : Word) (rest : List Word) → named ≡ name ++ 61 ∷ value → IsBare name → (IsOption verb name → value ≢ codes "-" → ⊥)
-    → (item : Item) (after : List Word) → IsItem verb item → (codes "--" ++ named) ∷ rest ≡ words_of item ++ after → ⊥
-joined_bad verb named name value rest cut is bad (flag other) after flagged same = uncut other name value (flag_bare verb other flagged) (sym (named_same named other rest after same).0 ∙ cut)
-joined_bad verb named name value rest cut is bad (joined other more) after valued same =
-    let both = cut_once name other value more is (option_bare verb other valued.0) (sym cut ∙ (named_same named (other ++ 61 ∷ more) rest after same).0) in
-    bad (subst (IsOption verb) (sym both.0) valued.0) (λ dash. valued.1 (sym both.1 ∙ dash))
-joined_bad verb named name value rest cut is bad (apart other more) after valued same = uncut other name value (option_bare verb other valued.0) (sym (named_same named other rest (more ∷ after) same).0 ∙ cut)
-joined_bad verb named name value rest cut is bad (plain word) after free same = not_plain named word rest after free same
-
--- a word without `=` is a flag, an option with its value in the next word, or nothing
-pub apart_bad : (verb : Verb) (named : Word) (rest : List Word) → IsBare named → (IsFlag verb named → ⊥) → ((value : Word) (after : List Word) → IsOption verb named → IsFree value → rest ≡ value ∷ after → ⊥)
-    → (item : Item) (after : List Word) → IsItem verb item → (codes "--" ++ named) ∷ rest ≡ words_of item ++ after → ⊥
-apart_bad verb named rest is no_flag bad (flag other) after flagged same = no_flag (subst (IsFlag verb) (sym (named_same named other rest after same).0) flagged)
-apart_bad verb named rest is no_flag bad (joined other more) after valued same = uncut named other more is (named_same named (other ++ 61 ∷ more) rest after same).0
-apart_bad verb named rest is no_flag bad (apart other more) after valued same =
-    let both = named_same named other rest (more ∷ after) same in
-    bad more after (subst (IsOption verb) (sym both.0) valued.0) valued.1 both.1
-apart_bad verb named rest is no_flag bad (plain word) after free same = not_plain named word rest after free same

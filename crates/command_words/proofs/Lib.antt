@@ -1,4 +1,14 @@
 pub mod ItemLemmas
 pub mod CutLemmas
-pub mod ValueLemmas
 pub mod OneCommand
+pub mod RowLemmas
+pub mod RuleLemmas
+pub mod TurnLemmas
+pub mod HoldLemmas
+pub mod WalkLemmas
+pub mod LeafLemmas
+pub mod AppLemmas
+pub mod MatchLemmas
+pub mod CommandLemmas
+pub mod ProgramLemmas
+pub mod OptionLemmas

@@ -25,19 +25,19 @@ options_with profile chunk = record { profile = profile; chunk = chunk }
 abbrev range_with : ℕ → Option ℕ → Range
 range_with start end = record { start = start; end = end }
 
-one_value : (a b : Option Word) → option_to_list a ≡ option_to_list b → b ≡ a
+pub one_value : (a b : Option Word) → option_to_list a ≡ option_to_list b → b ≡ a
 one_value None None same = refl
 one_value None (Some y) same = cc
 one_value (Some x) None same = cc
 one_value (Some x) (Some y) same = cc
 
-one_flag : (values : List Word) (a b : Bool) → Flags values a → Flags values b → b ≡ a
+pub one_flag : (values : List Word) (a b : Bool) → Flags values a → Flags values b → b ≡ a
 one_flag values true true is other = refl
 one_flag values true false is other = let wrong : [] ∷ [] ≡ [] = sym is ∙ other in cc
 one_flag values false true is other = let wrong : [] ≡ [] ∷ [] = sym is ∙ other in cc
 one_flag values false false is other = refl
 
-one_number : (least most : ℕ) (values : List Word) (a b : Option ℕ) → GivesNumber least most values a → GivesNumber least most values b → b ≡ a
+pub one_number : (least most : ℕ) (values : List Word) (a b : Option ℕ) → GivesNumber least most values a → GivesNumber least most values b → b ≡ a
 one_number least most values None None is other = refl
 one_number least most values None (Some n) is (word, other, number) = cc
 one_number least most values (Some m) None (word, is, number) other = cc

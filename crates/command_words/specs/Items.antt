@@ -3,8 +3,6 @@ use Rattle.std.specs.Prelude.{◌≡◌, ◌≢◌, ◌⊎◌, ◌<◌, ℕ, len
 use Rattle.std.specs.Borrow.{Bor}
 use Rattle.std.specs.List.{All, flat_map}
 use Rattle.std.specs.Str.{bytes_eq}
-use Rattle.command_words.specs.declared.items.Item.{Item as Borrowed}
-use Rattle.command_words.specs.declared.items.Item.TheVariants as borrowed
 use Rattle.command_words.specs.declared.verbs.Verb.{Verb}
 use Rattle.command_words.specs.declared.verbs.Verb.TheVariants as verb
 
@@ -86,10 +84,3 @@ place_of (plain word) = word ∷ []
 -- the texts behind references
 abbrev pub texts : List (Bor (List ℕ)) → List Word
 texts words = map (λ word. word.now) words
-
--- the item that the code holds
-abbrev pub item_of : Borrowed → Item
-item_of (borrowed.Flag name) = flag name.now
-item_of (borrowed.Joined name value) = joined name.now value.now
-item_of (borrowed.Apart name value) = apart name.now value.now
-item_of (borrowed.Plain word) = plain word.now

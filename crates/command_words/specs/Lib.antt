@@ -1,2 +1,4 @@
 pub mod Items
 pub mod Commands
+pub mod Matches
+pub mod Program

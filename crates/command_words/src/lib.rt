@@ -2,10 +2,11 @@
 #![tactic(auto)]
 
 mod command;
-mod items;
+mod found;
+mod options;
 mod parse;
+mod program;
 mod read;
-mod values;
 mod verbs;
 
 pub use command::{Command, WordsRefused};

@@ -1,8 +1,12 @@
--- The positionals among the items so far.
-use Rattle.std.proofs.Common.{◌≡◌, map, take}
-use Rattle.std.specs.List.{flat_map}
-use Rattle.command_words.specs.Items.{item_of, place_of, texts}
+-- The words so far are texts.
+use Rattle.std.proofs.Common.{◌≡◌, take}
+use Rattle.std.specs.List.{All}
+use Rattle.std.specs.Str.{IsUtf8}
+use Rattle.command_words.specs.Items.{texts}
 use Rattle.command_words.proofs.read.plain_words.Given as goal
 
-abbrev pub invariant-loop-item : goal.invariant-loop-item
-invariant-loop-item l = texts l.places.items ≡ flat_map place_of (map item_of (take l.item-index l.items))
+abbrev pub invariant-loop-word : goal.invariant-loop-word
+invariant-loop-word l = record {
+  same : texts l.plain.items ≡ take l.word-index l.words;
+  utf8 : All IsUtf8 (take l.word-index l.words);
+}

@@ -1,8 +1,0 @@
--- A name that stands more than once is no flag.
-use Rattle.std.proofs.Common.{map}
-use Rattle.command_words.specs.Items.{given, item_of}
-use Rattle.command_words.proofs.ValueLemmas.{no_flag}
-use Rattle.command_words.proofs.values.has_flag.Goals as goal
-
-pub returns-in-Err-clause-bad : goal.returns-in-Err-clause-bad
-returns-in-Err-clause-bad c = no_flag (given c.args.name.now (map item_of c.args.items.now)) c.in-Err.ensures.bad
