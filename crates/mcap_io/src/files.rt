@@ -264,9 +264,12 @@ fn open_output<R: Files>(runtime: &R, inputs: &[FileId], name: &str) -> Result<R
         if holds(inputs, FileId::of(&metadata)) {
             return Err(Failed);
         }
-        let Ok(()) = file.set_len(0) else {
-            return Err(Failed);
-        };
+        // A file that was emptied is written out when it is closed, which takes time.
+        if metadata.len() > 0 {
+            let Ok(()) = file.set_len(0) else {
+                return Err(Failed);
+            };
+        }
     }
     Ok(file)
 }

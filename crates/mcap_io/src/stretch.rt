@@ -1,5 +1,5 @@
 //! Whole stretches: reading up to a length, and writing all of a piece.
-ghost use Rattle.std.specs.Prelude.{◌≡◌, ◌≤◌, ◌<◌, ◌+◌, ◌-◌, length, take, drop, vec_len, [], IfOk, OnErr, IsErrOf};
+ghost use Rattle.std.specs.Prelude.{◌≡◌, ◌≤◌, ◌<◌, ◌+◌, ◌-◌, length, take, drop, vec_len, [], IfOk, IfErr, OnErr, IsErrOf};
 ghost use Rattle.mcap_io.specs.Outside.{HasCause, ReadCause, StretchTaken, WritesAll};
 ghost use Rattle.mcap_io.specs.Stretch.{Fills, FillsBehind};
 
@@ -54,14 +54,34 @@ fn read_on<S: Source>(
     }
 }
 
-/// Reads until the buffer holds `len` bytes or the input ends, in place of what the buffer held. It holds fewer
-/// than `len` only where the input ended. After a refusal it is empty. Where the buffer lacks room it grows in steps, so
-/// that an input which ends early costs little more than it has; its capacity never falls. Where memory lacks for up to
-/// 65,536 bytes, none is read.
-pub fn read_up_to<S: Source>(
+// Reads until the buffer holds `len` bytes or the input ends, where it is that long already.
+fn read_over<S: Source>(source: &mut S, buffer: &mut Vec<u8>, len: usize) -> Result<(), ReadRefused>
+    requires { len ≤ vec_len buffer.old }
+    ensures bound { vec_len buffer.new ≤ len }
+    ensures taken { StretchTaken (S.state source.old).left (S.state source.new).left len buffer.new.items result }
+    ensures cause { ReadCause (S.state source.old).faults (S.state source.new).faults result }
+    ensures refused { OnErr result (buffer.new.items ≡ []) }
+    ensures failed { IfErr result (λ why. why ≡ ReadRefused.Failed) }
+    ensures stays { S.stays source.old source.new }
+{
+    buffer.truncate(len);
+    match fill(source, buffer.as_mut_slice()) {
+        Ok(n) => {
+            buffer.truncate(n);
+            return Ok(());
+        }
+        Err(Failed) => {
+            buffer.clear();
+            return Err(ReadRefused::Failed);
+        }
+    }
+}
+
+// Reads until the buffer holds `len` bytes or the input ends, and makes room for them in steps.
+fn read_in_steps<S: Source>(
     source: &mut S,
     buffer: &mut Vec<u8>,
-    len: u64,
+    len: usize,
 ) -> Result<(), ReadRefused>
     ensures bound { vec_len buffer.new ≤ len }
     ensures taken { StretchTaken (S.state source.old).left (S.state source.new).left len buffer.new.items result }
@@ -70,7 +90,6 @@ pub fn read_up_to<S: Source>(
     ensures unread { IsErrOf result ReadRefused.Memory → len ≤ 65536 → S.state source.new ≡ S.state source.old }
     ensures stays { S.stays source.old source.new }
 {
-    let len = len as usize;
     let mut filled = 0;
     let mut room = buffer.capacity().max(FIRST_ROOM).min(len);
     'steps: while filled < len {
@@ -89,6 +108,29 @@ pub fn read_up_to<S: Source>(
     }
     buffer.truncate(filled);
     Ok(())
+}
+
+/// Reads until the buffer holds `len` bytes or the input ends, in place of what the buffer held. It holds fewer
+/// than `len` only where the input ended. After a refusal it is empty. Where the buffer lacks room it grows in steps, so
+/// that an input which ends early costs little more than it has; its capacity never falls. Where memory lacks for up to
+/// 65,536 bytes, none is read.
+pub fn read_up_to<S: Source>(
+    source: &mut S,
+    buffer: &mut Vec<u8>,
+    len: u64,
+) -> Result<(), ReadRefused>
+    ensures bound { vec_len buffer.new ≤ len }
+    ensures taken { StretchTaken (S.state source.old).left (S.state source.new).left len buffer.new.items result }
+    ensures cause { ReadCause (S.state source.old).faults (S.state source.new).faults result }
+    ensures refused { OnErr result (buffer.new.items ≡ []) }
+    ensures unread { IsErrOf result ReadRefused.Memory → len ≤ 65536 → S.state source.new ≡ S.state source.old }
+    ensures stays { S.stays source.old source.new }
+{
+    let len = len as usize;
+    if len <= buffer.len() {
+        return read_over(source, buffer, len);
+    }
+    read_in_steps(source, buffer, len)
 }
 
 /// Writes all of the piece, in as many calls as the sink wants.

@@ -1,6 +1,6 @@
 use Rattle.std.proofs.Common.{length, ◌-◌, ◌≡◌, ◌≤◌, ◌<◌, ℕ, List, Some}
 use Rattle.mcap_io.proofs.Filling.{FilledSoFar}
-use Rattle.mcap_io.proofs.stretch.read_up_to.Given as goal
+use Rattle.mcap_io.proofs.stretch.read_in_steps.Given as goal
 
 abbrev pub invariant-steps : goal.invariant-steps
 invariant-steps g l = record {

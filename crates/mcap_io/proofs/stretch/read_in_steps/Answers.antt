@@ -2,7 +2,7 @@
 use Rattle.std.proofs.Common.{◌≡◌, ◌∙◌, ◌+◌, ◌-◌, ◌≤◌, ◌<◌, ℕ, List, length, drop, subst, sym, arith, length-drop}
 use Rattle.mcap_io.specs.Outside.{TakesFront}
 use Rattle.mcap_io.proofs.Filling.{filled-on, filled-end, filled-lost}
-use Rattle.mcap_io.proofs.stretch.read_up_to.Goals as goal
+use Rattle.mcap_io.proofs.stretch.read_in_steps.Goals as goal
 
 pub returns-in-Err-clause-taken : goal.returns-in-Err-clause-taken
 returns-in-Err-clause-taken g c = λ rest told.
