@@ -49,7 +49,7 @@ none_first xs none n t at = λ kind. by (of_kind 11 xs) none (filter_has (λ (u 
 
 pub counts_reason : (file : List ℕ) (range : Range) (p : Parts) (why : NotIndexed) → IsLoaded file p → CountsJudged p (Err why) → IsNotIndexed file range why
 counts_reason file range p lacks.NoSummary l judged = absurd judged
-counts_reason file range p lacks.NoStatistics l judged = let listed = l.listed in ((p.footer).summary_start, l.tops, loaded_summary file p l, none_first l.tops (sym listed.statistics ∙ judged))
+counts_reason file range p lacks.NoStatistics l judged = let listed = l.listed in ((p.footer).summary_start, l.tops, l.starts, loaded_summary file p l, none_first l.tops (sym listed.statistics ∙ judged))
 counts_reason file range p (lacks.ChunkCount stated found) l judged =
     let listed = l.listed in
     record {

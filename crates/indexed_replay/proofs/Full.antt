@@ -254,7 +254,7 @@ module _ (file : List ℕ) (tops : List Top) (full : FullyIndexed file tops) (se
 
   none_lacks : (why : NotIndexed) → IsNotIndexed file range why → ⊥
   none_lacks lacks.NoSummary none = some_summary file tops full none
-  none_lacks lacks.NoStatistics (start, summary, has, none) = some_statistics start summary has none
+  none_lacks lacks.NoStatistics (start, summary, starts, has, none) = some_statistics start summary has none
   none_lacks (lacks.ChunkCount stated found) counts = counts_same stated found counts
   none_lacks (lacks.NoMessageIndex chunk) none = some_names chunk none
   none_lacks (lacks.NoChannel id) none = some_channel id none

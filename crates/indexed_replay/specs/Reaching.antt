@@ -9,7 +9,7 @@ use Rattle.mcap_model.specs.Fields.{ChannelFields, IsChannel, MessageFields, IsM
 use Rattle.mcap_model.specs.Scan.{InRange}
 use Rattle.mcap_model.specs.Whole.{offset_among}
 use Rattle.mcap_model.specs.Led.{HasSummary, IsThere, Meets}
-use Rattle.summary_read.specs.Reached.{HasNoSummary, Fails, Passes, DeclaresPast}
+use Rattle.summary_read.specs.Reached.{HasNoSummary, StartsAt, Fails, Passes, DeclaresPast}
 use Rattle.summary_read.specs.Parts.{of_kind, first_of_kind}
 use Rattle.indexed_replay.specs.declared.answers.NotIndexed.{NotIndexed}
 use Rattle.indexed_replay.specs.declared.answers.NotIndexed.TheVariants as lacks
@@ -145,7 +145,7 @@ pub record LacksChannel (file : List ℕ) (range : Range) (id : ℕ) : Type 0 wh
 
 abbrev pub IsNotIndexed : List ℕ → Range → NotIndexed → Type 0
 IsNotIndexed file range lacks.NoSummary = HasNoSummary file
-IsNotIndexed file range lacks.NoStatistics = (start : ℕ) × (summary : List Top) × HasSummary file start summary × Each (λ t. t.op ≢ 11) summary
+IsNotIndexed file range lacks.NoStatistics = (start : ℕ) × (summary : List Top) × StartsAt file start × HasSummary file start summary × Each (λ t. t.op ≢ 11) summary
 IsNotIndexed file range (lacks.ChunkCount stated found) = CountsDiffer file stated found
 IsNotIndexed file range (lacks.NoMessageIndex chunk) = NamesNone file range chunk
 IsNotIndexed file range (lacks.NoChannel id) = LacksChannel file range id
