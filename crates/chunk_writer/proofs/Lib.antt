@@ -5,5 +5,3 @@ pub mod Stopping
 pub mod Writing
 pub mod Entries
 pub mod Taking
-pub mod Whole
-pub mod Stopped

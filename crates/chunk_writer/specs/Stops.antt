@@ -1,5 +1,5 @@
 -- Where a writer stopped, and what its store holds then.
-use Rattle.std.specs.Prelude.{◌≡◌, ℕ, suc, ◌+◌, ◌-◌, ◌<◌, ◌≤◌, List, [], ◌++◌, length, take, Option, Some, Result, Ok, Err}
+use Rattle.std.specs.Prelude.{◌≡◌, ℕ, ◌+◌, ◌-◌, ◌≤◌, List, [], ◌++◌, length, take, Option, Some, Result, Ok, Err}
 use Rattle.rec_data.specs.declared.owned.Rec.{Rec}
 use Rattle.mcap_io.specs.declared.outside.AppendRefused.{AppendRefused}
 use Rattle.mcap_io.specs.declared.outside.AppendRefused.TheVariants as append_refusals
@@ -8,7 +8,6 @@ use Rattle.mcap_model.specs.declared.options.FileOptions.{FileOptions}
 use Rattle.mcap_model.specs.declared.ends.Stop.{Stop}
 use Rattle.mcap_model.specs.declared.ends.Stop.TheVariants as stops
 use Rattle.mcap_model.specs.Places.{At}
-use Rattle.mcap_model.specs.History.{history_bytes}
 use Rattle.mcap_model.specs.Blocks.{pieces_of, blocks_in}
 use Rattle.mcap_model.specs.File.{front}
 use Rattle.mcap_model.specs.Pieces.{file_pieces, pieces_before, StoppedAt}
@@ -60,14 +59,6 @@ Added old new piece (Ok it) = Adds old new piece
 Added old new piece (Err (stops.Fault faults)) = AddsPart old new 0 piece
 Added old new piece (Err (stops.Limit blocks bytes)) = ⊥
 Added old new piece (Err stops.Memory) = new ≡ old
-
--- An append of records that took so many of their bytes stopped in one of them, which begins at that offset.
-pub record StopsIn (records : List Rec) (taken at : ℕ) : Type 0 where
-  pub n : ℕ
-  pub less : n < length records
-  pub place : at ≡ length (history_bytes (take n records))
-  pub from : at ≤ taken
-  pub to : taken ≤ length (history_bytes (take (suc n) records))
 
 -- why it was refused, with the count of the store
 abbrev pub refusal : ℕ → AppendRefused → Stop

@@ -1,6 +1,6 @@
 //! The scribe appends the pieces of a file to its store: the magic and the Header; each block, or each record where there are
 //! no chunks; and the Data End with all behind it.
-ghost use Rattle.std.specs.Prelude.{◌≡◌, ◌≤◌, ◌<◌, ◌+◌, ℕ, List, Option, [], ◌∷◌, ◌++◌, length, Some, None, Ok, Err, IfOk, IfErr, OnOk, OnErr};
+ghost use Rattle.std.specs.Prelude.{◌≡◌, ◌≤◌, ◌+◌, ℕ, List, Option, [], ◌∷◌, ◌++◌, length, Some, None, Ok, Err, IfOk, IfErr, OnOk, OnErr};
 ghost use Rattle.mcap_wire.specs.Layout.{content_limit};
 ghost use Rattle.mcap_wire.specs.Limits.{chunk_size_limit};
 ghost use Rattle.rec_data.specs.declared.owned.Rec.{Rec};
@@ -11,11 +11,10 @@ ghost use Rattle.mcap_model.specs.declared.ends.Stop.{Stop};
 ghost use Rattle.mcap_model.specs.declared.ends.Stop.TheVariants as stops;
 ghost use Rattle.chunk_build.specs.Chunker.{AreFramed};
 ghost use Rattle.mcap_model.specs.File.{front};
-ghost use Rattle.record_cache.specs.Buffers.{held};
 ghost use Rattle.chunk_writer.specs.declared.phase.Phase.TheVariants as phases;
 ghost use Rattle.chunk_writer.specs.Limits.{Holds};
 ghost use Rattle.chunk_writer.specs.Plans.{Plans, StoppedBefore};
-ghost use Rattle.chunk_writer.specs.Stops.{StopsAt, StopsIn, Cause, StopCause, Appends, Added, refusal};
+ghost use Rattle.chunk_writer.specs.Stops.{StopsAt, Cause, StopCause, Appends, Added, refusal};
 ghost use Rattle.chunk_writer.specs.Scribes.{Writes, Grows, OfEach, KeepsOn, store_of, phase_of, blocks_of, bytes_of, seen_before, GivesEntry, GivesLast, ListsEntry, PutsFront, Ends, EndsFile, CountsLast, CountsBytes, IsEntryWith, AddsLast};
 
 use crate::entry::Entry;
@@ -89,23 +88,6 @@ fn taken<X>(full: Cache, entries: Vec<Entry<X>>, end: Result<(), Stop>) -> Taken
         cache,
         entries,
         end,
-    }
-}
-
-// Where the record begins in which an append of the buffer's records stopped, which took so many of their bytes.
-fn stopped_in(full: &Cache, taken: u64) -> u64
-    requires some { 0 < held full.now }
-    requires within { taken ≤ held full.now }
-    ensures { StopsIn full.now.records taken result }
-{
-    let held = full.held();
-    let mut at = 0;
-    'records: loop {
-        let found = full.record(at);
-        if taken < found.next || found.next == held {
-            return at;
-        }
-        at = found.next;
     }
 }
 
@@ -216,7 +198,7 @@ impl<L: LiveStore> Scribe<L> {
         let mut entries = Vec::new(self.plan.alloc());
         match self.plan.phase() {
             Phase::Going => {
-                let end = self.put_all(&full, &mut entries);
+                let end = self.put_each(&full, &mut entries);
                 return taken(full, entries, end);
             }
             Phase::Stopped { stop } => return taken(full, entries, Err(stop)),
@@ -224,63 +206,7 @@ impl<L: LiveStore> Scribe<L> {
         }
     }
 
-    // Puts the records of a buffer, where no append was refused: at once where they stand at top level, as long as a file may
-    // hold them all.
-    fn put_all(&mut self, full: &Cache, entries: &mut Vec<Entry<L::Extent>>) -> Result<(), Stop>
-        requires going { phase_of self.old ≡ phases.Going }
-        requires none { entries.old.items ≡ [] }
-        ensures grows { Grows L.state self.old self.new full.now.records }
-        ensures front { OfEach L.state self.old (λ options history. PutsFront (seen_before (λ e. L.Extent.tells e) (λ e. L.Extent.size e) (L.state (store_of self.old))) options history full.now.records entries.new.items (bytes_of self.new) result) }
-        ensures counted { blocks_of self.new ≡ blocks_of self.old + length entries.new.items }
-        ensures keeps { KeepsOn (L.state (store_of self.old)).held (L.state (store_of self.new)).held }
-        ensures goes_on { OnOk result (phase_of self.new ≡ phases.Going) }
-        ensures within { OnOk result (Holds (blocks_of self.new) (bytes_of self.new)) }
-        ensures stopped { IfErr result (λ stop. phase_of self.new ≡ phases.Stopped stop) }
-        ensures cause { Cause (L.state (store_of self.old)).faults (L.state (store_of self.new)).faults result }
-    {
-        let held = full.held();
-        if held > 0 && self.plan.has_room_for(held) {
-            return self.put_whole(full);
-        }
-        self.put_each(full, entries)
-    }
-
-    // Puts the records of a buffer, which stand at top level, by one append.
-    fn put_whole(&mut self, full: &Cache) -> Result<(), Stop>
-        requires going { phase_of self.old ≡ phases.Going }
-        requires plain { self.old.plan.body ≡ None }
-        requires some { 0 < held full.now }
-        requires room { bytes_of self.old + held full.now ≤ file_limit }
-        ensures grows { Grows L.state self.old self.new full.now.records }
-        ensures front { OfEach L.state self.old (λ options history. PutsFront (seen_before (λ e. L.Extent.tells e) (λ e. L.Extent.size e) (L.state (store_of self.old))) options history full.now.records [] (bytes_of self.new) result) }
-        ensures counted { blocks_of self.new ≡ blocks_of self.old }
-        ensures keeps { KeepsOn (L.state (store_of self.old)).held (L.state (store_of self.new)).held }
-        ensures goes_on { OnOk result (phase_of self.new ≡ phases.Going) }
-        ensures within { OnOk result (Holds (blocks_of self.new) (bytes_of self.new)) }
-        ensures stopped { IfErr result (λ stop. phase_of self.new ≡ phases.Stopped stop) }
-        ensures cause { Cause (L.state (store_of self.old)).faults (L.state (store_of self.new)).faults result }
-    {
-        let blocks = self.plan.blocks();
-        let bytes = self.plan.bytes();
-        let held = full.held();
-        match self.store.append(full.framed()) {
-            Ok(_) => {
-                self.plan.count(held);
-                return Ok(());
-            }
-            Err(AppendRefused::Memory) => return Err(self.stop_for_memory()),
-            Err(AppendRefused::Failed { taken }) => {
-                let stop = Stop::Fault {
-                    faults: self.store.faults(),
-                };
-                self.plan
-                    .stop(stop, blocks, bytes + stopped_in(full, taken));
-                return Err(stop);
-            }
-        }
-    }
-
-    // Puts the records of a buffer one by one, where no append was refused.
+    // Puts the records of a buffer, where no append was refused.
     fn put_each(&mut self, full: &Cache, entries: &mut Vec<Entry<L::Extent>>) -> Result<(), Stop>
         requires going { phase_of self.old ≡ phases.Going }
         requires none { entries.old.items ≡ [] }

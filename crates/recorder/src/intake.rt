@@ -20,8 +20,7 @@ use rec_data::ChannelDef;
 use record_cache::Cache;
 use record_core::{DeclareRefused, Declared, Desk, Found, NewMessage, PublishRefused};
 
-/// From how many bytes on what waits is handed over: few enough that they stay in the processor's cache, and as many as a file
-/// gathers before it writes them.
+/// From how many bytes on what waits is handed over: few enough that both buffers stay in the processor's cache.
 const RIPE: u64 = 262_144;
 
 /// The desk of a lane, the tape and the empty buffer of its writer, and from how many bytes on what waits is handed over.

@@ -251,89 +251,61 @@ fn files_are_as_long_as_they_are(rt: HostRuntime) -> Result<(), Fail> {
     Ok(())
 }
 
-// What a writing whose append of that number fails, of which so many bytes are taken, counts and leaves, where that is a first
-// part of the file: blocks, bytes, and how long the part is.
-fn left_of(
+// Whether a writing whose append of that number fails, of which so many bytes are taken, leaves a first part of the file.
+fn leaves_a_front(
     alloc: Global,
     by: By,
     chunk: Option<u64>,
-    failing: FailingWrite,
+    call: u64,
+    taken: u64,
     whole: &[u8],
-) -> Result<Option<(u64, u64, u64)>, Fail>
+) -> Result<Option<(u64, u64)>, Fail>
     requires { (n : ℕ) → chunk ≡ Some n → (1 ≤ n) × (n ≤ chunk_size_limit) }
 {
-    let mut planned = Vec::new(alloc);
-    planned.push(failing)?;
-    let part = write(alloc, by, chunk, 2, planned)?;
+    let mut failing = Vec::new(alloc);
+    failing.push(FailingWrite { call, taken })?;
+    let part = write(alloc, by, chunk, 2, failing)?;
     let len = part.text.len();
     let is_front = len <= whole.len() && part.text.as_slice() == &whole[..len];
     if is_front
         && part.stop == Some(Stop::Fault { faults: 1 })
         && part.entries.len() as u64 == part.blocks
+        && part.bytes.checked_add(taken) == Some(len as u64)
     {
-        return Ok(Some((part.blocks, part.bytes, len as u64)));
+        return Ok(Some((part.blocks, part.bytes)));
     }
     Ok(None)
 }
 
-// The records of a buffer are one append where there are no chunks.
 #[test]
 fn a_failing_append_leaves_a_front_of_the_file(rt: HostRuntime) -> Result<(), Fail> {
     let alloc = rt.alloc();
     let plain = write(alloc, By::Records, None, 2, Vec::new(alloc))?;
     let chunked = write(alloc, By::Records, Some(59), 2, Vec::new(alloc))?;
-    let table: [(Option<u64>, By, &[(u64, u64)]); 4] = [
-        (
-            None,
-            By::Records,
-            &[(0, 0), (0, 34), (0, 61), (0, 93), (0, 125)],
-        ),
-        (None, By::Buffers, &[(0, 0), (0, 34), (0, 93), (0, 125)]),
-        (
-            Some(59),
-            By::Records,
-            &[(0, 0), (0, 34), (1, 173), (2, 285)],
-        ),
-        (
-            Some(59),
-            By::Buffers,
-            &[(0, 0), (0, 34), (1, 173), (2, 285)],
-        ),
-    ];
-    for (chunk, by, rows) in table {
-        let whole = if chunk.is_none() {
-            plain.text.as_slice()
-        } else {
-            chunked.text.as_slice()
-        };
-        for i in 0..rows.len() {
-            let (blocks, bytes) = rows[i];
-            for taken in [0, 5] {
-                let failing = FailingWrite {
-                    call: i as u64,
-                    taken,
-                };
-                let left = left_of(alloc, by, chunk, failing, whole)?;
-                same(
-                    &rt,
-                    &left,
-                    &Some((blocks, bytes, bytes.saturating_add(taken))),
-                );
-            }
+    let rows = [(0, 0), (0, 34), (0, 61), (0, 93), (0, 125)];
+    for i in 0..rows.len() {
+        for (by, taken) in [
+            (By::Records, 0),
+            (By::Records, 5),
+            (By::Buffers, 0),
+            (By::Buffers, 5),
+        ] {
+            let left = leaves_a_front(alloc, by, None, i as u64, taken, plain.text.as_slice())?;
+            same(&rt, &left, &Some(rows[i]));
         }
     }
-    Ok(())
-}
-
-// The first buffer has records of 27 and of 32 bytes behind a front of 34.
-#[test]
-fn whole_records_of_a_failing_append_are_counted(rt: HostRuntime) -> Result<(), Fail> {
-    let alloc = rt.alloc();
-    let plain = write(alloc, By::Records, None, 2, Vec::new(alloc))?;
-    for (taken, bytes) in [(26, 34), (27, 61), (58, 61), (59, 61)] {
-        let failing = FailingWrite { call: 1, taken };
-        let left = left_of(alloc, By::Buffers, None, failing, plain.text.as_slice())?;
-        same(&rt, &left, &Some((0, bytes, taken.saturating_add(34))));
+    let rows = [(0, 0), (0, 34), (1, 173), (2, 285)];
+    for i in 0..rows.len() {
+        for (by, taken) in [
+            (By::Records, 0),
+            (By::Records, 5),
+            (By::Buffers, 0),
+            (By::Buffers, 5),
+        ] {
+            let whole = chunked.text.as_slice();
+            let left = leaves_a_front(alloc, by, Some(59), i as u64, taken, whole)?;
+            same(&rt, &left, &Some(rows[i]));
+        }
     }
     Ok(())
 }

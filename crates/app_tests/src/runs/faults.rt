@@ -109,26 +109,6 @@ fn the_messages_before_a_read_that_fails_are_recorded(rt: HostRuntime) -> Result
     Ok(())
 }
 
-// The append of that number fails and takes so many bytes. So many bytes are held then.
-fn expect_held(
-    rt: &(impl AllocGlobal + Abort),
-    words: &[&str],
-    whole: &[u8],
-    failing: FailingWrite,
-    held: u64,
-    lines: &str,
-) -> Result<(), Fail> {
-    let feed = feed_of(rt.alloc(), &[CHANNEL, FIRST, SECOND])?;
-    let failing = Failing {
-        appends: &[failing],
-        ..NOTHING
-    };
-    holds(rt, held <= whole.len() as u64);
-    let wanted = recorded(3, lines, OUT_FAULT, &whole[..held as usize]);
-    let _ran = expect(rt, words, &feed, failing, &wanted)?;
-    Ok(())
-}
-
 // The append of that number fails and takes no byte of its piece, five, or all of them. The whole pieces before it end there;
 // with it the file is so long.
 fn expect_stopped(
@@ -139,9 +119,16 @@ fn expect_stopped(
     (before, with): (u64, u64),
     lines: &str,
 ) -> Result<(), Fail> {
+    let feed = feed_of(rt.alloc(), &[CHANNEL, FIRST, SECOND])?;
     for taken in [0, 5, 1000] {
+        let failing = Failing {
+            appends: &[FailingWrite { call, taken }],
+            ..NOTHING
+        };
         let held = before.saturating_add(taken).min(with);
-        expect_held(rt, words, whole, FailingWrite { call, taken }, held, lines)?;
+        holds(rt, held <= whole.len() as u64);
+        let wanted = recorded(3, lines, OUT_FAULT, &whole[..held as usize]);
+        let _ran = expect(rt, words, &feed, failing, &wanted)?;
     }
     Ok(())
 }
@@ -156,8 +143,11 @@ fn an_append_that_fails_stops_the_file(rt: HostRuntime) -> Result<(), Fail> {
     let unopened = "feed 1 accepted=0 refused=1 passed=0 ended\n\
         file records=0 blocks=0 bytes=0 stopped fault\n";
     let all = "feed 1 accepted=2 refused=0 passed=0 end\nfile records=3";
-    let table: [(&[&str], &[u8], u64, u64, u64, u64); 4] = [
-        (PLAIN, &plain, 2, 0, 125, 175),
+    let table: [(&[&str], &[u8], u64, u64, u64, u64); 7] = [
+        (PLAIN, &plain, 1, 0, 34, 61),
+        (PLAIN, &plain, 2, 0, 61, 93),
+        (PLAIN, &plain, 3, 0, 93, 125),
+        (PLAIN, &plain, 4, 0, 125, 175),
         (chunks, &small, 1, 0, 34, 173),
         (chunks, &small, 2, 1, 173, 285),
         (chunks, &small, 3, 2, 285, 671),
@@ -167,32 +157,6 @@ fn an_append_that_fails_stops_the_file(rt: HostRuntime) -> Result<(), Fail> {
     for (words, whole, call, blocks, before, with) in table {
         let lines = format!(in alloc; "{all} blocks={blocks} bytes={before} stopped fault\n")?;
         expect_stopped(&rt, words, whole, call, (before, with), lines.as_str())?;
-    }
-    Ok(())
-}
-
-// Plain records are appended together: the Channel of 27 bytes and Messages of 32. Those before the one in which the append
-// stops are counted, all but the last where it takes all.
-#[test]
-fn whole_records_before_a_failure_are_counted(rt: HostRuntime) -> Result<(), Fail> {
-    let alloc = rt.alloc();
-    let plain = joined(alloc, &[FRONT, RECORDED, PLAIN_BACK])?;
-    let rows = [
-        (0, 34, 34),
-        (26, 34, 60),
-        (27, 61, 61),
-        (58, 61, 92),
-        (59, 93, 93),
-        (90, 93, 124),
-        (1000, 93, 125),
-    ];
-    for (taken, bytes, held) in rows {
-        let lines = format!(in alloc;
-            "feed 1 accepted=2 refused=0 passed=0 end\n\
-            file records=3 blocks=0 bytes={bytes} stopped fault\n"
-        )?;
-        let failing = FailingWrite { call: 1, taken };
-        expect_held(&rt, PLAIN, &plain, failing, held, lines.as_str())?;
     }
     Ok(())
 }

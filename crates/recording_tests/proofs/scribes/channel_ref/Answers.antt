@@ -1,8 +1,9 @@
-use Rattle.std.proofs.Common.{ℕ, List, [], ◌∷◌, refl, sym, subst, arith}
+use Rattle.std.proofs.Common.{◌≤◌, ℕ, List, [], ◌∷◌, length, refl, sym, subst, arith}
 use Rattle.std.specs.Str.{IsUtf8}
 use Rattle.mcap_wire.specs.Maps.{IsTextMap}
 use Rattle.mcap_wire.proofs.Framing.{length-framed}
 use Rattle.rec_data.specs.declared.owned.Rec.TheVariants.{Channel}
+use Rattle.rec_data.specs.Owned.{rec_bytes}
 use Rattle.rec_data.specs.Records.{channel_text}
 use Rattle.rec_data.proofs.OwnedLengths.{length-channel_text}
 use Rattle.record_cache.specs.Buffers.{IsKept}
