@@ -1,8 +1,9 @@
 -- Which command the words of a command line are.
-use Rattle.std.specs.Prelude.{◌≡◌, ◌≢◌, ◌≤◌, ℕ, Bool, true, false, List, [], ◌∷◌, ◌++◌, codes, length, Option, Some, None, unwrap_or, if◌then◌else◌}
+use Rattle.std.specs.Prelude.{◌≡◌, ◌≢◌, ◌≤◌, ℕ, ◌^◌, ◌*◌, ◌-◌, Bool, true, false, List, [], ◌∷◌, ◌++◌, codes, length, Option, Some, None, unwrap_or, if◌then◌else◌}
 use Rattle.std.specs.List.{flat_map}
 use Rattle.std.specs.Option.{option_to_list}
 use Rattle.std.specs.Str.Parse.{IsNumeral, digits_value}
+use Rattle.mcap_wire.specs.Limits.{chunk_size_limit, buffer_limit, profile_limit}
 use Rattle.mcap_model.specs.declared.options.FileOptions.{FileOptions}
 use Rattle.mcap_model.specs.declared.replay.Range.{Range}
 use Rattle.command_words.specs.Items.{Word, Item, IsCut, given, place_of}
@@ -16,6 +17,18 @@ name_of verb.Record = codes "record"
 name_of verb.Info = codes "info"
 name_of verb.Check = codes "check"
 name_of verb.Cat = codes "cat"
+
+-- the size of chunks where the words say none: 768 KiB
+abbrev pub usual_chunk_size : ℕ
+usual_chunk_size = 768 * 2 ^ 10
+
+-- the bytes of the buffer where the words say none: 100 MiB
+abbrev pub usual_limit : ℕ
+usual_limit = 100 * 2 ^ 20
+
+-- the last nanosecond that can be told
+abbrev pub latest : ℕ
+latest = 2 ^ 64 - 1
 
 -- the words behind the command: these items, and these positionals from left to right
 pub record Reads (verb : Verb) (words : List Word) (items : List Item) (places : List Word) : Type 0 where
@@ -44,14 +57,14 @@ Flags values is_there = values ≡ (if is_there then [] ∷ [] else [])
 abbrev pub SizesChunks : Bool → Option ℕ → Option ℕ → Type 0
 SizesChunks true None chunk = chunk ≡ None
 SizesChunks true (Some size) chunk = ⊥
-SizesChunks false size chunk = chunk ≡ Some (unwrap_or size 786432)
+SizesChunks false size chunk = chunk ≡ Some (unwrap_or size usual_chunk_size)
 
 -- --plain and --chunk
 pub record HasChunks (items : List Item) (chunk : Option ℕ) : Type 0 where
   pub is_plain : Bool
   pub plain : Flags (given (codes "plain") items) is_plain
   pub size : Option ℕ
-  pub sized : GivesNumber 1 67108864 (given (codes "chunk") items) size
+  pub sized : GivesNumber 1 chunk_size_limit (given (codes "chunk") items) size
   pub sizes : SizesChunks is_plain size chunk
 
 -- --profile
@@ -59,7 +72,7 @@ pub record HasProfile (items : List Item) (profile : Word) : Type 0 where
   pub value : Option Word
   pub once : given (codes "profile") items ≡ option_to_list value
   pub is : profile ≡ unwrap_or value []
-  pub short : length profile ≤ 65535
+  pub short : length profile ≤ profile_limit
 
 -- --plain, --chunk and --profile
 pub record IsFileOptions (items : List Item) (file : FileOptions) : Type 0 where
@@ -75,8 +88,8 @@ pub record IsRecord (words : List Word) (out feed : Word) (file : FileOptions) (
   pub differ : out ≢ feed
   pub options : IsFileOptions items file
   pub size : Option ℕ
-  pub sized : GivesNumber 1 1073741824 (given (codes "limit") items) size
-  pub limited : limit ≡ unwrap_or size 104857600
+  pub sized : GivesNumber 1 buffer_limit (given (codes "limit") items) size
+  pub limited : limit ≡ unwrap_or size usual_limit
 
 -- a command without options, and FILE
 pub record IsOfFile (verb : Verb) (words : List Word) (file : Word) : Type 0 where
@@ -87,9 +100,9 @@ pub record IsOfFile (verb : Verb) (words : List Word) (file : Word) : Type 0 whe
 -- --start and --end
 pub record IsRange (items : List Item) (range : Range) : Type 0 where
   pub start : Option ℕ
-  pub started : GivesNumber 0 18446744073709551615 (given (codes "start") items) start
+  pub started : GivesNumber 0 latest (given (codes "start") items) start
   pub from : range.start ≡ unwrap_or start 0
-  pub ended : GivesNumber 0 18446744073709551615 (given (codes "end") items) range.end
+  pub ended : GivesNumber 0 latest (given (codes "end") items) range.end
 
 -- cat, its options, and FILE
 pub record IsCat (words : List Word) (file : Word) (indexed : Bool) (range : Range) (topic : Option Word) : Type 0 where

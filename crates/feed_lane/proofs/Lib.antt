@@ -9,4 +9,4 @@ mod AtHand
 mod Walking
 mod Feeding
 mod Given
-mod Tapes
+pub mod Tapes

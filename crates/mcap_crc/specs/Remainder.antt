@@ -49,8 +49,8 @@ remainder bytes =
     number_of (inverted (divided (length bits) (inverted (bits ++ replicate 32 false))))
 
 -- a checksum is that of this message
-abbrev pub StandsFor : ℕ → List ℕ → Type 0
-StandsFor crc bytes = crc ≡ remainder bytes
+abbrev pub IsChecksumOf : ℕ → List ℕ → Type 0
+IsChecksumOf crc bytes = crc ≡ remainder bytes
 
 -- two messages of one length, xored byte by byte
 abbrev pub xored : List ℕ → List ℕ → List ℕ

@@ -6,7 +6,7 @@
 #![tactic(auto)]
 
 ghost use Rattle.std.specs.Prelude.{◌≡◌, ℕ, List, [], ◌++◌};
-ghost use Rattle.mcap_crc.specs.Remainder.{StandsFor, remainder};
+ghost use Rattle.mcap_crc.specs.Remainder.{IsChecksumOf, remainder};
 
 mod bytewise;
 mod folded;
@@ -35,14 +35,14 @@ impl Model for Crc {
 impl Crc {
     /// The checksum before the first byte.
     pub fn new() -> Self
-        ensures { StandsFor result [] }
+        ensures { IsChecksumOf result [] }
     {
         Crc { value: 0 }
     }
 
     /// Takes the next piece of the message.
     pub fn update(&mut self, bytes: &[u8])
-        ensures { (before : List ℕ) → StandsFor self.old before → StandsFor self.new (before ++ bytes.now) }
+        ensures { (before : List ℕ) → IsChecksumOf self.old before → IsChecksumOf self.new (before ++ bytes.now) }
     {
         self.value = folded::after(self.value ^ u32::MAX, bytes) ^ u32::MAX;
     }
@@ -50,14 +50,14 @@ impl Crc {
     /// The CRC-32 of what came so far.
     pub fn value(&self) -> u32
         ensures number { result ≡ self.now }
-        ensures remainder { (bytes : List ℕ) → StandsFor self.now bytes → result ≡ remainder bytes }
+        ensures remainder { (bytes : List ℕ) → IsChecksumOf self.now bytes → result ≡ remainder bytes }
     {
         self.value
     }
 }
 
 impl Default for Crc {
-    ghost is_default = { λ crc. StandsFor crc [] };
+    ghost is_default = { λ crc. IsChecksumOf crc [] };
 
     fn default() -> Self {
         Crc::new()

@@ -2,7 +2,7 @@
 use Rattle.std.proofs.Common.{◌≡◌, ℕ, ◌+◌, ◌-◌, ◌≤◌, List, [], ◌++◌, length, take, drop, Option, Some, None, Result, min, subst, ap, sym, ◌∙◌, arith, refl, length-take, length-drop, length-append}
 use Rattle.std.proofs.lemmas.List.{take-append-le, drop-drop, drop-take, take-append-drop, take-take, drop-append-le}
 use Rattle.mcap_io.specs.declared.outside.Failed.{Failed}
-use Rattle.mcap_io.specs.Ahead.{ahead, Gives}
+use Rattle.mcap_io.specs.Ahead.{ahead, AheadReads}
 use Rattle.mcap_io.specs.Outside.{GivesFront}
 
 -- nothing was read ahead
@@ -58,7 +58,7 @@ ahead-gives buffer buffer' from from' to to' n known known' out rest same_buffer
     }
 
 -- a read past an empty buffer
-pub gives-past : (buffer : List ℕ) (from to : ℕ) (known known' : Option (List ℕ)) (out : List ℕ) (result : Result ℕ Failed) → to ≤ from → Gives known known' out result → Gives (ahead buffer from to known) (ahead buffer from to known') out result
+pub gives-past : (buffer : List ℕ) (from to : ℕ) (known known' : Option (List ℕ)) (out : List ℕ) (result : Result ℕ Failed) → to ≤ from → AheadReads known known' out result → AheadReads (ahead buffer from to known) (ahead buffer from to known') out result
 gives-past buffer from to known known' out result passed gives =
-    subst (λ k. Gives k (ahead buffer from to known') out result) (sym (ahead-none buffer from to known passed))
-    (subst (λ k. Gives known k out result) (sym (ahead-none buffer from to known' passed)) gives)
+    subst (λ k. AheadReads k (ahead buffer from to known') out result) (sym (ahead-none buffer from to known passed))
+    (subst (λ k. AheadReads known k out result) (sym (ahead-none buffer from to known' passed)) gives)

@@ -9,6 +9,6 @@ abbrev pub ahead : List ℕ → ℕ → ℕ → Option (List ℕ) → Option (Li
 ahead buffer from to known = option_map (λ rest. take (to - from) (drop from buffer) ++ rest) known
 
 -- where what is left is known, a read gives its front, and a failure takes nothing
-abbrev pub Gives : Option (List ℕ) → Option (List ℕ) → List ℕ → Result ℕ Failed → Type 0
-Gives old new out (Ok n) = (rest : List ℕ) → old ≡ Some rest → GivesFront rest new n out
-Gives old new out (Err why) = (rest : List ℕ) → old ≡ Some rest → new ≡ Some rest
+abbrev pub AheadReads : Option (List ℕ) → Option (List ℕ) → List ℕ → Result ℕ Failed → Type 0
+AheadReads old new out (Ok n) = (rest : List ℕ) → old ≡ Some rest → GivesFront rest new n out
+AheadReads old new out (Err why) = (rest : List ℕ) → old ≡ Some rest → new ≡ Some rest

@@ -215,7 +215,7 @@ abbrev pub Placed : Names → Names → List ℕ → List ℕ → Result Unit Fa
 Placed all now name bytes (Ok it) = now name ≡ Some bytes
 Placed all now name bytes (Err why) = (now name ≡ Some bytes) ⊎ (now name ≡ all name)
 
-pub record Keeps (all now : Names) (name : List ℕ) (held : Option (List ℕ)) (result : Result Unit Failed) : Type 0 where
+pub record KeepsName (all now : Names) (name : List ℕ) (held : Option (List ℕ)) (result : Result Unit Failed) : Type 0 where
   pub others : OthersSame all now name
   pub placed : (bytes : List ℕ) → held ≡ Some bytes → Placed all now name bytes result
 
@@ -226,7 +226,7 @@ KeepsSource old new name it result = (told : Told) → old.told ≡ Some told �
 
 -- a live store that is taken back is noted, and its bytes stand under its name alone
 abbrev pub KeepsLive : WorldState → WorldState → List ℕ → LiveState → Result Unit Failed → Type 0
-KeepsLive old new name it result = (told : Told) → old.told ≡ Some told → (now : Told) × (new.told ≡ Some now) × Keeps told.names now.names name it.held result
+KeepsLive old new name it result = (told : Told) → old.told ≡ Some told → (now : Told) × (new.told ≡ Some now) × KeepsName told.names now.names name it.held result
     × Notes told.log now.log kinds.Live name (record { well = went_well result; faults = it.faults; left = None; asked = 0 })
 
 -- what an opened source tells: the bytes under its name, which is there

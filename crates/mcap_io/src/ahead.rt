@@ -1,6 +1,6 @@
 //! Reading ahead of a file into a buffer.
 ghost use Rattle.std.specs.Prelude.{◌≡◌, ◌≤◌, ◌<◌, ◌+◌, ◌-◌, ℕ, List, min, length, take, drop, Some, IfOk, OnOk, vec_len, []};
-ghost use Rattle.mcap_io.specs.Ahead.{ahead, Gives};
+ghost use Rattle.mcap_io.specs.Ahead.{ahead, AheadReads};
 
 use crate::outside::Failed;
 use std::alloc::{AllocError, Global};
@@ -35,7 +35,7 @@ impl<F: Read + Drop> ReadAhead<F> {
     // Gives what was read ahead. A read for more than the buffer holds goes past it.
     pub(crate) fn read(&mut self, out: &mut [u8]) -> Result<usize, Failed>
         ensures bound { IfOk result (λ n. n ≤ length out.new) }
-        ensures gives { Gives (ahead self.old.buffer.items self.old.from self.old.to (F.remaining self.old.file)) (ahead self.new.buffer.items self.new.from self.new.to (F.remaining self.new.file)) out.new result }
+        ensures gives { AheadReads (ahead self.old.buffer.items self.old.from self.old.to (F.remaining self.old.file)) (ahead self.new.buffer.items self.new.from self.new.to (F.remaining self.new.file)) out.new result }
     {
         if self.from < self.to {
             return Ok(self.give(out));
@@ -80,7 +80,7 @@ impl<F: Read + Drop> ReadAhead<F> {
 // One read. One that was interrupted is tried again.
 fn read_some<F: Read>(file: &mut F, out: &mut [u8]) -> Result<usize, Failed>
     ensures bound { IfOk result (λ n. n ≤ length out.new) }
-    ensures gives { Gives (F.remaining file.old) (F.remaining file.new) out.new result }
+    ensures gives { AheadReads (F.remaining file.old) (F.remaining file.new) out.new result }
 {
     'tries: for _ in 0..u64::MAX {
         match file.read(out) {

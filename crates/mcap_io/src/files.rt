@@ -1,7 +1,7 @@
 //! The world of files. What a file gives or keeps no clause can say, so its objects tell nothing.
 ghost use Rattle.std.proofs.Common.{◌∙◌};
 ghost use Rattle.std.specs.Prelude.{refl, ◌≡◌, ◌≤◌, ◌+◌, ◌-◌, ◌^◌, ℕ, List, length, min, [], ◌∷◌, ◌++◌, Ok, Some, None, false, IsTrue, IsErr, IfOk, IfErr, OnOk, OnErr};
-ghost use Rattle.mcap_io.specs.Ahead.{ahead, Gives};
+ghost use Rattle.mcap_io.specs.Ahead.{ahead, AheadReads};
 ghost use Rattle.mcap_io.specs.Files.{nothing, PlacedAs, IsWritten};
 ghost use Rattle.mcap_io.specs.Gathered.{Stores};
 ghost use Rattle.mcap_io.specs.Inputs.{LetsGo};
@@ -69,7 +69,7 @@ impl<F: Read + Drop> Source for FileSource<F> {
         ensures cause { HasCause self.old.faults self.new.faults result }
         ensures stays { self.new.id ≡ self.old.id }
         // Where the file tells what it has left, no byte of it is lost.
-        ensures file { Gives (ahead self.old.ahead.buffer.items self.old.ahead.from self.old.ahead.to (F.remaining self.old.ahead.file)) (ahead self.new.ahead.buffer.items self.new.ahead.from self.new.ahead.to (F.remaining self.new.ahead.file)) out.new result }
+        ensures file { AheadReads (ahead self.old.ahead.buffer.items self.old.ahead.from self.old.ahead.to (F.remaining self.old.ahead.file)) (ahead self.new.ahead.buffer.items self.new.ahead.from self.new.ahead.to (F.remaining self.new.ahead.file)) out.new result }
     {
         if out.is_empty() {
             return Ok(0);

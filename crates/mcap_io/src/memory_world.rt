@@ -1,7 +1,7 @@
 //! A world in memory: its names stand in a map.
 ghost use Rattle.std.specs.Prelude.{◌≡◌, ◌↔◌, Some, None, [], map, Contains, IfOk, OnOk, OnErr, IsErr, IsTrue};
 ghost use Rattle.std.specs.Option.{option_copied, option_map};
-ghost use Rattle.mcap_io.specs.Outside.{OthersSame, Keeps, OpenCause, HasCause, TellsName, TellsNothingYet, Opens, CountsStand, KeepsSource, KeepsLive, added};
+ghost use Rattle.mcap_io.specs.Outside.{OthersSame, KeepsName, OpenCause, HasCause, TellsName, TellsNothingYet, Opens, CountsStand, KeepsSource, KeepsLive, added};
 ghost use Rattle.mcap_io.specs.Stores.{IsUnused, TellsStore, KeepsStore};
 ghost use Rattle.mcap_io.specs.Planned.{next_call, OpensAsPlanned};
 ghost use Rattle.mcap_io.specs.Standing.{standing, shown, seen};
@@ -179,7 +179,7 @@ impl MemoryWorld {
 
     // Puts what a store held under the name. It fails where the keeping is to, and where memory lacks for the name.
     fn put_back(&mut self, name: &str, bytes: Vec<u8>) -> Result<(), Failed>
-        ensures keeps { Keeps (standing self.old.entries) (standing self.new.entries) name.now (Some bytes.items) result }
+        ensures keeps { KeepsName (standing self.old.entries) (standing self.new.entries) name.now (Some bytes.items) result }
         ensures planned { Contains self.old.keepings.failing.items self.old.keepings.made → IsErr result × (self.new.entries ≡ self.old.entries) }
         ensures cause { HasCause self.old.faults self.new.faults result }
         ensures rest { self.new ≡ record self.old { entries = self.new.entries; faults = self.new.faults; keepings = record { failing = self.old.keepings.failing; made = next_call self.old.keepings.made } } }

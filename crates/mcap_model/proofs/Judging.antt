@@ -20,7 +20,7 @@ use Rattle.mcap_model.specs.Made.{top}
 use Rattle.mcap_model.specs.declared.tops.Judged.TheVariants as judged
 use Rattle.mcap_model.specs.Declarations.{TablesOf, Judges, AttachmentJudged}
 use Rattle.mcap_model.specs.Chunked.{flat_of, AgreeBehind, ChunkTaken}
-use Rattle.mcap_model.specs.Judging.{as_judged, kept_or_breaks, IsPlain, Keeps, JudgedAs}
+use Rattle.mcap_model.specs.Judging.{as_judged, kept_or_breaks, IsPlain, KeepsRules, JudgedAs}
 use Rattle.mcap_model.proofs.Meets.{chunk_meets, unknown_meets}
 use Rattle.mcap_model.proofs.Inside.{unknown_not_flat}
 use Rattle.mcap_model.proofs.Flat.{flat_more}
@@ -86,26 +86,26 @@ flat_judged first more op n content tables ruling is stands some closed other al
 
 -- one of another kind
 pub silent_keeps : (first : Top) (more : List Top) (t : Top) (tables : Tables) → stands_in_section t.op ≡ true → (t.op ≡ 0 → ⊥) → (t.op ≡ 6 → ⊥) → flattened t ≡ [] → V6 t → V10 t → TablesOf (flat (first ∷ more)) tables
-    → Keeps (first ∷ more) t × TablesOf (flat (first ∷ more ++ t ∷ [])) tables
+    → KeepsRules (first ∷ more) t × TablesOf (flat (first ∷ more ++ t ∷ [])) tables
 silent_keeps first more t tables stands some closed silent v6 v10 are = (
   record { v3 = tt; v5 = (some, inr stands); v6 = v6; v7 = silent_agrees t silent (flat (first ∷ more)); v8 = no_v8 t closed; v10 = v10; plain = not_chunk t closed },
   subst (λ (l : List Top). TablesOf l tables) (sym (append-nil (flat (first ∷ more))) ∙ ap (λ (l : List Top). flat (first ∷ more) ++ l) (sym silent) ∙ sym (flat_more (first ∷ more) t)) are,
 )
 
 pub silent_fits : (first : Top) (more : List Top) (op n : ℕ) (content : List ℕ) (tables : Tables) → op ≡ n → stands_in_section n ≡ true → (n ≡ 0 → ⊥) → (n ≡ 6 → ⊥) → (n ≡ 9 → ⊥) → flattened (top n content) ≡ [] → V6 (top n content) → TablesOf (flat (first ∷ more)) tables
-    → Keeps (first ∷ more) (top op content) × TablesOf (flat (first ∷ more ++ top op content ∷ [])) tables
+    → KeepsRules (first ∷ more) (top op content) × TablesOf (flat (first ∷ more ++ top op content ∷ [])) tables
 silent_fits first more op n content tables is stands some closed other silent v6 are =
-    subst (λ (m : ℕ). Keeps (first ∷ more) (top m content) × TablesOf (flat (first ∷ more ++ top m content ∷ [])) tables) (sym is)
+    subst (λ (m : ℕ). KeepsRules (first ∷ more) (top m content) × TablesOf (flat (first ∷ more ++ top m content ∷ [])) tables) (sym is)
     (silent_keeps first more (top n content) tables stands some closed silent v6 (no_v10 (top n content) other) are)
 
 pub attachment_fits : (first : Top) (more : List Top) (op : ℕ) (content : List ℕ) (tables : Tables) → op ≡ 9 → V6 (top 9 content) → V10 (top 9 content) → TablesOf (flat (first ∷ more)) tables
-    → Keeps (first ∷ more) (top op content) × TablesOf (flat (first ∷ more ++ top op content ∷ [])) tables
+    → KeepsRules (first ∷ more) (top op content) × TablesOf (flat (first ∷ more ++ top op content ∷ [])) tables
 attachment_fits first more op content tables is v6 v10 are =
-    subst (λ (m : ℕ). Keeps (first ∷ more) (top m content) × TablesOf (flat (first ∷ more ++ top m content ∷ [])) tables) (sym is)
+    subst (λ (m : ℕ). KeepsRules (first ∷ more) (top m content) × TablesOf (flat (first ∷ more ++ top m content ∷ [])) tables) (sym is)
     (silent_keeps first more (top 9 content) tables refl (λ e. omega (arith, e)) (λ e. omega (arith, e)) refl v6 v10 are)
 
 pub unknown_fits : (first : Top) (more : List Top) (op : ℕ) (content : List ℕ) (tables : Tables) → 16 ≤ op → TablesOf (flat (first ∷ more)) tables
-    → Keeps (first ∷ more) (top op content) × TablesOf (flat (first ∷ more ++ top op content ∷ [])) tables
+    → KeepsRules (first ∷ more) (top op content) × TablesOf (flat (first ∷ more ++ top op content ∷ [])) tables
 unknown_fits first more op content tables high are =
     let t = top op content in
     silent_keeps first more t tables (unknown_in_section op high) (λ e. omega (arith, e, high)) (λ e. omega (arith, e, high)) (flat_unknown t high) (unknown_meets t high) (no_v10 t (λ e. omega (arith, e, high))) are

@@ -4,7 +4,7 @@ use Rattle.std.specs.Prelude.{replicate}
 use Rattle.mcap_model.specs.Places.{At}
 use Rattle.mcap_model.proofs.Places.{at_within, at_none, at_one, at_read, at_kept, at_last, at_more, at_set, at_set_same, at_set_other}
 use Rattle.mcap_model.specs.declared.table.Declared.{Declared}
-use Rattle.mcap_model.specs.Indexed.{IsIndexed}
+use Rattle.mcap_model.specs.Indexed.{ArePlacesOf}
 use Rattle.std.proofs.lemmas.Option.{same_Some}
 
 -- zeros name nothing
@@ -18,13 +18,13 @@ behind_zeros [] n k m at = absurd (zeros_none n k m at)
 behind_zeros (p ∷ ps) n zero m at = at
 behind_zeros (p ∷ ps) n (suc k) m at = behind_zeros ps n k m at
 
-pub grown : (places more : List ℕ) (first : List Declared) → IsIndexed places first → ((k m : ℕ) → At places k (suc m) → At more k (suc m)) → ((k m : ℕ) → At more k (suc m) → At places k (suc m)) → IsIndexed more first
+pub grown : (places more : List ℕ) (first : List Declared) → ArePlacesOf places first → ((k m : ℕ) → At places k (suc m) → At more k (suc m)) → ((k m : ℕ) → At more k (suc m) → At places k (suc m)) → ArePlacesOf more first
 grown places more first is kept none = record {
   shown = λ k d at. kept d.id k (is.shown k d at);
   names = λ id k at. is.names id k (none id k at);
 }
 
-pub added : (places : List ℕ) (first : List Declared) (d : Declared) → IsIndexed places first → d.id < length places → ((k : ℕ) (e : Declared) → At first k e → e.id ≡ d.id → ⊥) → IsIndexed (set places d.id (suc (length first))) (first ++ d ∷ [])
+pub added : (places : List ℕ) (first : List Declared) (d : Declared) → ArePlacesOf places first → d.id < length places → ((k : ℕ) (e : Declared) → At first k e → e.id ≡ d.id → ⊥) → ArePlacesOf (set places d.id (suc (length first))) (first ++ d ∷ [])
 added places first d is within new = record {
   shown = λ k e at. elim (at_more first d k e at) [
     | inl old ↦ at_set_other places d.id e.id (suc k) (suc (length first)) (λ same. new k e old same) (is.shown k e old)
@@ -43,16 +43,16 @@ added places first d is within new = record {
 
 -- ---- what is found
 
-pub place_past : (places : List ℕ) (first : List Declared) (id k : ℕ) (d : Declared) → IsIndexed places first → At first k d → d.id ≡ id → length places ≤ id → ⊥
+pub place_past : (places : List ℕ) (first : List Declared) (id k : ℕ) (d : Declared) → ArePlacesOf places first → At first k d → d.id ≡ id → length places ≤ id → ⊥
 place_past places first id k d is at same past =
     let within = at_within places d.id (suc k) (is.shown k d at) in omega (arith, within, same, past)
 
-pub place_zero : (places : List ℕ) (first : List Declared) (id k : ℕ) (d : Declared) → IsIndexed places first → At first k d → d.id ≡ id → At places id 0 → ⊥
+pub place_zero : (places : List ℕ) (first : List Declared) (id k : ℕ) (d : Declared) → ArePlacesOf places first → At first k d → d.id ≡ id → At places id 0 → ⊥
 place_zero places first id k d is at same none =
     let there : At places id (suc k) = subst (λ (i : ℕ). At places i (suc k)) same (is.shown k d at) in
     let clash = at_one places id 0 (suc k) none there in omega (arith, clash)
 
-pub place_named : (places : List ℕ) (first : List Declared) (id p : ℕ) → IsIndexed places first → At places id p → (p ≡ 0 → ⊥) → (d : Declared) × At first (p - 1) d × (d.id ≡ id)
+pub place_named : (places : List ℕ) (first : List Declared) (id p : ℕ) → ArePlacesOf places first → At places id p → (p ≡ 0 → ⊥) → (d : Declared) × At first (p - 1) d × (d.id ≡ id)
 place_named places first id p is at some =
     let more : p ≡ suc (p - 1) = omega (arith, some) in
     is.names id (p - 1) (subst (λ (x : ℕ). At places id x) more at)
@@ -62,7 +62,7 @@ pub place_read : (places : List ℕ) (id p : ℕ) → id < length places → p �
 place_read places id p within read = subst (λ (x : ℕ). At places id x) (sym read) (at_read places id p within)
 
 -- an id stands at one place
-pub one_place : (places : List ℕ) (first : List Declared) (j k : ℕ) (d e : Declared) → IsIndexed places first → At first j d → At first k e → d.id ≡ e.id → j ≡ k
+pub one_place : (places : List ℕ) (first : List Declared) (j k : ℕ) (d e : Declared) → ArePlacesOf places first → At first j d → At first k e → d.id ≡ e.id → j ≡ k
 one_place places first j k d e is at other same =
     let one = at_one places e.id (suc j) (suc k) (subst (λ (n : ℕ). At places n (suc j)) same (is.shown j d at)) (is.shown k e other) in
     omega (arith, one)

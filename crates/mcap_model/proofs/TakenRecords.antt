@@ -16,7 +16,7 @@ use Rattle.mcap_model.specs.Rules.{V1, HasDataEnd, Breaks, breaks_3}
 use Rattle.mcap_model.specs.Kept.{reading_limits, is_beyond, NamesCompression, Fits, Good, Halt, at_end, grammar, compressed, beyond, HasOpcode, IsDue, HaltsThere, short_head, zero_opcode, past_limit, cut_short, packed_chunk, broken_rule, Halts, no_magic, at_data_end, behind_kept}
 use Rattle.mcap_model.specs.Declarations.{TablesOf}
 use Rattle.mcap_model.specs.Made.{top}
-use Rattle.mcap_model.specs.Judging.{IsPlain, Keeps, JudgedAs, FirstJudged}
+use Rattle.mcap_model.specs.Judging.{IsPlain, KeepsRules, JudgedAs, FirstJudged}
 use Rattle.mcap_model.specs.declared.tables.Tables.{Tables}
 use Rattle.mcap_model.specs.declared.tops.Judged.{Judged}
 use Rattle.mcap_model.specs.declared.tops.Judged.TheVariants as judged
@@ -195,7 +195,7 @@ cut_packed bytes at c tables tops name was is near (some, names) =
     )
 
 pub cut_taken : (bytes : List ℕ) (at : ℕ) (c : Cut) (tables new : Tables) (tops : List Top) → ReadTo bytes at tables tops → IsCut bytes at c → (HasOpcode (drop at bytes) × (is_beyond reading_limits at (declared_length (drop at bytes)) ≡ true) → ⊥)
-    → Keeps tops (cut_top bytes c) × TablesOf (flat (tops ++ cut_top bytes c ∷ [])) new → TakesRecord bytes at tops new c
+    → KeepsRules tops (cut_top bytes c) × TablesOf (flat (tops ++ cut_top bytes c ∷ [])) new → TakesRecord bytes at tops new c
 cut_taken bytes at c tables new tops was is near (keeps, are) =
     let front = cut_begun bytes at c is in
     let due = cut_due bytes at c tops is was.place near in

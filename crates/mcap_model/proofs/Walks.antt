@@ -4,7 +4,7 @@ use Rattle.std.specs.Prelude.{if◌then◌else◌}
 use Rattle.std.proofs.lemmas.Bool.{lt-leb}
 use Rattle.std.proofs.lemmas.List.{drop-drop, length-append, length-drop, length-take}
 use Rattle.mcap_wire.specs.Layout.{number, part}
-use Rattle.mcap_wire.specs.Reading.{NumberAt, Stands}
+use Rattle.mcap_wire.specs.Reading.{NumberAt, RecordStands}
 use Rattle.mcap_wire.proofs.Fields.{number_there}
 use Rattle.mcap_model.specs.Tops.{Top, top_bytes, opcode, declared_length, has_head, is_whole, first_top, behind_first, begins_record, first_records, records_in}
 use Rattle.mcap_model.specs.Laws.{IsFound}
@@ -58,7 +58,7 @@ pub record StandsNext (bytes : List ℕ) (at op from to : ℕ) : Type 0 where
   pub first : records_in (drop at bytes) ≡ top op (part from to bytes) ∷ records_in (drop to bytes)
   pub behind : to ≡ at + length (top_bytes (top op (part from to bytes)))
 
-pub stands_next : (bytes : List ℕ) (at op from to : ℕ) → Stands bytes at op from to → op ≢ 0 → to < 2 ^ 64 → StandsNext bytes at op from to
+pub stands_next : (bytes : List ℕ) (at op from to : ℕ) → RecordStands bytes at op from to → op ≢ 0 → to < 2 ^ 64 → StandsNext bytes at op from to
 stands_next bytes at op from to stands valid small =
     let t = top op (part from to bytes) in
     let size : length (part from to bytes) ≡ to - from = omega (arith, length-take (to - from) (drop from bytes), length-drop from bytes, stands.ends) in

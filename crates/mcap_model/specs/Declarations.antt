@@ -44,8 +44,8 @@ Judges records t tables (rulings.Breaks rule) = BreaksFlat records t rule
 Judges records t tables rulings.Memory = Unit {0}
 
 -- a Schema or a Channel was taken behind any records of which these were the tables
-abbrev pub Takes : Tables → Tables → Top → Ruling → Type 0
-Takes old new t ruling = (records : List Top) → TablesOf records old → Judges records t new ruling
+abbrev pub TakesDeclaration : Tables → Tables → Top → Ruling → Type 0
+TakesDeclaration old new t ruling = (records : List Top) → TablesOf records old → Judges records t new ruling
 
 -- a Message that may stand there, and its log time
 pub record IsHeard (records : List Top) (t : Top) (time : ℕ) : Type 0 where

@@ -27,7 +27,7 @@ abbrev pub IsPlain : Top → Type 0
 IsPlain t = (name : List ℕ) → NamesCompression t name → ⊥
 
 -- the record keeps the rules behind those before it
-pub record Keeps (tops : List Top) (t : Top) : Type 0 where
+pub record KeepsRules (tops : List Top) (t : Top) : Type 0 where
   pub v3 : V3 tops t
   pub v5 : V5 tops t
   pub v6 : V6 t
@@ -38,7 +38,7 @@ pub record Keeps (tops : List Top) (t : Top) : Type 0 where
 
 -- The record fits, and these are the tables of the records with it; or it breaks a rule; or it is a compressed chunk.
 abbrev pub JudgedAs : List Top → Top → Tables → Judged → Type 0
-JudgedAs tops t tables judged.Fits = Keeps tops t × TablesOf (flat (tops ++ t ∷ [])) tables
+JudgedAs tops t tables judged.Fits = KeepsRules tops t × TablesOf (flat (tops ++ t ∷ [])) tables
 JudgedAs tops t tables (judged.Breaks rule) = ((tops ≡ [] → ⊥) → IsPlain t) × Breaks tops t rule
 JudgedAs tops t tables (judged.Compressed name) = (tops ≡ [] → ⊥) × NamesCompression t name
 JudgedAs tops t tables judged.Memory = Unit {0}

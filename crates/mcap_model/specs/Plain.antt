@@ -74,9 +74,9 @@ pub record TakesRecord (bytes : List ℕ) (at : ℕ) (tops : List Top) (tables :
   pub behind : c.to ≡ at + length (top_bytes (cut_top bytes c))
   pub tables_are : TablesOf (flat (tops ++ cut_top bytes c ∷ [])) tables
 
-abbrev pub RecordTaken : List ℕ → ℕ → List Top → Tables → Result Cut PlainRefused → Type 0
-RecordTaken bytes at tops tables (Ok c) = TakesRecord bytes at tops tables c
-RecordTaken bytes at tops tables (Err why) = IsRefused bytes why
+abbrev pub PlainRecordTaken : List ℕ → ℕ → List Top → Tables → Result Cut PlainRefused → Type 0
+PlainRecordTaken bytes at tops tables (Ok c) = TakesRecord bytes at tops tables c
+PlainRecordTaken bytes at tops tables (Err why) = IsRefused bytes why
 
 -- ---- the messages of a record
 

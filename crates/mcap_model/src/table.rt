@@ -45,11 +45,11 @@ impl Model for Table {
 
     ghost Value = { List Declared };
 
-    ghost use Rattle.mcap_model.specs.Indexed.{IsIndexed};
+    ghost use Rattle.mcap_model.specs.Indexed.{ArePlacesOf};
 
     ghost view = { λ t. t.first.items };
 
-    ghost invariant = { λ t. IsIndexed t.places.items t.first.items };
+    ghost invariant = { λ t. ArePlacesOf t.places.items t.first.items };
 }
 
 impl Table {

@@ -1,7 +1,7 @@
 //! What a scanner knows of the declarations so far.
 ghost use Rattle.std.specs.Prelude.{◌≡◌, ◌⊎◌, ◌↔◌, ℕ, List, [], IsTrue, Some, None};
 ghost use Rattle.mcap_model.specs.Tops.{Top};
-ghost use Rattle.mcap_model.specs.Declarations.{Takes, TablesOf, Hears, SomeFirst};
+ghost use Rattle.mcap_model.specs.Declarations.{TakesDeclaration, TablesOf, Hears, SomeFirst};
 ghost use Rattle.mcap_model.specs.Made.{top};
 
 use crate::same::{is_same_channel, is_same_schema};
@@ -39,7 +39,7 @@ impl Tables {
 
     /// Takes a Schema.
     pub fn take_schema(&mut self, alloc: Global, content: &[u8]) -> Ruling
-        ensures { Takes self.old self.new (top 3 content.now) result }
+        ensures { TakesDeclaration self.old self.new (top 3 content.now) result }
     {
         let schema = match Schema::parse(content) {
             Ok(schema) => schema,
@@ -74,7 +74,7 @@ impl Tables {
 
     /// Takes a Channel.
     pub fn take_channel(&mut self, alloc: Global, content: &[u8]) -> Ruling
-        ensures { Takes self.old self.new (top 4 content.now) result }
+        ensures { TakesDeclaration self.old self.new (top 4 content.now) result }
     {
         let channel = match Channel::parse(content) {
             Ok(channel) => channel,

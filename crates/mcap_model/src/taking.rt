@@ -6,7 +6,7 @@ ghost use Rattle.mcap_model.specs.Kept.{reading_limits, is_beyond as passes, Has
 ghost use Rattle.mcap_model.specs.Declarations.{TablesOf};
 ghost use Rattle.mcap_model.specs.Made.{top};
 ghost use Rattle.mcap_model.specs.Judging.{JudgedAs};
-ghost use Rattle.mcap_model.specs.Plain.{ReadTo, RecordTaken};
+ghost use Rattle.mcap_model.specs.Plain.{ReadTo, PlainRecordTaken};
 
 use crate::refusals::PlainRefused;
 use crate::tables::Tables;
@@ -64,7 +64,7 @@ pub(crate) fn take_record(
     at: usize,
 ) -> Result<Cut, PlainRefused>
     requires { at ≤ length bytes.now }
-    ensures { (tops : List Top) → ReadTo bytes.now at tables.old tops → RecordTaken bytes.now at tops tables.new result }
+    ensures { (tops : List Top) → ReadTo bytes.now at tables.old tops → PlainRecordTaken bytes.now at tops tables.new result }
 {
     let offset = at as u64;
     if passes_limit(bytes, at) {

@@ -22,7 +22,7 @@ use Rattle.mcap_model.specs.declared.tops.Judged.{Judged}
 use Rattle.mcap_model.specs.declared.tops.Judged.TheVariants as judged
 use Rattle.mcap_model.specs.Made.{top}
 use Rattle.mcap_model.specs.Declarations.{TablesOf}
-use Rattle.mcap_model.specs.Judging.{IsPlain, Keeps, JudgedAs}
+use Rattle.mcap_model.specs.Judging.{IsPlain, KeepsRules, JudgedAs}
 use Rattle.mcap_model.proofs.TakenRecords.{ended_more, spelled_more, halted, unended_more}
 use Rattle.mcap_model.proofs.Unpacking.{left_behind}
 use Rattle.mcap_model.proofs.Prefixes.{next_stands}
@@ -175,7 +175,7 @@ read_more before now now_new tops op content read taken bytes known =
     let t = taken r.0 r.1 in
     (t.after, t.left_after, next_stands bytes tops (top op content) r.0 t.after r.2 t.split)
 
-good_more : (tops : List Top) (t : Top) → Good reading_limits tops → Keeps tops t → is_beyond reading_limits (offset_behind tops) (length t.content) ≡ false → (HasDataEnd tops → ⊥) → Good reading_limits (tops ++ t ∷ [])
+good_more : (tops : List Top) (t : Top) → Good reading_limits tops → KeepsRules tops t → is_beyond reading_limits (offset_behind tops) (length t.content) ≡ false → (HasDataEnd tops → ⊥) → Good reading_limits (tops ++ t ∷ [])
 good_more tops t good keeps within unended =
     each_more (Fits reading_limits) tops t good
     (record { v3 = keeps.v3; v5 = keeps.v5; v6 = keeps.v6; v7 = keeps.v7; v8 = keeps.v8; v10 = keeps.v10; plain = keeps.plain; within = within; unended = unended })
@@ -231,7 +231,7 @@ taken_whole rest left op content taken front = taken.left_after ∙ ap Some (sym
 
 stage_of : (tops : List Top) (op : ℕ) (content : List ℕ) (tables new : Tables) (offset offset_new : ℕ) (before now now_new : SourceState) (b : Bool) → eqb op 15 ≡ b
     → IsUnfinished tables offset before now tops → now_new.faults ≡ now.faults → ((rest : List ℕ) → now.left ≡ Some rest → TakesRecord rest now_new.left op content) → IsTakable offset op (length content)
-    → Keeps tops (top op content) → TablesOf (flat (tops ++ top op content ∷ [])) new → offset_new ≡ offset_behind (tops ++ top op content ∷ [])
+    → KeepsRules tops (top op content) → TablesOf (flat (tops ++ top op content ∷ [])) new → offset_new ≡ offset_behind (tops ++ top op content ∷ [])
     → StageStands (if b then stages.Ended else stages.Inside) new offset_new before now_new (tops ++ top op content ∷ [])
 stage_of tops op content tables new offset offset_new before now now_new true is was same taken takable keeps are place = record {
   good = good_more tops (top op content) was.good keeps (subst (λ (n : ℕ). is_beyond reading_limits n (length content) ≡ false) was.place takable.within) was.unended;

@@ -2,7 +2,7 @@
 use Rattle.std.proofs.Common.{◌≡◌, ℕ, suc, ◌+◌, ◌≤◌, List, [], ◌∷◌, ◌++◌, length, drop, refl, sym, ap, subst, inl, inr, ◌∙◌, arith}
 use Rattle.mcap_wire.specs.declared.faults.Why.{Why}
 use Rattle.mcap_wire.specs.Layout.{le}
-use Rattle.mcap_wire.specs.Contents.{Kind, a_number, a_text, some_bytes, a_text_map, an_array, a_count_map, Value, field_text, FieldFits, FieldStands, FieldFails, Values, row, AllFit, RowBegins, Shows, FailsFrom, Fails, RowReadsBack}
+use Rattle.mcap_wire.specs.Contents.{Kind, a_number, a_text, some_bytes, a_text_map, an_array, a_count_map, Value, field_text, FieldFits, FieldStands, FieldFails, Values, row, AllFit, RowBegins, ShowsRow, FailsFrom, Fails, RowReadsBack}
 use Rattle.mcap_wire.specs.Reading.{NumberFails, TextFails, BytesFail}
 use Rattle.mcap_wire.specs.declared.faults.Why.TheVariants.{Short, BadText, BadLength, DoubleKey}
 use Rattle.mcap_wire.proofs.Framing.{texts_apart, split_number, bytes_apart, ends_within, number_is_short, text_not_refused, bytes_not_refused}
@@ -44,7 +44,7 @@ begins kind kinds content at value end values rest there behind = record {
 }
 
 -- a row that is written is shown
-pub row_shown : (kinds : List Kind) (values : Values kinds) → AllFit kinds values → Shows kinds (row kinds values []) values
+pub row_shown : (kinds : List Kind) (values : Values kinds) → AllFit kinds values → ShowsRow kinds (row kinds values []) values
 row_shown kinds values fit = ([], record { spelled_there = refl; fit = fit })
 
 -- no field begins another of its kind
@@ -71,7 +71,7 @@ pub begins_decided : (kinds : List Kind) (content : List ℕ) (values others : V
 begins_decided kinds content values others rest behind one other =
     rows_apart kinds values others rest behind one.fit other.fit (sym one.spelled_there ∙ other.spelled_there)
 
-pub shows_decided : (kinds : List Kind) (content : List ℕ) (values others : Values kinds) → Shows kinds content values → Shows kinds content others → values ≡ others
+pub shows_decided : (kinds : List Kind) (content : List ℕ) (values others : Values kinds) → ShowsRow kinds content values → ShowsRow kinds content others → values ≡ others
 shows_decided kinds content values others one other =
     (begins_decided kinds content values others one.0 other.0 one.1 other.1).0
 

@@ -5,7 +5,7 @@ use Rattle.std.proofs.lemmas.List.{take_at, take-append-drop, length-take, lengt
 use Rattle.std.proofs.lemmas.Bool.{cases_lt}
 use Rattle.byteorder.specs.Endian.{little_number}
 use Rattle.mcap_wire.specs.Layout.{le, number, part}
-use Rattle.mcap_wire.specs.Reading.{NumberAt, TextAt, BytesAt, BytesAreShort, HeadAt, HasOpcode, Stands}
+use Rattle.mcap_wire.specs.Reading.{NumberAt, TextAt, BytesAt, BytesAreShort, HeadAt, HasOpcodeAt, RecordStands}
 use Rattle.mcap_wire.proofs.Numbers.{AreBytes, number_is, length-le, number-le, le-number, number_below, le_one}
 
 -- the bytes from an offset on are n of them, and the bytes n later
@@ -111,13 +111,13 @@ bytes_short n content at len from prefix short =
     inr (omega (arith, prefix.size, prefix.field.ends), omega (arith, prefix.size, number_there n content at len from prefix))
 
 -- a head that was read is whole, and its opcode valid
-pub has_opcode : (bytes : List ℕ) (at op len : ℕ) → HeadAt bytes at op len → HasOpcode bytes at
+pub has_opcode : (bytes : List ℕ) (at op len : ℕ) → HeadAt bytes at op len → HasOpcodeAt bytes at
 has_opcode bytes at op len head =
     let valid = head.valid in
     (head.len_there.field.ends, λ none. valid (head.opcode ∙ none))
 
 -- a record that was cut stands there
-pub record_cut : (bytes : List ℕ) (at op len from : ℕ) → at < length bytes → op ≡ get_or bytes at 0 → NumberAt 8 bytes (at + 1) len from → from + len ≤ length bytes → Stands bytes at op from (from + len)
+pub record_cut : (bytes : List ℕ) (at op len from : ℕ) → at < length bytes → op ≡ get_or bytes at 0 → NumberAt 8 bytes (at + 1) len from → from + len ≤ length bytes → RecordStands bytes at op from (from + len)
 record_cut bytes at op len from there op_is prefix whole =
     let content = part from (from + len) bytes in
     let width : from + len - from ≡ len = omega arith in

@@ -85,8 +85,8 @@ pub record RowBegins (kinds : List Kind) (content : List ℕ) (values : Values k
   pub fit : AllFit kinds values
 
 -- a content shows a row, whatever follows it
-abbrev pub Shows : (kinds : List Kind) → List ℕ → Values kinds → Type 0
-Shows kinds content values = (rest : List ℕ) × RowBegins kinds content values rest
+abbrev pub ShowsRow : (kinds : List Kind) → List ℕ → Values kinds → Type 0
+ShowsRow kinds content values = (rest : List ℕ) × RowBegins kinds content values rest
 
 -- of the fields from an offset on, of which the first has this number, each that is in front stands whole, and this one can't be read
 abbrev pub FailsFrom : List Kind → List ℕ → ℕ → ℕ → ℕ → Why → Type 0
@@ -101,10 +101,10 @@ Fails kinds content field why = FailsFrom kinds content 0 1 field why
 
 -- what holds of each row: a row that is written is shown, a content shows one, shows none where it is refused, and is refused in one way
 pub record RowReadsBack (kinds : List Kind) : Type 0 where
-  pub shown : (values : Values kinds) → AllFit kinds values → Shows kinds (row kinds values []) values
-  pub decided : (content : List ℕ) (values others : Values kinds) → Shows kinds content values → Shows kinds content others
+  pub shown : (values : Values kinds) → AllFit kinds values → ShowsRow kinds (row kinds values []) values
+  pub decided : (content : List ℕ) (values others : Values kinds) → ShowsRow kinds content values → ShowsRow kinds content others
       → values ≡ others
   pub refused : (content : List ℕ) (field : ℕ) (why : Why) (values : Values kinds) → Fails kinds content field why
-      → Shows kinds content values → ⊥
+      → ShowsRow kinds content values → ⊥
   pub one_fault : (content : List ℕ) (field other_field : ℕ) (why other_why : Why) → Fails kinds content field why
       → Fails kinds content other_field other_why → (field ≡ other_field) × (why ≡ other_why)

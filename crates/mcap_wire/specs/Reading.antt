@@ -112,8 +112,8 @@ abbrev pub HeadIsShort : List ℕ → ℕ → Type 0
 HeadIsShort bytes at = length bytes < at + 9
 
 -- the head is whole, and its opcode is valid
-abbrev pub HasOpcode : List ℕ → ℕ → Type 0
-HasOpcode bytes at = (at + 9 ≤ length bytes) × (slice_index bytes at ≢ 0)
+abbrev pub HasOpcodeAt : List ℕ → ℕ → Type 0
+HasOpcodeAt bytes at = (at + 9 ≤ length bytes) × (slice_index bytes at ≢ 0)
 
 -- the head is whole, and its opcode is 0
 abbrev pub HasZeroOpcode : List ℕ → ℕ → Type 0
@@ -137,7 +137,7 @@ ReadsHead bytes at (Err fault) = HeadFails bytes at fault
 -- ---- records
 
 -- a record stands at an offset, its content between two others
-pub record Stands (bytes : List ℕ) (at op from to : ℕ) : Type 0 where
+pub record RecordStands (bytes : List ℕ) (at op from to : ℕ) : Type 0 where
   pub framed_there : drop at bytes ≡ framed op (part from to bytes) ++ drop to bytes
   pub head : from ≡ at + 9
   pub begins : from ≤ to
@@ -146,13 +146,13 @@ pub record Stands (bytes : List ℕ) (at op from to : ℕ) : Type 0 where
 -- why a record can't be cut: the first that holds of a short head, an opcode 0, a content that is too long and a content that is cut short
 abbrev pub CutFails : List ℕ → ℕ → CutFault → Type 0
 CutFails bytes at cut_faults.Short = HeadIsShort bytes at
-    ⊎ (HasOpcode bytes at × (content_length bytes at ≤ content_limit) × (length bytes < at + 9 + content_length bytes at))
+    ⊎ (HasOpcodeAt bytes at × (content_length bytes at ≤ content_limit) × (length bytes < at + 9 + content_length bytes at))
 CutFails bytes at cut_faults.ZeroOp = HasZeroOpcode bytes at
-CutFails bytes at (cut_faults.TooLong len) = HasOpcode bytes at × (len ≡ content_length bytes at) × (content_limit < len)
+CutFails bytes at (cut_faults.TooLong len) = HasOpcodeAt bytes at × (len ≡ content_length bytes at) × (content_limit < len)
 
 -- a whole record with a valid opcode and a content within the limit
 pub record IsCut (bytes : List ℕ) (at : ℕ) (c : Cut) : Type 0 where
-  pub stands : Stands bytes at c.op c.from c.to
+  pub stands : RecordStands bytes at c.op c.from c.to
   pub valid : c.op ≢ 0
   pub within : c.to ≤ c.from + content_limit
 

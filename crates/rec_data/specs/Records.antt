@@ -3,7 +3,7 @@ use Rattle.std.specs.Prelude.{◌≡◌, ◌⊎◌, ℕ, ◌+◌, ◌<◌, List,
 use Rattle.mcap_wire.specs.declared.faults.Why.{Why}
 use Rattle.mcap_wire.specs.declared.faults.Why.TheVariants.{BadLength}
 use Rattle.mcap_wire.specs.Reading.{NumberAt}
-use Rattle.mcap_wire.specs.Contents.{Kind, a_number, a_text, some_bytes, a_text_map, Values, row, RowBegins, Shows, Fails}
+use Rattle.mcap_wire.specs.Contents.{Kind, a_number, a_text, some_bytes, a_text_map, Values, row, RowBegins, ShowsRow, Fails}
 use Rattle.rec_data.specs.Fields.{HeaderFields, FooterFields, SchemaFields, ChannelFields, MessageFields, AttachmentFields, MetadataFields}
 
 -- ---- the opcodes
@@ -46,7 +46,7 @@ header_text f = row header_kinds (header_values f) []
 
 -- a content shows these fields, whatever follows them
 abbrev pub ShowsHeader : List ℕ → HeaderFields → Type 0
-ShowsHeader content f = Shows header_kinds content (header_values f)
+ShowsHeader content f = ShowsRow header_kinds content (header_values f)
 
 -- the first of its fields that can't be read
 abbrev pub HeaderFails : List ℕ → ℕ → Why → Type 0
@@ -87,7 +87,7 @@ data_end_text data_section_crc = row data_end_kinds (data_end_values data_sectio
 
 -- a content shows this field, whatever follows it
 abbrev pub ShowsDataEnd : List ℕ → ℕ → Type 0
-ShowsDataEnd content data_section_crc = Shows data_end_kinds content (data_end_values data_section_crc)
+ShowsDataEnd content data_section_crc = ShowsRow data_end_kinds content (data_end_values data_section_crc)
 
 -- the number is cut short
 abbrev pub DataEndFails : List ℕ → ℕ → Why → Type 0
@@ -107,7 +107,7 @@ schema_text id f = row schema_kinds (schema_values id f) []
 
 -- a content shows this id and these fields, whatever follows them
 abbrev pub ShowsSchema : List ℕ → ℕ → SchemaFields → Type 0
-ShowsSchema content id f = Shows schema_kinds content (schema_values id f)
+ShowsSchema content id f = ShowsRow schema_kinds content (schema_values id f)
 
 -- the first of its fields that can't be read
 abbrev pub SchemaFails : List ℕ → ℕ → Why → Type 0
@@ -127,7 +127,7 @@ channel_text id f = row channel_kinds (channel_values id f) []
 
 -- a content shows this id and these fields, whatever follows them
 abbrev pub ShowsChannel : List ℕ → ℕ → ChannelFields → Type 0
-ShowsChannel content id f = Shows channel_kinds content (channel_values id f)
+ShowsChannel content id f = ShowsRow channel_kinds content (channel_values id f)
 
 -- the first of its fields that can't be read
 abbrev pub ChannelFails : List ℕ → ℕ → Why → Type 0
@@ -147,7 +147,7 @@ metadata_text f = row metadata_kinds (metadata_values f) []
 
 -- a content shows these fields, whatever follows them
 abbrev pub ShowsMetadata : List ℕ → MetadataFields → Type 0
-ShowsMetadata content f = Shows metadata_kinds content (metadata_values f)
+ShowsMetadata content f = ShowsRow metadata_kinds content (metadata_values f)
 
 -- the first of its fields that can't be read
 abbrev pub MetadataFails : List ℕ → ℕ → Why → Type 0
@@ -188,7 +188,7 @@ attachment_text f = row attachment_kinds (attachment_values f) []
 
 -- a content shows these fields, whatever follows them
 abbrev pub ShowsAttachment : List ℕ → AttachmentFields → Type 0
-ShowsAttachment content f = Shows attachment_kinds content (attachment_values f)
+ShowsAttachment content f = ShowsRow attachment_kinds content (attachment_values f)
 
 -- the first of its fields that can't be read
 abbrev pub AttachmentFails : List ℕ → ℕ → Why → Type 0

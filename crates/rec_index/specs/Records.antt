@@ -1,7 +1,7 @@
 -- The contents of the records of the summary, and why one can't be read.
 use Rattle.std.specs.Prelude.{ℕ, List, [], ◌∷◌}
 use Rattle.mcap_wire.specs.declared.faults.Why.{Why}
-use Rattle.mcap_wire.specs.Contents.{Kind, a_number, a_text, some_bytes, an_array, a_count_map, Values, row, Shows, Fails}
+use Rattle.mcap_wire.specs.Contents.{Kind, a_number, a_text, some_bytes, an_array, a_count_map, Values, row, ShowsRow, Fails}
 use Rattle.rec_index.specs.Fields.{ChunkFields, ChunkIndexFields, AttachmentIndexFields, MetadataIndexFields, StatisticsFields, SummaryOffsetFields}
 
 -- ---- the opcodes
@@ -41,7 +41,7 @@ summary_offset_text f = row summary_offset_kinds (summary_offset_values f) []
 
 -- a content shows these fields, whatever follows them
 abbrev pub ShowsSummaryOffset : List ℕ → SummaryOffsetFields → Type 0
-ShowsSummaryOffset content f = Shows summary_offset_kinds content (summary_offset_values f)
+ShowsSummaryOffset content f = ShowsRow summary_offset_kinds content (summary_offset_values f)
 
 -- the first of its fields that can't be read
 abbrev pub SummaryOffsetFails : List ℕ → ℕ → Why → Type 0
@@ -61,7 +61,7 @@ metadata_index_text f = row metadata_index_kinds (metadata_index_values f) []
 
 -- a content shows these fields, whatever follows them
 abbrev pub ShowsMetadataIndex : List ℕ → MetadataIndexFields → Type 0
-ShowsMetadataIndex content f = Shows metadata_index_kinds content (metadata_index_values f)
+ShowsMetadataIndex content f = ShowsRow metadata_index_kinds content (metadata_index_values f)
 
 -- the first of its fields that can't be read
 abbrev pub MetadataIndexFails : List ℕ → ℕ → Why → Type 0
@@ -81,7 +81,7 @@ attachment_index_text f = row attachment_index_kinds (attachment_index_values f)
 
 -- a content shows these fields, whatever follows them
 abbrev pub ShowsAttachmentIndex : List ℕ → AttachmentIndexFields → Type 0
-ShowsAttachmentIndex content f = Shows attachment_index_kinds content (attachment_index_values f)
+ShowsAttachmentIndex content f = ShowsRow attachment_index_kinds content (attachment_index_values f)
 
 -- the first of its fields that can't be read
 abbrev pub AttachmentIndexFails : List ℕ → ℕ → Why → Type 0
@@ -101,7 +101,7 @@ chunk_text f = row chunk_kinds (chunk_values f) []
 
 -- a content shows these fields, whatever follows them
 abbrev pub ShowsChunk : List ℕ → ChunkFields → Type 0
-ShowsChunk content f = Shows chunk_kinds content (chunk_values f)
+ShowsChunk content f = ShowsRow chunk_kinds content (chunk_values f)
 
 -- the first of its fields that can't be read
 abbrev pub ChunkFails : List ℕ → ℕ → Why → Type 0
@@ -125,7 +125,7 @@ message_index_text channel_id entries =
 -- a content shows these fields, whatever follows them
 abbrev pub ShowsMessageIndex : List ℕ → ℕ → List (ℕ × ℕ) → Type 0
 ShowsMessageIndex content channel_id entries =
-    Shows message_index_kinds content (message_index_values channel_id entries)
+    ShowsRow message_index_kinds content (message_index_values channel_id entries)
 
 -- the first of its fields that can't be read
 abbrev pub MessageIndexFails : List ℕ → ℕ → Why → Type 0
@@ -145,7 +145,7 @@ chunk_index_text f = row chunk_index_kinds (chunk_index_values f) []
 
 -- a content shows these fields, whatever follows them
 abbrev pub ShowsChunkIndex : List ℕ → ChunkIndexFields → Type 0
-ShowsChunkIndex content f = Shows chunk_index_kinds content (chunk_index_values f)
+ShowsChunkIndex content f = ShowsRow chunk_index_kinds content (chunk_index_values f)
 
 -- the first of its fields that can't be read
 abbrev pub ChunkIndexFails : List ℕ → ℕ → Why → Type 0
@@ -165,7 +165,7 @@ statistics_text f = row statistics_kinds (statistics_values f) []
 
 -- a content shows these fields, whatever follows them
 abbrev pub ShowsStatistics : List ℕ → StatisticsFields → Type 0
-ShowsStatistics content f = Shows statistics_kinds content (statistics_values f)
+ShowsStatistics content f = ShowsRow statistics_kinds content (statistics_values f)
 
 -- the first of its fields that can't be read
 abbrev pub StatisticsFails : List ℕ → ℕ → Why → Type 0

@@ -3,7 +3,7 @@ use Rattle.std.proofs.Common.{◌≡◌, ℕ, ◌^◌, ◌<◌, Bool, List, [], 
 use Rattle.std.specs.Prelude.{true, false}
 use Rattle.std.specs.Option.{option_map}
 use Rattle.std.proofs.lemmas.List.{append-nil}
-use Rattle.mcap_io.specs.Outside.{RisesOnce, HasCause, Opens, OpenCause, CountsStand, added, Opening, Keeping, Told, opened, with_opening, went_well, SourceState, LiveState, WorldState, TellsName, TellsNothingYet, KeepsSource, KeepsLive, Keeps, Notes}
+use Rattle.mcap_io.specs.Outside.{RisesOnce, HasCause, Opens, OpenCause, CountsStand, added, Opening, Keeping, Told, opened, with_opening, went_well, SourceState, LiveState, WorldState, TellsName, TellsNothingYet, KeepsSource, KeepsLive, KeepsName, Notes}
 use Rattle.mcap_io.specs.declared.outside.Failed.{Failed}
 use Rattle.mcap_io.specs.declared.outside.ObjectKind.TheVariants as kinds
 use Rattle.mcap_io.specs.declared.outside.OpenRefused.{OpenRefused}
@@ -267,7 +267,7 @@ module _ (options : RecordOptions) (out feed : List ℕ) (w0 w1 w2 w3 w4 : World
       omega (arith, b.still, b.still_out, first, second)
 
   -- where the world told, it tells of both, and of the output's name what its keeping left
-  both_told : (told : Told) → w0.told ≡ Some told → (now : Told) × (w4.told ≡ Some now) × Keeps told.names now.names out live_now.held live_kept × (now.log ≡ told.log ++ both_entries)
+  both_told : (told : Told) → w0.told ≡ Some told → (now : Told) × (w4.told ≡ Some now) × KeepsName told.names now.names out live_now.held live_kept × (now.log ≡ told.log ++ both_entries)
   both_told told here =
       let first = with_opening told (given feed) in
       let second = with_opening first (opened kinds.Live out true) in
@@ -278,15 +278,15 @@ module _ (options : RecordOptions) (out feed : List ℕ) (w0 w1 w2 w3 w4 : World
       let notes = subst (λ (l : List Opening). Notes l back.0.log kinds.Source feed feed_keeping) log back.3 in (
         placed.0,
         placed.1,
-        subst (λ (n : List ℕ → Option (List ℕ)). Keeps n placed.0.names out live_now.held live_kept) back.2 placed.2,
+        subst (λ (n : List ℕ → Option (List ℕ)). KeepsName n placed.0.names out live_now.held live_kept) back.2 placed.2,
         both_noted told.log back.0.log placed.0.log feed out feed_keeping out_keeping notes placed.3,
       )
 
   -- what it tells of the output
-  both_placed : (told now : Told) → w0.told ≡ Some told → w4.told ≡ Some now → Keeps told.names now.names out live_now.held live_kept
+  both_placed : (told now : Told) → w0.told ≡ Some told → w4.told ≡ Some now → KeepsName told.names now.names out live_now.held live_kept
   both_placed told now here here_now =
       let t = both_told told here in
-      subst (λ (n : Told). Keeps told.names n.names out live_now.held live_kept) (same_told t.0 now (sym t.1 ∙ here_now)) t.2
+      subst (λ (n : Told). KeepsName told.names n.names out live_now.held live_kept) (same_told t.0 now (sym t.1 ∙ here_now)) t.2
 
   nothing_yet : (told : Told) → w0.told ≡ Some told → live.held ≡ Some []
   nothing_yet told here = b.nothing (with_opening told (given feed)) (tells_more w0.told w1.told (given feed) told b.opens here)

@@ -12,7 +12,8 @@ use Rattle.mcap_model.specs.Rules.{V1, V6}
 use Rattle.mcap_model.specs.Whole.{V2, stands_in_summary}
 use Rattle.mcap_model.specs.Made.{top}
 use Rattle.mcap_model.specs.Plain.{cut_top}
-use Rattle.summary_read.specs.Reached.{file_limit, summary_limit, EndsIn, StartsAt, summary_part}
+use Rattle.mcap_wire.specs.Limits.{file_limit}
+use Rattle.summary_read.specs.Reached.{summary_limit, EndsIn, StartsAt, summary_part}
 
 -- The Header and the Footer; the first Statistics of the summary, if it has one; and the other known records of the
 -- summary by their kinds, each list in the order of the file. Of the Chunk Indexes the offsets in the file too.

@@ -1,6 +1,7 @@
 -- What is read of a file to load its summary: the two magics, the Header, the Footer, and the records from summary_start
 -- up to the Footer. Where a rule fails on these, and where one passes a limit.
-use Rattle.std.specs.Prelude.{◌≡◌, ◌≢◌, ◌⊎◌, ℕ, ◌+◌, ◌-◌, ◌<◌, ◌≤◌, List, [], ◌++◌, length, drop, true, false}
+use Rattle.std.specs.Prelude.{◌≡◌, ◌≢◌, ◌⊎◌, ℕ, ◌+◌, ◌-◌, ◌^◌, ◌<◌, ◌≤◌, List, [], ◌++◌, length, drop, true, false}
+use Rattle.mcap_wire.specs.Limits.{file_limit}
 use Rattle.mcap_wire.specs.Layout.{part, content_limit}
 use Rattle.rec_data.specs.declared.footer.Footer.{Footer}
 use Rattle.mcap_model.specs.Tops.{Top, top_bytes, spelled, opcode, declared_length, has_head, is_whole}
@@ -11,13 +12,9 @@ use Rattle.mcap_model.specs.Valid.{StartsWithHeader, EndsWithFooter}
 
 -- ---- limits
 
--- the longest file that is read: 1 TiB (2 ^ 40)
-abbrev pub file_limit : ℕ
-file_limit = 1099511627776
-
 -- the longest summary that is read: 256 MiB (2 ^ 28)
 abbrev pub summary_limit : ℕ
-summary_limit = 268435456
+summary_limit = 2 ^ 28
 
 -- ---- the Footer
 

@@ -13,7 +13,8 @@ use Rattle.mcap_model.specs.Made.{top}
 use Rattle.mcap_model.specs.Plain.{cut_top}
 use Rattle.summary_read.specs.declared.refusals.LoadRefused.{LoadRefused}
 use Rattle.summary_read.specs.declared.refusals.LoadRefused.TheVariants as refusals
-use Rattle.summary_read.specs.Reached.{file_limit, summary_limit, ShowsFooter, EndsIn, HasNoSummary, BreaksFirst, DeclaresPast, FailsInside, PassesInside}
+use Rattle.mcap_wire.specs.Limits.{file_limit}
+use Rattle.summary_read.specs.Reached.{summary_limit, ShowsFooter, EndsIn, HasNoSummary, BreaksFirst, DeclaresPast, FailsInside, PassesInside}
 use Rattle.summary_read.specs.Parts.{tops_of, AreInside, IsSound}
 use Rattle.summary_read.specs.Loading.{IsRefused}
 

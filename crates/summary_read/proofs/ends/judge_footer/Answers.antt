@@ -1,6 +1,7 @@
 use Rattle.std.proofs.Common.{refl, sym, subst, ◌-◌, ◌<◌, inl, inr, arith}
 use Rattle.std.proofs.lemmas.Bool.{both_ways}
-use Rattle.summary_read.specs.Reached.{file_limit, file_passes, summary_passes}
+use Rattle.mcap_wire.specs.Limits.{file_limit}
+use Rattle.summary_read.specs.Reached.{file_passes, summary_passes}
 use Rattle.summary_read.proofs.FileEnds.{magic_lacks, magic_ends, start_lies}
 use Rattle.summary_read.proofs.ends.judge_footer.Goals as goal
 

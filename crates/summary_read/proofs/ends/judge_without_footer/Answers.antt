@@ -1,6 +1,7 @@
 use Rattle.std.proofs.Common.{refl, sym, ap, subst, ◌-◌, ◌<◌}
 use Rattle.std.proofs.lemmas.Bool.{both_ways}
-use Rattle.summary_read.specs.Reached.{file_limit, file_passes}
+use Rattle.mcap_wire.specs.Limits.{file_limit}
+use Rattle.summary_read.specs.Reached.{file_passes}
 use Rattle.summary_read.proofs.FileEnds.{magic_lacks, footer_lacks}
 use Rattle.summary_read.proofs.ends.judge_without_footer.Goals as goal
 
