@@ -5,7 +5,7 @@ use Rattle.std.proofs.lemmas.Bool.{lt-leb, le-leb}
 use Rattle.std.proofs.lemmas.List.{length-append, length-drop, length-take, take_at, take-append-drop, drop-append-le, take-append-le}
 use Rattle.mcap_wire.specs.declared.faults.HeadFault.{HeadFault}
 use Rattle.mcap_wire.specs.declared.faults.HeadFault.TheVariants as head_faults
-use Rattle.mcap_wire.specs.Layout.{le, number, magic, content_limit}
+use Rattle.mcap_wire.specs.Layout.{le, number, content_limit}
 use Rattle.mcap_wire.specs.Reading.{HeadAt, HeadFails}
 use Rattle.mcap_wire.proofs.Numbers.{length-le, number-le}
 use Rattle.mcap_model.specs.Tops.{top_bytes, opcode, declared_length, is_whole}

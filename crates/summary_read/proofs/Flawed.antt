@@ -1,5 +1,5 @@
 -- What fails at the ends of a file is a rule of the whole file that fails there.
-use Rattle.std.proofs.Common.{◌≡◌, ◌⊎◌, ℕ, ◌+◌, ◌-◌, ◌<◌, false, List, [], ◌++◌, length, take, drop, refl, sym, ap, subst, inl, ◌∙◌, arith}
+use Rattle.std.proofs.Common.{◌≡◌, ◌⊎◌, ℕ, ◌-◌, false, List, [], ◌++◌, length, take, drop, refl, sym, ap, subst, inl, ◌∙◌, arith}
 use Rattle.std.proofs.lemmas.List.{length-drop}
 use Rattle.mcap_wire.specs.Layout.{magic}
 use Rattle.mcap_model.specs.Tops.{has_head, is_whole}
