@@ -1,6 +1,7 @@
 //! Printing the messages of a file by its indexes.
 use super::cat::{FOURTH, LAST_TIME};
 use super::info::packed_file;
+use super::verdicts::{changed, one_changed};
 use super::*;
 use crate::same::{holds, same};
 
@@ -157,5 +158,52 @@ fn what_fails_beside_the_reading_is_told(rt: HostRuntime) -> Result<(), Fail> {
         failing,
         &unwritten(3, ONE_LINE, FEED_FAULT),
     )?;
+    Ok(())
+}
+
+// A Channel of id 8 on the topic /a too, of another encoding, and a Message on it, logged at 11.
+const OTHER: &[u8] = b"\x04\x13\0\0\0\0\0\0\0\x08\0\0\0\x02\0\0\0/a\x01\0\0\0x\0\0\0\0";
+
+const ON_OTHER: &[u8] = b"\x05\x17\0\0\0\0\0\0\0\x08\0\x02\0\0\0\
+    \x0b\0\0\0\0\0\0\0\x09\0\0\0\0\0\0\0\xaa";
+
+#[test]
+fn a_topic_of_two_channels_is_printed_whole(rt: HostRuntime) -> Result<(), Fail> {
+    let file = recorded_file(&rt, &[CHANNEL, OTHER, FIRST, ON_OTHER])?;
+    let on_topic: &[&str] = &["cat", "--indexed", "--topic", "/a", "F"];
+    let both = "10 9 1 1 \"/a\" aa\n11 9 2 2 \"/a\" aa\n";
+    let _ran = expect(&rt, on_topic, &file, NOTHING, &unwritten(0, both, ""))?;
+    Ok(())
+}
+
+// The Chunk Index of the file of one message leads to the Header; the map of the first of two, which stands at 390, to the
+// Message Index behind the other chunk.
+#[test]
+fn a_chunk_index_that_leads_elsewhere_is_told(rt: HostRuntime) -> Result<(), Fail> {
+    let headed = one_changed(rt.alloc(), 303, &[8])?;
+    let two = joined(rt.alloc(), &[&ONE[..173], TWO_CHUNKS])?;
+    let crossed = changed(rt.alloc(), &two, &[(437, &[0xfe])])?;
+    let table: [(&[u8], &str); 2] = [
+        (&headed, "mcaprec: \"F\": flaw V12 at 278\n"),
+        (&crossed, "mcaprec: \"F\": flaw V12 at 390\n"),
+    ];
+    for (file, told) in table {
+        let _ran = expect(&rt, BY_INDEX, file, NOTHING, &unwritten(1, "", told))?;
+    }
+    Ok(())
+}
+
+// The chunk at 34, its message at 110 or its Message Index at 142 declares a content of more than 2^63 bytes.
+#[test]
+fn a_length_past_the_limit_is_told_first(rt: HostRuntime) -> Result<(), Fail> {
+    let table: [(usize, &str); 3] = [
+        (42, "mcaprec: \"F\": limit at 34\n"),
+        (118, "mcaprec: \"F\": limit at 110\n"),
+        (150, "mcaprec: \"F\": limit at 142\n"),
+    ];
+    for (at, told) in table {
+        let file = one_changed(rt.alloc(), at, &[0x80])?;
+        let _ran = expect(&rt, BY_INDEX, &file, NOTHING, &unwritten(4, "", told))?;
+    }
     Ok(())
 }
