@@ -1,6 +1,7 @@
 use crate::same::{holds, holds_at, same, same_at};
 use mcap_wire::{Bad, Bytes, Cut, Pairs, Text, Why, cut};
 use rec_data::*;
+use std::alloc::Global;
 use std::test::Fail;
 
 // A Header with the profile "ros2" and the library "wire".
@@ -386,31 +387,47 @@ fn a_schema_is_owned_until_it_is_written(rt: HostRuntime) -> Result<(), Fail> {
     Ok(())
 }
 
+// The schema of the record.
+fn schema_def(alloc: Global) -> Result<SchemaDef, Fail> {
+    let schema = Schema::parse(&SCHEMA_RECORD[9..])?;
+    Ok(SchemaDef {
+        name: Text::copied(alloc, schema.name)?,
+        encoding: Text::copied(alloc, schema.encoding)?,
+        payload: Bytes::copied(alloc, schema.payload)?,
+    })
+}
+
+// The channel of the record, with that schema.
+fn channel_def(alloc: Global, schema: SchemaDef) -> Result<ChannelDef, Fail> {
+    let channel = Channel::parse(&CHANNEL_RECORD[9..])?;
+    Ok(ChannelDef {
+        topic: Text::copied(alloc, channel.topic)?,
+        message_encoding: Text::copied(alloc, channel.message_encoding)?,
+        metadata: Pairs::sorted(alloc, &channel.metadata)?,
+        schema: Some(schema),
+    })
+}
+
 #[test]
 fn a_copy_of_a_channel_is_equal_and_one_without_the_schema_is_not(
     rt: HostRuntime,
 ) -> Result<(), Fail> {
     let alloc = rt.alloc();
-    let channel = Channel::parse(&CHANNEL_RECORD[9..])?;
-    let schema = Schema::parse(&SCHEMA_RECORD[9..])?;
-    let mut def = ChannelDef {
-        topic: Text::copied(alloc, channel.topic)?,
-        message_encoding: Text::copied(alloc, channel.message_encoding)?,
-        metadata: Pairs::sorted(alloc, &channel.metadata)?,
-        schema: Some(SchemaDef {
-            name: Text::copied(alloc, schema.name)?,
-            encoding: Text::copied(alloc, schema.encoding)?,
-            payload: Bytes::copied(alloc, schema.payload)?,
-        }),
-    };
+    let mut def = channel_def(alloc, schema_def(alloc)?)?;
     let copy = ChannelDef::copied(alloc, &def)?;
     same(&rt, &copy, &def);
     def.schema = None;
     holds(&rt, copy != def);
+    Ok(())
+}
+
+#[test]
+fn bytes_give_their_vector_back(rt: HostRuntime) -> Result<(), Fail> {
+    let schema = schema_def(rt.alloc())?;
     same(
         &rt,
-        &Bytes::copied(alloc, schema.payload)?.into_vec().as_slice(),
-        &schema.payload,
+        &schema.payload.into_vec().as_slice(),
+        &[0xde, 0xad].as_slice(),
     );
     Ok(())
 }

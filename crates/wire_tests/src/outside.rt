@@ -1,17 +1,46 @@
 use crate::callers::read_front;
 use crate::same::{holds, holds_at, same, same_at};
 use mcap_io::*;
-use std::alloc::Global;
+use std::alloc::{AllocError, Global};
 use std::fs;
+use std::process::Abort;
 use std::test::Fail;
 
-fn plan(alloc: Global) -> Plan {
-    Plan {
-        openings: Vec::new(alloc),
-        keepings: Vec::new(alloc),
-        reads: Vec::new(alloc),
+// A world with "abc" under "in", in which these openings, keepings and reads fail.
+fn world_of(
+    alloc: Global,
+    openings: &[u64],
+    keepings: &[u64],
+    reads: &[u64],
+) -> Result<MemoryWorld, AllocError> {
+    let plan = Plan {
+        openings: Vec::from_slice(alloc, openings)?,
+        keepings: Vec::from_slice(alloc, keepings)?,
+        reads: Vec::from_slice(alloc, reads)?,
         appends: Vec::new(alloc),
+    };
+    let mut world = MemoryWorld::new(alloc, plan);
+    world.put("in", b"abc")?;
+    Ok(world)
+}
+
+// The world's own count of faults, that of its inputs and that of its outputs.
+fn faults_of(world: &impl World) -> (u64, u64, u64) {
+    (world.faults(), world.input_faults(), world.output_faults())
+}
+
+// Whether the world's openings are these, in this order: their kinds, names, and whether they gave an object.
+fn has_opened(world: &MemoryWorld, wanted: &[(ObjectKind, &str, bool)]) -> bool {
+    let log = world.log();
+    if log.len() != wanted.len() {
+        return false;
     }
+    for (made, (kind, name, given)) in log.iter().zip(wanted) {
+        if made.kind != *kind || made.name.as_str() != *name || made.given != *given {
+            return false;
+        }
+    }
+    true
 }
 
 // How long the file is; 0 where it isn't there.
@@ -84,7 +113,6 @@ fn a_sink_takes_part_of_a_piece_and_fails(rt: HostRuntime) -> Result<(), Fail> {
 fn a_live_store_tells_where_each_piece_stands(rt: HostRuntime) -> Result<(), Fail> {
     let failing = vec![in rt.alloc(); FailingWrite { call: 1, taken: 1 }]?;
     let mut store = MemoryLive::new(rt.alloc(), failing);
-    let mut quiet = QuietLive::new(rt.alloc());
     let first = store.append(b"ab").ok().ok_or("memory is there")?;
     holds(
         &rt,
@@ -97,7 +125,13 @@ fn a_live_store_tells_where_each_piece_stands(rt: HostRuntime) -> Result<(), Fai
     same(&rt, &store.bytes(), &b"abcef".as_slice());
     same(&rt, &store.faults(), &1);
     same(&rt, &first.bytes(), &b"ab".as_slice());
-    holds(&rt, last.same().len() == 2);
+    same(&rt, &last.same().len(), &2);
+    Ok(())
+}
+
+#[test]
+fn a_quiet_store_tells_where_each_piece_stands(rt: HostRuntime) -> Result<(), Fail> {
+    let mut quiet = QuietLive::new(rt.alloc());
     let piece = quiet.append(b"xyz").ok().ok_or("memory is there")?;
     same(&rt, &piece.bytes(), &b"xyz".as_slice());
     let more = quiet.append_through(b"w").ok().ok_or("memory is there")?;
@@ -107,43 +141,50 @@ fn a_live_store_tells_where_each_piece_stands(rt: HostRuntime) -> Result<(), Fai
     Ok(())
 }
 
+// Whether reading three bytes of it comes to this.
+fn reads_three(
+    source: &mut MemorySource,
+    buffer: &mut Vec<u8>,
+    wanted: Result<(), ReadRefused>,
+) -> bool {
+    read_up_to(source, buffer, 3) == wanted
+}
+
+// How the keeping of a live store of this text goes.
+fn keep_text(world: &mut MemoryWorld, text: &str) -> Result<Result<(), Failed>, Fail> {
+    let mut live = world.live("out").ok().ok_or("memory is there")?;
+    let _piece = live.append(text.as_bytes()).ok().ok_or("memory is there")?;
+    Ok(world.keep_live("out", live))
+}
+
+// The source under "in" fails at its first read, and is kept.
+fn read_in_two_tries(rt: &(impl AllocGlobal + Abort), world: &mut MemoryWorld) -> Result<(), Fail> {
+    let mut source = world.source("in").ok().ok_or("it is there")?;
+    let mut buffer = Vec::new(rt.alloc());
+    holds(
+        rt,
+        reads_three(&mut source, &mut buffer, Err(ReadRefused::Failed)),
+    );
+    holds(rt, reads_three(&mut source, &mut buffer, Ok(())));
+    holds(rt, world.keep_source("in", source) == Ok(()));
+    Ok(())
+}
+
 // The third opening and the second keeping fail. A failed keeping puts nothing.
 #[test]
 fn a_world_fails_where_it_is_told_to(rt: HostRuntime) -> Result<(), Fail> {
-    let mut plan = plan(rt.alloc());
-    plan.openings.push(2)?;
-    plan.keepings.push(1)?;
-    plan.reads.push(0)?;
-    let mut world = MemoryWorld::new(rt.alloc(), plan);
-    world.put("in", b"abc")?;
+    let mut world = world_of(rt.alloc(), &[2], &[1], &[0])?;
     holds(
         &rt,
         matches!(world.source("none"), Err(OpenRefused::Failed)),
     );
-    let mut source = world.source("in").ok().ok_or("it is there")?;
-    let mut buffer = Vec::new(rt.alloc());
-    holds(
-        &rt,
-        read_up_to(&mut source, &mut buffer, 3) == Err(ReadRefused::Failed),
-    );
-    holds(&rt, read_up_to(&mut source, &mut buffer, 3) == Ok(()));
-    holds(&rt, world.keep_source("in", source) == Ok(()));
+    read_in_two_tries(&rt, &mut world)?;
     holds(&rt, matches!(world.live("out"), Err(OpenRefused::Failed)));
-    for (text, kept, stands) in [("lost", Err(Failed), None), ("kept", Ok(()), Some("kept"))] {
-        let mut live = world.live("out").ok().ok_or("memory is there")?;
-        let _piece = live.append(text.as_bytes()).ok().ok_or("memory is there")?;
-        holds_at(&rt, world.keep_live("out", live) == kept, &text);
-        holds_at(
-            &rt,
-            world.bytes("out") == stands.map(|s: &str| s.as_bytes()),
-            &text,
-        );
-    }
-    same(
-        &rt,
-        &world.bytes("in").ok_or("it is there")?,
-        &b"abc".as_slice(),
-    );
+    holds(&rt, keep_text(&mut world, "lost")? == Err(Failed));
+    holds(&rt, world.bytes("out") == None);
+    holds(&rt, keep_text(&mut world, "kept")? == Ok(()));
+    holds(&rt, world.bytes("out") == Some(b"kept"));
+    holds(&rt, world.bytes("in") == Some(b"abc"));
     same(&rt, &(world.openings(), world.keepings()), &(5, 3));
     let openings = [
         (ObjectKind::Source, "none", false),
@@ -152,41 +193,38 @@ fn a_world_fails_where_it_is_told_to(rt: HostRuntime) -> Result<(), Fail> {
         (ObjectKind::Live, "out", true),
         (ObjectKind::Live, "out", true),
     ];
-    holds(&rt, world.log().len() == 5);
-    for (made, (kind, name, given)) in world.log().iter().zip(openings) {
-        same(&rt, &made.kind, &kind);
-        same(&rt, &made.name.as_str(), &name);
-        same(&rt, &made.given, &given);
-    }
-    same(
-        &rt,
-        &(world.faults(), world.input_faults(), world.output_faults()),
-        &(3, 1, 0),
-    );
+    holds(&rt, has_opened(&world, &openings));
+    same(&rt, &faults_of(&world), &(3, 1, 0));
     Ok(())
+}
+
+// Whether the opening of that number was kept so, with these bytes left.
+fn was_kept(world: &MemoryWorld, number: usize, well: bool, left: &[u8]) -> bool {
+    let Some(entry) = world.log().get(number) else {
+        return false;
+    };
+    let Some(kept) = entry.kept.as_ref() else {
+        return false;
+    };
+    let Some(rest) = kept.rest.as_ref() else {
+        return false;
+    };
+    kept.well == well && kept.faults == 0 && rest.rest() == left
 }
 
 // Of "abc" the first source reads one byte and the second none. The second is kept first, and its keeping fails.
 #[test]
 fn a_keeping_is_noted_at_the_newest_that_is_out(rt: HostRuntime) -> Result<(), Fail> {
-    let mut plan = plan(rt.alloc());
-    plan.keepings.push(0)?;
-    let mut world = MemoryWorld::new(rt.alloc(), plan);
-    world.put("in", b"abc")?;
+    let mut world = world_of(rt.alloc(), &[], &[0], &[])?;
     let mut first = world.source("in").ok().ok_or("it is there")?;
     let second = world.source("in").ok().ok_or("it is there")?;
     let mut buffer = Vec::new(rt.alloc());
     holds(&rt, read_up_to(&mut first, &mut buffer, 1) == Ok(()));
     holds(&rt, world.keep_source("in", second) == Err(Failed));
     holds(&rt, world.keep_source("in", first) == Ok(()));
-    let wanted: [(bool, &[u8]); 2] = [(true, b"bc"), (false, b"abc")];
     holds(&rt, world.log().len() == 2);
-    for (entry, (well, left)) in world.log().iter().zip(wanted) {
-        let kept = entry.kept.as_ref().ok_or("it was kept")?;
-        same(&rt, &(kept.well, kept.faults), &(well, 0));
-        let rest = kept.rest.as_ref().ok_or("it is a source")?;
-        same(&rt, &rest.rest(), &left);
-    }
+    holds(&rt, was_kept(&world, 0, true, b"bc"));
+    holds(&rt, was_kept(&world, 1, false, b"abc"));
     Ok(())
 }
 
@@ -208,6 +246,16 @@ fn an_input_is_no_output(rt: HostRuntime) -> Result<(), Fail> {
     fs::remove_file(&rt, "both")?;
     same(&rt, &world.faults(), &1);
     Ok(())
+}
+
+// The source gives "ab", 300,000 bytes of 7 and "cdef", in stretches.
+fn read_back<S: Source>(rt: &(impl AllocGlobal + Abort), source: &mut S) {
+    let mut buffer = Vec::new(rt.alloc());
+    for (len, first, held) in [(3, b'a', 3), (299_999, 7, 299_999), (9, b'c', 4), (9, 0, 0)] {
+        holds(rt, read_up_to(source, &mut buffer, len) == Ok(()));
+        same_at(rt, &buffer.len(), &held, &len);
+        same_at(rt, &buffer.first().copied().unwrap_or(0), &first, &len);
+    }
 }
 
 #[test]
@@ -240,19 +288,10 @@ fn a_file_gives_back_what_was_kept(rt: HostRuntime) -> Result<(), Fail> {
     same(&rt, &len_of(&rt, "record"), &300_006);
     holds(&rt, world.keep_live("record", live) == Ok(()));
     let mut source = world.source("record").ok().ok_or("it was kept")?;
-    let mut buffer = Vec::new(rt.alloc());
-    for (len, first, held) in [(3, b'a', 3), (299_999, 7, 299_999), (9, b'c', 4), (9, 0, 0)] {
-        holds(&rt, read_up_to(&mut source, &mut buffer, len) == Ok(()));
-        same_at(&rt, &buffer.len(), &held, &len);
-        same_at(&rt, &buffer.first().copied().unwrap_or(0), &first, &len);
-    }
+    read_back(&rt, &mut source);
     holds(&rt, world.keep_source("record", source) == Ok(()));
     fs::remove_file(&rt, "record")?;
-    same(
-        &rt,
-        &(world.faults(), world.input_faults(), world.output_faults()),
-        &(1, 0, 0),
-    );
+    same(&rt, &faults_of(&world), &(1, 0, 0));
     Ok(())
 }
 
@@ -297,37 +336,43 @@ fn a_source_gives_the_front_of_a_store(rt: HostRuntime) -> Result<(), Fail> {
     Ok(())
 }
 
+// The store's length is three; the first read of two bytes fails, and the second gives them.
+fn expect_parts(rt: &impl Abort, store: &mut MemoryStore) {
+    holds(rt, store.len() == Ok(3));
+    let mut room = [0; 2];
+    holds(rt, store.read_at(1, &mut room) == Err(Failed));
+    holds(rt, store.read_at(1, &mut room) == Ok(()));
+    same(rt, &room, &*b"bc");
+}
+
+// Whether the first opening's object was kept well, after one fault, and asked for so many bytes.
+fn first_was_asked(world: &MemoryWorld, asked: u128) -> bool {
+    let Some(entry) = world.log().first() else {
+        return false;
+    };
+    let Some(kept) = entry.kept.as_ref() else {
+        return false;
+    };
+    kept.well && kept.faults == 1 && kept.asked == asked
+}
+
 // The second opening fails, and so does the second call on each store: of the first that is the read of two bytes.
 #[test]
 fn a_world_gives_stores_and_takes_them_back(rt: HostRuntime) -> Result<(), Fail> {
-    let mut plan = plan(rt.alloc());
-    plan.openings.push(1)?;
-    plan.reads.push(1)?;
-    let mut world = MemoryWorld::new(rt.alloc(), plan);
-    world.put("in", b"abc")?;
+    let mut world = world_of(rt.alloc(), &[1], &[], &[1])?;
     let mut store = world.store("in").ok().ok_or("it is there")?;
     holds(&rt, matches!(world.store("in"), Err(OpenRefused::Failed)));
     holds(&rt, matches!(world.store("none"), Err(OpenRefused::Failed)));
-    holds(&rt, store.len() == Ok(3));
-    let mut room = [0; 2];
-    holds(&rt, store.read_at(1, &mut room) == Err(Failed));
-    holds(&rt, store.read_at(1, &mut room) == Ok(()));
-    same(&rt, &room, &*b"bc");
+    expect_parts(&rt, &mut store);
     holds(&rt, world.keep_store("in", store) == Ok(()));
-    let openings = [("in", true), ("in", false), ("none", false)];
-    holds(&rt, world.log().len() == 3);
-    for (entry, (name, given)) in world.log().iter().zip(openings) {
-        same(&rt, &entry.kind, &ObjectKind::Store);
-        same(&rt, &(entry.name.as_str(), entry.given), &(name, given));
-    }
-    let first = world.log().first().ok_or("it was opened")?;
-    let kept = first.kept.as_ref().ok_or("it was kept")?;
-    same(&rt, &(kept.well, kept.faults, kept.asked), &(true, 1, 4));
-    same(
-        &rt,
-        &(world.faults(), world.input_faults(), world.output_faults()),
-        &(2, 1, 0),
-    );
+    let openings = [
+        (ObjectKind::Store, "in", true),
+        (ObjectKind::Store, "in", false),
+        (ObjectKind::Store, "none", false),
+    ];
+    holds(&rt, has_opened(&world, &openings));
+    holds(&rt, first_was_asked(&world, 4));
+    same(&rt, &faults_of(&world), &(2, 1, 0));
     Ok(())
 }
 
