@@ -441,7 +441,8 @@ $unwritten" "mcaprec: \"$disk/out.mcap\": fault" mcaprec record --plain "$disk/o
     expect_first_part "$disk/out.mcap" out.mcap 0
     dd if=/dev/zero of="$disk/filling" bs=4096 count=224 2>/dev/null
     filter='sed s/[0-9][0-9]*/N/g'
-    expect 3 "feed N accepted=N refused=N passed=N end
+    # The first buffer of 262,144 bytes doesn't fit, so the next message is refused.
+    expect 3 "feed N accepted=N refused=N passed=N ended
 $stopped" "mcaprec: \"$disk/out.mcap\": fault" mcaprec record --plain "$disk/out.mcap" many.mcap
     filter='cat'
     expect_first_part "$disk/out.mcap" many-out.mcap 131072
