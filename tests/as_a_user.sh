@@ -263,6 +263,12 @@ expect 0 '5 9 1 3 "/imu" 77
 11 9 1 2 "/imu" bb
 12 9 2 1 "/log" -
 20 9 2 2 "/log" 71' '' mcaprec cat --indexed "$other"
+# A file of many blocks of 16 KiB, as a store over a file reads it.
+mcaprec record --chunk 65536 many-chunks.mcap many.mcap >/dev/null
+mcaprec cat many-chunks.mcap >many-scanned
+mcaprec cat --indexed many-chunks.mcap >many-indexed
+[ "$(wc -l <many-indexed)" -eq 8192 ] || say_wrong 'cat --indexed of many.mcap has other lines'
+cmp -s many-scanned many-indexed || say_wrong 'cat --indexed of many.mcap is not its cat'
 expect 1 '' 'mcaprec: "session-out.mcap": not indexed: no summary' mcaprec cat --indexed session-out.mcap
 expect 1 '' 'mcaprec: "none.mcap": flaw V17 at 0' mcaprec cat --indexed none.mcap
 expect 3 '' 'mcaprec: "folder": fault' mcaprec cat --indexed folder
