@@ -157,6 +157,11 @@ fn unwritten<'a>(status: u8, out: &'a str, err: &'a str) -> Wanted<'a> {
     }
 }
 
+// Ends the test where what was written isn't what is wanted.
+fn same_bytes(rt: &impl Abort, got: &[u8], want: &[u8]) {
+    assert_eq!(rt; got, want);
+}
+
 // Runs the words and compares. The feed and the other name always keep their bytes.
 fn expect(
     rt: &(impl AllocGlobal + Abort),
@@ -166,8 +171,8 @@ fn expect(
     wanted: &Wanted<'_>,
 ) -> Result<Ran, Fail> {
     let ran = run_in_memory(rt, words, feed, failing)?;
-    same(rt, &ran.out.bytes(), &wanted.out.as_bytes());
-    same(rt, &ran.err.bytes(), &wanted.err.as_bytes());
+    same_bytes(rt, ran.out.bytes(), wanted.out.as_bytes());
+    same_bytes(rt, ran.err.bytes(), wanted.err.as_bytes());
     same(rt, &ran.status, &wanted.status);
     same(rt, &ran.report.is_some(), &wanted.has_report);
     holds(rt, ran.world.bytes("OUT") == Some(wanted.file));
