@@ -175,9 +175,9 @@ fn expect(
     same_bytes(rt, ran.err.bytes(), wanted.err.as_bytes());
     same(rt, &ran.status, &wanted.status);
     same(rt, &ran.report.is_some(), &wanted.has_report);
-    holds(rt, ran.world.bytes("OUT") == Some(wanted.file));
-    holds(rt, ran.world.bytes("F") == Some(feed));
-    holds(rt, ran.world.bytes("other") == Some(b"kept"));
+    assert!(rt; ran.world.bytes("OUT") == Some(wanted.file));
+    assert!(rt; ran.world.bytes("F") == Some(feed));
+    assert!(rt; ran.world.bytes("other") == Some(b"kept"));
     Ok(ran)
 }
 
