@@ -16,7 +16,7 @@ use Rattle.cat_command.specs.declared.indexed.Followed.{Followed}
 use Rattle.command_base.specs.Ran.{kept, refused, failed_so}
 use Rattle.command_base.specs.OneFile.{failing}
 use Rattle.command_base.proofs.Counting.{failed_often}
-use Rattle.command_base.proofs.OneFile.{store_input, store_keeping, unopened as name_unopened, unopened_for_memory, same_back, taken_back, read_sure, halted_sure, lacked_sure}
+use Rattle.command_base.proofs.OneFile.{store_input, store_keeping, StoreGiven, store_back, unopened as name_unopened, unopened_for_memory, read_sure, halted_sure, lacked_sure}
 use Rattle.cat_command.specs.Cat.{Selection}
 use Rattle.cat_command.specs.Indexed.{now_of, Replays, ComesTo, ending_of}
 use Rattle.cat_command.specs.IndexedNames.{NameFollowed}
@@ -70,41 +70,11 @@ module _ (asked : Selection) (file : List ℕ) where
     sure = lacked_sure false;
   }
 
-  -- what was seen of the world at each of the calls: the store was opened, read, and taken back
-  pub record IsGiven (w0 w1 w2 : WorldState) (store store_now : StoreState) (following : Following) (result : Result Unit Failed) : Type 0 where
-    pub opens : w1.told ≡ option_map (λ (t : Told). with_opening t (opened kinds.Store file true)) w0.told
-    pub stands : CountsStand w0 w1
-    pub still : w1.faults ≡ w0.faults
-    pub tells : TellsStore w0 file store
-    pub unused : IsUnused store
-    pub comes : ComesTo asked store (now_of store store_now.faults store_now.asked) following
-    pub keeps : KeepsStore w1 w2 file store_now result
-    pub inputs : w2.input_faults ≡ added w1.input_faults store_now.faults
-    pub outputs : w2.output_faults ≡ w1.output_faults
-    pub cause : HasCause w1.faults w2.faults result
-    pub world_fits : w0.faults < 2 ^ 64
-    pub inputs_fit : w0.input_faults < 2 ^ 64
-    pub outputs_fit : w0.output_faults < 2 ^ 64
-
-  pub followed_back : (w0 w1 w2 : WorldState) (store store_now : StoreState) (following : Following) (result : Result Unit Failed) → IsGiven w0 w1 w2 store store_now following result
+  pub followed_back : (w0 w1 w2 : WorldState) (store store_now : StoreState) (following : Following) (result : Result Unit Failed) → StoreGiven file (λ before now. ComesTo asked before (now_of before now.faults now.asked) following) w0 w1 w2 store store_now result
       → NameFollowed asked file w0 w2 (followed following (failed_so (went_well result) store_now.faults))
-  followed_back w0 w1 w2 store store_now following result a =
-      let keeping : Keeping = store_keeping store_now result in
-      record {
-        entries = kept kinds.Store file keeping ∷ [];
-        following = inr (keeping, refl, record { store = store; tells = a.tells; unused = a.unused; comes = a.comes });
-        name = taken_back kinds.Store file w0 w1 w2 keeping result (record {
-          same = same_back kinds.Store file w0 w1 w2 keeping a.opens a.keeps;
-          well_is = refl;
-          stands = a.stands;
-          still = a.still;
-          inputs = a.inputs;
-          outputs = a.outputs;
-          cause = a.cause;
-          world_fits = a.world_fits;
-          inputs_fit = a.inputs_fit;
-          outputs_fit = a.outputs_fit;
-          input = store_input;
-        });
-        sure = sure asked file store (now_of store store_now.faults store_now.asked) following (went_well result) a.unused.faults a.comes;
-      }
+  followed_back w0 w1 w2 store store_now following result a = record {
+    entries = kept kinds.Store file (store_keeping store_now result) ∷ [];
+    following = inr (store_keeping store_now result, refl, record { store = store; tells = a.tells; unused = a.unused; comes = a.comes });
+    name = store_back file (λ before now. ComesTo asked before (now_of before now.faults now.asked) following) w0 w1 w2 store store_now result a;
+    sure = sure asked file store (now_of store store_now.faults store_now.asked) following (went_well result) a.unused.faults a.comes;
+  }

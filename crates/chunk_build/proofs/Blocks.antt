@@ -52,8 +52,8 @@ all_parts records at (id ∷ ids) =
     part : ℕ → ℕ → ℕ → IndexPart
     part channel offset count = record { channel = channel; offset = offset; count = count }
 
-pub length-chunk_bytes : (records : List Rec) (bytes : List ℕ) (start end size crc : ℕ) → length (framed 6 (chunk_text (record { start = start; end = end; size = size; crc = crc; compression = []; records = bytes }))) ≡ 49 + length bytes
-length-chunk_bytes records bytes start end size crc =
+pub length-chunk : (bytes : List ℕ) (start end size crc : ℕ) → length (framed 6 (chunk_text (record { start = start; end = end; size = size; crc = crc; compression = []; records = bytes }))) ≡ 49 + length bytes
+length-chunk bytes start end size crc =
     let f = string [] ++ (prefixed 8 bytes ++ []) in
     omega (
       arith,
@@ -74,7 +74,7 @@ length-chunk_bytes records bytes start end size crc =
 
 pub built_is_block : (records : List Rec) (b : Block) → IsBuilt (opened records) b → IsBlock b records
 built_is_block records b is =
-    let size : length (chunk_bytes records) ≡ 49 + length (opened records).bytes = length-chunk_bytes records (opened records).bytes (opened records).start (opened records).end _ _ in
+    let size : length (chunk_bytes records) ≡ 49 + length (opened records).bytes = length-chunk (opened records).bytes (opened records).start (opened records).end _ _ in
     record {
       spelled = is.spelled ∙ ap (λ (l : List ℕ). chunk_bytes records ++ l) (all_indexes records (logged_channels records));
       chunk = is.chunk ∙ sym size;

@@ -1,6 +1,6 @@
 mod RowLemmas
 pub mod Marks
 pub mod Growing
-mod Blocks
+pub mod Blocks
 mod Putting
 pub mod Tables

@@ -5,7 +5,7 @@ use Rattle.std.proofs.lemmas.List.{append-nil}
 use Rattle.std.proofs.lemmas.Bool.{both_ways, ne_eqb, false_from_ne_true}
 use Rattle.mcap_io.specs.Outside.{Rose, RisesOnce, HasCause, Opens, OpenCause, CountsStand, added, SinkState, WorldState, Opening, Keeping, Told, opened, with_opening, went_well, NoneIsOut, Notes}
 use Rattle.mcap_io.proofs.Notes.{noted_in}
-use Rattle.mcap_io.specs.Stores.{StoreState}
+use Rattle.mcap_io.specs.Stores.{StoreState, IsUnused, TellsStore, KeepsStore}
 use Rattle.mcap_io.specs.declared.outside.Failed.{Failed}
 use Rattle.mcap_io.specs.declared.outside.ObjectKind.{ObjectKind}
 use Rattle.mcap_io.specs.declared.outside.ObjectKind.TheVariants as kinds
@@ -446,3 +446,37 @@ module _ (kind : ObjectKind) (file : List ℕ) where
 -- what a world notes of a store that is taken back
 abbrev pub store_keeping : StoreState → Result Unit Failed → Keeping
 store_keeping store result = record { well = went_well result; faults = store.faults; left = None; asked = store.asked }
+
+-- what was seen of the world at each of the calls: the store was opened, read so, and taken back
+pub record StoreGiven (file : List ℕ) (reads : StoreState → StoreState → Type 0) (w0 w1 w2 : WorldState) (store now : StoreState) (result : Result Unit Failed) : Type 0 where
+  pub opens : w1.told ≡ option_map (λ (t : Told). with_opening t (opened kinds.Store file true)) w0.told
+  pub stands : CountsStand w0 w1
+  pub still : w1.faults ≡ w0.faults
+  pub tells : TellsStore w0 file store
+  pub unused : IsUnused store
+  pub comes : reads store now
+  pub keeps : KeepsStore w1 w2 file now result
+  pub inputs : w2.input_faults ≡ added w1.input_faults now.faults
+  pub outputs : w2.output_faults ≡ w1.output_faults
+  pub cause : HasCause w1.faults w2.faults result
+  pub world_fits : w0.faults < 2 ^ 64
+  pub inputs_fit : w0.input_faults < 2 ^ 64
+  pub outputs_fit : w0.output_faults < 2 ^ 64
+
+pub store_back : (file : List ℕ) (reads : StoreState → StoreState → Type 0) (w0 w1 w2 : WorldState) (store now : StoreState) (result : Result Unit Failed) → StoreGiven file reads w0 w1 w2 store now result
+    → NameRead kinds.Store file w0 w2 (kept kinds.Store file (store_keeping now result) ∷ []) (failed_so (went_well result) now.faults)
+store_back file reads w0 w1 w2 store now result a =
+    let keeping : Keeping = store_keeping now result in
+    taken_back kinds.Store file w0 w1 w2 keeping result (record {
+      same = same_back kinds.Store file w0 w1 w2 keeping a.opens a.keeps;
+      well_is = refl;
+      stands = a.stands;
+      still = a.still;
+      inputs = a.inputs;
+      outputs = a.outputs;
+      cause = a.cause;
+      world_fits = a.world_fits;
+      inputs_fit = a.inputs_fit;
+      outputs_fit = a.outputs_fit;
+      input = store_input;
+    })

@@ -2,7 +2,7 @@
 use Rattle.std.proofs.Common.{◌≡◌, ℕ, ◌+◌, ◌-◌, ◌≤◌, List, [], ◌++◌, length, take, drop, sym, ap, ◌∙◌, append_assoc, arith}
 use Rattle.std.proofs.lemmas.List.{take-append-drop, take_all, take-take, drop-drop, drop-take, drop_at, length-append, length-drop}
 use Rattle.mcap_wire.specs.Layout.{le, magic}
-use Rattle.file_check.specs.Checking.{EndsWithMagic}
+use Rattle.mcap_model.specs.Whole.{EndsWithMagic}
 
 -- the last eight bytes of a file
 abbrev last_of : List ℕ → List ℕ

@@ -8,7 +8,7 @@ use Rattle.mcap_io.specs.StoreSources.{front_left}
 use Rattle.mcap_model.specs.Places.{At, Each}
 use Rattle.mcap_model.specs.Tops.{Top, Tops}
 use Rattle.mcap_model.specs.Kept.{reading_limits, Good, Halt, grammar, Halts}
-use Rattle.mcap_model.specs.Whole.{V9}
+use Rattle.mcap_model.specs.Whole.{EndsWithMagic, V9}
 use Rattle.mcap_model.specs.Valid.{IsPlain, WherePlain, FailsAmong, Flaw, flaw_2, flaw_9}
 use Rattle.mcap_scan.specs.Scanning.{HaltsSo}
 use Rattle.section_check.specs.LastChunk.{IndexFails}
@@ -18,7 +18,7 @@ use Rattle.file_check.specs.declared.flaws.FailedRule.{FailedRule}
 use Rattle.file_check.specs.Halting.{told_flaw}
 use Rattle.file_check.specs.declared.refusals.CheckRefused.{CheckRefused}
 use Rattle.file_check.specs.declared.refusals.CheckRefused.TheVariants as refusals
-use Rattle.file_check.specs.Checking.{HaltsBefore, IsUnchecked, IsFault, EndsWithMagic, front_of, TellsFlaw, EndsAtMagic, FrontIs}
+use Rattle.file_check.specs.Checking.{HaltsBefore, IsUnchecked, IsFault, front_of, TellsFlaw, EndsAtMagic, FrontIs}
 use Rattle.mcap_model.proofs.Places.{at_none}
 use Rattle.file_check.proofs.Halted.{good_short, stand_whole, halts_are_flaws}
 

@@ -10,7 +10,7 @@ use Rattle.mcap_model.specs.declared.checked.Verdict.TheVariants as verdicts
 use Rattle.mcap_model.specs.Tops.{Top, Tops}
 use Rattle.mcap_model.specs.Rules.{HasDataEnd}
 use Rattle.mcap_model.specs.Kept.{reading_limits, Good, Halt, compressed, beyond, Halts}
-use Rattle.mcap_model.specs.Whole.{V9}
+use Rattle.mcap_model.specs.Whole.{EndsWithMagic, V9}
 use Rattle.mcap_model.specs.Valid.{Keeps as KeepsAll, Valid, IsFullyIndexed, FullyIndexed, CountsAre, Flaw}
 use Rattle.file_check.specs.declared.flaws.FailedRule.{FailedRule}
 use Rattle.file_check.specs.declared.refusals.CheckRefused.{CheckRefused}
@@ -66,11 +66,6 @@ CheckCause before now (Err (refusals.Compressed offset name)) = now ≡ before
 CheckCause before now (Err (refusals.Limit offset)) = now ≡ before
 CheckCause before now (Err refusals.Memory) = now ≡ before
 
--- what a check leaves of the store
-pub record Leaves (old new : StoreState) : Type 0 where
-  pub bytes : new.bytes ≡ old.bytes
-  pub known : old.known ≤ new.known
-
 -- ---- the steps
 
 -- it is for a fault of the store
@@ -84,9 +79,6 @@ IsFault refusals.Memory = ⊥
 pub record StoreStays (old new : StoreState) : Type 0 where
   pub bytes : new.bytes ≡ old.bytes
   pub known : new.known ≡ old.known
-
-abbrev pub EndsWithMagic : List ℕ → Type 0
-EndsWithMagic file = (start : List ℕ) × (file ≡ start ++ magic)
 
 -- the source over the front of a store
 abbrev pub front_of : StoreState → ℕ → SourceState

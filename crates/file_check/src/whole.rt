@@ -1,5 +1,6 @@
 //! The check of a file.
-ghost use Rattle.file_check.specs.Checking.{Checks, CheckCause, Leaves};
+ghost use Rattle.mcap_io.specs.Stores.{LeavesStore};
+ghost use Rattle.file_check.specs.Checking.{Checks, CheckCause};
 
 use crate::checking::check_records;
 use crate::ends::ends_with_magic;
@@ -14,7 +15,7 @@ use std::alloc::Global;
 pub fn check<T: Store>(alloc: Global, store: &mut T) -> Result<Verdict, CheckRefused>
     ensures checks { Checks (T.state store.old).bytes result }
     ensures cause { CheckCause (T.state store.old).faults (T.state store.new).faults result }
-    ensures leaves { Leaves (T.state store.old) (T.state store.new) }
+    ensures leaves { LeavesStore (T.state store.old) (T.state store.new) }
 {
     let len = match store.len() {
         Ok(len) => len,

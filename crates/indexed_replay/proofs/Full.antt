@@ -20,7 +20,8 @@ use Rattle.mcap_model.proofs.Places.{at_none, at_within, at_kept}
 use Rattle.mcap_model.proofs.Readings.{length-top}
 use Rattle.mcap_model.proofs.Lists.{at_second, cut_flat, filter_has, filter_passed}
 use Rattle.mcap_model.proofs.Flat.{named_or}
-use Rattle.mcap_laws.proofs.Leading.{Ends, ends_of, ended_front, summary_of, in_summary, from_summary, summary_there, from_there, there_same, is_there, opened, named_of, index_right, index_stands}
+use Rattle.mcap_model.proofs.TakenRecords.{ended_front}
+use Rattle.mcap_laws.proofs.Leading.{Ends, ends_of, summary_of, in_summary, from_summary, summary_there, from_there, there_same, is_there, opened, named_of, index_right, index_stands}
 use Rattle.summary_read.specs.Parts.{of_kind}
 use Rattle.indexed_replay.specs.declared.answers.NotIndexed.{NotIndexed}
 use Rattle.indexed_replay.specs.declared.answers.NotIndexed.TheVariants as lacks

@@ -14,36 +14,12 @@ use Rattle.mcap_model.specs.Plain.{NotBehind, InOrder}
 use Rattle.mcap_model.proofs.Places.{at_none}
 use Rattle.mcap_model.proofs.Lists.{pairs_at, pairs_from, pairs_cons}
 use Rattle.mcap_model.proofs.NamedTopics.{contained, has_there}
+use Rattle.mcap_model.proofs.Replays.{order_pairs}
 use Rattle.indexed_replay.specs.Steps.{led_as}
 use Rattle.indexed_replay.specs.Finishing.{same_place, IsOrdered}
 
 abbrev Before : Shown → Shown → Type 0
 Before s r = ComesBefore (led_as s) (led_as r)
-
--- ---- order
-
-behind_next : (a b c : Shown) → NotBehind a b → NotBehind b c → NotBehind a c
-behind_next a b c (inl p) (inl q) = inl (omega (arith, p, q))
-behind_next a b c (inl p) (inr q) = inl (omega (arith, p, q.0))
-behind_next a b c (inr p) (inl q) = inl (omega (arith, p.0, q))
-behind_next a b c (inr (e, inl p)) (inr (f, inl q)) = inr (e ∙ f, inl (omega (arith, p, q)))
-behind_next a b c (inr (e, inl p)) (inr (f, inr q)) = inr (e ∙ f, inl (omega (arith, p, q.0)))
-behind_next a b c (inr (e, inr p)) (inr (f, inl q)) = inr (e ∙ f, inl (omega (arith, p.0, q)))
-behind_next a b c (inr (e, inr p)) (inr (f, inr q)) = inr (e ∙ f, inr (p.0 ∙ q.0, omega (arith, p.1, q.1)))
-
-order_far : (xs : List Shown) → InOrder xs → (i n : ℕ) (d : Shown) → suc (i + n) < length xs → NotBehind (get_or xs i d) (get_or xs (suc (i + n)) d)
-order_far xs order i zero d within =
-    let is : i + 1 ≡ suc (i + 0) = omega arith in
-    subst (λ (k : ℕ). NotBehind (get_or xs i d) (get_or xs k d)) is (order i d (omega (arith, within)))
-order_far xs order i (suc n) d within =
-    let is : suc (i + n) + 1 ≡ suc (i + suc n) = omega arith in
-    behind_next (get_or xs i d) (get_or xs (suc (i + n)) d) (get_or xs (suc (i + suc n)) d) (order_far xs order i n d (omega (arith, within)))
-    (subst (λ (k : ℕ). NotBehind (get_or xs (suc (i + n)) d) (get_or xs k d)) is (order (suc (i + n)) d (omega (arith, within))))
-
-order_pairs : (xs : List Shown) → InOrder xs → AllPairs NotBehind xs
-order_pairs xs order i j d less within =
-    let is : suc (i + (j - suc i)) ≡ j = omega (arith, less) in
-    subst (λ (k : ℕ). NotBehind (get_or xs i d) (get_or xs k d)) is (order_far xs order i (j - suc i) d (omega (arith, within, less)))
 
 -- ---- one time and place
 

@@ -20,6 +20,7 @@ use Rattle.mcap_model.proofs.Flaws.{none_spelled}
 use Rattle.mcap_model.proofs.Maps.{shows_once}
 use Rattle.mcap_model.specs.declared.table.Declared.{Declared}
 use Rattle.rec_data.specs.declared.footer.Footer.{Footer}
+use Rattle.mcap_laws.proofs.Leading.{spelled_once}
 use Rattle.summary_read.specs.Reached.{EndsIn}
 use Rattle.summary_read.specs.Parts.{Parts, IsLoaded, of_kind}
 use Rattle.indexed_replay.specs.Lists.{Knows}
@@ -59,15 +60,6 @@ loaded_summary file p l =
       records = l.split;
       short = λ n t at. let is = fits n t at in omega (arith, is.short);
     }
-
-spelled_once : (xs ys : List Top) → AreShort xs → AreShort ys → spelled xs ≡ spelled ys → xs ≡ ys
-spelled_once xs ys short_xs short_ys same = elim (one_follows xs ys [] [] (all_short xs short_xs) (all_short ys short_ys) (ap (λ (l : List ℕ). l ++ []) same)) [
-  | inl behind ↦ sym (behind.longer ∙ ap (λ (l : List Top). xs ++ l) (nothing behind.more behind.left) ∙ append-nil xs)
-  | inr behind ↦ behind.longer ∙ ap (λ (l : List Top). ys ++ l) (nothing behind.more behind.left) ∙ append-nil ys
-]
-  where
-    nothing : (more : List Top) → [] ≡ spelled more ++ [] → more ≡ []
-    nothing more left = let size : 0 ≡ length (spelled more ++ []) = ap length left in none_spelled more (omega (arith, size, length-append (spelled more) []))
 
 -- a file has one summary
 pub summary_once : (file : List ℕ) (a b : ℕ) (xs ys : List Top) → HasSummary file a xs → HasSummary file b ys → xs ≡ ys

@@ -1,7 +1,6 @@
 //! The replay of a store by the index of its file.
 ghost use Rattle.std.specs.Prelude.{◌≡◌, ◌≤◌, Ok};
-ghost use Rattle.mcap_io.specs.Stores.{TellsLength};
-ghost use Rattle.summary_read.specs.Loading.{Leaves};
+ghost use Rattle.mcap_io.specs.Stores.{LeavesStore, TellsLength};
 ghost use Rattle.mcap_model.specs.Plain.{asked_topic};
 ghost use Rattle.indexed_replay.specs.Played.{AsksBound, AsksIndexed, AsksLoaded, CountsJudged, PlaysLoaded, refused_by};
 ghost use Rattle.indexed_replay.specs.Replaying.{Plays, PlaysScan, ReplayCause, TellsChunks, TellsNoSummary};
@@ -64,7 +63,7 @@ fn play<T: Store>(
     requires measured { TellsLength (T.state store.old).bytes (Ok len) }
     ensures plays { PlaysLoaded (T.state store.old).bytes loaded.now range (asked_topic topic.entry) result }
     ensures cause { ReplayCause (T.state store.old).faults (T.state store.new).faults result }
-    ensures leaves { Leaves (T.state store.old) (T.state store.new) }
+    ensures leaves { LeavesStore (T.state store.old) (T.state store.new) }
     ensures asks { AsksLoaded loaded.now range (T.state store.old) (T.state store.new) }
 {
     let tables = match take_channels(alloc, loaded) {
@@ -106,7 +105,7 @@ pub fn replay_indexed<T: Store>(
     ensures asks { AsksIndexed range (T.state store.old) (T.state store.new) }
     ensures bounded { AsksBound range (T.state store.old) (T.state store.new) }
     ensures cause { ReplayCause (T.state store.old).faults (T.state store.new).faults result }
-    ensures leaves { Leaves (T.state store.old) (T.state store.new) }
+    ensures leaves { LeavesStore (T.state store.old) (T.state store.new) }
 {
     let len = match store.len() {
         Ok(len) => len,

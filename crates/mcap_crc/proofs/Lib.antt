@@ -3,5 +3,6 @@ mod Entries
 mod Blocks
 mod Folding
 mod Below
+pub mod Nibbles
 mod Lanes
 pub mod RemainderLemmas

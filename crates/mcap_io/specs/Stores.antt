@@ -28,6 +28,11 @@ abbrev pub TellsLength : Option (List ℕ) → Result ℕ Failed → Type 0
 TellsLength told (Ok n) = (bytes : List ℕ) → told ≡ Some bytes → n ≡ length bytes
 TellsLength told (Err why) = Unit {0}
 
+-- what a reading leaves of a store: its bytes, and a length that is known at least as well
+pub record LeavesStore (old new : StoreState) : Type 0 where
+  pub bytes : new.bytes ≡ old.bytes
+  pub known : old.known ≤ new.known
+
 -- a question for the length
 pub record Measures (old new : StoreState) (result : Result ℕ Failed) : Type 0 where
   pub tells : TellsLength old.bytes result

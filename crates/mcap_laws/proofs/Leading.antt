@@ -31,6 +31,7 @@ use Rattle.mcap_model.proofs.Readings.{top_of, all_short, short_there, one_follo
 use Rattle.mcap_model.proofs.Unpacking.{chunks_are_opened}
 use Rattle.mcap_model.proofs.Flat.{named_or, agree_more, topic_once, placed_tops, at_mapped}
 use Rattle.mcap_model.proofs.Flaws.{none_spelled}
+use Rattle.mcap_model.proofs.TakenRecords.{ended_front}
 use Rattle.mcap_model.proofs.Maps.{message_once, shows_once}
 use Rattle.mcap_model.proofs.NamedTopics.{zip_front, zip_back}
 use Rattle.mcap_model.proofs.Prefixes.{ends_there}
@@ -43,11 +44,6 @@ ended_longer [] (suc n) k few ended = absurd ended
 ended_longer (x ∷ xs) (suc n) zero few ended = absurd (omega (arith, few))
 ended_longer (x ∷ xs) (suc n) (suc k) few (inl here) = inl here
 ended_longer (x ∷ xs) (suc n) (suc k) few (inr more) = inr (ended_longer xs n k (omega (arith, few)) more)
-
-pub ended_front : (xs ys : List Top) → HasDataEnd xs → HasDataEnd (xs ++ ys)
-ended_front [] ys ended = absurd ended
-ended_front (x ∷ xs) ys (inl here) = inl here
-ended_front (x ∷ xs) ys (inr more) = inr (ended_front xs ys more)
 
 -- what passes a test together with all in front of it
 at_while : {X : Type 0} (test : X → Bool) (xs : List X) (n : ℕ) (x : X) → At (take_while test xs) n x → At xs n x × Each (λ y. test y ≡ true) (take n xs)
@@ -81,7 +77,7 @@ taken_behind {X} (y ∷ xs) zero p x at m is =
 taken_behind (y ∷ xs) (suc c) p x at zero is = absurd (omega (arith, is))
 taken_behind {X} (y ∷ xs) (suc c) p x at (suc m) is = ap (λ (l : List X). y ∷ l) (taken_behind xs c p x at m (omega (arith, is)))
 
-spelled_once : (xs ys : List Top) → AreShort xs → AreShort ys → spelled xs ≡ spelled ys → xs ≡ ys
+pub spelled_once : (xs ys : List Top) → AreShort xs → AreShort ys → spelled xs ≡ spelled ys → xs ≡ ys
 spelled_once xs ys short_xs short_ys same = elim (one_follows xs ys [] [] (all_short xs short_xs) (all_short ys short_ys) (ap (λ (l : List ℕ). l ++ []) same)) [
   | inl behind ↦ sym (behind.longer ∙ ap (λ (l : List Top). xs ++ l) (nothing behind.more behind.left) ∙ append-nil xs)
   | inr behind ↦ behind.longer ∙ ap (λ (l : List Top). ys ++ l) (nothing behind.more behind.left) ∙ append-nil ys

@@ -99,7 +99,7 @@ order_far xs order i (suc n) d within =
     behind_next (get_or xs i d) (get_or xs (suc (i + n)) d) (get_or xs (suc (i + suc n)) d) (order_far xs order i n d (omega (arith, within)))
     (subst (λ (k : ℕ). NotBehind (get_or xs (suc (i + n)) d) (get_or xs k d)) is (order (suc (i + n)) d (omega (arith, within))))
 
-order_pairs : (xs : List Shown) → InOrder xs → AllPairs NotBehind xs
+pub order_pairs : (xs : List Shown) → InOrder xs → AllPairs NotBehind xs
 order_pairs xs order i j d less within =
     let is : suc (i + (j - suc i)) ≡ j = omega (arith, less) in
     subst (λ (k : ℕ). NotBehind (get_or xs i d) (get_or xs k d)) is (order_far xs order i (j - suc i) d (omega (arith, within, less)))

@@ -227,6 +227,11 @@ cut_taken bytes at c tables new tops was is near (keeps, are) =
 pub spelled_more : (tops : List Top) (t : Top) → spelled (tops ++ t ∷ []) ≡ spelled tops ++ top_bytes t
 spelled_more tops t = flat_map-append top_bytes tops (t ∷ []) ∙ ap (λ (l : List ℕ). spelled tops ++ l) (append-nil (top_bytes t))
 
+pub ended_front : (xs ys : List Top) → HasDataEnd xs → HasDataEnd (xs ++ ys)
+ended_front [] ys ended = absurd ended
+ended_front (x ∷ xs) ys (inl here) = inl here
+ended_front (x ∷ xs) ys (inr more) = inr (ended_front xs ys more)
+
 pub ended_more : (tops : List Top) (t : Top) → t.op ≡ 15 → HasDataEnd (tops ++ t ∷ [])
 ended_more [] t is = inl is
 ended_more (x ∷ xs) t is = inr (ended_more xs t is)

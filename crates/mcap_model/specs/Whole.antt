@@ -27,8 +27,11 @@ InSummary tops n = HasDataEnd (take n tops) × (suc n < length tops)
 
 -- ---- V2 and V4: both ends, and whole records between them
 
+abbrev pub EndsWithMagic : List ℕ → Type 0
+EndsWithMagic bytes = (start : List ℕ) × (bytes ≡ start ++ magic)
+
 abbrev pub V2 : List ℕ → Type 0
-V2 file = (16 ≤ length file) × ((start : List ℕ) × (file ≡ start ++ magic))
+V2 file = (16 ≤ length file) × EndsWithMagic file
 
 -- the length of each content can be declared
 abbrev pub AreShort : List Top → Type 0

@@ -12,7 +12,8 @@ use Rattle.mcap_model.specs.Whole.{offset_of, behind_end, StartsWith, EndsWith, 
 use Rattle.mcap_model.proofs.Places.{at_none, at_within, at_kept, at_last}
 use Rattle.mcap_model.proofs.Lists.{at_either, at_second, at_taken, cut_at}
 use Rattle.summary_check.specs.Laid.{all_of, EndsWithDataEnd}
-use Rattle.summary_check.proofs.Laying.{length-all, body_there, body_back, before_body, within_body, behind_ended, end_within, has_end}
+use Rattle.mcap_model.proofs.TakenRecords.{ended_front}
+use Rattle.summary_check.proofs.Laying.{length-all, body_there, body_back, before_body, within_body, behind_ended, has_end}
 
 at_dropped : {X : Type 0} (n : ℕ) (xs : List X) (k : ℕ) (x : X) → At (drop n xs) k x → At xs (n + k) x
 at_dropped zero xs k x at = let same : k ≡ 0 + k = omega arith in subst (λ (m : ℕ). At xs m x) same at
@@ -145,7 +146,7 @@ module _ (tops body : List Top) (foot : Top) (ended : EndsWithDataEnd tops) (op 
     back = back;
     footer = foot;
     joined = joined;
-    within = end_within tops (take i body) (has_end tops ended);
+    within = ended_front tops (take i body) (has_end tops ended);
     starts = begins;
     ends = ends;
     none_before = subst (Each (λ x. x.op ≢ op)) (sym (behind_ended tops (take i body) ended)) none_before;

@@ -22,7 +22,8 @@ use Rattle.summary_read.specs.Steps.{Judged}
 use Rattle.summary_check.specs.Body.{known, OrderJudged}
 use Rattle.summary_check.specs.Laid.{all_of, EndsWithDataEnd, IsFront}
 use Rattle.summary_check.proofs.Failing.{judged_plain}
-use Rattle.summary_check.proofs.Laying.{end_within, has_end, unended_front, front_not, length-all, behind_body}
+use Rattle.mcap_model.proofs.TakenRecords.{ended_front}
+use Rattle.summary_check.proofs.Laying.{has_end, unended_front, front_not, length-all, behind_body}
 use Rattle.summary_check.proofs.Staying.{keeps_9}
 
 one_at : (foot : Top) (n : ℕ) (t : Top) → At (foot ∷ []) n t → (n ≡ 0) × (foot ≡ t)
@@ -56,8 +57,8 @@ module _ (file : List ℕ) (tops body : List Top) (foot : Top) (j : AllJudged fi
   tail : (k : ℕ) (t : Top) → At body k t → IsTail t
   tail k t at = let judged = j.judged k t at in record { kind = judged.0; v6 = judged.1 }
 
-  ended_front : (l : List Top) → HasDataEnd (tops ++ l)
-  ended_front l = end_within tops l (has_end tops j.ended)
+  ended_behind : (l : List Top) → HasDataEnd (tops ++ l)
+  ended_behind l = ended_front tops l (has_end tops j.ended)
 
   by_places : (P : ℕ → Top → Type 0) → ((n : ℕ) (t : Top) → At tops n t → P n t) → ((k : ℕ) (t : Top) → At body k t → P (length tops + k) t) → P (length tops + length body) foot → (n : ℕ) (t : Top) → At all n t → P n t
   by_places P front middle last n t at = elim (at_either tops (body ++ foot ∷ []) n t at) [
@@ -105,14 +106,14 @@ module _ (file : List ℕ) (tops body : List Top) (foot : Top) (j : AllJudged fi
   -- ---- the rules of a record by itself, and behind those before it
 
   some_front : (l : List Top) (t : Top) → V3 (tops ++ l) t
-  some_front l t = by (tops ++ l) (ended_front l)
+  some_front l t = by (tops ++ l) (ended_behind l)
     where
       by : (xs : List Top) → HasDataEnd xs → V3 xs t
       by [] none = absurd none
       by (x ∷ xs) has = tt
 
   valid_behind : (l : List Top) (t : Top) → (t.op ≡ 0 → ⊥) → V5 (tops ++ l) t
-  valid_behind l t some = by (tops ++ l) (ended_front l)
+  valid_behind l t some = by (tops ++ l) (ended_behind l)
     where
       by : (xs : List Top) → HasDataEnd xs → V5 xs t
       by [] none = absurd none
@@ -145,7 +146,7 @@ module _ (file : List ℕ) (tops body : List Top) (foot : Top) (j : AllJudged fi
   keeps_behind = by_places (λ n t. V5Behind all n t)
       (λ n t at. (λ within. absurd (not_within_front n t at within), λ last. absurd (not_last_front n t at last)))
       (λ k t at. (λ within. let judged = j.judged k t at in judged.0, λ last. absurd (not_last_body k t at last)))
-      (λ within. absurd (not_within_foot within), λ last. ended_front (body ++ foot ∷ []))
+      (λ within. absurd (not_within_foot within), λ last. ended_behind (body ++ foot ∷ []))
 
   keeps_nine : Keeps V9 all
   keeps_nine = by_places (λ n t. V9 all n t)

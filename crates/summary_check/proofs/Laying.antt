@@ -14,18 +14,13 @@ use Rattle.mcap_model.proofs.Flat.{at_mapped}
 use Rattle.mcap_model.proofs.Places.{at_within, at_kept, at_last}
 use Rattle.mcap_model.proofs.Lists.{at_either, at_second, take_second}
 use Rattle.mcap_model.proofs.Readings.{length-top}
-use Rattle.mcap_model.proofs.TakenRecords.{ended_more, spelled_more}
+use Rattle.mcap_model.proofs.TakenRecords.{ended_front, ended_more, spelled_more}
 use Rattle.mcap_model.proofs.OneMore.{taken_more}
 use Rattle.summary_read.specs.Parts.{tops_of}
 use Rattle.summary_check.specs.Laid.{all_of, EndsWithDataEnd, IsFront, Laid}
 use Rattle.summary_check.proofs.Onward.{length-tops}
 
 -- ---- Data Ends
-
-pub end_within : (xs ys : List Top) → HasDataEnd xs → HasDataEnd (xs ++ ys)
-end_within [] ys none = absurd none
-end_within (x ∷ xs) ys (inl here) = inl here
-end_within (x ∷ xs) ys (inr later) = inr (end_within xs ys later)
 
 pub end_taken : (xs : List Top) (n : ℕ) → HasDataEnd (take n xs) → HasDataEnd xs
 end_taken xs zero has = absurd has
@@ -89,7 +84,7 @@ module _ (tops body : List Top) (foot : Top) where
   module _ (ended : EndsWithDataEnd tops) where
     pub body_within : (k : ℕ) → k < length body → InSummary (all_of tops body foot) (length tops + k)
     body_within k less = (
-      subst HasDataEnd (sym (before_body k (omega (arith, less)))) (end_within tops (take k body) (has_end tops ended)),
+      subst HasDataEnd (sym (before_body k (omega (arith, less)))) (ended_front tops (take k body) (has_end tops ended)),
       omega (arith, less, length-all),
     )
 

@@ -8,11 +8,11 @@ use Rattle.rec_data.specs.Parsed.{footer_fields}
 use Rattle.rec_data.specs.Records.{ShowsFooter as ShowsContent}
 use Rattle.rec_data.proofs.Contents.{length-footer_text, footer_decided}
 use Rattle.mcap_model.specs.Tops.{Top, top_bytes}
-use Rattle.mcap_model.specs.Whole.{V2}
+use Rattle.mcap_model.specs.Whole.{EndsWithMagic, V2}
 use Rattle.mcap_model.specs.Valid.{EndsWithFooter}
 use Rattle.mcap_model.proofs.Readings.{length-top}
 use Rattle.summary_read.specs.Reached.{ShowsFooter, EndsIn, HasNoSummary, Fails, at_ends, last_magic, no_footer, by_start}
-use Rattle.summary_read.specs.Steps.{EndsWithMagic, BeginsWithFooter}
+use Rattle.summary_read.specs.Steps.{BeginsWithFooter}
 
 -- ---- the Footer
 

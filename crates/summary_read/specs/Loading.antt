@@ -41,8 +41,3 @@ AskedFor file before now = (now ≤ before + 37)
 
 abbrev pub AsksLittle : StoreState → StoreState → Type 0
 AsksLittle old new = (file : List ℕ) → old.bytes ≡ Some file → AskedFor file old.asked new.asked
-
--- what a loading leaves of the store
-pub record Leaves (old new : StoreState) : Type 0 where
-  pub bytes : new.bytes ≡ old.bytes
-  pub known : old.known ≤ new.known

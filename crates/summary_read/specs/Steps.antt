@@ -28,10 +28,6 @@ IsOfBytes (refusals.Grammar offset rule) = Unit {0}
 IsOfBytes (refusals.Limit offset) = Unit {0}
 IsOfBytes refusals.Memory = Unit {0}
 
--- bytes end with the magic
-abbrev pub EndsWithMagic : List ℕ → Type 0
-EndsWithMagic bytes = (start : List ℕ) × (bytes ≡ start ++ magic)
-
 -- bytes begin with that Footer, or with none
 abbrev pub BeginsWithFooter : List ℕ → Option Footer → Type 0
 BeginsWithFooter bytes (Some f) = (t : Top) × (rest : List ℕ) × (bytes ≡ top_bytes t ++ rest) × ShowsFooter t f

@@ -5,7 +5,8 @@ ghost use Rattle.mcap_model.specs.Made.{top};
 ghost use Rattle.mcap_model.specs.Rules.{V1};
 ghost use Rattle.summary_read.specs.Loading.{IsRefused};
 ghost use Rattle.summary_read.specs.Reached.{EndsIn, HasNoSummary};
-ghost use Rattle.summary_read.specs.Steps.{IsOfBytes, IsInside, EndsWithMagic, BeginsWithFooter, EndJudged, FrontJudged};
+ghost use Rattle.mcap_model.specs.Whole.{EndsWithMagic};
+ghost use Rattle.summary_read.specs.Steps.{IsOfBytes, IsInside, BeginsWithFooter, EndJudged, FrontJudged};
 
 use crate::refusals::LoadRefused;
 use mcap_wire::{CONTENT_LIMIT, MAGIC, cut, take_head};

@@ -1,8 +1,9 @@
 //! Loading: the ends of a file are read and judged, then its summary.
 ghost use Rattle.std.specs.Prelude.{◌≡◌, ◌+◌, ◌^◌, ◌<◌, ◌≤◌, length, IfOk};
+ghost use Rattle.mcap_io.specs.Stores.{LeavesStore};
 ghost use Rattle.mcap_model.specs.Fields.{IsHeader};
 ghost use Rattle.mcap_model.specs.Made.{top};
-ghost use Rattle.summary_read.specs.Loading.{Loads, LoadCause, AsksLittle, Leaves};
+ghost use Rattle.summary_read.specs.Loading.{Loads, LoadCause, AsksLittle};
 ghost use Rattle.summary_read.specs.Parts.{IsListed};
 ghost use Rattle.summary_read.specs.Steps.{AreCut, IsInside, TellsEnd, TellsFront, TellsHeader, HeaderAsks, TellsPart, Takes};
 
@@ -163,7 +164,7 @@ pub fn load<T: Store>(alloc: Global, store: &mut T) -> Result<Loaded, LoadRefuse
     ensures loads { Loads (T.state store.old).bytes result }
     ensures cause { LoadCause (T.state store.old).faults (T.state store.new).faults result }
     ensures asks { AsksLittle (T.state store.old) (T.state store.new) }
-    ensures leaves { Leaves (T.state store.old) (T.state store.new) }
+    ensures leaves { LeavesStore (T.state store.old) (T.state store.new) }
 {
     let len = match store.len() {
         Ok(len) => len,

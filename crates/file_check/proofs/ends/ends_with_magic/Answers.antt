@@ -1,5 +1,5 @@
 use Rattle.std.proofs.Common.{ℕ, ◌∙◌, ◌-◌, ◌≤◌, take, drop, length, sym, ap, subst}
-use Rattle.file_check.specs.Checking.{EndsWithMagic}
+use Rattle.mcap_model.specs.Whole.{EndsWithMagic}
 use Rattle.file_check.proofs.Parts.{ends_whole, whole_ends}
 use Rattle.file_check.proofs.ends.ends_with_magic.Goals as goal
 

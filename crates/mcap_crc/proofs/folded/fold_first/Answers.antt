@@ -1,5 +1,5 @@
 use Rattle.mcap_crc.proofs.Folding.{folded}
-use Rattle.mcap_crc.proofs.Lanes.{lane_fits}
+use Rattle.mcap_crc.proofs.Nibbles.{lane_fits}
 use Rattle.mcap_crc.proofs.folded.fold_first.Goals as goal
 
 pub returns : goal.returns

@@ -1,4 +1,5 @@
-use Rattle.mcap_crc.proofs.Lanes.{low_ok, high_ok, block_looked_up}
+use Rattle.mcap_crc.proofs.Nibbles.{low_ok, high_ok}
+use Rattle.mcap_crc.proofs.Lanes.{block_looked_up}
 use Rattle.mcap_crc.proofs.folded.look_up.Goals as goal
 
 pub swizzle : goal.swizzle

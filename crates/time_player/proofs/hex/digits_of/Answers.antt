@@ -1,5 +1,6 @@
 -- Each lane is looked up among the digits.
-use Rattle.time_player.proofs.Digits.{low_ok, high_ok, block_digits}
+use Rattle.mcap_crc.proofs.Nibbles.{low_ok, high_ok}
+use Rattle.time_player.proofs.Digits.{block_digits}
 use Rattle.time_player.proofs.hex.digits_of.Goals as goal
 
 pub swizzle-high : goal.swizzle-high
