@@ -17,7 +17,7 @@ use Rattle.chunk_writer.proofs.Noting.{blocks_append}
 -- ---- a record that closes no block
 
 -- where no block is among more pieces, none has an offset
-same_from : (at : ℕ) (ps qs more : List Piece) → qs ≡ ps ++ more → blocks_in qs ≡ blocks_in ps → blocks_from at qs ≡ blocks_from at ps
+pub same_from : (at : ℕ) (ps qs more : List Piece) → qs ≡ ps ++ more → blocks_in qs ≡ blocks_in ps → blocks_from at qs ≡ blocks_from at ps
 same_from at ps qs more is same =
     let behind = blocks_from (at + length (pieces_bytes ps)) more in
     let all : blocks_from at qs ≡ blocks_from at ps ++ behind = ap (blocks_from at) is ∙ blocks_append at ps more in

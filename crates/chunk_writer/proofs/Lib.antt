@@ -5,3 +5,5 @@ pub mod Stopping
 pub mod Writing
 pub mod Entries
 pub mod Taking
+pub mod Uncut
+pub mod Plain

@@ -120,7 +120,7 @@ all_put records at count within place none = elim (below_or_all count (length re
   | inr all ↦ omega (arith, within, all)
 ]
 
-keeps_more : (old mid new : Option (List ℕ)) → KeepsOn old mid → KeepsOn mid new → KeepsOn old new
+pub keeps_more : (old mid new : Option (List ℕ)) → KeepsOn old mid → KeepsOn mid new → KeepsOn old new
 keeps_more old mid new first second = λ held is.
     let one = first held is in
     let other = second (held ++ one.0) one.1 in

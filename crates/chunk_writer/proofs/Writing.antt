@@ -56,7 +56,7 @@ adds_more : (opened held now : Option (List ℕ)) (start : List ℕ) (ps qs : Li
 adds_more opened held now start ps qs piece closes first second =
     subst (λ (l : List ℕ). Adds opened now l) (more_written start ps qs piece closes) (adds-adds opened held now (start ++ pieces_bytes ps) (piece_bytes piece) first second)
 
-stands_going : (options : FileOptions) (opened now : Option (List ℕ)) (history : List Rec) (p : Planning) → p.phase ≡ phases.Going → Plans options history p → Adds opened now (written_of options history) → ScribeStands options opened now history p
+pub stands_going : (options : FileOptions) (opened now : Option (List ℕ)) (history : List Rec) (p : Planning) → p.phase ≡ phases.Going → Plans options history p → Adds opened now (written_of options history) → ScribeStands options opened now history p
 stands_going options opened now history p going plans adds = record {
   going = λ e. (plans, adds);
   stopped = λ stop e. absurd (stop_apart p.phase stop going e);

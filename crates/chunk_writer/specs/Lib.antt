@@ -5,3 +5,4 @@ pub mod Plans
 pub mod Held
 pub mod Stops
 pub mod Scribes
+pub mod Buffered

@@ -25,6 +25,10 @@ pub record Plans (options : FileOptions) (history : List Rec) (p : Planning) : T
   pub blocks : p.blocks ≡ length (blocks_in (cuts options.chunk history).pieces)
   pub bytes : p.bytes ≡ length (written_of options history)
 
+-- the plan, with so many bytes more of records that stand at top level
+abbrev pub counted_on : Planning → ℕ → Planning
+counted_on p len = record p { bytes = p.bytes + len }
+
 -- what is to be appended for a record more
 abbrev pub IsNext : Option ℕ → List Rec → Rec → Next → Type 0
 IsNext size history r nexts.Waits = (cuts size (history ++ r ∷ [])).pieces ≡ (cuts size history).pieces

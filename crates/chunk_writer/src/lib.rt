@@ -3,6 +3,7 @@
 #![tactic(auto)]
 
 mod body;
+mod buffered;
 mod entry;
 mod limits;
 mod next;

@@ -1,18 +1,19 @@
 //! The plan of a file: which piece is to be appended next, and how many blocks and bytes there are with it.
-ghost use Rattle.std.specs.Prelude.{◌≡◌, ◌<◌, ◌≤◌, ◌+◌, ◌^◌, ℕ, List, [], ◌∷◌, ◌++◌, length, Some, IfOk, IfErr, OnOk, OnErr};
+ghost use Rattle.std.specs.Prelude.{◌≡◌, ◌<◌, ◌≤◌, ◌+◌, ◌^◌, ℕ, List, [], ◌∷◌, ◌++◌, length, true, Some, None, IfOk, IfErr, OnOk, OnErr};
 ghost use Rattle.mcap_wire.specs.Limits.{block_limit, chunk_size_limit, file_limit};
 ghost use Rattle.rec_data.specs.declared.owned.Rec.{Rec};
 ghost use Rattle.chunk_build.specs.Chunker.{AreFramed};
 ghost use Rattle.mcap_model.specs.declared.options.FileOptions.{FileOptions};
 ghost use Rattle.mcap_model.specs.Built.{IsBlock};
 ghost use Rattle.mcap_model.specs.Summary.{Noted};
+ghost use Rattle.mcap_model.specs.History.{history_bytes};
 ghost use Rattle.mcap_model.specs.File.{front};
 ghost use Rattle.mcap_model.specs.Pieces.{back_of};
 ghost use Rattle.summary_write.specs.Tally.{StandsFor, with_noted_block};
 ghost use Rattle.chunk_writer.specs.declared.phase.Phase.TheVariants as phases;
 ghost use Rattle.chunk_writer.specs.Limits.{Holds, Kept, IsNoFault};
 ghost use Rattle.chunk_writer.specs.Bodies.{BodyFor, StandsSo, NextBlock, LastBlock};
-ghost use Rattle.chunk_writer.specs.Plans.{Plans, IsPlanned, PutStopped, IsLast, LastStopped, IsWhole, BackStopped, HoldsBlock, HoldsNext, CountsNext, CountsBlock, StoppedBefore};
+ghost use Rattle.chunk_writer.specs.Plans.{Plans, counted_on, IsPlanned, PutStopped, IsLast, LastStopped, IsWhole, BackStopped, HoldsBlock, HoldsNext, CountsNext, CountsBlock, StoppedBefore};
 
 use crate::body::{Body, begin, take, take_last};
 use crate::limits::keep_limit;
@@ -20,7 +21,7 @@ use crate::next::Next;
 use crate::phase::Phase;
 use crate::pieces::back_piece;
 use mcap_model::{Block, FileOptions, Stop};
-use mcap_wire::{Bytes, Memory};
+use mcap_wire::{Bytes, FILE_LIMIT, Memory};
 use std::alloc::Global;
 use std::marker::Model;
 use summary_write::Summary;
@@ -212,6 +213,26 @@ impl Plan {
                 }
             },
         }
+    }
+
+    /// Whether records stand at top level, and a file may hold so many bytes of them more.
+    pub(crate) fn has_room_for(&self, len: u64) -> bool
+        ensures { result ≡ true → (self.now.body ≡ None) × (self.now.bytes + len ≤ file_limit) }
+    {
+        match &self.body {
+            Some(_) => return false,
+            None => return len <= FILE_LIMIT - self.bytes,
+        }
+    }
+
+    /// Counts so many bytes of records that stand at top level.
+    pub(crate) fn count(&mut self, len: u64)
+        requires plain { self.old.body ≡ None }
+        requires whole { (records : List Rec) × (len ≡ length (history_bytes records)) }
+        requires within { self.old.bytes + len ≤ file_limit }
+        ensures { self.new ≡ counted_on self.old len }
+    {
+        self.bytes += len;
     }
 
     /// Says which block is last, if records wait for one, and counts it. No more records come.

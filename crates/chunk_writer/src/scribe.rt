@@ -2,7 +2,7 @@
 //! no chunks; and the Data End with all behind it.
 ghost use Rattle.std.specs.Prelude.{◌≡◌, ◌≤◌, ◌+◌, ℕ, List, Option, [], ◌∷◌, ◌++◌, length, Some, None, Ok, Err, IfOk, IfErr, OnOk, OnErr};
 ghost use Rattle.mcap_wire.specs.Layout.{content_limit};
-ghost use Rattle.mcap_wire.specs.Limits.{chunk_size_limit};
+ghost use Rattle.mcap_wire.specs.Limits.{chunk_size_limit, file_limit};
 ghost use Rattle.rec_data.specs.declared.owned.Rec.{Rec};
 ghost use Rattle.rec_data.specs.Owned.{LengthsFit};
 ghost use Rattle.mcap_io.specs.Outside.{LiveState};
@@ -10,6 +10,7 @@ ghost use Rattle.mcap_model.specs.declared.options.FileOptions.{FileOptions};
 ghost use Rattle.mcap_model.specs.declared.ends.Stop.{Stop};
 ghost use Rattle.mcap_model.specs.declared.ends.Stop.TheVariants as stops;
 ghost use Rattle.chunk_build.specs.Chunker.{AreFramed};
+ghost use Rattle.record_cache.specs.Buffers.{held};
 ghost use Rattle.mcap_model.specs.File.{front};
 ghost use Rattle.chunk_writer.specs.declared.phase.Phase.TheVariants as phases;
 ghost use Rattle.chunk_writer.specs.Limits.{Holds};
@@ -17,6 +18,7 @@ ghost use Rattle.chunk_writer.specs.Plans.{Plans, StoppedBefore};
 ghost use Rattle.chunk_writer.specs.Stops.{StopsAt, Cause, StopCause, Appends, Added, refusal};
 ghost use Rattle.chunk_writer.specs.Scribes.{Writes, Grows, OfEach, KeepsOn, store_of, phase_of, blocks_of, bytes_of, seen_before, GivesEntry, GivesLast, ListsEntry, PutsFront, Ends, EndsFile, CountsLast, CountsBytes, IsEntryWith, AddsLast};
 
+use crate::buffered::Buffered;
 use crate::entry::Entry;
 use crate::next::Next;
 use crate::phase::Phase;
@@ -198,7 +200,7 @@ impl<L: LiveStore> Scribe<L> {
         let mut entries = Vec::new(self.plan.alloc());
         match self.plan.phase() {
             Phase::Going => {
-                let end = self.put_each(&full, &mut entries);
+                let end = self.put_all(&full, &mut entries);
                 return taken(full, entries, end);
             }
             Phase::Stopped { stop } => return taken(full, entries, Err(stop)),
@@ -206,7 +208,56 @@ impl<L: LiveStore> Scribe<L> {
         }
     }
 
-    // Puts the records of a buffer, where no append was refused.
+    // Puts the records of a buffer, where no append was refused: in one call where they stand at top level, as long as a file
+    // may hold them all.
+    fn put_all(&mut self, full: &Cache, entries: &mut Vec<Entry<L::Extent>>) -> Result<(), Stop>
+        requires going { phase_of self.old ≡ phases.Going }
+        requires none { entries.old.items ≡ [] }
+        ensures grows { Grows L.state self.old self.new full.now.records }
+        ensures front { OfEach L.state self.old (λ options history. PutsFront (seen_before (λ e. L.Extent.tells e) (λ e. L.Extent.size e) (L.state (store_of self.old))) options history full.now.records entries.new.items (bytes_of self.new) result) }
+        ensures counted { blocks_of self.new ≡ blocks_of self.old + length entries.new.items }
+        ensures keeps { KeepsOn (L.state (store_of self.old)).held (L.state (store_of self.new)).held }
+        ensures goes_on { OnOk result (phase_of self.new ≡ phases.Going) }
+        ensures within { OnOk result (Holds (blocks_of self.new) (bytes_of self.new)) }
+        ensures stopped { IfErr result (λ stop. phase_of self.new ≡ phases.Stopped stop) }
+        ensures cause { Cause (L.state (store_of self.old)).faults (L.state (store_of self.new)).faults result }
+    {
+        if self.plan.has_room_for(full.held()) {
+            return self.put_plain(full);
+        }
+        self.put_each(full, entries)
+    }
+
+    // Puts the records of a buffer, which stand at top level, where a file may hold them all. The store appends each.
+    fn put_plain(&mut self, full: &Cache) -> Result<(), Stop>
+        requires going { phase_of self.old ≡ phases.Going }
+        requires plain { self.old.plan.body ≡ None }
+        requires room { bytes_of self.old + held full.now ≤ file_limit }
+        ensures grows { Grows L.state self.old self.new full.now.records }
+        ensures front { OfEach L.state self.old (λ options history. PutsFront (seen_before (λ e. L.Extent.tells e) (λ e. L.Extent.size e) (L.state (store_of self.old))) options history full.now.records [] (bytes_of self.new) result) }
+        ensures counted { blocks_of self.new ≡ blocks_of self.old }
+        ensures keeps { KeepsOn (L.state (store_of self.old)).held (L.state (store_of self.new)).held }
+        ensures goes_on { OnOk result (phase_of self.new ≡ phases.Going) }
+        ensures within { OnOk result (Holds (blocks_of self.new) (bytes_of self.new)) }
+        ensures stopped { IfErr result (λ stop. phase_of self.new ≡ phases.Stopped stop) }
+        ensures cause { Cause (L.state (store_of self.old)).faults (L.state (store_of self.new)).faults result }
+    {
+        let blocks = self.plan.blocks();
+        let bytes = self.plan.bytes();
+        match self.store.append_each(&Buffered { full }) {
+            Ok(()) => {
+                self.plan.count(full.held());
+                return Ok(());
+            }
+            Err(refusal) => {
+                let stop = refused(&self.store, refusal.why);
+                self.plan.stop(stop, blocks, bytes + refusal.whole);
+                return Err(stop);
+            }
+        }
+    }
+
+    // Puts the records of a buffer one by one, where no append was refused.
     fn put_each(&mut self, full: &Cache, entries: &mut Vec<Entry<L::Extent>>) -> Result<(), Stop>
         requires going { phase_of self.old ≡ phases.Going }
         requires none { entries.old.items ≡ [] }

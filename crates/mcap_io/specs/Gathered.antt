@@ -3,6 +3,7 @@ use Rattle.std.specs.Prelude.{◌≡◌, ℕ, ◌+◌, ◌<◌, ◌≤◌, List,
 use Rattle.mcap_io.specs.declared.outside.Short.{Short}
 use Rattle.mcap_io.specs.declared.outside.AppendRefused.{AppendRefused}
 use Rattle.mcap_io.specs.declared.outside.AppendRefused.TheVariants as append_refusals
+use Rattle.mcap_io.specs.declared.outside.EachRefused.{EachRefused}
 use Rattle.mcap_io.specs.Outside.{AddsPart}
 
 -- what is written and what waits then are what was written, what waited and the piece; a failure writes a first part
@@ -16,3 +17,13 @@ abbrev pub Stores : {T : Type 0} → Option (List ℕ) → List ℕ → Option (
 Stores old waited new waits bytes (Ok it) = Puts old waited new waits bytes (Ok tt)
 Stores old waited new waits bytes (Err (append_refusals.Failed taken)) = Puts old waited new waits bytes (Err (record { taken = taken }))
 Stores old waited new waits bytes (Err append_refusals.Memory) = ⊥
+
+-- bytes that were put up to that offset and some more, where it failed then
+abbrev pub StoresTo : ℕ → Option (List ℕ) → List ℕ → Option (List ℕ) → List ℕ → List ℕ → AppendRefused → Type 0
+StoresTo whole old waited new waits bytes (append_refusals.Failed taken) = Puts old waited new waits bytes (Err (record { taken = whole + taken }))
+StoresTo whole old waited new waits bytes append_refusals.Memory = ⊥
+
+-- the same of pieces that are appended at once: of their bytes those of the whole pieces are taken, and of the next what it says
+abbrev pub StoresEach : Option (List ℕ) → List ℕ → Option (List ℕ) → List ℕ → List ℕ → Result Unit EachRefused → Type 0
+StoresEach old waited new waits bytes (Ok it) = Puts old waited new waits bytes (Ok tt)
+StoresEach old waited new waits bytes (Err refused) = StoresTo refused.whole old waited new waits bytes refused.why

@@ -1,4 +1,5 @@
 pub mod Ahead
+pub mod Appending
 pub mod Files
 pub mod Gathered
 pub mod Inputs

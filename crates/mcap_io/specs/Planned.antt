@@ -1,12 +1,14 @@
 -- Which calls on an object in memory are to fail.
-use Rattle.std.specs.Prelude.{◌≡◌, ◌⊎◌, ℕ, ◌+◌, ◌-◌, ◌^◌, ◌<◌, ◌==◌, min, List, ◌++◌, length, take, drop, find, Option, Some, None, Result, Ok, Err, Vec, vec_len, vec_capacity}
+use Rattle.std.specs.Prelude.{◌≡◌, ◌⊎◌, ℕ, ◌+◌, ◌-◌, ◌^◌, ◌<◌, ◌==◌, min, List, ◌++◌, length, take, drop, ◌∷◌, [], find, Option, Some, None, Result, Ok, Err, Vec, vec_len, vec_capacity}
 use Rattle.std.specs.Option.{option_map}
 use Rattle.mcap_io.specs.declared.memory.FailingWrite.{FailingWrite}
 use Rattle.mcap_io.specs.declared.outside.AppendRefused.{AppendRefused}
 use Rattle.mcap_io.specs.declared.outside.AppendRefused.TheVariants as append_refusals
+use Rattle.mcap_io.specs.declared.outside.EachRefused.{EachRefused}
 use Rattle.mcap_io.specs.declared.outside.Failed.{Failed}
 use Rattle.mcap_io.specs.declared.outside.OpenRefused.{OpenRefused}
 use Rattle.mcap_io.specs.declared.outside.OpenRefused.TheVariants as open_refusals
+use Rattle.mcap_io.specs.Appending.{BeginsAt}
 
 -- what is left of the bytes behind the first so many
 abbrev pub left_of : List ℕ → ℕ → Option (List ℕ)
@@ -32,6 +34,28 @@ abbrev pub AppendsAsPlanned : {T : Type 0} → Option ℕ → Result T AppendRef
 AppendsAsPlanned plan (Ok it) = plan ≡ None
 AppendsAsPlanned plan (Err (append_refusals.Failed taken)) = plan ≡ Some taken
 AppendsAsPlanned plan (Err append_refusals.Memory) = Unit {0}
+
+-- the number of the call behind those that append these pieces, each in a call of its own
+abbrev pub calls_on : ℕ → List (List ℕ) → ℕ
+calls_on call [] = call
+calls_on call (piece ∷ pieces) = calls_on (next_call call) pieces
+
+-- none of these calls is to fail
+abbrev pub NoneFails : List FailingWrite → ℕ → List (List ℕ) → Type 0
+NoneFails failing call [] = Unit {0}
+NoneFails failing call (piece ∷ pieces) = (planned failing call (length piece) ≡ None) × NoneFails failing (next_call call) pieces
+
+-- those before the piece that was refused aren't, and its own call is the last
+pub record FailsAsPlanned (failing : List FailingWrite) (call next : ℕ) (pieces : List (List ℕ)) (refused : EachRefused) : Type 0 where
+  pub at : BeginsAt pieces refused.whole
+  pub none : NoneFails failing call at.before
+  pub fails : AppendsAsPlanned {T = Unit} (planned failing (calls_on call at.before) (length at.piece)) (Err refused.why)
+  pub counted : next ≡ next_call (calls_on call at.before)
+
+-- pieces are appended each by a call, until one is refused
+abbrev pub EachAsPlanned : List FailingWrite → ℕ → ℕ → List (List ℕ) → Result Unit EachRefused → Type 0
+EachAsPlanned failing call next pieces (Ok it) = NoneFails failing call pieces × (next ≡ calls_on call pieces)
+EachAsPlanned failing call next pieces (Err refused) = FailsAsPlanned failing call next pieces refused
 
 -- an opening that is to fail doesn't go well, and one fails only where it is to or where the name isn't there; memory
 -- may lack at any

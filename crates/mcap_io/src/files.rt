@@ -1,9 +1,11 @@
 //! The world of files. What a file gives or keeps no clause can say, so its objects tell nothing.
 ghost use Rattle.std.proofs.Common.{◌∙◌};
-ghost use Rattle.std.specs.Prelude.{refl, ◌≡◌, ◌≤◌, ◌+◌, ◌-◌, ◌^◌, ℕ, List, length, min, [], ◌∷◌, ◌++◌, Ok, Some, None, false, IsTrue, IsErr, IfOk, IfErr, OnOk, OnErr};
+ghost use Rattle.std.specs.Prelude.{refl, ◌≡◌, ◌≤◌, ◌<◌, ◌+◌, ◌-◌, ◌^◌, ℕ, List, length, min, [], ◌∷◌, ◌++◌, Ok, Some, None, false, IsTrue, IsErr, IfOk, IfErr, OnOk, OnErr};
+ghost use Rattle.std.specs.List.{concat};
 ghost use Rattle.mcap_io.specs.Ahead.{ahead, AheadReads};
 ghost use Rattle.mcap_io.specs.Files.{nothing, PlacedAs, IsWritten};
-ghost use Rattle.mcap_io.specs.Gathered.{Stores};
+ghost use Rattle.mcap_io.specs.Appending.{EachLeaves, EachCause};
+ghost use Rattle.mcap_io.specs.Gathered.{Stores, StoresEach};
 ghost use Rattle.mcap_io.specs.Inputs.{LetsGo};
 ghost use Rattle.mcap_io.specs.Stores.{IsUnused};
 ghost use Rattle.mcap_io.specs.Outside.{HasCause, OpenCause, ReadGives, Adds, AppendCause, AppendLeaves, RisesOnce, added};
@@ -11,7 +13,10 @@ ghost use Rattle.mcap_io.specs.Outside.{HasCause, OpenCause, ReadGives, Adds, Ap
 use crate::ahead::{ROOM, ReadAhead};
 use crate::gather::Gather;
 use crate::inputs::{FileId, holds, let_go};
-use crate::outside::{AppendRefused, Extent, Failed, LiveStore, OpenRefused, Short, Source, World};
+use crate::outside::{
+    AppendRefused, EachRefused, Extent, Failed, LiveStore, OpenRefused, Short, Source, World,
+};
+use crate::pieces::{Pieces, refused_in};
 use crate::store::Store;
 use crate::store_files::FileStore;
 use crate::writer::WriterSink;
@@ -213,6 +218,32 @@ impl<F: Write + Drop> LiveStore for FileLive<F> {
     {
         let put = self.gather.put_through(bytes);
         self.placed(put, bytes.len() as u64)
+    }
+
+    fn append_each<P: Pieces>(&mut self, pieces: &P) -> Result<(), EachRefused>
+        ensures adds { OnOk result (Adds nothing nothing (concat (P.list pieces.now))) }
+        ensures leaves { IfErr result (EachLeaves nothing nothing (P.list pieces.now)) }
+        ensures cause { EachCause self.old.faults self.new.faults result }
+        // What is appended next stands behind them.
+        ensures place { OnOk result (self.new.len ≡ min (self.old.len + length (concat (P.list pieces.now))) (2 ^ 64 - 1)) }
+        // Where the file tells what it holds, that and what waits hold all pieces in their order.
+        ensures file { StoresEach (F.contents self.old.gather.sink.writer) self.old.gather.waiting.items (F.contents self.new.gather.sink.writer) self.new.gather.waiting.items (concat (P.list pieces.now)) result }
+        // It fails only where a write has failed.
+        ensures written { self.old.gather.broken ≡ false → OnErr result (RisesOnce self.old.gather.sink.faults self.new.gather.sink.faults) }
+        ensures broken { IsTrue self.old.gather.broken → 0 < length (concat (P.list pieces.now)) → IsErr result × (F.contents self.new.gather.sink.writer ≡ F.contents self.old.gather.sink.writer) }
+    {
+        // The length is a number of 64 bits.
+        let _len = self.len;
+        let bytes = pieces.bytes();
+        if bytes.is_empty() {
+            return Ok(());
+        }
+        let put = self.gather.put(bytes);
+        match self.placed(put, bytes.len() as u64) {
+            Ok(_) => return Ok(()),
+            Err(AppendRefused::Failed { taken }) => return Err(refused_in(pieces, taken as usize)),
+            Err(AppendRefused::Memory) => unreachable!(),
+        }
     }
 
     fn faults(&self) -> u64 {

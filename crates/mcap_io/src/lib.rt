@@ -11,6 +11,7 @@ mod memory;
 mod memory_world;
 mod openings;
 mod outside;
+mod pieces;
 mod store;
 mod store_files;
 mod store_memory;
@@ -26,9 +27,10 @@ pub use memory::{
 pub use memory_world::{MemoryWorld, Plan};
 pub use openings::{Kept, Opened};
 pub use outside::{
-    AppendRefused, Extent, Failed, LiveStore, ObjectKind, OpenRefused, ReadRefused, Short, Sink,
-    Source, World,
+    AppendRefused, EachRefused, Extent, Failed, LiveStore, ObjectKind, OpenRefused, ReadRefused,
+    Short, Sink, Source, World,
 };
+pub use pieces::Pieces;
 pub use store::Store;
 pub use store_files::FileStore;
 pub use store_memory::{MemoryStore, QuietStore};

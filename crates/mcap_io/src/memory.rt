@@ -1,10 +1,13 @@
 //! Sources, sinks and live stores in memory. They tell all of their bytes.
 ghost use Rattle.std.proofs.Common.{◌∙◌};
-ghost use Rattle.std.specs.Prelude.{refl, ◌≡◌, ◌≤◌, ◌<◌, ◌↔◌, ℕ, List, length, [], Some, Ok, Contains, IsTrue, IsErr, IfOk, IfErr, vec_len};
+ghost use Rattle.std.specs.Prelude.{refl, ◌≡◌, ◌≤◌, ◌<◌, ◌↔◌, ℕ, List, length, [], Some, Ok, Contains, IsTrue, IsErr, IfOk, IfErr, OnOk, vec_len};
+ghost use Rattle.std.specs.List.{concat};
+ghost use Rattle.mcap_io.specs.Appending.{EachLeaves, EachCause};
 ghost use Rattle.mcap_io.specs.Outside.{HasCause, ReadGives, Writes, Adds, AppendCause, AppendLeaves};
-ghost use Rattle.mcap_io.specs.Planned.{left_of, planned, next_call, WritesAsPlanned, AppendsAsPlanned};
+ghost use Rattle.mcap_io.specs.Planned.{left_of, planned, next_call, WritesAsPlanned, AppendsAsPlanned, EachAsPlanned};
 
-use crate::outside::{AppendRefused, Extent, Failed, LiveStore, Sink, Source};
+use crate::outside::{AppendRefused, EachRefused, Extent, Failed, LiveStore, Sink, Source};
+use crate::pieces::{Pieces, piece_at};
 use std::alloc::{AllocError, Global};
 
 /// A source that gives these bytes and never fails.
@@ -405,6 +408,31 @@ impl LiveStore for MemoryLive {
         ensures plan { self.new.appends.failing ≡ self.old.appends.failing }
     {
         self.append(bytes)
+    }
+
+    fn append_each<P: Pieces>(&mut self, pieces: &P) -> Result<(), EachRefused>
+        ensures adds { OnOk result (Adds (Some self.old.store.bytes.items) (Some self.new.store.bytes.items) (concat (P.list pieces.now))) }
+        ensures leaves { IfErr result (EachLeaves (Some self.old.store.bytes.items) (Some self.new.store.bytes.items) (P.list pieces.now)) }
+        ensures cause { EachCause self.old.faults self.new.faults result }
+        // Each piece is a call.
+        ensures planned { EachAsPlanned self.old.appends.failing.items self.old.appends.made self.new.appends.made (P.list pieces.now) result }
+        ensures plan { self.new.appends.failing ≡ self.old.appends.failing }
+    {
+        let len = pieces.bytes().len();
+        let mut at = 0;
+        'pieces: while at < len {
+            let piece = piece_at(pieces, at);
+            match self.append(piece.bytes) {
+                Ok(_) => at = piece.end,
+                Err(why) => {
+                    return Err(EachRefused {
+                        whole: at as u64,
+                        why,
+                    });
+                }
+            }
+        }
+        return Ok(());
     }
 
     fn faults(&self) -> u64 {

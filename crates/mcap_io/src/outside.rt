@@ -1,8 +1,11 @@
 //! The traits of the outside, and the answers of their calls.
-ghost use Rattle.std.specs.Prelude.{◌≡◌, ◌≤◌, ◌<◌, ℕ, List, Option, Some, length, Ok, IfOk, IfErr};
+ghost use Rattle.std.specs.Prelude.{◌≡◌, ◌≤◌, ◌<◌, ℕ, List, Option, Some, length, Ok, IfOk, IfErr, OnOk};
+ghost use Rattle.std.specs.List.{concat};
+ghost use Rattle.mcap_io.specs.Appending.{EachLeaves, EachCause};
 ghost use Rattle.mcap_io.specs.Stores.{IsUnused, TellsStore, KeepsStore};
 ghost use Rattle.mcap_io.specs.Outside.{SourceState, SinkState, LiveState, WorldState, HasCause, OpenCause, AppendCause, ReadGives, Writes, Adds, AppendLeaves, Opens, CountsStand, KeepsSource, KeepsLive, TellsName, TellsNothingYet, added};
 
+use crate::pieces::{Pieces, piece_at};
 use crate::store::Store;
 
 /// The outside failed: the count of the object has risen in that call.
@@ -30,6 +33,13 @@ pub enum OpenRefused {
 pub enum AppendRefused {
     Failed { taken: u64 },
     Memory,
+}
+
+/// Why not all pieces were appended: those before the byte `whole` were, and the one that begins there was not.
+#[derive(Clone, Copy, Debug, PartialEq, Eq)]
+pub struct EachRefused {
+    pub whole: u64,
+    pub why: AppendRefused,
 }
 
 /// Why a stretch could not be read.
@@ -125,6 +135,29 @@ pub trait LiveStore {
         ensures extent { IfOk result (λ e. (Self.Extent.size e ≡ length bytes.now) × ((before : List ℕ) → (state self.old).held ≡ Some before → Self.Extent.tells e ≡ Some bytes.now)) }
         ensures leaves { IfErr result (AppendLeaves (state self.old).held (state self.new).held bytes.now) }
         ensures cause { AppendCause (state self.old).faults (state self.new).faults result };
+
+    /// Appends the pieces in their order, each as `append` does, until one is refused.
+    fn append_each<P: Pieces>(&mut self, pieces: &P) -> Result<(), EachRefused>
+        ensures adds { OnOk result (Adds (state self.old).held (state self.new).held (concat (P.list pieces.now))) }
+        ensures leaves { IfErr result (EachLeaves (state self.old).held (state self.new).held (P.list pieces.now)) }
+        ensures cause { EachCause (state self.old).faults (state self.new).faults result }
+    {
+        let len = pieces.bytes().len();
+        let mut at = 0;
+        'pieces: while at < len {
+            let piece = piece_at(pieces, at);
+            match self.append(piece.bytes) {
+                Ok(_) => at = piece.end,
+                Err(why) => {
+                    return Err(EachRefused {
+                        whole: at as u64,
+                        why,
+                    });
+                }
+            }
+        }
+        return Ok(());
+    }
 
     fn faults(&self) -> u64
         ensures { result ≡ (state self.now).faults };

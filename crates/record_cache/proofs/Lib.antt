@@ -1,3 +1,4 @@
+pub mod Apart
 pub mod Readback
 pub mod Kept
 pub mod ReadOnce

@@ -4,7 +4,7 @@ use Rattle.chunk_writer.proofs.scribe.Scribe.take.Goals as goal
 
 pub returns-in-Going-clause-front : goal.returns-in-Going-clause-front
 returns-in-Going-clause-front g c = λ going.
-    front_so g.L.LiveStore.state _ c.args.self.now c.args.full.records _ _ _ _ _ (ap (λ v. v.items) c.taken.ensures.entries) c.taken.ensures.end c.put_each-end.ensures.front
+    front_so g.L.LiveStore.state _ c.args.self.now c.args.full.records _ _ _ _ _ (ap (λ v. v.items) c.taken.ensures.entries) c.taken.ensures.end c.put_all-end.ensures.front
 
 pub returns-in-Stopped-clause-grows : goal.returns-in-Stopped-clause-grows
 returns-in-Stopped-clause-grows g c = λ options opened history stands.

@@ -1,0 +1,53 @@
+-- All records stand behind those before them, or those in front of the one that was refused.
+use Rattle.std.proofs.Common.{ℕ, ◌+◌, ap, ◌∙◌, arith}
+use Rattle.mcap_model.specs.History.{history_bytes}
+use Rattle.chunk_writer.specs.Planning.{Planning}
+use Rattle.chunk_writer.proofs.Plain.{whole_put, whole_front, stopped_front, plain_refused, refused_within, refused_keeps, each_refused, each_added}
+use Rattle.chunk_writer.proofs.scribe.Scribe.put_plain.Goals as goal
+
+pub returns-in-Ok-clause-grows : goal.returns-in-Ok-clause-grows
+returns-in-Ok-clause-grows g c = λ options opened history stands.
+    whole_put options opened.held (g.L.LiveStore.state c.args.self.now.store).held (g.L.LiveStore.state c.append_each.new.self).held history c.args.full.now.records c.args.self.now.plan c.count.new.self c.held.result c.requires.plain c.requires.going c.count.ensures
+    c.held.ensures.held (each_added _ _ c.args.full.now.records c.in-Ok.ensures.adds) stands
+
+pub returns-in-Ok-clause-front : goal.returns-in-Ok-clause-front
+returns-in-Ok-clause-front g c = λ options opened history stands.
+    whole_front {X = g.row.L-Extent.Denot} _ options opened.held (g.L.LiveStore.state c.args.self.now.store).held history c.args.full.now.records c.args.self.now.plan _ c.held.result c.requires.plain c.requires.going
+    (ap (λ (p : Planning). p.bytes) c.count.ensures) c.held.ensures.held stands
+
+pub returns-in-Ok-clause-keeps : goal.returns-in-Ok-clause-keeps
+returns-in-Ok-clause-keeps g c = λ before told. (history_bytes c.args.full.now.records, each_added _ _ c.args.full.now.records c.in-Ok.ensures.adds before told)
+
+pub overflow_add-bytes : goal.overflow_add-bytes
+overflow_add-bytes g c =
+    let cut = each_refused _ _ c.args.full.now.records c.in-Err.refusal _ c.refused-stop.result c.in-Err.ensures.leaves c.refused-stop.ensures in
+    omega (arith, refused_within _ _ c.args.full.now.records c.in-Err.refusal.whole _ cut, c.bytes-bytes.ensures.value, c.requires.room)
+
+pub stop-requires : goal.stop-requires
+stop-requires g c =
+    let cut = each_refused _ _ c.args.full.now.records c.in-Err.refusal _ c.refused-stop.result c.in-Err.ensures.leaves c.refused-stop.ensures in
+    record {
+      few = c.blocks-blocks.ensures.few;
+      small = omega (arith, refused_within _ _ c.args.full.now.records c.in-Err.refusal.whole _ cut, c.bytes-bytes.ensures.value, c.requires.room);
+    }
+
+pub returns-in-Err-clause-grows : goal.returns-in-Err-clause-grows
+returns-in-Err-clause-grows g c = λ options opened history stands.
+    plain_refused options opened.held (g.L.LiveStore.state c.args.self.now.store).held (g.L.LiveStore.state c.append_each.new.self).held history c.args.full.now.records c.args.self.now.plan c.stop.new.self c.in-Err.refusal.whole c.refused-stop.result
+    c.requires.plain c.requires.going (each_refused _ _ c.args.full.now.records c.in-Err.refusal _ c.refused-stop.result c.in-Err.ensures.leaves c.refused-stop.ensures)
+    (record { few = omega (arith, c.blocks-blocks.ensures.value, c.blocks-blocks.ensures.few); small = c.requires.room })
+    (record {
+      phase = c.stop.ensures.phase;
+      blocks_are = c.stop.ensures.blocks_are ∙ c.blocks-blocks.ensures.value;
+      bytes_are = c.stop.ensures.bytes_are ∙ ap (λ (n : ℕ). n + c.in-Err.refusal.whole) c.bytes-bytes.ensures.value;
+    }) stands
+
+pub returns-in-Err-clause-front : goal.returns-in-Err-clause-front
+returns-in-Err-clause-front g c = λ options opened history stands.
+    stopped_front {X = g.row.L-Extent.Denot} _ options opened.held (g.L.LiveStore.state c.args.self.now.store).held (g.L.LiveStore.state c.append_each.new.self).held history c.args.full.now.records c.args.self.now.plan _ c.in-Err.refusal.whole _ c.requires.plain c.requires.going
+    (c.stop.ensures.bytes_are ∙ ap (λ (n : ℕ). n + c.in-Err.refusal.whole) c.bytes-bytes.ensures.value)
+    (each_refused _ _ c.args.full.now.records c.in-Err.refusal _ c.refused-stop.result c.in-Err.ensures.leaves c.refused-stop.ensures) stands
+
+pub returns-in-Err-clause-keeps : goal.returns-in-Err-clause-keeps
+returns-in-Err-clause-keeps g c =
+    refused_keeps _ _ c.args.full.now.records c.in-Err.refusal.whole _ (each_refused _ _ c.args.full.now.records c.in-Err.refusal _ c.refused-stop.result c.in-Err.ensures.leaves c.refused-stop.ensures)
