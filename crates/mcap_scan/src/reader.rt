@@ -115,6 +115,7 @@ impl Reader {
     }
 
     // Keeps the refusal.
+    #[inline(never)]
     pub(crate) fn stop(&mut self, why: ScanRefused) -> Step
         ensures step { result ≡ Step.Refused }
         ensures stage { self.new.stage ≡ Stage.Stopped why }
@@ -126,6 +127,7 @@ impl Reader {
     }
 
     // Gives the record that was read and judged.
+    #[inline(always)]
     fn give(&mut self, op: u8, judged: Judged) -> Step
         ensures given { Given self.old.offset (length self.old.room.items) self.new.offset self.new.stage op judged result }
         ensures room { self.new.room ≡ self.old.room }
@@ -153,6 +155,7 @@ impl Reader {
     }
 
     // Reads the magic and the first record.
+    #[inline(never)]
     fn begin<S: Source>(&mut self, source: &mut S) -> Step
         ensures moves { Moves self.old.offset self.new.offset result }
         ensures steps { (before : SourceState) (tops : List Top) → IsFresh self.old.tables self.old.offset before (S.state source.old) tops
