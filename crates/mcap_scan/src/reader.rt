@@ -126,6 +126,21 @@ impl Reader {
         return Step::Refused;
     }
 
+    // Sets the stage behind a record that isn't the last. Mostly it stands already.
+    #[inline(always)]
+    fn stay_inside(&mut self)
+        ensures stage { self.new.stage ≡ Stage.Inside }
+        ensures offset { self.new.offset ≡ self.old.offset }
+        ensures room { self.new.room ≡ self.old.room }
+        ensures tables { self.new.tables ≡ self.old.tables }
+    {
+        match &self.stage {
+            Stage::Inside => return,
+            _ => {}
+        }
+        self.stage = Stage::Inside;
+    }
+
     // Gives the record that was read and judged.
     #[inline(always)]
     fn give(&mut self, op: u8, judged: Judged) -> Step
@@ -142,7 +157,7 @@ impl Reader {
                 if op == DATA_END {
                     self.stage = Stage::Ended;
                 } else {
-                    self.stage = Stage::Inside;
+                    self.stay_inside();
                 }
                 return Step::Record { op, offset };
             }
