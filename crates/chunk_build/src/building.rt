@@ -1,5 +1,5 @@
 //! The open chunk: its records stand where they will in the block, behind room for the head of the Chunk.
-ghost use Rattle.std.specs.Prelude.{◌≡◌, ◌+◌, ◌*◌, ◌^◌, ◌<◌, ◌≤◌, ◌++◌, ◌==◌, ℕ, [], length, drop, min, if◌then◌else◌, vec_len, vec_capacity, IfOk, OnOk, Option, Some, None};
+ghost use Rattle.std.specs.Prelude.{◌≡◌, ◌+◌, ◌*◌, ◌^◌, ◌<◌, ◌≤◌, ◌++◌, ◌==◌, ℕ, [], length, drop, min, if◌then◌else◌, vec_len, vec_capacity, IfOk, OnOk, Option, Some, None, true};
 ghost use Rattle.mcap_wire.specs.Layout.{framed};
 ghost use Rattle.mcap_wire.specs.Limits.{chunk_size_limit};
 ghost use Rattle.mcap_wire.specs.Writing.{HasRoom};
@@ -174,6 +174,43 @@ pub(crate) fn prepare(
     });
 }
 
+/// Whether a chunk that is begun stays open behind a record of so many bytes.
+#[inline(always)]
+pub(crate) fn stays_open(chunk: &Building, size: u64, len: u64) -> bool
+    ensures begun { result ≡ true → 49 ≤ length chunk.now.bytes.items }
+    ensures open { result ≡ true → length (drop 49 chunk.now.bytes.items) + len < size }
+{
+    if chunk.bytes.len() < HEAD {
+        return false;
+    }
+    let held = (chunk.bytes.len() - HEAD) as u64;
+    if held < size && len < size - held {
+        return true;
+    }
+    false
+}
+
+/// Makes room for a record of so many bytes behind which the chunk stays open, and gives the place of its channel's row. What
+/// the chunk holds stays.
+#[inline(always)]
+pub(crate) fn prepare_open(
+    alloc: Global,
+    chunk: &mut Building,
+    len: u64,
+    mark: Option<Mark>,
+) -> Result<usize, Memory>
+    requires sound { IsSound chunk.old }
+    ensures same { seen chunk.new ≡ seen chunk.old }
+    ensures sound { IsSound chunk.new }
+    ensures bytes { chunk.new.bytes.items ≡ chunk.old.bytes.items }
+    ensures row { IfOk result (λ row. RowReady chunk.new.rows.items mark row) }
+    ensures room { OnOk result (HasRoom chunk.new.bytes len) }
+{
+    let row = row_of(alloc, chunk, mark)?;
+    make_room(&mut chunk.bytes, len as usize)?;
+    Ok(row)
+}
+
 // Counts a message whose bytes stand at the end, from that offset of the records on.
 fn note_message(chunk: &mut Building, offset: u64, mark: Mark, row: usize)
     requires sound { IsSound chunk.old }
@@ -201,8 +238,9 @@ fn first_time(messages: u64, start: u64, time: u64) -> u64
     if messages == 0 { time } else { start.min(time) }
 }
 
-// Counts a record whose bytes stand at the end.
-fn note(chunk: &mut Building, offset: u64, mark: Option<Mark>, row: usize)
+/// Counts a record whose bytes stand at the end.
+#[inline(always)]
+pub(crate) fn note(chunk: &mut Building, offset: u64, mark: Option<Mark>, row: usize)
     requires sound { IsSound chunk.old }
     requires row { RowReady chunk.old.rows.items mark row }
     requires before { 31 * chunk.old.messages + chunk.old.declared ≤ offset }

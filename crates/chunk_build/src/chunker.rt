@@ -7,7 +7,8 @@ ghost use Rattle.chunk_build.specs.Building.{mark_of, IsLong};
 ghost use Rattle.chunk_build.specs.Chunker.{StandsFor, Puts, AreFramed, Finishes};
 
 use crate::building::{
-    Building, HEAD, Mark, begin, close, closing_for, keep_room, prepare, settle,
+    Building, HEAD, Mark, begin, close, closing_for, keep_room, note, prepare, prepare_open,
+    settle, stays_open,
 };
 use crate::framed::mark_of_bytes;
 use mcap_model::Block;
@@ -77,6 +78,30 @@ impl Chunker {
     /// Adds a record by its framed bytes, and gives the block exactly where this closes one. The bytes are copied once, to where
     /// they stand in the block. Where memory lacks nothing changes.
     pub fn put_framed(&mut self, bytes: &[u8]) -> Result<Option<Block>, Memory>
+        requires { (r : Rec) × AreFramed bytes.now r }
+        ensures put { IfOk result (λ closed. (r : Rec) → AreFramed bytes.now r → (history : List Rec)
+            → StandsFor self.old history → Puts self.old.size history r closed self.new) }
+        ensures err { OnErr result (self.new ≡ self.old) }
+    {
+        let len = bytes.len() as u64;
+        if !stays_open(&self.chunk, self.size, len) {
+            return self.put_any(bytes);
+        }
+        let mark = mark_of_bytes(bytes);
+        let chunk = &mut self.chunk;
+        let row = match prepare_open(self.alloc, chunk, len, mark) {
+            Ok(row) => row,
+            Err(memory) => return Err(memory),
+        };
+        let offset = (chunk.bytes.len() - HEAD) as u64;
+        add_bytes(&mut chunk.bytes, bytes);
+        note(chunk, offset, mark, row);
+        return Ok(None);
+    }
+
+    // Does the same with any record. What waits for a block that closes is kept out of the other way.
+    #[inline(never)]
+    fn put_any(&mut self, bytes: &[u8]) -> Result<Option<Block>, Memory>
         requires { (r : Rec) × AreFramed bytes.now r }
         ensures put { IfOk result (λ closed. (r : Rec) → AreFramed bytes.now r → (history : List Rec)
             → StandsFor self.old history → Puts self.old.size history r closed self.new) }

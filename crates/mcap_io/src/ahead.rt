@@ -33,6 +33,7 @@ impl<F: Read + Drop> ReadAhead<F> {
     }
 
     // Gives what was read ahead. A read for more than the buffer holds goes past it.
+    #[inline(always)]
     pub(crate) fn read(&mut self, out: &mut [u8]) -> Result<usize, Failed>
         ensures bound { IfOk result (λ n. n ≤ length out.new) }
         ensures gives { AheadReads (ahead self.old.buffer.items self.old.from self.old.to (F.remaining self.old.file)) (ahead self.new.buffer.items self.new.from self.new.to (F.remaining self.new.file)) out.new result }
@@ -50,6 +51,7 @@ impl<F: Read + Drop> ReadAhead<F> {
     }
 
     // Reads ahead, where all that was read is given.
+    #[inline(never)]
     fn refill(&mut self) -> Result<(), Failed>
         requires { self.old.to ≤ self.old.from }
         ensures rest { (rest : List ℕ) → F.remaining self.old.file ≡ Some rest → ahead self.new.buffer.items self.new.from self.new.to (F.remaining self.new.file) ≡ Some rest }
@@ -62,6 +64,7 @@ impl<F: Read + Drop> ReadAhead<F> {
     }
 
     // Copies what was read ahead, as much as there is room for.
+    #[inline(always)]
     fn give(&mut self, out: &mut [u8]) -> usize
         ensures bound { result ≡ min (self.old.to - self.old.from) (length out.new) }
         ensures out { take result out.new ≡ take result (drop self.old.from self.old.buffer.items) }

@@ -9,6 +9,7 @@ use crate::outside::{Failed, ReadRefused, Short, Sink, Source};
 const FIRST_ROOM: usize = 65_536;
 
 // Reads until `out` is full or the input ends, and says how many bytes it read.
+#[inline(always)]
 fn fill<S: Source>(source: &mut S, out: &mut [u8]) -> Result<usize, Failed>
     ensures bound { IfOk result (λ n. n ≤ length out.new) }
     ensures fills { Fills (S.state source.old).left (S.state source.new).left out.new result }
@@ -55,6 +56,7 @@ fn read_on<S: Source>(
 }
 
 // Reads until the buffer holds `len` bytes or the input ends, where it is that long already.
+#[inline(always)]
 fn read_over<S: Source>(source: &mut S, buffer: &mut Vec<u8>, len: usize) -> Result<(), ReadRefused>
     requires { len ≤ vec_len buffer.old }
     ensures bound { vec_len buffer.new ≤ len }
@@ -78,6 +80,7 @@ fn read_over<S: Source>(source: &mut S, buffer: &mut Vec<u8>, len: usize) -> Res
 }
 
 // Reads until the buffer holds `len` bytes or the input ends, and makes room for them in steps.
+#[inline(never)]
 fn read_in_steps<S: Source>(
     source: &mut S,
     buffer: &mut Vec<u8>,
@@ -114,6 +117,7 @@ fn read_in_steps<S: Source>(
 /// than `len` only where the input ended. After a refusal it is empty. Where the buffer lacks room it grows in steps, so
 /// that an input which ends early costs little more than it has; its capacity never falls. Where memory lacks for up to
 /// 65,536 bytes, none is read.
+#[inline(always)]
 pub fn read_up_to<S: Source>(
     source: &mut S,
     buffer: &mut Vec<u8>,

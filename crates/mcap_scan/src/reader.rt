@@ -115,6 +115,7 @@ impl Reader {
     }
 
     // Keeps the refusal.
+    #[inline(never)]
     pub(crate) fn stop(&mut self, why: ScanRefused) -> Step
         ensures step { result ≡ Step.Refused }
         ensures stage { self.new.stage ≡ Stage.Stopped why }
@@ -125,7 +126,23 @@ impl Reader {
         return Step::Refused;
     }
 
+    // Sets the stage behind a record that isn't the last. Mostly it stands already.
+    #[inline(always)]
+    fn stay_inside(&mut self)
+        ensures stage { self.new.stage ≡ Stage.Inside }
+        ensures offset { self.new.offset ≡ self.old.offset }
+        ensures room { self.new.room ≡ self.old.room }
+        ensures tables { self.new.tables ≡ self.old.tables }
+    {
+        match &self.stage {
+            Stage::Inside => return,
+            _ => {}
+        }
+        self.stage = Stage::Inside;
+    }
+
     // Gives the record that was read and judged.
+    #[inline(always)]
     fn give(&mut self, op: u8, judged: Judged) -> Step
         ensures given { Given self.old.offset (length self.old.room.items) self.new.offset self.new.stage op judged result }
         ensures room { self.new.room ≡ self.old.room }
@@ -140,7 +157,7 @@ impl Reader {
                 if op == DATA_END {
                     self.stage = Stage::Ended;
                 } else {
-                    self.stage = Stage::Inside;
+                    self.stay_inside();
                 }
                 return Step::Record { op, offset };
             }
@@ -153,6 +170,7 @@ impl Reader {
     }
 
     // Reads the magic and the first record.
+    #[inline(never)]
     fn begin<S: Source>(&mut self, source: &mut S) -> Step
         ensures moves { Moves self.old.offset self.new.offset result }
         ensures steps { (before : SourceState) (tops : List Top) → IsFresh self.old.tables self.old.offset before (S.state source.old) tops

@@ -2,3 +2,4 @@ pub mod Contents
 mod MapContents
 pub mod OwnedLengths
 pub mod OwnedReading
+mod Setting

@@ -92,6 +92,7 @@ impl<'a> Channel<'a> {
 
     /// Appends the whole record. Memory is lacking only where the vector has no room for it, and then the vector keeps its
     /// bytes.
+    #[inline(never)]
     pub fn frame(&self, out: &mut Vec<u8>) -> Result<(), Memory>
         requires topic_fits { length self.now.topic.now < 2 ^ 32 }
         requires encoding_fits { length self.now.message_encoding.now < 2 ^ 32 }

@@ -74,6 +74,7 @@ impl<'a> Schema<'a> {
 
     /// Appends the whole record. Memory is lacking only where the vector has no room for it, and then the vector keeps its
     /// bytes.
+    #[inline(never)]
     pub fn frame(&self, out: &mut Vec<u8>) -> Result<(), Memory>
         requires name_fits { length self.now.name.now < 2 ^ 32 }
         requires encoding_fits { length self.now.encoding.now < 2 ^ 32 }

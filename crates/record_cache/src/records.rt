@@ -16,6 +16,7 @@ pub enum RecRef<'a> {
 
 impl<'a> RecRef<'a> {
     // Appends the whole record. Where memory lacks the vector keeps its bytes.
+    #[inline(always)]
     pub(crate) fn frame(&self, out: &mut Vec<u8>) -> Result<(), Memory>
         requires { LengthsFit (rec_of self.now) }
         ensures ok { OnOk result (out.new.items ≡ out.old.items ++ rec_bytes (rec_of self.now)) }

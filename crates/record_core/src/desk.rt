@@ -331,6 +331,7 @@ impl Desk {
 }
 
 // Offers a message to a buffer.
+#[inline(always)]
 fn offer_message(buffer: &mut Cache, m: &NewMessage<'_>) -> Result<(), OfferRefused>
     requires { length m.now.payload.now ≤ data_limit }
     ensures { Offered buffer.old (message_of m.now.channel (fields_of_message m.now) ∷ []) result buffer.new }

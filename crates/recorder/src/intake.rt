@@ -134,6 +134,7 @@ impl<T: Tape> Pass for Intake<T> {
         self.lone.declare_one(channel)
     }
 
+    #[inline(always)]
     fn publish(&mut self, m: &NewMessage<'_>) -> Result<u64, PublishRefused> {
         self.hand_over();
         self.lone.publish_one(m)

@@ -44,6 +44,7 @@ fn looked_in(
 
 impl LoneDesk {
     // Publishes a message.
+    #[inline(always)]
     pub(crate) fn publish_one(&mut self, m: &NewMessage<'_>) -> Result<u64, PublishRefused>
         ensures published { PublishesAlone self.old self.new m.now result }
         ensures room { HasRoom self.old.desk → (held : ℕ) → result ≡ Err (publishing.Full held) → ⊥ }

@@ -1,0 +1,5 @@
+use Rattle.rec_data.proofs.Setting.{number_set}
+use Rattle.rec_data.proofs.message.set_u64.Goals as goal
+
+pub returns-clause-front : goal.returns-clause-front
+returns-clause-front c = number_set c.args.bytes.now _ _ _ c.args.at 8 c.args.value c.requires c.write_u64.ensures
