@@ -10,7 +10,7 @@ use Rattle.summary_read.specs.Parts.{of_kind}
 use Rattle.indexed_replay.proofs.Summed.{loaded_summary, summary_once}
 use Rattle.indexed_replay.proofs.Bounded.{asked_bound}
 use Rattle.indexed_replay.proofs.Ending.{load_reason, counts_reason, counts_agree, scan_replayed, asked_loaded}
-use Rattle.indexed_replay.proofs.replaying.replay_indexed.Goals as goal
+use Rattle.indexed_replay.proofs.replaying.replay_kept.Goals as goal
 
 pub returns-in-Err-load-clause-plays : goal.returns-in-Err-load-clause-plays
 returns-in-Err-load-clause-plays g c = λ file told. subst (λ (w : ReplayRefused). IsReason file c.args.range w) (sym c.refuse_load.ensures) (load_reason file c.args.range c.in-Err-load.why (c.in-Err-load.ensures.loads file (c.in-Ok.ensures.bytes ∙ told)))
