@@ -1,7 +1,8 @@
 #!/usr/bin/env bash
-# Times `mcaprec cat --indexed` of a hundredth of a recording's time beside `cat` of the same range, and `info`, on a
-# recording of so many MiB (256) of messages of 1,000 bytes of data, best of five each, in one run. It needs perl.
-# MCAPREC names another program to time in place of the launcher.
+# Times `mcaprec cat --indexed` of a hundredth of a recording's time beside `cat` of the same range, both into
+# /dev/null, and `info`, on a recording of so many MiB (256) of messages of 1,000 bytes of data, best of five each, in one
+# run. The lines of both are compared apart from that. Where strace is there it counts the bytes that reads at a place of
+# the file gave. It needs perl. MCAPREC names another program to time in place of the launcher.
 set -e
 export LC_ALL=C
 here="$(cd "$(dirname "$0")" && pwd)"
@@ -49,7 +50,7 @@ time_best() {
     best=
     for _ in 1 2 3 4 5; do
         start=${EPOCHREALTIME/./}
-        "$@" >"$work/printed"
+        "$@" >/dev/null
         took=$((${EPOCHREALTIME/./} - start))
         if [ -z "$best" ] || [ "$took" -lt "$best" ]; then best=$took; fi
     done
@@ -62,12 +63,27 @@ count="$(make_feed)"
 rm -f "$work/feed.mcap"
 start=$((1700000000000000000 + 1000 * (count / 2)))
 end=$((start + 1000 * (count / 100)))
-time_best "$program" cat --start "$start" --end "$end" "$work/file.mcap"
+
+# Says how many bytes the reads at places of the file gave, where strace can tell. Only a store reads so.
+count_read() {
+    if ! command -v strace >/dev/null; then
+        echo "bytes read: not counted, strace is not there (Debian: strace)"
+    elif ! strace -f -qq -e trace=pread64 -P "$work/file.mcap" -o "$work/reads" "$@" >/dev/null; then
+        echo "bytes read: not counted, strace cannot trace here"
+    else
+        awk -v all="$(stat -c %s "$work/file.mcap")" '/^[0-9]+ +pread64/ { n += 1; sum += $NF }
+            END { printf "bytes read: %d in %d reads, of %d\n", sum, n, all }' "$work/reads"
+    fi
+}
+
+range=(--start "$start" --end "$end")
+"$program" cat "${range[@]}" "$work/file.mcap" >"$work/wanted"
+"$program" cat --indexed "${range[@]}" "$work/file.mcap" | cmp - "$work/wanted"
+rm "$work/wanted"
+time_best "$program" cat "${range[@]}" "$work/file.mcap"
 scanned=$best
-mv "$work/printed" "$work/wanted"
-time_best "$program" cat --indexed --start "$start" --end "$end" "$work/file.mcap"
+time_best "$program" cat --indexed "${range[@]}" "$work/file.mcap"
 indexed=$best
-cmp "$work/printed" "$work/wanted"
 time_best "$program" info "$work/file.mcap"
 told=$best
 time_best cp "$work/file.mcap" "$work/copy.mcap"
@@ -75,3 +91,4 @@ copied=$best
 awk -v n="$((count / 100))" -v all="$count" -v s="$scanned" -v i="$indexed" -v t="$told" -v c="$copied" 'BEGIN {
     printf "%d of %d messages: cat %.3f s, cat --indexed %.4f s, %.0f times as fast\n", n, all, s / 1e6, i / 1e6, s / i
     printf "info %.4f s, cp of the file %.3f s\n", t / 1e6, c / 1e6 }'
+count_read "$program" cat --indexed "${range[@]}" "$work/file.mcap"

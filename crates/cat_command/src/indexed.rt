@@ -10,7 +10,7 @@ ghost use Rattle.cat_command.specs.Indexed.{now_of, ComesTo, reason_of, refusal_
 ghost use Rattle.cat_command.specs.IndexedNames.{NameFollowed};
 
 use command_base::{Complaint, Counts, Unindexed, answer_file, faults_of, has_failed};
-use indexed_replay::{NotIndexed, ReplayRefused, replay_indexed};
+use indexed_replay::{NotIndexed, ReplayRefused, replay_kept};
 use mcap_io::{OpenRefused, Sink, Store, World};
 use mcap_model::Range;
 use mcap_wire::Text;
@@ -44,11 +44,11 @@ fn follow_store<T: Store>(
 ) -> Following
     ensures { ComesTo (selection range (asked_topic topic.entry)) (T.state store.old) (now_of (T.state store.old) (T.state store.new).faults (T.state store.new).asked) result }
 {
-    let replayed = match replay_indexed(alloc, store, range, topic) {
+    let replayed = match replay_kept(alloc, store, range, topic) {
         Ok(replayed) => replayed,
         Err(why) => return Following::Refused { why },
     };
-    match Printer::new(alloc, replayed) {
+    match Printer::of_kept(alloc, replayed) {
         Ok(text) => return Following::Lines { text },
         Err(_) => {
             return Following::Refused {

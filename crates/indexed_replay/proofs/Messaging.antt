@@ -151,3 +151,10 @@ costs file out at chunk inner op len before now asked place front first more =
 
 pub front_shown : (out : List ℕ) (c : ℕ) (m : MessageFields) → length out ≡ 31 → ShowsMessage (take 22 (drop 9 out)) c m → ShowsMessage (drop 9 out) c m
 front_shown out c m size shows = subst (λ (l : List ℕ). ShowsMessage l c m) (take_all 22 (drop 9 out) (omega (arith, length-drop 9 out, size))) shows
+
+-- a message on that channel
+pub on_channel : (s : Shown) (channel : ℕ) → s.channel ≡ channel → s ≡ record { place = place_in s.place.top s.place.inner; log_time = s.log_time; publish_time = s.publish_time; channel = channel; sequence = s.sequence; payload = s.payload }
+on_channel s channel is = ap (λ (n : ℕ). on s n) is
+  where
+    on : Shown → ℕ → Shown
+    on r n = record { place = place_in r.place.top r.place.inner; log_time = r.log_time; publish_time = r.publish_time; channel = n; sequence = r.sequence; payload = r.payload }

@@ -1,13 +1,10 @@
 -- Messages in their order, each once.
-use Rattle.std.specs.Prelude.{◌≡◌, List, Bool, true, ◌&&◌, ◌==◌, AllPairs}
+use Rattle.std.specs.Prelude.{◌≡◌, List, true, AllPairs}
 use Rattle.mcap_model.specs.declared.replay.Shown.{Shown}
 use Rattle.mcap_model.specs.Places.{Has}
 use Rattle.mcap_model.specs.Scan.{ComesBefore}
+use Rattle.kept_messages.specs.Heads.{same_place}
 use Rattle.indexed_replay.specs.Steps.{led_as}
-
--- whether two messages have one time and one place
-abbrev pub same_place : Shown → Shown → Bool
-same_place s r = (s.log_time == r.log_time) && ((s.place.top == r.place.top) && (s.place.inner == r.place.inner))
 
 -- these messages in the order of time and place, one for each time and place
 pub record IsOrdered (old new : List Shown) : Type 0 where

@@ -1,5 +1,5 @@
 -- The steps of a replay by the index.
-use Rattle.std.specs.Prelude.{◌≡◌, ℕ, ◌+◌, ◌-◌, ◌≤◌, List, [], ◌++◌, length, take, drop, sum_by, Bool, true, if◌then◌else◌, Option, Some, None, Result, Ok, Err, Vec}
+use Rattle.std.specs.Prelude.{◌≡◌, ℕ, ◌+◌, ◌-◌, ◌≤◌, List, [], ◌++◌, length, take, drop, sum_by, Bool, true, false, if◌then◌else◌, Option, Some, None, Result, Ok, Err, Vec}
 use Rattle.mcap_io.specs.Stores.{StoreState}
 use Rattle.mcap_io.specs.declared.outside.Failed.{Failed}
 use Rattle.rec_index.specs.Records.{ShowsMessageIndex}
@@ -85,18 +85,26 @@ pub record IsFound (file : List ℕ) (chunk channel : ℕ) (entry : ℕ × ℕ) 
   pub time : s.log_time ≡ entry.0
   pub stands : IsInChunk file chunk (led_as s)
 
-abbrev pub MessageIs : List ℕ → ℕ → ℕ → ℕ × ℕ → Result (Option Shown) ReplayRefused → Type 0
-MessageIs file chunk channel entry (Ok (Some s)) = IsFound file chunk channel entry s
-MessageIs file chunk channel entry (Ok None) = LacksMessage file chunk channel entry
-MessageIs file chunk channel entry (Err (refusals.Fault faults)) = Unit {0}
-MessageIs file chunk channel entry (Err (refusals.NotIndexed why)) = ⊥
-MessageIs file chunk channel entry (Err (refusals.Flaw rule offset)) = ⊥
-MessageIs file chunk channel entry (Err (refusals.Compressed offset name)) = ⊥
-MessageIs file chunk channel entry (Err (refusals.Limit offset)) = (offset ≡ chunk + 49 + entry.1) × DeclaresPast (drop offset file)
-MessageIs file chunk channel entry (Err refusals.Memory) = Unit {0}
+-- just the messages with that property are added
+pub record Adds (P : Shown → Type 0) (old new : List Shown) : Type 0 where
+  pub more : List Shown
+  pub added : new ≡ old ++ more
+  pub are : (s : Shown) → Has more s → P s
+  pub all : (s : Shown) → P s → Has more s
 
-abbrev pub TellsMessage : Option (List ℕ) → ℕ → ℕ → ℕ → ℕ × ℕ → Result (Option Shown) ReplayRefused → Type 0
-TellsMessage told len chunk channel entry result = (file : List ℕ) → told ≡ Some file → length file ≡ len → MessageIs file chunk channel entry result
+-- the message of an entry is added; or none stands there; or why it can't be read
+abbrev pub MessageIs : List ℕ → ℕ → ℕ → ℕ × ℕ → (List Shown × List Shown) → Result Bool ReplayRefused → Type 0
+MessageIs file chunk channel entry shown (Ok true) = Adds (IsFound file chunk channel entry) shown.0 shown.1
+MessageIs file chunk channel entry shown (Ok false) = LacksMessage file chunk channel entry
+MessageIs file chunk channel entry shown (Err (refusals.Fault faults)) = Unit {0}
+MessageIs file chunk channel entry shown (Err (refusals.NotIndexed why)) = ⊥
+MessageIs file chunk channel entry shown (Err (refusals.Flaw rule offset)) = ⊥
+MessageIs file chunk channel entry shown (Err (refusals.Compressed offset name)) = ⊥
+MessageIs file chunk channel entry shown (Err (refusals.Limit offset)) = (offset ≡ chunk + 49 + entry.1) × DeclaresPast (drop offset file)
+MessageIs file chunk channel entry shown (Err refusals.Memory) = Unit {0}
+
+abbrev pub TellsMessage : Option (List ℕ) → ℕ → ℕ → ℕ → ℕ × ℕ → (List Shown × List Shown) → Result Bool ReplayRefused → Type 0
+TellsMessage told len chunk channel entry shown result = (file : List ℕ) → told ≡ Some file → length file ≡ len → MessageIs file chunk channel entry shown result
 
 -- what the reading of a message asks for: 31 bytes, and the payload that its head declares
 abbrev pub message_cost : List ℕ → ℕ → ℕ
@@ -104,15 +112,6 @@ message_cost file at = 31 + (declared_length (drop at file) - 22)
 
 abbrev pub AsksMessage : ℕ → ℕ → StoreState → StoreState → Type 0
 AsksMessage len at old new = (file : List ℕ) → old.bytes ≡ Some file → length file ≡ len → new.asked ≤ old.asked + message_cost file at
-
--- ---- what is added
-
--- just the messages with that property are added
-pub record Adds (P : Shown → Type 0) (old new : List Shown) : Type 0 where
-  pub more : List Shown
-  pub added : new ≡ old ++ more
-  pub are : (s : Shown) → Has more s → P s
-  pub all : (s : Shown) → P s → Has more s
 
 -- ---- the entries of a Message Index
 

@@ -4,13 +4,14 @@ ghost use Rattle.rec_index.specs.Parsed.{chunk_index_fields};
 ghost use Rattle.indexed_replay.specs.Replaying.{ReplayCause};
 ghost use Rattle.indexed_replay.specs.Steps.{Stays};
 ghost use Rattle.indexed_replay.specs.Chunks.{AsksChunk, AsksFront, AsksNames, ChecksChunk, NamesPack, ShowsChunk, ShowsNames};
+ghost use Rattle.kept_messages.specs.Keeping.{kept_in};
 
 use crate::answers::{NotIndexed, ReplayRefused};
 use crate::fronts::{Front, read_front};
 use crate::lists::show_list;
 use crate::spots::{Request, Spot};
+use kept_messages::Kept;
 use mcap_io::{Failed, ReadRefused, Store, read_part};
-use mcap_model::Shown;
 use mcap_wire::{Text, take_u32};
 use rec_index::{CHUNK, ChunkIndex};
 use std::alloc::Global;
@@ -114,10 +115,10 @@ fn show_names<T: Store>(
     at: u64,
     end: u64,
     index: &ChunkIndex,
-    shown: &mut Vec<Shown>,
+    shown: &mut Kept,
 ) -> Result<(), ReplayRefused>
     requires { request.now.len ≤ (T.state store.old).known }
-    ensures told { ShowsNames (T.state store.old).bytes request.now at end (chunk_index_fields index.now) (shown.old.items, shown.new.items) result }
+    ensures told { ShowsNames (T.state store.old).bytes request.now at end (chunk_index_fields index.now) (kept_in shown.old, kept_in shown.new) result }
     ensures cause { ReplayCause (T.state store.old).faults (T.state store.new).faults result }
     ensures stays { Stays (T.state store.old) (T.state store.new) }
     ensures asks { AsksNames request.now (chunk_index_fields index.now) (T.state store.old) (T.state store.new) }
@@ -150,10 +151,10 @@ pub(crate) fn show_chunk<T: Store>(
     request: &Request,
     at: u64,
     index: &ChunkIndex,
-    shown: &mut Vec<Shown>,
+    shown: &mut Kept,
 ) -> Result<(), ReplayRefused>
     requires { request.now.len ≤ (T.state store.old).known }
-    ensures told { ShowsChunk (T.state store.old).bytes request.now at (chunk_index_fields index.now) (shown.old.items, shown.new.items) result }
+    ensures told { ShowsChunk (T.state store.old).bytes request.now at (chunk_index_fields index.now) (kept_in shown.old, kept_in shown.new) result }
     ensures cause { ReplayCause (T.state store.old).faults (T.state store.new).faults result }
     ensures stays { Stays (T.state store.old) (T.state store.new) }
     ensures asks { AsksChunk request.now (chunk_index_fields index.now) (T.state store.old) (T.state store.new) }

@@ -2,26 +2,26 @@
 ghost use Rattle.std.specs.Prelude.{◌+◌, ◌≤◌};
 ghost use Rattle.indexed_replay.specs.Replaying.{ReplayCause};
 ghost use Rattle.indexed_replay.specs.Steps.{AsksEntries, AsksMessage, Stays, TellsEntries, TellsEntry};
+ghost use Rattle.kept_messages.specs.Keeping.{kept_in};
 
 use crate::answers::ReplayRefused;
-use crate::messages::read_message;
+use crate::messages::add_message;
 use crate::spots::Spot;
+use kept_messages::Kept;
 use mcap_io::Store;
-use mcap_model::{Place, Range, Shown, is_within};
+use mcap_model::{Place, Range, is_within};
 use mcap_wire::EntriesRef;
-use std::alloc::Global;
 
 // Adds the message to which an entry leads: its log time, and its offset in the chunk's records.
 fn show_entry<T: Store>(
-    alloc: Global,
     store: &mut T,
     len: u64,
     spot: Spot,
     entry: (u64, u64),
-    shown: &mut Vec<Shown>,
+    shown: &mut Kept,
 ) -> Result<(), ReplayRefused>
     requires { len ≤ (T.state store.old).known }
-    ensures told { TellsEntry (T.state store.old).bytes len spot entry (shown.old.items, shown.new.items) result }
+    ensures told { TellsEntry (T.state store.old).bytes len spot entry (kept_in shown.old, kept_in shown.new) result }
     ensures cause { ReplayCause (T.state store.old).faults (T.state store.new).faults result }
     ensures stays { Stays (T.state store.old) (T.state store.new) }
     ensures asks { AsksMessage len (spot.chunk + 49 + entry.1) (T.state store.old) (T.state store.new) }
@@ -31,37 +31,29 @@ fn show_entry<T: Store>(
         top: spot.chunk,
         inner,
     };
-    let found = match read_message(alloc, store, len, place, spot.channel, time) {
-        Ok(found) => found,
-        Err(why) => return Err(why),
-    };
-    let message = match found {
-        Some(message) => message,
-        None => {
+    match add_message(store, len, place, spot.channel, time, shown) {
+        Ok(true) => return Ok(()),
+        Ok(false) => {
             return Err(ReplayRefused::Flaw {
                 rule: 9,
                 offset: spot.list,
             });
         }
-    };
-    match shown.push(message) {
-        Ok(()) => return Ok(()),
-        Err(_) => return Err(ReplayRefused::Memory),
+        Err(why) => return Err(why),
     }
 }
 
 /// Adds the messages to which those entries lead whose log times lie in the range. Other entries aren't looked at.
 pub(crate) fn show_entries<T: Store>(
-    alloc: Global,
     store: &mut T,
     len: u64,
     range: Range,
     spot: Spot,
     entries: &EntriesRef,
-    shown: &mut Vec<Shown>,
+    shown: &mut Kept,
 ) -> Result<(), ReplayRefused>
     requires { len ≤ (T.state store.old).known }
-    ensures told { TellsEntries (T.state store.old).bytes len range spot entries.now (shown.old.items, shown.new.items) result }
+    ensures told { TellsEntries (T.state store.old).bytes len range spot entries.now (kept_in shown.old, kept_in shown.new) result }
     ensures cause { ReplayCause (T.state store.old).faults (T.state store.new).faults result }
     ensures stays { Stays (T.state store.old) (T.state store.new) }
     ensures asks { AsksEntries len range spot.chunk entries.now (T.state store.old) (T.state store.new) }
@@ -71,7 +63,7 @@ pub(crate) fn show_entries<T: Store>(
         if !is_within(range, entry.0) {
             continue;
         }
-        match show_entry(alloc, store, len, spot, entry, shown) {
+        match show_entry(store, len, spot, entry, shown) {
             Ok(()) => {}
             Err(why) => return Err(why),
         }

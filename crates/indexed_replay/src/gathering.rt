@@ -5,12 +5,14 @@ ghost use Rattle.mcap_model.specs.Led.{Meets};
 ghost use Rattle.indexed_replay.specs.Replaying.{ReplayCause};
 ghost use Rattle.indexed_replay.specs.Steps.{Stays};
 ghost use Rattle.indexed_replay.specs.Gathering.{AsksAll, Gathers};
+ghost use Rattle.kept_messages.specs.Keeping.{kept_in};
 
 use crate::answers::ReplayRefused;
 use crate::chunks::show_chunk;
 use crate::spots::Request;
+use kept_messages::Kept;
 use mcap_io::Store;
-use mcap_model::{Range, Shown, is_within};
+use mcap_model::{Range, is_within};
 use rec_index::ChunkIndex;
 use std::alloc::Global;
 use summary_read::Loaded;
@@ -32,10 +34,10 @@ pub(crate) fn gather<T: Store>(
     store: &mut T,
     request: &Request,
     loaded: &Loaded,
-    shown: &mut Vec<Shown>,
+    shown: &mut Kept,
 ) -> Result<(), ReplayRefused>
     requires { request.now.len ≤ (T.state store.old).known }
-    ensures told { Gathers (T.state store.old).bytes request.now loaded.now.chunk_indexes loaded.now.chunk_index_offsets (shown.old.items, shown.new.items) result }
+    ensures told { Gathers (T.state store.old).bytes request.now loaded.now.chunk_indexes loaded.now.chunk_index_offsets (kept_in shown.old, kept_in shown.new) result }
     ensures cause { ReplayCause (T.state store.old).faults (T.state store.new).faults result }
     ensures stays { Stays (T.state store.old) (T.state store.new) }
     ensures asks { AsksAll request.now loaded.now.chunk_indexes (T.state store.old) (T.state store.new) }

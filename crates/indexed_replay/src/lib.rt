@@ -15,4 +15,4 @@ mod replaying;
 mod spots;
 
 pub use answers::{NotIndexed, ReplayRefused};
-pub use replaying::replay_indexed;
+pub use replaying::{replay_indexed, replay_kept};

@@ -5,13 +5,15 @@ ghost use Rattle.mcap_model.specs.Plain.{asked_topic, DeclareChannels};
 ghost use Rattle.indexed_replay.specs.Replaying.{ReplayCause};
 ghost use Rattle.indexed_replay.specs.Steps.{AsksRecord, Stays, TellsIndex, TellsList};
 ghost use Rattle.indexed_replay.specs.Lists.{AsksContent, AsksList, HasTimely, Shows, ShowsContent, Undeclared, Wanted};
+ghost use Rattle.kept_messages.specs.Keeping.{kept_in};
 
 use crate::answers::{NotIndexed, ReplayRefused};
 use crate::entries::show_entries;
 use crate::fronts::{Front, read_front};
 use crate::spots::{Request, Spot};
+use kept_messages::Kept;
 use mcap_io::{Failed, ReadRefused, Store, read_part};
-use mcap_model::{Range, Shown, Tables, is_within};
+use mcap_model::{Range, Tables, is_within};
 use mcap_wire::{EntriesRef, Text};
 use rec_data::Channel;
 use rec_index::{MESSAGE_INDEX, MessageIndex};
@@ -147,16 +149,15 @@ fn check_channel(
 
 // Adds the messages to which a Message Index of that content leads.
 fn show_content<T: Store>(
-    alloc: Global,
     store: &mut T,
     request: &Request,
     spot: Spot,
     content: &[u8],
-    shown: &mut Vec<Shown>,
+    shown: &mut Kept,
 ) -> Result<(), ReplayRefused>
     requires known { request.now.len ≤ (T.state store.old).known }
     requires is { (entries : List (ℕ × ℕ)) × ShowsMessageIndex content.now spot.channel entries }
-    ensures told { ShowsContent (T.state store.old).bytes request.now spot content.now (shown.old.items, shown.new.items) result }
+    ensures told { ShowsContent (T.state store.old).bytes request.now spot content.now (kept_in shown.old, kept_in shown.new) result }
     ensures cause { ReplayCause (T.state store.old).faults (T.state store.new).faults result }
     ensures stays { Stays (T.state store.old) (T.state store.new) }
     ensures asks { AsksContent request.now spot content.now (T.state store.old) (T.state store.new) }
@@ -167,7 +168,6 @@ fn show_content<T: Store>(
     };
     if is_wanted(request.tables, spot.channel, request.topic) {
         return show_entries(
-            alloc,
             store,
             request.len,
             request.range,
@@ -189,10 +189,10 @@ pub(crate) fn show_list<T: Store>(
     request: &Request,
     at: u64,
     spot: Spot,
-    shown: &mut Vec<Shown>,
+    shown: &mut Kept,
 ) -> Result<(), ReplayRefused>
     requires { request.now.len ≤ (T.state store.old).known }
-    ensures told { Shows (T.state store.old).bytes request.now at spot (shown.old.items, shown.new.items) result }
+    ensures told { Shows (T.state store.old).bytes request.now at spot (kept_in shown.old, kept_in shown.new) result }
     ensures cause { ReplayCause (T.state store.old).faults (T.state store.new).faults result }
     ensures stays { Stays (T.state store.old) (T.state store.new) }
     ensures asks { AsksList request.now spot (T.state store.old) (T.state store.new) }
@@ -202,7 +202,7 @@ pub(crate) fn show_list<T: Store>(
         Err(why) => return Err(why),
     };
     match found {
-        Some(content) => return show_content(alloc, store, request, spot, &content, shown),
+        Some(content) => return show_content(store, request, spot, &content, shown),
         None => {
             return Err(ReplayRefused::Flaw {
                 rule: 12,

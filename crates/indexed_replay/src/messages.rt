@@ -2,45 +2,45 @@
 ghost use Rattle.std.specs.Prelude.{◌+◌, ◌≤◌};
 ghost use Rattle.indexed_replay.specs.Replaying.{ReplayCause};
 ghost use Rattle.indexed_replay.specs.Steps.{AsksMessage, Stays, TellsMessage};
+ghost use Rattle.kept_messages.specs.Keeping.{kept_in};
 
 use crate::answers::ReplayRefused;
 use crate::fronts::{Front, read_front};
-use mcap_io::{Failed, ReadRefused, Store, read_part};
-use mcap_model::{Place, Shown};
-use mcap_wire::Bytes;
+use kept_messages::Kept;
+use mcap_io::{Failed, ReadRefused, Store};
+use mcap_model::Place;
 use rec_data::{MESSAGE, Message};
-use std::alloc::Global;
 
 /// How much of a chunk without a compression stands in front of its records: the head, two times, the size, the CRC, and the
 /// lengths of the compression and of the records.
 const RECORDS_OFFSET: u64 = 49;
 
-/// Reads the message of that channel and that log time at a place, if it stands there.
-pub(crate) fn read_message<T: Store>(
-    alloc: Global,
+/// Adds the message of that channel and that log time at a place, and says whether it stands there.
+pub(crate) fn add_message<T: Store>(
     store: &mut T,
     len: u64,
     place: Place,
     channel: u16,
     time: u64,
-) -> Result<Option<Shown>, ReplayRefused>
+    shown: &mut Kept,
+) -> Result<bool, ReplayRefused>
     requires { len ≤ (T.state store.old).known }
-    ensures told { TellsMessage (T.state store.old).bytes len place.top channel (time, place.inner) result }
+    ensures told { TellsMessage (T.state store.old).bytes len place.top channel (time, place.inner) (kept_in shown.old, kept_in shown.new) result }
     ensures cause { ReplayCause (T.state store.old).faults (T.state store.new).faults result }
     ensures stays { Stays (T.state store.old) (T.state store.new) }
     ensures asks { AsksMessage len (place.top + 49 + place.inner) (T.state store.old) (T.state store.new) }
 {
     let Some(records) = place.top.checked_add(RECORDS_OFFSET) else {
-        return Ok(None);
+        return Ok(false);
     };
     let Some(at) = records.checked_add(place.inner) else {
-        return Ok(None);
+        return Ok(false);
     };
     let mut front = [0; 31];
     let head = match read_front(store, len, at, &mut front) {
         Ok(Front::Whole(head)) => head,
         Ok(Front::Long) => return Err(ReplayRefused::Limit { offset: at }),
-        Ok(Front::Absent) => return Ok(None),
+        Ok(Front::Absent) => return Ok(false),
         Err(Failed) => {
             return Err(ReplayRefused::Fault {
                 faults: store.faults(),
@@ -48,24 +48,17 @@ pub(crate) fn read_message<T: Store>(
         }
     };
     if head.op != MESSAGE {
-        return Ok(None);
+        return Ok(false);
     }
     let message = match Message::parse(&front[9..]) {
         Ok(message) => message,
-        Err(_) => return Ok(None),
+        Err(_) => return Ok(false),
     };
     if message.channel_id != channel || message.log_time != time {
-        return Ok(None);
+        return Ok(false);
     }
-    match read_part(alloc, store, at + 31, head.len - 22) {
-        Ok(payload) => return Ok(Some(Shown {
-            place,
-            log_time: message.log_time,
-            publish_time: message.publish_time,
-            channel,
-            sequence: message.sequence,
-            payload: Bytes::new(payload),
-        })),
+    match shown.add_part_of(store, place, &message, at + 31, head.len - 22) {
+        Ok(()) => return Ok(true),
         Err(ReadRefused::Failed) => {
             return Err(ReplayRefused::Fault {
                 faults: store.faults(),

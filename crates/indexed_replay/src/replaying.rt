@@ -10,8 +10,9 @@ use crate::channels::take_channels;
 use crate::finishing::finish;
 use crate::gathering::gather;
 use crate::spots::Request;
+use kept_messages::{Kept, KeptReplay, topics_of_kept};
 use mcap_io::{Failed, Store};
-use mcap_model::{Range, Replayed, topics_of};
+use mcap_model::{Range, Replayed};
 use mcap_wire::{Memory, Text};
 use std::alloc::Global;
 use summary_read::{LoadRefused, Loaded, load};
@@ -58,7 +59,7 @@ fn play<T: Store>(
     len: u64,
     range: Range,
     topic: Option<&Text>,
-) -> Result<Replayed, ReplayRefused>
+) -> Result<KeptReplay, ReplayRefused>
     requires known { len ≤ (T.state store.old).known }
     requires measured { TellsLength (T.state store.old).bytes (Ok len) }
     ensures plays { PlaysLoaded (T.state store.old).bytes loaded.now range (asked_topic topic.entry) result }
@@ -76,14 +77,14 @@ fn play<T: Store>(
         tables: &tables,
         topic,
     };
-    let mut shown = Vec::new(alloc);
+    let mut shown = Kept::new(alloc);
     match gather(alloc, store, &request, loaded, &mut shown) {
         Ok(()) => {}
         Err(why) => return Err(why),
     }
     finish(&mut shown);
-    match topics_of(alloc, &tables, &shown) {
-        Ok(topics) => return Ok(Replayed { topics, shown }),
+    match topics_of_kept(alloc, &tables, &shown) {
+        Ok(topics) => return Ok(KeptReplay::new(topics, shown)),
         Err(Memory) => return Err(ReplayRefused::Memory),
     }
 }
@@ -91,13 +92,13 @@ fn play<T: Store>(
 /// The messages of the range, and of the topic if one is given, to which the indexes of the file lead that the store
 /// holds, in the order of log time and place (MCAP specification, "Summary Section"). Of the file only the ends, the
 /// summary, and of each chunk that meets the range the front, the Message Indexes and the messages in the range are asked
-/// for.
-pub fn replay_indexed<T: Store>(
+/// for. Their payloads stand in one vector.
+pub fn replay_kept<T: Store>(
     alloc: Global,
     store: &mut T,
     range: Range,
     topic: Option<&Text>,
-) -> Result<Replayed, ReplayRefused>
+) -> Result<KeptReplay, ReplayRefused>
     ensures plays { Plays (T.state store.old).bytes range (asked_topic topic.entry) result }
     ensures counted { TellsChunks (T.state store.old).bytes result }
     ensures unsummed { TellsNoSummary (T.state store.old).bytes result }
@@ -124,4 +125,30 @@ pub fn replay_indexed<T: Store>(
         Err(why) => return Err(ReplayRefused::NotIndexed { why }),
     }
     return play(alloc, store, &loaded, len, range, topic);
+}
+
+/// The messages that `replay_kept` gives, each with a payload of its own.
+pub fn replay_indexed<T: Store>(
+    alloc: Global,
+    store: &mut T,
+    range: Range,
+    topic: Option<&Text>,
+) -> Result<Replayed, ReplayRefused>
+    ensures plays { Plays (T.state store.old).bytes range (asked_topic topic.entry) result }
+    ensures counted { TellsChunks (T.state store.old).bytes result }
+    ensures unsummed { TellsNoSummary (T.state store.old).bytes result }
+    ensures scanned { PlaysScan (T.state store.old).bytes range (asked_topic topic.entry) result }
+    ensures asks { AsksIndexed range (T.state store.old) (T.state store.new) }
+    ensures bounded { AsksBound range (T.state store.old) (T.state store.new) }
+    ensures cause { ReplayCause (T.state store.old).faults (T.state store.new).faults result }
+    ensures leaves { Leaves (T.state store.old) (T.state store.new) }
+{
+    let kept = match replay_kept(alloc, store, range, topic) {
+        Ok(kept) => kept,
+        Err(why) => return Err(why),
+    };
+    match kept.into_replayed(alloc) {
+        Ok(replayed) => return Ok(replayed),
+        Err(Memory) => return Err(ReplayRefused::Memory),
+    }
 }

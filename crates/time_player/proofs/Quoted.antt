@@ -18,6 +18,7 @@ use Rattle.mcap_model.specs.Text.{cat_line, cat_text, data_text}
 use Rattle.mcap_model.proofs.Places.{at_none}
 use Rattle.std.proofs.lemmas.Option.{same_Some}
 use Rattle.mcap_model.proofs.NamedTopics.{unmapped}
+use Rattle.mcap_model.proofs.OneMore.{take_next}
 use Rattle.mcap_model.proofs.Replays.{first_topic, first_found}
 use Rattle.time_player.specs.Lines.{line_of, lines_of, spelling, Apart, Quotes, Spells}
 
@@ -37,11 +38,6 @@ at_last [] t zero x at = inr (same_Some t x at)
 at_last [] t (suc n) x at = absurd (at_none n x at)
 at_last (y ∷ xs) t zero x at = inl at
 at_last (y ∷ xs) t (suc n) x at = at_last xs t n x at
-
-take_next : {X : Type 0} (xs : List X) (n : ℕ) (x : X) → At xs n x → take (suc n) xs ≡ take n xs ++ x ∷ []
-take_next [] n x at = absurd (at_none n x at)
-take_next {X} (y ∷ xs) zero x at = ap (λ (z : X). z ∷ []) (same_Some y x at)
-take_next {X} (y ∷ xs) (suc n) x at = ap (λ (l : List X). y ∷ l) (take_next xs n x at)
 
 pub take_one_more : {X : Type 0} (xs : List X) (n : ℕ) (x : X) → At xs n x → take (n + 1) xs ≡ take n xs ++ x ∷ []
 take_one_more {X} xs n x at =

@@ -5,8 +5,6 @@
 mod asking;
 mod hex;
 mod keeping;
-mod kept;
-mod lent;
 mod line;
 mod lines;
 mod messages;

@@ -8,6 +8,7 @@ ghost use Rattle.time_player.specs.Messages.{messages_in};
 use crate::line::{room_of, write_line};
 use crate::lines::{quote_topics, spelled};
 use crate::messages::Messages;
+use kept_messages::KeptReplay;
 use mcap_io::{Short, Sink, write_all_of};
 use mcap_model::{Replayed, Table};
 use mcap_wire::Memory;
@@ -120,7 +121,7 @@ impl Printer {
     ghost use Rattle.mcap_model.specs.Text.{cat_text as text_of};
 
     /// Takes messages over, and makes room for their lines; `quoted` has the topics of their channels.
-    pub(crate) fn of(alloc: Global, messages: Messages, quoted: Table) -> Result<Printer, Memory>
+    fn of(alloc: Global, messages: Messages, quoted: Table) -> Result<Printer, Memory>
         requires { Apart quoted }
         ensures { IfOk result (λ text. text ≡ lines_of quoted (messages_in messages)) }
     {
@@ -149,6 +150,21 @@ impl Printer {
             Err(memory) => return Err(memory),
         };
         match Printer::of(alloc, Messages::Owned { shown }, quoted) {
+            Ok(text) => return Ok(text),
+            Err(memory) => return Err(memory),
+        }
+    }
+
+    /// Takes messages over that are kept, and makes room for their lines.
+    pub fn of_kept(alloc: Global, replayed: KeptReplay) -> Result<Printer, Memory>
+        ensures { IfOk result (λ text. (messages : List Seen) → Shows replayed messages → text ≡ text_of messages) }
+    {
+        let (topics, kept) = replayed.into_parts();
+        let quoted = match quote_topics(alloc, &topics) {
+            Ok(quoted) => quoted,
+            Err(memory) => return Err(memory),
+        };
+        match Printer::of(alloc, Messages::Kept { kept }, quoted) {
             Ok(text) => return Ok(text),
             Err(memory) => return Err(memory),
         }

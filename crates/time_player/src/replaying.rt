@@ -6,14 +6,12 @@ ghost use Rattle.mcap_model.specs.Scan.{Seen, Scan};
 ghost use Rattle.mcap_model.specs.Plain.{asked_topic};
 ghost use Rattle.mcap_model.specs.Showing.{shown_as};
 ghost use Rattle.time_player.specs.Asking.{is_asked};
-ghost use Rattle.time_player.specs.Keeping.{kept_in};
+ghost use Rattle.kept_messages.specs.Keeping.{kept_in};
 ghost use Rattle.time_player.specs.Replaying.{IsTold, IsPlayed, AreLines, ReadsKept, Plays, PlaysLines};
 
 use crate::keeping::keep_messages;
-use crate::kept::Kept;
-use crate::lines::quote_topics;
-use crate::messages::Messages;
 use crate::printer::Printer;
+use kept_messages::{Kept, KeptReplay, topics_of_kept};
 use mcap_io::Source;
 use mcap_model::{Range, Replayed, Tables, put_in_order, topics_of};
 use mcap_scan::{Reader, ScanRefused, Step};
@@ -43,20 +41,12 @@ fn finish_lines(alloc: Global, tables: &Tables, kept: Kept) -> Result<Printer, M
         → IfOk result (λ text. AreLines range topic messages text) }
 {
     let mut kept = kept;
-    let few = match kept.one_of_each_channel(alloc) {
-        Ok(few) => few,
-        Err(memory) => return Err(memory),
-    };
-    let topics = match topics_of(alloc, tables, &few) {
+    let topics = match topics_of_kept(alloc, tables, &kept) {
         Ok(topics) => topics,
         Err(memory) => return Err(memory),
     };
-    let quoted = match quote_topics(alloc, &topics) {
-        Ok(quoted) => quoted,
-        Err(memory) => return Err(memory),
-    };
     kept.put_in_order();
-    match Printer::of(alloc, Messages::Kept { kept }, quoted) {
+    match Printer::of_kept(alloc, KeptReplay::new(topics, kept)) {
         Ok(text) => return Ok(text),
         Err(memory) => return Err(memory),
     }

@@ -6,13 +6,14 @@ use Rattle.indexed_replay.specs.Chunks.{spot_of, IsLedAmong}
 use Rattle.indexed_replay.proofs.Naming.{named_none, named_more, zip_next, zip_taken, sum_joined, sum_taken}
 use Rattle.indexed_replay.specs.Reaching.{index_elsewhere}
 use Rattle.indexed_replay.proofs.chunks.show_names.Goals.{then-list-end-via-then-list-end, then-list-end-via-else-list-end+then-list-end-2}
+use Rattle.kept_messages.specs.Keeping.{kept_in}
 use Rattle.indexed_replay.proofs.chunks.show_names.Goals as goal
 
 pub names-init : goal.names-init
 names-init g c = record {
   stays = record { bytes = refl; known = refl };
   still = refl;
-  shows = λ file told size knows. named_none file c.args.request.now c.args.index.now.chunk_start_offset c.args.index.now.message_index_offsets c.args.shown.now.items;
+  shows = λ file told size knows. named_none file c.args.request.now c.args.index.now.chunk_start_offset c.args.index.now.message_index_offsets (kept_in c.args.shown.now);
   asks = λ file costs told size are. omega arith;
 }
 
@@ -58,7 +59,7 @@ names-preserved g c =
     record {
       stays = record { bytes = e.stays.bytes ∙ i.stays.bytes; known = e.stays.known ∙ i.stays.known };
       still = e.cause ∙ i.still;
-      shows = λ file told size knows. named_more file c.args.request.now c.args.index.now.chunk_start_offset c.args.index.now.message_index_offsets c.names.i (c.names.i + 1) c.item-channel.result c.args.shown.now.items c.names.shown.items c.show_list.new.shown.items c.item-channel.ensures (omega arith) (i.shows file told size knows) (e.told file (i.stays.bytes ∙ told) size knows);
+      shows = λ file told size knows. named_more file c.args.request.now c.args.index.now.chunk_start_offset c.args.index.now.message_index_offsets c.names.i (c.names.i + 1) c.item-channel.result (kept_in c.args.shown.now) (kept_in c.names.shown) (kept_in c.show_list.new.shown) c.item-channel.ensures (omega arith) (i.shows file told size knows) (e.told file (i.stays.bytes ∙ told) size knows);
       asks = λ file costs told size are.
           let R : ℕ × ℕ → ℕ → Type 0 = λ p cost. ListCost file c.args.request.now.range (spot_of c.args.index.now.chunk_start_offset p) cost in
           let last = zip_next R c.args.index.now.message_index_offsets c.names.i (c.names.i + 1) c.item-channel.result costs c.item-channel.ensures (omega arith) are in
@@ -69,4 +70,4 @@ pub returns-clause-told : goal.returns-clause-told
 returns-clause-told g c = λ file told size knows ends.
     let i = c.names.invariant in
     let whole = take_all c.names.i c.args.index.now.message_index_offsets (omega arith) in
-    subst (λ (l : List (ℕ × ℕ)). Adds (IsLedAmong file c.args.request.now c.args.index.now.chunk_start_offset l) c.args.shown.now.items c.names.shown.items) whole (i.shows file told size knows)
+    subst (λ (l : List (ℕ × ℕ)). Adds (IsLedAmong file c.args.request.now c.args.index.now.chunk_start_offset l) (kept_in c.args.shown.now) (kept_in c.names.shown)) whole (i.shows file told size knows)

@@ -1,6 +1,7 @@
 use Rattle.std.proofs.Common.{◌+◌, ◌≤◌, sym, ◌∙◌, arith}
 use Rattle.indexed_replay.specs.Steps.{entries_cost}
 use Rattle.indexed_replay.proofs.Adding.{listed_more, listed_skip, cost_next, cost_skip, cost_all}
+use Rattle.kept_messages.specs.Keeping.{kept_in}
 use Rattle.indexed_replay.proofs.entries.show_entries.Goals as goal
 
 pub entries-preserved-then-not-is_within : goal.entries-preserved-then-not-is_within
@@ -9,7 +10,7 @@ entries-preserved-then-not-is_within g c =
     record {
       stays = i.stays;
       still = i.still;
-      shows = λ file told size. listed_skip file c.args.range c.args.spot c.args.entries.now c.entries.i (c.entries.i + 1) c.item-entry.result c.args.shown.now.items c.entries.shown.items c.item-entry.ensures (omega arith) (sym c.if-not-is_within.ensures) (i.shows file told size);
+      shows = λ file told size. listed_skip file c.args.range c.args.spot c.args.entries.now c.entries.i (c.entries.i + 1) c.item-entry.result (kept_in c.args.shown.now) (kept_in c.entries.shown) c.item-entry.ensures (omega arith) (sym c.if-not-is_within.ensures) (i.shows file told size);
       asks = λ file told size. cost_skip file c.args.range c.args.spot.chunk c.args.entries.now c.entries.i (c.entries.i + 1) c.item-entry.result (g.T.Store.state c.args.store.now).asked (g.T.Store.state c.entries.store).asked c.item-entry.ensures (omega arith) (i.asks file told size);
     }
 
@@ -26,6 +27,6 @@ entries-preserved g c =
     record {
       stays = record { bytes = e.stays.bytes ∙ i.stays.bytes; known = e.stays.known ∙ i.stays.known };
       still = e.cause ∙ i.still;
-      shows = λ file told size. listed_more file c.args.range c.args.spot c.args.entries.now c.entries.i (c.entries.i + 1) c.item-entry.result c.args.shown.now.items c.entries.shown.items c.show_entry.new.shown.items c.item-entry.ensures (omega arith) (sym c.if-not-is_within.ensures) (i.shows file told size) (e.told file (i.stays.bytes ∙ told) size);
+      shows = λ file told size. listed_more file c.args.range c.args.spot c.args.entries.now c.entries.i (c.entries.i + 1) c.item-entry.result (kept_in c.args.shown.now) (kept_in c.entries.shown) (kept_in c.show_entry.new.shown) c.item-entry.ensures (omega arith) (sym c.if-not-is_within.ensures) (i.shows file told size) (e.told file (i.stays.bytes ∙ told) size);
       asks = λ file told size. cost_next file c.args.range c.args.spot.chunk c.args.entries.now c.entries.i (c.entries.i + 1) c.item-entry.result (g.T.Store.state c.args.store.now).asked (g.T.Store.state c.entries.store).asked (g.T.Store.state c.show_entry.new.store).asked c.item-entry.ensures (omega arith) (sym c.if-not-is_within.ensures) (i.asks file told size) (e.asks file (i.stays.bytes ∙ told) size);
     }

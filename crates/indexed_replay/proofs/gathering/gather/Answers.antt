@@ -4,13 +4,14 @@ use Rattle.rec_index.specs.Parsed.{chunk_index_fields}
 use Rattle.indexed_replay.specs.Gathering.{CostsUpTo}
 use Rattle.indexed_replay.proofs.Gathered.{from_none, from_skip, from_more}
 use Rattle.indexed_replay.proofs.Naming.{zip_next, zip_taken, sum_joined, sum_taken}
+use Rattle.kept_messages.specs.Keeping.{kept_in}
 use Rattle.indexed_replay.proofs.gathering.gather.Goals as goal
 
 pub chunks-init : goal.chunks-init
 chunks-init g c = record {
   stays = record { bytes = refl; known = refl };
   still = refl;
-  shows = λ file told size knows. from_none file c.args.request.now c.args.loaded.now.chunk_indexes c.args.shown.now.items;
+  shows = λ file told size knows. from_none file c.args.request.now c.args.loaded.now.chunk_indexes (kept_in c.args.shown.now);
   asks = λ file costs told size are. omega arith;
 }
 
@@ -24,7 +25,7 @@ chunks-preserved-then-not-meets g c =
     record {
       stays = i.stays;
       still = i.still;
-      shows = λ file told size knows. from_skip file c.args.request.now c.args.loaded.now.chunk_indexes c.chunks.i (c.chunks.i + 1) t (chunk_index_fields c.chunk_index-index.result) c.args.shown.now.items c.chunks.shown.items at (omega arith) is (λ m. false≢true (c.if-not-meets.ensures.1 m)) (i.shows file told size knows);
+      shows = λ file told size knows. from_skip file c.args.request.now c.args.loaded.now.chunk_indexes c.chunks.i (c.chunks.i + 1) t (chunk_index_fields c.chunk_index-index.result) (kept_in c.args.shown.now) (kept_in c.chunks.shown) at (omega arith) is (λ m. false≢true (c.if-not-meets.ensures.1 m)) (i.shows file told size knows);
       asks = λ file costs told size are.
           let last = zip_next (CostsUpTo file c.args.request.now.range) c.args.loaded.now.chunk_indexes c.chunks.i (c.chunks.i + 1) t costs at (omega arith) are in
           asked_more costs last.front last.last (g.T.Store.state c.args.store.now).asked (g.T.Store.state c.chunks.store).asked (g.T.Store.state c.chunks.store).asked last.joined (i.asks file last.front told size last.zipped) (omega arith);
@@ -56,7 +57,7 @@ chunks-preserved g c =
     record {
       stays = record { bytes = e.stays.bytes ∙ i.stays.bytes; known = e.stays.known ∙ i.stays.known };
       still = e.cause ∙ i.still;
-      shows = λ file told size knows. from_more file c.args.request.now c.args.loaded.now.chunk_indexes c.chunks.i (c.chunks.i + 1) t f c.args.shown.now.items c.chunks.shown.items c.show_chunk.new.shown.items at (omega arith) is (c.if-not-meets.ensures.0 refl) (i.shows file told size knows) (e.told file (i.stays.bytes ∙ told) size knows);
+      shows = λ file told size knows. from_more file c.args.request.now c.args.loaded.now.chunk_indexes c.chunks.i (c.chunks.i + 1) t f (kept_in c.args.shown.now) (kept_in c.chunks.shown) (kept_in c.show_chunk.new.shown) at (omega arith) is (c.if-not-meets.ensures.0 refl) (i.shows file told size knows) (e.told file (i.stays.bytes ∙ told) size knows);
       asks = λ file costs told size are.
           let last = zip_next (CostsUpTo file c.args.request.now.range) c.args.loaded.now.chunk_indexes c.chunks.i (c.chunks.i + 1) t costs at (omega arith) are in
           let cost = last.is in

@@ -4,6 +4,7 @@ use Rattle.indexed_replay.specs.Steps.{EntriesShown, entries_cost}
 use Rattle.indexed_replay.specs.Lists.{ContentRefused}
 use Rattle.indexed_replay.proofs.Wanting.{index_once}
 use Rattle.indexed_replay.proofs.Listing.{content_shown, content_none, content_lacks}
+use Rattle.kept_messages.specs.Keeping.{kept_in}
 use Rattle.indexed_replay.proofs.lists.show_content.Goals as goal
 
 pub unreachable-requires : goal.unreachable-requires
@@ -12,8 +13,8 @@ unreachable-requires g c = c.in-Err.ensures.none c.args.spot.channel c.requires.
 pub returns-then-is_wanted-clause-told : goal.returns-then-is_wanted-clause-told
 returns-then-is_wanted-clause-told g c = λ file entries told size declare shows.
     let same = (index_once c.args.content.now c.in-Ok.index.channel_id c.args.spot.channel c.in-Ok.index.entries entries c.in-Ok.ensures.shown shows).1 in
-    content_shown file c.args.request.now c.args.spot entries (c.args.shown.now.items, c.show_entries.new.shown.items) c.show_entries.result ((c.is_wanted.ensures declare).0 c.if-is_wanted.true)
-    (subst (λ (l : List (ℕ × ℕ)). EntriesShown file c.args.request.now.range c.args.spot l (c.args.shown.now.items, c.show_entries.new.shown.items) c.show_entries.result) same (c.show_entries.ensures.told file told size))
+    content_shown file c.args.request.now c.args.spot entries ((kept_in c.args.shown.now), (kept_in c.show_entries.new.shown)) c.show_entries.result ((c.is_wanted.ensures declare).0 c.if-is_wanted.true)
+    (subst (λ (l : List (ℕ × ℕ)). EntriesShown file c.args.request.now.range c.args.spot l ((kept_in c.args.shown.now), (kept_in c.show_entries.new.shown)) c.show_entries.result) same (c.show_entries.ensures.told file told size))
 
 pub returns-then-is_wanted-clause-asks : goal.returns-then-is_wanted-clause-asks
 returns-then-is_wanted-clause-asks g c = λ file entries told size shows.
@@ -22,7 +23,7 @@ returns-then-is_wanted-clause-asks g c = λ file entries told size shows.
 
 pub returns-in-Ok-check_channel-clause-told : goal.returns-in-Ok-check_channel-clause-told
 returns-in-Ok-check_channel-clause-told g c = λ file entries told size declare shows.
-    content_none file c.args.request.now c.args.spot entries c.args.shown.now.items (λ w. both_ways c.is_wanted.result c.if-is_wanted.false ((c.is_wanted.ensures declare).1 w))
+    content_none file c.args.request.now c.args.spot entries (kept_in c.args.shown.now) (λ w. both_ways c.is_wanted.result c.if-is_wanted.false ((c.is_wanted.ensures declare).1 w))
 
 pub returns-in-Err-check_channel-clause-told : goal.returns-in-Err-check_channel-clause-told
 returns-in-Err-check_channel-clause-told g c = λ file entries told size declare shows.

@@ -7,6 +7,7 @@ use Rattle.indexed_replay.specs.declared.spots.Request.{Request}
 use Rattle.indexed_replay.specs.Steps.{IndexIs}
 use Rattle.indexed_replay.specs.Lists.{ListRefused}
 use Rattle.indexed_replay.proofs.Listing.{list_shown, lacks_reason, limit_reason, cost_front, cost_content}
+use Rattle.kept_messages.specs.Keeping.{kept_in}
 use Rattle.indexed_replay.proofs.lists.show_list.Goals as goal
 
 index_reason : (file : List ℕ) (request : Request) (at : ℕ) (spot : Spot) (why : ReplayRefused) → IndexIs {Y = Global} file spot (Rattle.std.proofs.Common.Err why) → ListRefused file request at spot why
@@ -35,7 +36,7 @@ returns-in-Some-clause-told g c = λ file told size knows.
     let entries = here.1.0 in
     let shows = here.1.1 in
     let told_1 = c.in-Ok.ensures.stays.bytes ∙ told in
-    list_shown file c.args.request.now c.args.at c.args.spot c.in-Some.content.items entries there shows (c.args.shown.now.items, c.show_content.new.shown.items) c.show_content.result knows
+    list_shown file c.args.request.now c.args.at c.args.spot c.in-Some.content.items entries there shows ((kept_in c.args.shown.now), (kept_in c.show_content.new.shown)) c.show_content.result knows
     (c.show_content.ensures.told file entries told_1 size knows.declare (subst (λ (l : List ℕ). ShowsMessageIndex l c.args.spot.channel entries) (sym c.deref.ensures.value) shows))
 
 pub returns-in-Some-clause-asks : goal.returns-in-Some-clause-asks

@@ -1,6 +1,9 @@
-use Rattle.std.proofs.Common.{List, sym, subst}
+use Rattle.std.proofs.Common.{List, sym, subst, ap}
 use Rattle.mcap_model.specs.declared.replay.Shown.{Shown}
+use Rattle.mcap_model.specs.declared.replay.Topic.{Topic}
 use Rattle.mcap_model.specs.Plain.{AreNamed}
+use Rattle.kept_messages.specs.Keeping.{kept_in}
+use Rattle.indexed_replay.specs.Finishing.{IsOrdered}
 use Rattle.indexed_replay.proofs.Summed.{knows, loaded_summary}
 use Rattle.indexed_replay.proofs.Playing.{are_indexed, added_led}
 use Rattle.indexed_replay.proofs.replaying.play.Goals as goal
@@ -12,12 +15,13 @@ returns-in-Err-gather-clause-plays g c = λ file told loaded.
     let listed = loaded.listed in
     c.in-Err-gather.ensures.told file told size known (are_indexed file ((c.args.loaded.now).footer).summary_start loaded.tops (c.args.loaded.now).chunk_indexes (c.args.loaded.now).chunk_index_offsets (loaded_summary file c.args.loaded.now loaded) listed.chunk_indexes loaded.placed)
 
-pub returns-in-Ok-topics_of-clause-plays : goal.returns-in-Ok-topics_of-clause-plays
-returns-in-Ok-topics_of-clause-plays g c = λ file told loaded.
+pub returns-in-Ok-topics_of_kept-clause-plays : goal.returns-in-Ok-topics_of_kept-clause-plays
+returns-in-Ok-topics_of_kept-clause-plays g c = λ file told loaded.
     let size = sym (c.requires.measured file told) in
     let known = knows file c.args.loaded.now loaded c.in-Ok.tables.channels c.in-Ok.ensures in
     let listed = loaded.listed in
     let adds = c.in-Ok-gather.ensures.told file told size known in
-    let same = c.deref.ensures.value in
-    let named = subst (λ (l : List Shown). AreNamed c.in-Ok.tables.channels l c.in-Ok-topics_of.topics.items) same c.in-Ok-topics_of.ensures in
-    added_led file _ ((c.args.loaded.now).footer).summary_start loaded.tops (c.args.loaded.now).chunk_indexes c.new-shown.result.items c.gather.new.shown.items (record { topics = c.in-Ok-topics_of.topics; shown = c.finish.new.shown }) adds c.new-shown.ensures.items (loaded_summary file c.args.loaded.now loaded) listed.chunk_indexes known c.finish.ensures named
+    let shown = sym c.new.ensures.shown in
+    let named = subst (λ (l : List Topic). AreNamed c.in-Ok.tables.channels c.new.result.shown.items l) (sym (ap (λ v. v.items) c.new.ensures.topics)) (subst (λ (l : List Shown). AreNamed c.in-Ok.tables.channels l c.in-Ok-topics_of_kept.topics.items) shown c.in-Ok-topics_of_kept.ensures) in
+    added_led file _ ((c.args.loaded.now).footer).summary_start loaded.tops (c.args.loaded.now).chunk_indexes (kept_in c.new-shown.result) (kept_in c.gather.new.shown) c.new.result adds c.new-shown.ensures (loaded_summary file c.args.loaded.now loaded) listed.chunk_indexes known
+    (subst (λ (l : List Shown). IsOrdered (kept_in c.gather.new.shown) l) shown c.finish.ensures) named

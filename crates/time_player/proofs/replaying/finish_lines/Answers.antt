@@ -1,16 +1,16 @@
-use Rattle.std.proofs.Common.{List, subst}
+use Rattle.std.proofs.Common.{List, sym, subst, ap}
+use Rattle.std.specs.Prelude.{IsPermutation}
+use Rattle.std.specs.Vec.Covariant.{in_vec}
 use Rattle.mcap_model.specs.declared.replay.Shown.{Shown}
-use Rattle.mcap_model.specs.declared.replay.Topic.{Topic}
-use Rattle.mcap_model.specs.Plain.{AreNamed}
-use Rattle.time_player.specs.Lines.{Quotes}
-use Rattle.time_player.proofs.Readied.{lines_readied}
+use Rattle.mcap_model.specs.Plain.{InOrder}
+use Rattle.kept_messages.specs.Heads.{shown_in}
+use Rattle.kept_messages.specs.Keeping.{kept_in}
+use Rattle.time_player.proofs.Played.{played}
 use Rattle.time_player.proofs.replaying.finish_lines.Goals as goal
 
-pub returns-in-Ok-of : goal.returns-in-Ok-of
-returns-in-Ok-of c = λ range topic tops messages told same.
-    let topics = c.in-Ok-topics_of.topics in
-    let quoted = c.in-Ok-quote_topics.quoted in
-    lines_readied range topic tops c.args.tables.now messages c.in-Ok.few.items topics quoted c.args.kept c.put_in_order.new.self c.in-Ok-of.text told same c.in-Ok.ensures
-    (subst (λ (l : List Shown). AreNamed c.args.tables.now.channels l topics.items) c.deref.ensures.value c.in-Ok-topics_of.ensures)
-    (subst (λ (l : List Topic). Quotes l quoted) c.deref-2.ensures.value c.in-Ok-quote_topics.ensures)
-    c.put_in_order.ensures.same c.put_in_order.ensures.order c.in-Ok-of.ensures
+pub returns-in-Ok-of_kept : goal.returns-in-Ok-of_kept
+returns-in-Ok-of_kept c = λ range topic tops messages told same.
+    let k = c.args.kept in
+    let p = played range topic tops c.args.tables.now messages (record { topics = c.in-Ok.topics; shown = in_vec (shown_in k.payloads.items) k.heads }) c.new.result told same c.in-Ok.ensures (ap (λ v. v.items) c.new.ensures.topics)
+    (subst (λ (l : List Shown). IsPermutation (kept_in k) l) (sym c.new.ensures.shown) c.put_in_order.ensures.same) (subst InOrder (sym c.new.ensures.shown) c.put_in_order.ensures.order) in
+    (p.shown, p.replay, c.in-Ok-of_kept.ensures p.shown p.shows)

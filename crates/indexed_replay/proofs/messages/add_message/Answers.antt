@@ -1,0 +1,40 @@
+use Rattle.std.proofs.Common.{◌≡◌, ℕ, ◌+◌, ◌-◌, take, drop, length, subst, ◌∙◌, inl, inr, refl, arith}
+use Rattle.rec_data.specs.Parsed.{message_fields}
+use Rattle.rec_data.specs.Records.{ShowsMessage}
+use Rattle.kept_messages.specs.Keeping.{kept_in, shown_with}
+use Rattle.indexed_replay.specs.Steps.{LacksRecord}
+use Rattle.indexed_replay.proofs.Adding.{adds_found}
+use Rattle.indexed_replay.proofs.Messaging.{lacks_record, lacks_same, found, front_shown, on_channel}
+use Rattle.indexed_replay.proofs.messages.add_message.Goals as goal
+
+pub returns-in-Ok-Absent-clause-told : goal.returns-in-Ok-Absent-clause-told
+returns-in-Ok-Absent-clause-told g c = λ file told size.
+    let place : c.in-Some-checked_add.at ≡ c.args.place.top + 49 + c.args.place.inner = omega arith in
+    let long : length c.read_front.new.out ≡ 31 = omega arith in
+    let lacks = rw c.in-Ok-Absent.field-0-is at c.in-Ok-Absent.ensures.told file told size in
+    lacks_record file c.in-Some-checked_add.at c.args.place.top c.args.channel (c.args.time, c.args.place.inner) place (subst (λ (n : ℕ). LacksRecord file c.in-Some-checked_add.at n) long lacks)
+
+pub returns-then-message-channel-clause-told : goal.returns-then-message-channel-clause-told
+returns-then-message-channel-clause-told g c = λ file told size.
+    let place : c.in-Some-checked_add.at ≡ c.args.place.top + 49 + c.args.place.inner = omega arith in
+    let long : length c.read_front.new.out ≡ 31 = omega arith in
+    let front = rw c.in-Ok-Whole.field-0-is at c.in-Ok-Whole.ensures.told file told size in
+    let m = message_fields c.in-Ok.message in
+    let shows = front_shown c.read_front.new.out c.in-Ok.message.channel_id m long c.in-Ok.ensures.shown in
+    lacks_same file c.read_front.new.out c.in-Some-checked_add.at c.in-Ok-Whole.head.op c.in-Ok-Whole.head.len c.args.place.top c.args.channel c.in-Ok.message.channel_id (c.args.time, c.args.place.inner) m place front long c.if-head-ne-MESSAGE.false shows
+    (elim c.then-message-channel.either [ inl other ↦ inl other | inr both ↦ inr both.1 ])
+
+pub returns-in-Ok-add_part_of-clause-told : goal.returns-in-Ok-add_part_of-clause-told
+returns-in-Ok-add_part_of-clause-told g c = λ file told size.
+    let place : c.in-Some-checked_add.at ≡ c.args.place.top + 49 + c.args.place.inner = omega arith in
+    let long : length c.read_front.new.out ≡ 31 = omega arith in
+    let front = rw c.in-Ok-Whole.field-0-is at c.in-Ok-Whole.ensures.told file told size in
+    let m = message_fields c.in-Ok.message in
+    let shows = front_shown c.read_front.new.out c.in-Ok.message.channel_id m long c.in-Ok.ensures.shown in
+    let len = c.in-Ok-Whole.head.len in
+    let payload = take (len - 22) (drop (c.in-Some-checked_add.at + 31) file) in
+    let s = shown_with c.args.place c.in-Ok.message payload in
+    adds_found file c.args.place.top c.args.channel (c.args.time, c.args.place.inner) s (kept_in c.args.shown.now) (kept_in c.add_part_of.new.self)
+    (found file c.read_front.new.out payload c.in-Some-checked_add.at c.in-Ok-Whole.head.op len c.args.place.top c.args.channel (c.args.time, c.args.place.inner) m s place front long c.if-head-ne-MESSAGE.false
+    (subst (λ (n : ℕ). ShowsMessage (drop 9 c.read_front.new.out) n m) c.if-message-channel.false shows) c.if-message-time.false refl (on_channel s c.args.channel c.if-message-channel.false))
+    (c.in-Ok-add_part_of.ensures.keeps file (c.in-Ok-Whole.ensures.takes.bytes ∙ told))

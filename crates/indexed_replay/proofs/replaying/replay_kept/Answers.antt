@@ -1,0 +1,72 @@
+use Rattle.std.proofs.Common.{◌^◌, ◌<◌, Err, List, length, sum, sym, subst, ◌∙◌, arith}
+use Rattle.std.specs.List.{AllZip}
+use Rattle.mcap_model.specs.Tops.{Top}
+use Rattle.mcap_model.specs.Plain.{asked_topic}
+use Rattle.indexed_replay.specs.declared.answers.ReplayRefused.{ReplayRefused}
+use Rattle.indexed_replay.specs.declared.answers.ReplayRefused.TheVariants as refusals
+use Rattle.indexed_replay.specs.Replaying.{IsReason}
+use Rattle.indexed_replay.specs.Gathering.{CostsUpTo}
+use Rattle.summary_read.specs.Parts.{of_kind}
+use Rattle.indexed_replay.proofs.Summed.{loaded_summary, summary_once}
+use Rattle.indexed_replay.proofs.Bounded.{asked_bound}
+use Rattle.indexed_replay.proofs.Ending.{load_reason, counts_reason, counts_agree, scan_replayed, asked_loaded}
+use Rattle.indexed_replay.proofs.replaying.replay_kept.Goals as goal
+
+pub returns-in-Err-load-clause-plays : goal.returns-in-Err-load-clause-plays
+returns-in-Err-load-clause-plays g c = λ file told. subst (λ (w : ReplayRefused). IsReason file c.args.range w) (sym c.refuse_load.ensures) (load_reason file c.args.range c.in-Err-load.why (c.in-Err-load.ensures.loads file (c.in-Ok.ensures.bytes ∙ told)))
+
+pub returns-in-Err-load-clause-scanned : goal.returns-in-Err-load-clause-scanned
+returns-in-Err-load-clause-scanned g c = λ file tops end messages told full halts scan.
+    let few : length file < 2 ^ 64 = omega (arith, c.in-Ok.ensures.tells file told) in
+    let reason = load_reason file c.args.range c.in-Err-load.why (c.in-Err-load.ensures.loads file (c.in-Ok.ensures.bytes ∙ told)) in
+    scan_replayed file tops end messages c.args.range (asked_topic c.args.topic) (Err c.refuse_load.result) few full halts scan (subst (λ (w : ReplayRefused). IsReason file c.args.range w) (sym c.refuse_load.ensures) reason)
+
+pub returns-in-Err-load-clause-asks : goal.returns-in-Err-load-clause-asks
+returns-in-Err-load-clause-asks g c = λ file start summary header costs told has there are.
+    let few = asked_loaded file start summary header (g.T.Store.state c.len.new.self).asked (g.T.Store.state c.load.new.store).asked (g.T.Store.state c.load.new.store).asked (sum costs) has there (c.in-Err-load.ensures.asks file (c.in-Ok.ensures.bytes ∙ told)) (omega arith) in
+    omega (arith, few, c.in-Ok.ensures.asked)
+
+pub returns-in-Err-load-clause-bounded : goal.returns-in-Err-load-clause-bounded
+returns-in-Err-load-clause-bounded g c = λ file tops end bound told full halts asked.
+    asked_bound file tops end bound (g.T.Store.state c.args.store.now).asked (g.T.Store.state c.load.new.store).asked c.args.range full halts asked (λ start summary header costs. returns-in-Err-load-clause-asks g c file start summary header costs told)
+
+pub returns-in-Err-judge_counts-clause-plays : goal.returns-in-Err-judge_counts-clause-plays
+returns-in-Err-judge_counts-clause-plays g c = λ file told. counts_reason file c.args.range c.in-Ok-load.loaded c.in-Err-judge_counts.why (c.in-Ok-load.ensures.loads file (c.in-Ok.ensures.bytes ∙ told)).0 c.in-Err-judge_counts.ensures
+
+pub returns-in-Err-judge_counts-clause-scanned : goal.returns-in-Err-judge_counts-clause-scanned
+returns-in-Err-judge_counts-clause-scanned g c = λ file tops end messages told full halts scan.
+    let few : length file < 2 ^ 64 = omega (arith, c.in-Ok.ensures.tells file told) in
+    scan_replayed file tops end messages c.args.range (asked_topic c.args.topic) (Err (refusals.NotIndexed c.in-Err-judge_counts.why)) few full halts scan
+    (counts_reason file c.args.range c.in-Ok-load.loaded c.in-Err-judge_counts.why (c.in-Ok-load.ensures.loads file (c.in-Ok.ensures.bytes ∙ told)).0 c.in-Err-judge_counts.ensures)
+
+pub returns-in-Err-judge_counts-clause-asks : goal.returns-in-Err-judge_counts-clause-asks
+returns-in-Err-judge_counts-clause-asks g c = λ file start summary header costs told has there are.
+    let few = asked_loaded file start summary header (g.T.Store.state c.len.new.self).asked (g.T.Store.state c.load.new.store).asked (g.T.Store.state c.load.new.store).asked (sum costs) has there (c.in-Ok-load.ensures.asks file (c.in-Ok.ensures.bytes ∙ told)) (omega arith) in
+    omega (arith, few, c.in-Ok.ensures.asked)
+
+pub returns-in-Err-judge_counts-clause-bounded : goal.returns-in-Err-judge_counts-clause-bounded
+returns-in-Err-judge_counts-clause-bounded g c = λ file tops end bound told full halts asked.
+    asked_bound file tops end bound (g.T.Store.state c.args.store.now).asked (g.T.Store.state c.load.new.store).asked c.args.range full halts asked (λ start summary header costs. returns-in-Err-judge_counts-clause-asks g c file start summary header costs told)
+
+pub returns-clause-scanned : goal.returns-clause-scanned
+returns-clause-scanned g c = λ file tops end messages told full halts scan.
+    let few : length file < 2 ^ 64 = omega (arith, c.in-Ok.ensures.tells file told) in
+    let now = c.in-Ok.ensures.bytes ∙ told in
+    scan_replayed file tops end messages c.args.range (asked_topic c.args.topic) c.play.result few full halts scan (c.play.ensures.plays file (c.in-Ok-load.ensures.leaves.bytes ∙ now) (c.in-Ok-load.ensures.loads file now).0)
+
+pub returns-clause-asks : goal.returns-clause-asks
+returns-clause-asks g c = λ file start summary header costs told has there are.
+    let now = c.in-Ok.ensures.bytes ∙ told in
+    let loaded = (c.in-Ok-load.ensures.loads file now).0 in
+    let listed = loaded.listed in
+    let same = summary_once file start ((c.in-Ok-load.loaded).footer).summary_start summary loaded.tops has (loaded_summary file c.in-Ok-load.loaded loaded) in
+    let zip = subst (λ (l : List Top). AllZip (CostsUpTo file c.args.range) l costs) (sym listed.chunk_indexes) (subst (λ (l : List Top). AllZip (CostsUpTo file c.args.range) (of_kind 8 l) costs) same are) in
+    let few = asked_loaded file start summary header (g.T.Store.state c.len.new.self).asked (g.T.Store.state c.load.new.store).asked (g.T.Store.state c.play.new.store).asked (sum costs) has there (c.in-Ok-load.ensures.asks file now) (c.play.ensures.asks file costs (c.in-Ok-load.ensures.leaves.bytes ∙ now) zip) in
+    omega (arith, few, c.in-Ok.ensures.asked)
+
+pub returns-clause-bounded : goal.returns-clause-bounded
+returns-clause-bounded g c = λ file tops end bound told full halts asked.
+    asked_bound file tops end bound (g.T.Store.state c.args.store.now).asked (g.T.Store.state c.play.new.store).asked c.args.range full halts asked (λ start summary header costs. returns-clause-asks g c file start summary header costs told)
+
+pub returns-clause-counted : goal.returns-clause-counted
+returns-clause-counted g c = λ file told. counts_agree file c.in-Ok-load.loaded c.play.result (c.in-Ok-load.ensures.loads file (c.in-Ok.ensures.bytes ∙ told)).0 c.in-Ok-judge_counts.ensures

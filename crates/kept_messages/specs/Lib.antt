@@ -1,0 +1,4 @@
+pub mod Heads
+pub mod Keeping
+pub mod Lent
+pub mod Reading
