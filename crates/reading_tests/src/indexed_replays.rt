@@ -1,11 +1,12 @@
 //! Replays of a small file by its index, how much they ask for, and why others are refused.
 use crate::same::holds;
-use indexed_replay::{NotIndexed, ReplayRefused, replay_indexed};
-use mcap_io::{MemoryStore, QuietStore, Store};
+use indexed_replay::{NotIndexed, ReplayRefused, replay_indexed, replay_kept};
+use mcap_io::{MemorySink, MemoryStore, QuietStore, Store};
 use mcap_model::{Range, Replayed};
 use mcap_wire::Text;
 use std::alloc::Global;
 use std::test::Fail;
+use time_player::Printer;
 
 // A file of one message at top level, without a summary.
 fn plain() -> &'static [u8] {
@@ -97,6 +98,28 @@ fn the_message_of_one_chunk(rt: HostRuntime) -> Result<(), Fail> {
     }
     // the ends and the summary, the chunk's front, its Message Index and the message
     holds(&rt, store.asked() == 324 + 49 + 31 + 32);
+    Ok(())
+}
+
+#[test]
+fn the_line_of_the_message(rt: HostRuntime) -> Result<(), Fail> {
+    let alloc = rt.alloc();
+    let mut store = QuietStore::new(Vec::from_slice(alloc, chunked())?);
+    let range = Range {
+        start: 0,
+        end: None,
+    };
+    let Ok(played) = replay_kept(alloc, &mut store, range, None) else {
+        return Err(Fail::from("no replay"));
+    };
+    let Ok(mut printer) = Printer::of_kept(alloc, played) else {
+        return Err(Fail::from("no memory"));
+    };
+    let mut sink = MemorySink::new(alloc, Vec::new(alloc));
+    holds(&rt, printer.print(alloc, &mut sink).is_ok());
+    holds(&rt, sink.bytes() == b"10 9 1 1 \"/a\" aa\n".as_slice());
+    // as much as a replay with payloads of their own asks for
+    holds(&rt, store.asked() == 436);
     Ok(())
 }
 
