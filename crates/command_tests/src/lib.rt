@@ -1,4 +1,4 @@
-//! What the commands' parts do on small cases: words, complaints, answers and printed reports.
+//! What the commands' parts say: complaints, answers and printed reports that no whole run can bring about.
 #![tactic(auto)]
 
 #[cfg(test)]
@@ -9,5 +9,3 @@ mod complaints;
 mod report_lines;
 #[cfg(test)]
 mod same;
-#[cfg(test)]
-mod words;
