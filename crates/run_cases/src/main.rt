@@ -17,15 +17,10 @@ use session::Session;
 use std::io::{self, BufRead, BufReader};
 use std::process::ExitCode;
 
-// Takes the lines of standard input, counting them.
-fn take_all<R: AllocGlobal + Input>(
-    rt: &R,
-    session: &mut Session,
-    lines: &mut u64,
-) -> Result<(), Halt> {
+// Takes the lines of standard input.
+fn take_all<R: AllocGlobal + Input>(rt: &R, session: &mut Session) -> Result<(), Halt> {
     let reader = BufReader::new(rt.alloc(), rt.reader())?;
     for line in reader.lines(rt.alloc()) {
-        *lines = lines.saturating_add(1);
         session.take(rt, line?.as_str())?;
     }
     session.end()
@@ -33,12 +28,12 @@ fn take_all<R: AllocGlobal + Input>(
 
 fn main(rt: HostRuntime) -> io::Result<ExitCode> {
     let mut session = Session::new(rt.alloc());
-    let mut lines = 0u64;
-    let taken = take_all(&rt, &mut session, &mut lines);
+    let taken = take_all(&rt, &mut session);
     let told = session.told.as_str();
     print!(rt; "{told}")?;
     if let Err(why) = taken {
-        println!(rt; "line {lines}: {why:?}")?;
+        let line = session.line;
+        println!(rt; "line {line}: {why:?}")?;
         return Ok(ExitCode::from(2));
     }
     Ok(ExitCode::from(if session.wrong == 0 { 0 } else { 1 }))

@@ -33,8 +33,9 @@ pub(crate) struct Session {
     alloc: Global,
     /// What is to be printed.
     pub told: String,
-    /// How many cases differ from what is wanted.
+    /// How many cases differ from what is wanted, and how many lines were taken.
     pub wrong: u64,
+    pub line: u64,
     cases: u64,
     runs: u64,
     pieces: Pieces,
@@ -52,6 +53,7 @@ impl Session {
             alloc,
             told: String::new(alloc),
             wrong: 0,
+            line: 0,
             cases: 0,
             runs: 0,
             pieces: Pieces::new(alloc),
@@ -63,10 +65,13 @@ impl Session {
         }
     }
 
-    // Notes what differs, if something does.
+    // Notes what differs, if something does, and at which line.
     fn note(&mut self, told: &str) -> Result<(), Halt> {
         if !told.is_empty() {
             self.differs = true;
+            let line = self.line;
+            let place = format!(in self.alloc; "  line {line}:\n")?;
+            self.told.push_str(place.as_str())?;
             self.told.push_str(told)?;
         }
         Ok(())
@@ -263,6 +268,7 @@ impl Session {
 
     /// Takes a line.
     pub fn take(&mut self, rt: &impl AllocGlobal, line: &str) -> Result<(), Halt> {
+        self.line = self.line.saturating_add(1);
         let tokens = tokens_of(self.alloc, line)?;
         if tokens.is_empty() {
             return Ok(());
