@@ -1,9 +1,8 @@
 -- What the opening, the reading and the keeping of a file's name come to.
 use Rattle.std.proofs.Common.{◌≡◌, ℕ, ◌^◌, ◌<◌, Bool, List, [], ◌∷◌, Result, Ok, Err, refl, inl, inr, arith}
 use Rattle.std.specs.Prelude.{true, false}
-use Rattle.std.specs.Option.{option_map}
-use Rattle.mcap_io.specs.Outside.{HasCause, Opens, OpenCause, CountsStand, added, Keeping, Told, opened, with_opening, went_well, WorldState}
-use Rattle.mcap_io.specs.Stores.{StoreState, IsUnused, TellsStore, KeepsStore}
+use Rattle.mcap_io.specs.Outside.{Opens, OpenCause, CountsStand, went_well, WorldState}
+use Rattle.mcap_io.specs.Stores.{StoreState}
 use Rattle.mcap_io.specs.declared.outside.Failed.{Failed}
 use Rattle.mcap_io.specs.declared.outside.ObjectKind.TheVariants as kinds
 use Rattle.mcap_io.specs.declared.outside.OpenRefused.{OpenRefused}

@@ -75,11 +75,6 @@ IsFault (refusals.Compressed offset name) = ⊥
 IsFault (refusals.Limit offset) = ⊥
 IsFault refusals.Memory = ⊥
 
--- the bytes and the length that the store tells stay
-pub record StoreStays (old new : StoreState) : Type 0 where
-  pub bytes : new.bytes ≡ old.bytes
-  pub known : new.known ≡ old.known
-
 -- the source over the front of a store
 abbrev pub front_of : StoreState → ℕ → SourceState
 front_of store end = record { left = front_left store.bytes 0 end; faults = store.faults }

@@ -1,10 +1,11 @@
 //! The check of a file, part by part.
 ghost use Rattle.std.specs.Prelude.{◌≡◌, ◌≤◌, ◌<◌, ◌+◌, ◌^◌, ℕ, List, Some, Err, length, take, drop, IfOk, IfErr};
+ghost use Rattle.mcap_io.specs.Stores.{StoreStays};
 ghost use Rattle.summary_check.specs.Sectioned.{IsSectioned};
 ghost use Rattle.section_check.specs.declared.reading.SectionRefused.TheVariants as sections;
 ghost use Rattle.mcap_model.specs.Tops.{Top};
 ghost use Rattle.index_check.specs.Section.{SectionOf};
-ghost use Rattle.file_check.specs.Checking.{Counted, CheckCause, StoreStays, SectionReads, TellsRefused, RefusedCause, TellsJudged, TellsFile, IsUnchecked, told_by, Judges};
+ghost use Rattle.file_check.specs.Checking.{Counted, CheckCause, SectionReads, TellsRefused, RefusedCause, TellsJudged, TellsFile, IsUnchecked, told_by, Judges};
 
 use crate::ends::tell_flaw;
 use crate::refusals::CheckRefused;

@@ -1,8 +1,9 @@
 //! Parts of a file that are read by themselves: its last magic, and the head of a record.
 ghost use Rattle.std.specs.Prelude.{◌≡◌, ◌+◌, ◌≤◌, ◌↔◌, ◌^◌, ◌<◌, ℕ, List, Some, length, take, drop, IsTrue, IfOk, IfErr};
+ghost use Rattle.mcap_io.specs.Stores.{StoreStays};
 ghost use Rattle.mcap_wire.specs.Layout.{le};
 ghost use Rattle.mcap_model.specs.Whole.{EndsWithMagic};
-ghost use Rattle.file_check.specs.Checking.{CheckCause, IsFault, StoreStays, TellsFlaw};
+ghost use Rattle.file_check.specs.Checking.{CheckCause, IsFault, TellsFlaw};
 
 use crate::flaws::{FailedRule, failed_rule};
 use crate::refusals::CheckRefused;

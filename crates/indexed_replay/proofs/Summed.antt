@@ -2,21 +2,19 @@
 use Rattle.std.proofs.Common.{◌≡◌, ℕ, zero, suc, ◌-◌, ◌<◌, Bool, true, false, cond, List, [], ◌∷◌, ◌++◌, length, take, drop, refl, sym, ap, subst, inl, inr, ◌∙◌, append_assoc, arith}
 use Rattle.std.specs.Prelude.{filter, ◌==◌}
 use Rattle.std.proofs.lemmas.Bool.{both_ways, cases_lt, eq-eqb}
-use Rattle.std.proofs.lemmas.List.{append-nil, length-append, drop_at}
+use Rattle.std.proofs.lemmas.List.{length-append, drop_at}
 use Rattle.mcap_wire.specs.Layout.{magic, part}
 use Rattle.mcap_wire.proofs.Framing.{records_apart, split_front}
 use Rattle.rec_data.specs.Fields.{FooterFields}
 use Rattle.rec_data.specs.Records.{ShowsFooter}
 use Rattle.rec_data.proofs.Contents.{length-footer_text, footer_decided}
 use Rattle.mcap_model.specs.Places.{At}
-use Rattle.mcap_model.specs.Tops.{Top, top_bytes, spelled}
+use Rattle.mcap_model.specs.Tops.{Top, top_bytes}
 use Rattle.mcap_model.specs.Fields.{ChannelFields, IsChannel, IsFooter}
-use Rattle.mcap_model.specs.Whole.{AreShort}
 use Rattle.mcap_model.specs.Led.{HasSummary, FirstTopic}
 use Rattle.mcap_model.proofs.Places.{at_none, at_within, at_one}
 use Rattle.mcap_model.proofs.Lists.{each_cons, filter_has, at_taken}
-use Rattle.mcap_model.proofs.Readings.{all_short, one_follows, length-top}
-use Rattle.mcap_model.proofs.Flaws.{none_spelled}
+use Rattle.mcap_model.proofs.Readings.{length-top}
 use Rattle.mcap_model.proofs.Maps.{shows_once}
 use Rattle.mcap_model.specs.declared.table.Declared.{Declared}
 use Rattle.rec_data.specs.declared.footer.Footer.{Footer}

@@ -20,13 +20,6 @@ use Rattle.indexed_replay.specs.declared.fronts.Front.TheVariants as fronts
 use Rattle.indexed_replay.specs.declared.spots.Spot.{Spot}
 use Rattle.indexed_replay.specs.Reaching.{LacksIndex, LacksMessage}
 
--- ---- stores
-
--- the bytes and the length that the store tells stay
-pub record Stays (old new : StoreState) : Type 0 where
-  pub bytes : new.bytes ≡ old.bytes
-  pub known : new.known ≡ old.known
-
 -- ---- the front of a record
 
 -- A record of that opcode and of that length of content stands there, and no other. It begins with these bytes.

@@ -1,8 +1,8 @@
 //! The messages of a chunk, to which its Chunk Index leads.
 ghost use Rattle.std.specs.Prelude.{◌+◌, ◌^◌, ◌<◌, ◌≤◌};
+ghost use Rattle.mcap_io.specs.Stores.{StoreStays};
 ghost use Rattle.rec_index.specs.Parsed.{chunk_index_fields};
 ghost use Rattle.indexed_replay.specs.Replaying.{ReplayCause};
-ghost use Rattle.indexed_replay.specs.Steps.{Stays};
 ghost use Rattle.indexed_replay.specs.Chunks.{AsksChunk, AsksFront, AsksNames, ChecksChunk, NamesPack, ShowsChunk, ShowsNames};
 ghost use Rattle.kept_messages.specs.Keeping.{kept_in};
 
@@ -34,7 +34,7 @@ fn refuse_packed<T: Store>(
     requires known { offset + 41 + name_length ≤ (T.state store.old).known }
     ensures told { NamesPack (T.state store.old).bytes index offset name_length result }
     ensures cause { ReplayCause (T.state store.old).faults (T.state store.new).faults result }
-    ensures stays { Stays (T.state store.old) (T.state store.new) }
+    ensures stays { StoreStays (T.state store.old) (T.state store.new) }
 {
     let name = match read_part(alloc, store, offset + NAME_OFFSET, name_length) {
         Ok(name) => name,
@@ -69,7 +69,7 @@ fn check_chunk<T: Store>(
     requires { len ≤ (T.state store.old).known }
     ensures told { ChecksChunk (T.state store.old).bytes len index offset result }
     ensures cause { ReplayCause (T.state store.old).faults (T.state store.new).faults result }
-    ensures stays { Stays (T.state store.old) (T.state store.new) }
+    ensures stays { StoreStays (T.state store.old) (T.state store.new) }
     ensures asks { AsksFront len offset (T.state store.old) (T.state store.new) }
 {
     let missing = ReplayRefused::Flaw {
@@ -120,7 +120,7 @@ fn show_names<T: Store>(
     requires { request.now.len ≤ (T.state store.old).known }
     ensures told { ShowsNames (T.state store.old).bytes request.now at end (chunk_index_fields index.now) (kept_in shown.old, kept_in shown.new) result }
     ensures cause { ReplayCause (T.state store.old).faults (T.state store.new).faults result }
-    ensures stays { Stays (T.state store.old) (T.state store.new) }
+    ensures stays { StoreStays (T.state store.old) (T.state store.new) }
     ensures asks { AsksNames request.now (chunk_index_fields index.now) (T.state store.old) (T.state store.new) }
 {
     'names: for i in 0..index.message_index_offsets.count() {
@@ -156,7 +156,7 @@ pub(crate) fn show_chunk<T: Store>(
     requires { request.now.len ≤ (T.state store.old).known }
     ensures told { ShowsChunk (T.state store.old).bytes request.now at (chunk_index_fields index.now) (kept_in shown.old, kept_in shown.new) result }
     ensures cause { ReplayCause (T.state store.old).faults (T.state store.new).faults result }
-    ensures stays { Stays (T.state store.old) (T.state store.new) }
+    ensures stays { StoreStays (T.state store.old) (T.state store.new) }
     ensures asks { AsksChunk request.now (chunk_index_fields index.now) (T.state store.old) (T.state store.new) }
 {
     if index.message_index_offsets.count() == 0 {

@@ -1,7 +1,8 @@
 //! The messages to which the entries of a Message Index lead.
 ghost use Rattle.std.specs.Prelude.{◌+◌, ◌≤◌};
+ghost use Rattle.mcap_io.specs.Stores.{StoreStays};
 ghost use Rattle.indexed_replay.specs.Replaying.{ReplayCause};
-ghost use Rattle.indexed_replay.specs.Steps.{AsksEntries, AsksMessage, Stays, TellsEntries, TellsEntry};
+ghost use Rattle.indexed_replay.specs.Steps.{AsksEntries, AsksMessage, TellsEntries, TellsEntry};
 ghost use Rattle.kept_messages.specs.Keeping.{kept_in};
 
 use crate::answers::ReplayRefused;
@@ -23,7 +24,7 @@ fn show_entry<T: Store>(
     requires { len ≤ (T.state store.old).known }
     ensures told { TellsEntry (T.state store.old).bytes len spot entry (kept_in shown.old, kept_in shown.new) result }
     ensures cause { ReplayCause (T.state store.old).faults (T.state store.new).faults result }
-    ensures stays { Stays (T.state store.old) (T.state store.new) }
+    ensures stays { StoreStays (T.state store.old) (T.state store.new) }
     ensures asks { AsksMessage len (spot.chunk + 49 + entry.1) (T.state store.old) (T.state store.new) }
 {
     let (time, inner) = entry;
@@ -55,7 +56,7 @@ pub(crate) fn show_entries<T: Store>(
     requires { len ≤ (T.state store.old).known }
     ensures told { TellsEntries (T.state store.old).bytes len range spot entries.now (kept_in shown.old, kept_in shown.new) result }
     ensures cause { ReplayCause (T.state store.old).faults (T.state store.new).faults result }
-    ensures stays { Stays (T.state store.old) (T.state store.new) }
+    ensures stays { StoreStays (T.state store.old) (T.state store.new) }
     ensures asks { AsksEntries len range spot.chunk entries.now (T.state store.old) (T.state store.new) }
 {
     'entries: for i in 0..entries.count() {

@@ -1,9 +1,9 @@
 //! All messages to which the Chunk Indexes of a summary lead.
 ghost use Rattle.std.specs.Prelude.{◌↔◌, ◌≤◌, IsTrue};
+ghost use Rattle.mcap_io.specs.Stores.{StoreStays};
 ghost use Rattle.rec_index.specs.Parsed.{chunk_index_fields};
 ghost use Rattle.mcap_model.specs.Led.{Meets};
 ghost use Rattle.indexed_replay.specs.Replaying.{ReplayCause};
-ghost use Rattle.indexed_replay.specs.Steps.{Stays};
 ghost use Rattle.indexed_replay.specs.Gathering.{AsksAll, Gathers};
 ghost use Rattle.kept_messages.specs.Keeping.{kept_in};
 
@@ -39,7 +39,7 @@ pub(crate) fn gather<T: Store>(
     requires { request.now.len ≤ (T.state store.old).known }
     ensures told { Gathers (T.state store.old).bytes request.now loaded.now.chunk_indexes loaded.now.chunk_index_offsets (kept_in shown.old, kept_in shown.new) result }
     ensures cause { ReplayCause (T.state store.old).faults (T.state store.new).faults result }
-    ensures stays { Stays (T.state store.old) (T.state store.new) }
+    ensures stays { StoreStays (T.state store.old) (T.state store.new) }
     ensures asks { AsksAll request.now loaded.now.chunk_indexes (T.state store.old) (T.state store.new) }
 {
     'chunks: for i in 0..loaded.chunk_indexes() {

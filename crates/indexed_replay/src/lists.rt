@@ -1,9 +1,10 @@
 //! The messages to which a Message Index leads.
 ghost use Rattle.std.specs.Prelude.{◌≡◌, ◌≤◌, ◌↔◌, ℕ, List, IsTrue, IfOk, IfErr, IfSome};
+ghost use Rattle.mcap_io.specs.Stores.{StoreStays};
 ghost use Rattle.rec_index.specs.Records.{ShowsMessageIndex};
 ghost use Rattle.mcap_model.specs.Plain.{asked_topic, DeclareChannels};
 ghost use Rattle.indexed_replay.specs.Replaying.{ReplayCause};
-ghost use Rattle.indexed_replay.specs.Steps.{AsksRecord, Stays, TellsIndex, TellsList};
+ghost use Rattle.indexed_replay.specs.Steps.{AsksRecord, TellsIndex, TellsList};
 ghost use Rattle.indexed_replay.specs.Lists.{AsksContent, AsksList, HasTimely, Shows, ShowsContent, Undeclared, Wanted};
 ghost use Rattle.kept_messages.specs.Keeping.{kept_in};
 
@@ -29,7 +30,7 @@ fn read_list<T: Store>(
     requires { len ≤ (T.state store.old).known }
     ensures told { TellsList (T.state store.old).bytes len at result }
     ensures cause { ReplayCause (T.state store.old).faults (T.state store.new).faults result }
-    ensures stays { Stays (T.state store.old) (T.state store.new) }
+    ensures stays { StoreStays (T.state store.old) (T.state store.new) }
     ensures asks { AsksRecord len at (T.state store.old) (T.state store.new) }
 {
     let mut front = [0; 9];
@@ -71,7 +72,7 @@ fn read_index<T: Store>(
     ensures told { TellsIndex (T.state store.old).bytes len spot result }
     ensures is { IfOk result (λ found. IfSome found (λ content. (entries : List (ℕ × ℕ)) × ShowsMessageIndex content.items spot.channel entries)) }
     ensures cause { ReplayCause (T.state store.old).faults (T.state store.new).faults result }
-    ensures stays { Stays (T.state store.old) (T.state store.new) }
+    ensures stays { StoreStays (T.state store.old) (T.state store.new) }
     ensures asks { AsksRecord len spot.list (T.state store.old) (T.state store.new) }
 {
     let found = match read_list(alloc, store, len, spot.list) {
@@ -159,7 +160,7 @@ fn show_content<T: Store>(
     requires is { (entries : List (ℕ × ℕ)) × ShowsMessageIndex content.now spot.channel entries }
     ensures told { ShowsContent (T.state store.old).bytes request.now spot content.now (kept_in shown.old, kept_in shown.new) result }
     ensures cause { ReplayCause (T.state store.old).faults (T.state store.new).faults result }
-    ensures stays { Stays (T.state store.old) (T.state store.new) }
+    ensures stays { StoreStays (T.state store.old) (T.state store.new) }
     ensures asks { AsksContent request.now spot content.now (T.state store.old) (T.state store.new) }
 {
     let index = match MessageIndex::parse(content) {
@@ -194,7 +195,7 @@ pub(crate) fn show_list<T: Store>(
     requires { request.now.len ≤ (T.state store.old).known }
     ensures told { Shows (T.state store.old).bytes request.now at spot (kept_in shown.old, kept_in shown.new) result }
     ensures cause { ReplayCause (T.state store.old).faults (T.state store.new).faults result }
-    ensures stays { Stays (T.state store.old) (T.state store.new) }
+    ensures stays { StoreStays (T.state store.old) (T.state store.new) }
     ensures asks { AsksList request.now spot (T.state store.old) (T.state store.new) }
 {
     let found = match read_index(alloc, store, request.len, spot) {

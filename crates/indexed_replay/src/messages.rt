@@ -1,7 +1,8 @@
 //! One message, read at its place in a chunk.
 ghost use Rattle.std.specs.Prelude.{◌+◌, ◌≤◌};
+ghost use Rattle.mcap_io.specs.Stores.{StoreStays};
 ghost use Rattle.indexed_replay.specs.Replaying.{ReplayCause};
-ghost use Rattle.indexed_replay.specs.Steps.{AsksMessage, Stays, TellsMessage};
+ghost use Rattle.indexed_replay.specs.Steps.{AsksMessage, TellsMessage};
 ghost use Rattle.kept_messages.specs.Keeping.{kept_in};
 
 use crate::answers::ReplayRefused;
@@ -27,7 +28,7 @@ pub(crate) fn add_message<T: Store>(
     requires { len ≤ (T.state store.old).known }
     ensures told { TellsMessage (T.state store.old).bytes len place.top channel (time, place.inner) (kept_in shown.old, kept_in shown.new) result }
     ensures cause { ReplayCause (T.state store.old).faults (T.state store.new).faults result }
-    ensures stays { Stays (T.state store.old) (T.state store.new) }
+    ensures stays { StoreStays (T.state store.old) (T.state store.new) }
     ensures asks { AsksMessage len (place.top + 49 + place.inner) (T.state store.old) (T.state store.new) }
 {
     let Some(records) = place.top.checked_add(RECORDS_OFFSET) else {

@@ -141,7 +141,7 @@ pub fn replay_indexed<T: Store>(
     ensures asks { AsksIndexed range (T.state store.old) (T.state store.new) }
     ensures bounded { AsksBound range (T.state store.old) (T.state store.new) }
     ensures cause { ReplayCause (T.state store.old).faults (T.state store.new).faults result }
-    ensures leaves { Leaves (T.state store.old) (T.state store.new) }
+    ensures leaves { LeavesStore (T.state store.old) (T.state store.new) }
 {
     let kept = match replay_kept(alloc, store, range, topic) {
         Ok(kept) => kept,

@@ -94,11 +94,10 @@ fn note_channel(
 }
 
 impl Kept {
-    ghost use Rattle.std.specs.Prelude.{◌<◌, IsPermutation, IfOk};
+    ghost use Rattle.std.specs.Prelude.{◌+◌, ◌<◌, ◌≤◌, IsPermutation, IfOk};
     ghost use Rattle.mcap_model.specs.Places.{At};
     ghost use Rattle.mcap_model.specs.Plain.{InOrder};
     ghost use Rattle.kept_messages.specs.Lent.{shown_of};
-    ghost use Rattle.std.specs.Prelude.{◌+◌, ◌≤◌};
     ghost use Rattle.std.specs.List.{dedup};
     ghost use Rattle.kept_messages.specs.Heads.{same_place};
     ghost use Rattle.kept_messages.specs.Keeping.{kept_in, shown_at, KeepsPart};

@@ -1,9 +1,9 @@
 -- Look-ups in sixteen cells, lane by lane.
-use Rattle.std.proofs.Common.{◌≡◌, ℕ, zero, suc, ◌+◌, ◌*◌, ◌/◌, ◌^◌, ◌<◌, List, [], ◌∷◌, length, get_or, map, replicate, bit_and, bit_xor, refl, sym, ap, ◌∙◌, arith, w8, Fits}
+use Rattle.std.proofs.Common.{◌≡◌, ℕ, ◌+◌, ◌*◌, ◌/◌, ◌<◌, List, [], length, get_or, map, replicate, bit_and, bit_xor, sym, ap, ◌∙◌, arith, w8}
 use Rattle.std.proofs.lemmas.List.{get_or-map, length-map, ext_get_or}
 use Rattle.std.proofs.lemmas.Nat.{and_le_r}
-use Rattle.std.proofs.lemmas.Simd.{Each1-all, Each1-weaker, Each1-zip2, Each2-splat, below_from_Fits, length-zip2, zip2_splat, zip2_of_maps, swz_l, SwzOk, SwzOk-from_below, length-swz_l, get_or-swz_l_below}
-use lib.Lanes.{zip2, Each1}
+use Rattle.std.proofs.lemmas.Simd.{zip2_splat, zip2_of_maps, swz_l, length-swz_l, get_or-swz_l_below}
+use lib.Lanes.{zip2}
 use Rattle.mcap_crc.proofs.Nibbles.{IsBlock, lane_fits, down}
 use Rattle.mcap_crc.specs.Fold.{folded_byte}
 use Rattle.mcap_crc.specs.declared.tables.TheConstants.{FOLDS}

@@ -33,6 +33,11 @@ pub record LeavesStore (old new : StoreState) : Type 0 where
   pub bytes : new.bytes ≡ old.bytes
   pub known : old.known ≤ new.known
 
+-- the bytes and the length that the store tells stay
+pub record StoreStays (old new : StoreState) : Type 0 where
+  pub bytes : new.bytes ≡ old.bytes
+  pub known : new.known ≡ old.known
+
 -- a question for the length
 pub record Measures (old new : StoreState) (result : Result ℕ Failed) : Type 0 where
   pub tells : TellsLength old.bytes result

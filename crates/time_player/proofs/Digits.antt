@@ -1,11 +1,11 @@
 -- The digits of a block, lane by lane.
-use Rattle.std.proofs.Common.{◌≡◌, ℕ, zero, suc, ◌+◌, ◌*◌, ◌/◌, ◌%◌, ◌^◌, ◌<◌, List, [], ◌∷◌, ◌++◌, length, get_or, map, replicate, bit_and, refl, sym, ap, ◌∙◌, arith, w8, Fits}
+use Rattle.std.proofs.Common.{◌≡◌, ℕ, zero, suc, ◌+◌, ◌*◌, ◌/◌, ◌%◌, ◌<◌, List, [], ◌∷◌, ◌++◌, length, get_or, map, replicate, bit_and, refl, sym, ap, ◌∙◌, arith, w8}
 use Rattle.std.specs.List.{flat_map, range_with_len}
 use Rattle.std.proofs.lemmas.List.{get_or-map, length-map, ext_get_or}
 use Rattle.std.proofs.lemmas.List.FromFn.{get_or-map-range_with_len}
-use Rattle.std.proofs.lemmas.Nat.{and_le_r, and_mask}
-use Rattle.std.proofs.lemmas.Simd.{Each1-all, Each1-weaker, Each1-zip2, Each2-splat, below_from_Fits, length-zip2, zip2_splat, swz_l, SwzOk, SwzOk-from_below, length-swz_l, get_or-swz_l_below}
-use lib.Lanes.{zip2, Each1, pick_l}
+use Rattle.std.proofs.lemmas.Nat.{and_mask}
+use Rattle.std.proofs.lemmas.Simd.{zip2_splat, swz_l, length-swz_l, get_or-swz_l_below}
+use lib.Lanes.{zip2, pick_l}
 use Rattle.mcap_crc.proofs.Nibbles.{IsBlock, lane_fits, down}
 use Rattle.mcap_model.specs.Text.{hex_digit, hex_byte}
 use Rattle.time_player.specs.declared.hex.TheConstants.{DIGITS}

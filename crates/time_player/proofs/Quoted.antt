@@ -1,5 +1,5 @@
 -- The topics of channels as JSON strings, and the lines with them.
-use Rattle.std.proofs.Common.{◌≡◌, ◌⊎◌, ℕ, ◌+◌, ◌==◌, zero, suc, Bool, true, false, cond, List, [], ◌∷◌, ◌++◌, length, take, decimal, refl, sym, ap, subst, inl, inr, ◌∙◌, append_assoc, arith}
+use Rattle.std.proofs.Common.{◌≡◌, ◌⊎◌, ℕ, ◌+◌, ◌==◌, zero, suc, Bool, true, false, cond, List, [], ◌∷◌, ◌++◌, length, take, decimal, refl, sym, ap, subst, inl, inr, ◌∙◌, append_assoc}
 use Rattle.std.proofs.lemmas.List.{append-nil}
 use Rattle.std.specs.List.{flat_map}
 use Rattle.std.proofs.lemmas.Grind.{flat_map-append}
@@ -18,7 +18,7 @@ use Rattle.mcap_model.specs.Text.{cat_line, cat_text, data_text}
 use Rattle.mcap_model.proofs.Places.{at_none}
 use Rattle.std.proofs.lemmas.Option.{same_Some}
 use Rattle.mcap_model.proofs.NamedTopics.{unmapped}
-use Rattle.mcap_model.proofs.OneMore.{take_next}
+use Rattle.mcap_model.proofs.OneMore.{taken_more}
 use Rattle.mcap_model.proofs.Replays.{first_topic, first_found}
 use Rattle.time_player.specs.Lines.{line_of, lines_of, spelling, Apart, Quotes, Spells}
 
@@ -38,11 +38,6 @@ at_last [] t zero x at = inr (same_Some t x at)
 at_last [] t (suc n) x at = absurd (at_none n x at)
 at_last (y ∷ xs) t zero x at = inl at
 at_last (y ∷ xs) t (suc n) x at = at_last xs t n x at
-
-pub take_one_more : {X : Type 0} (xs : List X) (n : ℕ) (x : X) → At xs n x → take (n + 1) xs ≡ take n xs ++ x ∷ []
-take_one_more {X} xs n x at =
-    let next : suc n ≡ n + 1 = omega arith in
-    subst (λ (k : ℕ). take k xs ≡ take n xs ++ x ∷ []) next (take_next xs n x at)
 
 -- ---- topics
 
@@ -149,7 +144,7 @@ lines_on replayed table messages i s text old new shows quotes at spells added w
     ∙ ap (λ (l : List ℕ). l ++ cat_line seen) was
     ∙ ap (λ (l : List ℕ). cat_text (take i messages) ++ l) (sym one)
     ∙ sym (flat_map-append cat_line (take i messages) (seen ∷ []))
-    ∙ ap cat_text (sym (take_one_more messages i seen m.1))
+    ∙ ap cat_text (sym (taken_more messages i seen m.1))
 
 lines_same : {X : Type 0} (f g : X → List ℕ) (xs : List X) → ((x : X) → Has xs x → f x ≡ g x) → flat_map f xs ≡ flat_map g xs
 lines_same f g [] same = refl

@@ -1,5 +1,6 @@
 use Rattle.std.proofs.Common.{◌≡◌, ℕ, ◌+◌, ◌≤◌, List, length, take, sum, Some}
-use Rattle.indexed_replay.specs.Steps.{Stays, Adds}
+use Rattle.mcap_io.specs.Stores.{StoreStays}
+use Rattle.indexed_replay.specs.Steps.{Adds}
 use Rattle.indexed_replay.specs.Lists.{Knows}
 use Rattle.indexed_replay.specs.Chunks.{IsLedAmong, NamesCost}
 use Rattle.kept_messages.specs.Keeping.{kept_in}
@@ -7,7 +8,7 @@ use Rattle.indexed_replay.proofs.chunks.show_names.Given as goal
 
 abbrev pub invariant-names : goal.invariant-names
 invariant-names g l = record {
-  stays : Stays (g.T.Store.state l.fn.store) (g.T.Store.state l.store);
+  stays : StoreStays (g.T.Store.state l.fn.store) (g.T.Store.state l.store);
   still : (g.T.Store.state l.store).faults ≡ (g.T.Store.state l.fn.store).faults;
   shows : (file : List ℕ) → (g.T.Store.state l.fn.store).bytes ≡ Some file → length file ≡ l.request.len → Knows file l.request.tables.now.channels → Adds (IsLedAmong file l.request l.index.chunk_start_offset (take l.i l.index.message_index_offsets)) (kept_in l.fn.shown) (kept_in l.shown);
   asks : (file : List ℕ) (costs : List ℕ) → (g.T.Store.state l.fn.store).bytes ≡ Some file → length file ≡ l.request.len → NamesCost file l.request.range l.index.chunk_start_offset (take l.i l.index.message_index_offsets) costs → (g.T.Store.state l.store).asked ≤ (g.T.Store.state l.fn.store).asked + sum costs;

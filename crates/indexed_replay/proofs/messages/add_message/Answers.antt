@@ -1,4 +1,4 @@
-use Rattle.std.proofs.Common.{◌≡◌, ℕ, ◌+◌, ◌-◌, take, drop, length, subst, ◌∙◌, inl, inr, refl, arith}
+use Rattle.std.proofs.Common.{◌≡◌, ℕ, ◌+◌, ◌-◌, List, [], ◌∷◌, ◌++◌, take, drop, length, ap, subst, ◌∙◌, inl, inr, refl, arith}
 use Rattle.rec_data.specs.Parsed.{message_fields}
 use Rattle.rec_data.specs.Records.{ShowsMessage}
 use Rattle.kept_messages.specs.Keeping.{kept_in, shown_with}
@@ -34,7 +34,8 @@ returns-in-Ok-add_part_of-clause-told g c = λ file told size.
     let len = c.in-Ok-Whole.head.len in
     let payload = take (len - 22) (drop (c.in-Some-checked_add.at + 31) file) in
     let s = shown_with c.args.place c.in-Ok.message payload in
+    let is = c.in-Ok-add_part_of.ensures.keeps in
     adds_found file c.args.place.top c.args.channel (c.args.time, c.args.place.inner) s (kept_in c.args.shown.now) (kept_in c.add_part_of.new.self)
     (found file c.read_front.new.out payload c.in-Some-checked_add.at c.in-Ok-Whole.head.op len c.args.place.top c.args.channel (c.args.time, c.args.place.inner) m s place front long c.if-head-ne-MESSAGE.false
     (subst (λ (n : ℕ). ShowsMessage (drop 9 c.read_front.new.out) n m) c.if-message-channel.false shows) c.if-message-time.false refl (on_channel s c.args.channel c.if-message-channel.false))
-    (c.in-Ok-add_part_of.ensures.keeps file (c.in-Ok-Whole.ensures.takes.bytes ∙ told))
+    (is.is_kept ∙ ap (λ (bytes : List ℕ). kept_in c.args.shown.now ++ shown_with c.args.place c.in-Ok.message bytes ∷ []) (is.told_is file (c.in-Ok-Whole.ensures.takes.bytes ∙ told)))
