@@ -100,7 +100,7 @@ impl Kept {
     ghost use Rattle.kept_messages.specs.Lent.{shown_of};
     ghost use Rattle.std.specs.List.{dedup};
     ghost use Rattle.kept_messages.specs.Heads.{same_place};
-    ghost use Rattle.kept_messages.specs.Keeping.{kept_in, shown_at, KeepsPart};
+    ghost use Rattle.kept_messages.specs.Keeping.{kept_in, shown_at, shown_with, KeepsPart};
     ghost use Rattle.kept_messages.specs.Reading.{ReadsFrom};
 
     pub fn new(alloc: Global) -> Kept
@@ -170,7 +170,7 @@ impl Kept {
         len: u64,
     ) -> Result<(), ReadRefused>
         requires { at + len ≤ (T.state store.old).known }
-        ensures keeps { KeepsPart (T.state store.old).bytes at len place message.now (kept_in self.old) (kept_in self.new) result }
+        ensures keeps { KeepsPart (T.state store.old).bytes at len (shown_with place message.now) (kept_in self.old) (kept_in self.new) result }
         ensures reads { ReadsFrom (T.state store.old) (T.state store.new) len result }
     {
         let from = self.payloads.len();
