@@ -1,3 +1,4 @@
+pub mod Keys
 mod RowLemmas
 pub mod Marks
 pub mod Growing

@@ -1,11 +1,12 @@
 -- The rows of an open chunk: for each channel the entries of its Message Index.
-use Rattle.std.specs.Prelude.{◌≡◌, ℕ, ◌+◌, ◌<◌, ◌≤◌, ◌/◌, List, [], ◌∷◌, ◌++◌, length, map, filter, Bool, ◌==◌, nat_lt, if◌then◌else◌, slice_index_or, Result, Ok, Err, AllPairs}
+use Rattle.std.specs.Prelude.{◌≡◌, ℕ, ◌+◌, ◌<◌, ◌/◌, List, [], ◌∷◌, ◌++◌, length, map, filter, Bool, ◌==◌, nat_lt, if◌then◌else◌, slice_index_or, Result, AllPairs}
 use Rattle.std.specs.List.{flat_map}
 use Rattle.mcap_wire.specs.Layout.{le, framed}
 use Rattle.mcap_wire.specs.Writing.{HasRoom}
 use Rattle.mcap_model.specs.declared.block.IndexPart.{IndexPart}
 use Rattle.mcap_model.specs.Summary.{has_some}
 use Rattle.chunk_build.specs.declared.row.Row.{Row}
+use Rattle.chunk_build.specs.Keys.{FoundKey}
 
 -- ---- rows as pairs of a channel and the bytes of its entries
 
@@ -25,9 +26,7 @@ RowsRise rows = AllPairs (λ (a b : Row). a.channel < b.channel) rows
 
 -- the row of a channel, or where it is to stand
 abbrev pub FoundRow : List Row → ℕ → Result ℕ ℕ → Type 0
-FoundRow rows channel (Ok i) = (i < length rows) × ((d : Row) → (slice_index_or rows i d).channel ≡ channel)
-FoundRow rows channel (Err i) = (i ≤ length rows) × ((k : ℕ) (d : Row) → k < i → (slice_index_or rows k d).channel < channel)
-    × ((k : ℕ) (d : Row) → i ≤ k → k < length rows → channel < (slice_index_or rows k d).channel)
+FoundRow = FoundKey (λ (row : Row). row.channel)
 
 -- a row of that channel with room for an entry
 pub record HasRow (rows : List Row) (i channel : ℕ) : Type 0 where

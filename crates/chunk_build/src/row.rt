@@ -33,21 +33,7 @@ fn place_of(rows: &[Row], channel: u16) -> Result<usize, usize>
     if guess < rows.len() && rows[guess].channel == channel {
         return Ok(guess);
     }
-    let mut low = 0;
-    let mut high = rows.len();
-    'halves: while low < high {
-        let middle = low + (high - low) / 2;
-        let there = rows[middle].channel;
-        if there == channel {
-            return Ok(middle);
-        }
-        if there < channel {
-            low = middle + 1;
-        } else {
-            high = middle;
-        }
-    }
-    Err(low)
+    rows.binary_search_by_key(&channel, |row| row.channel)
 }
 
 /// The row of a channel, with room for an entry more. A channel without a row gets one. What the rows hold stays.

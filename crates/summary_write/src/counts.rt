@@ -14,21 +14,7 @@ fn place_of(counts: &[(u16, u64)], channel: u16) -> Result<usize, usize>
     if guess < counts.len() && counts[guess].0 == channel {
         return Ok(guess);
     }
-    let mut low = 0;
-    let mut high = counts.len();
-    'halves: while low < high {
-        let middle = low + (high - low) / 2;
-        let there = counts[middle].0;
-        if there == channel {
-            return Ok(middle);
-        }
-        if there < channel {
-            low = middle + 1;
-        } else {
-            high = middle;
-        }
-    }
-    Err(low)
+    counts.binary_search_by_key(&channel, |count| count.0)
 }
 
 /// Counts a message on a channel. Where memory lacks nothing changes.
