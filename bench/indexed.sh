@@ -8,6 +8,7 @@ export LC_ALL=C
 here="$(cd "$(dirname "$0")" && pwd)"
 mib="${1:-256}"
 program="${MCAPREC:-$here/../mcaprec}"
+. "$here/../.ci/memory"
 if ! command -v perl >/dev/null; then
     echo "bench/indexed.sh: skipped, perl is not there (Debian: perl-base)"
     exit 0

@@ -8,6 +8,7 @@ export LC_ALL=C
 here="$(cd "$(dirname "$0")" && pwd)"
 mib="${1:-64}"
 program="${MCAPREC:-$here/../mcaprec}"
+. "$here/../.ci/memory"
 if ! command -v perl >/dev/null; then
     echo "bench/record.sh: skipped, perl is not there (Debian: perl-base)"
     exit 0
