@@ -1,7 +1,6 @@
 -- A buffer's records, which stand at top level, are appended in one call.
 use Rattle.std.proofs.Common.{◌≡◌, ℕ, ◌+◌, ◌≤◌, List, [], ◌∷◌, ◌++◌, length, map, take, Option, Some, None, Ok, Err, refl, sym, ap, subst, ◌∙◌, append_assoc, append-nil, length-append, arith}
 use Rattle.std.specs.List.{concat}
-use Rattle.std.proofs.Math.Seq.{take-append_seam}
 use Rattle.std.proofs.lemmas.List.{take_all}
 use Rattle.std.proofs.lemmas.Grind.{flat_map-append}
 use Rattle.rec_data.specs.declared.owned.Rec.{Rec}
@@ -24,18 +23,29 @@ use Rattle.chunk_writer.specs.Limits.{Holds}
 use Rattle.chunk_writer.specs.Bodies.{BodyFor}
 use Rattle.chunk_writer.specs.Planning.{Planning}
 use Rattle.chunk_writer.specs.Plans.{Plans, counted_on, StoppedBefore}
-use Rattle.chunk_writer.specs.Stops.{RefusedAt, Cause, Added, refusal}
+use Rattle.chunk_writer.specs.Stops.{Cause, Added, refusal}
 use Rattle.chunk_writer.specs.Buffered.{framed_each}
 use Rattle.chunk_writer.specs.Scribes.{ScribeStands, KeepsOn, SeenExtents, GivesEntries, PutsFront, sure_blocks}
 use Rattle.mcap_io.proofs.Calls.{adds-adds}
 use Rattle.record_cache.proofs.Apart.{framed_bytes}
 use Rattle.chunk_writer.proofs.Cuts.{cuts_more}
-use Rattle.chunk_writer.proofs.Uncut.{uncut}
+use Rattle.chunk_writer.proofs.Uncut.{uncut, front_of}
 use Rattle.chunk_writer.proofs.Stopping.{refused_appends, added_err}
 use Rattle.chunk_writer.proofs.Entries.{same_from}
 use Rattle.chunk_writer.proofs.Planned.{has_none, plans_record}
 use Rattle.chunk_writer.proofs.Taking.{stopped_on, keeps_more}
 use Rattle.chunk_writer.proofs.Writing.{stands_going, record_refused}
+
+-- Records that stand at top level were appended up to one that was refused, which begins at that offset of their bytes.
+pub record RefusedAt (old now : Option (List ℕ)) (records : List Rec) (at : ℕ) (stop : Stop) : Type 0 where
+  pub before : List Rec
+  pub rec : Rec
+  pub behind : List Rec
+  pub cut : records ≡ before ++ rec ∷ behind
+  pub place : at ≡ length (history_bytes before)
+  pub between : Option (List ℕ)
+  pub front : Adds old between (history_bytes before)
+  pub added : Added between now (rec_bytes rec) (Err stop)
 
 -- ---- the pieces of records that stand at top level
 
@@ -117,15 +127,11 @@ whole_front seen options opened held history records p bytes len is going same l
       before = tt;
     }
 
--- those before the one that was refused
-before_it : (held now : Option (List ℕ)) (records : List Rec) (at : ℕ) (stop : Stop) (cut : RefusedAt held now records at stop) → take (length cut.before) records ≡ cut.before
-before_it held now records at stop cut = ap (λ (l : List Rec). take (length cut.before) l) cut.cut ∙ take-append_seam cut.before (cut.rec ∷ cut.behind)
-
 pub stopped_front : {X : Type 0} (seen : SeenExtents X) (options : FileOptions) (opened held now : Option (List ℕ)) (history records : List Rec) (p : Planning) (bytes at : ℕ) (stop : Stop) → p.body ≡ None → p.phase ≡ phases.Going → bytes ≡ p.bytes + at → RefusedAt held now records at stop
     → ScribeStands options opened held history p → PutsFront seen options history records [] bytes (Err stop)
 stopped_front seen options opened held now history records p bytes at stop is going same cut stands =
     let plans = (stands.going going).0 in
-    let front = before_it held now records at stop cut in
+    let front = front_of records cut.before cut.rec cut.behind cut.cut in
     let sizes = ap (λ (l : List Rec). length l) cut.cut in
     record {
       count = length cut.before;

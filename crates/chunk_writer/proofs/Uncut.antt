@@ -39,14 +39,14 @@ uncut (r ∷ rs) (b ∷ bs) piece behind same =
 -- ---- where a record begins and ends
 
 -- so many records stand before it
-before_of : (records : List Rec) (before : List (List ℕ)) (piece : List ℕ) (it : Uncut records before piece) → take (length it.front) records ≡ it.front
-before_of records before piece it = ap (λ (l : List Rec). take (length it.front) l) it.cut ∙ take-append_seam it.front (it.rec ∷ it.behind)
+pub front_of : (records front : List Rec) (rec : Rec) (behind : List Rec) → records ≡ front ++ rec ∷ behind → take (length front) records ≡ front
+front_of records front rec behind cut = ap (λ (l : List Rec). take (length front) l) cut ∙ take-append_seam front (rec ∷ behind)
 
 less_of : (records : List Rec) (before : List (List ℕ)) (piece : List ℕ) (it : Uncut records before piece) → length it.front < length records
 less_of records before piece it = omega (arith, ap (λ (l : List Rec). length l) it.cut, length-append it.front (it.rec ∷ it.behind))
 
 place_of : (records : List Rec) (at : ℕ) (before : List (List ℕ)) (piece : List ℕ) (it : Uncut records before piece) → at ≡ length (concat before) → at ≡ length (history_bytes (take (length it.front) records))
-place_of records at before piece it place = place ∙ ap (λ (l : List ℕ). length l) it.front_is ∙ ap (λ (l : List Rec). length (history_bytes l)) (sym (before_of records before piece it))
+place_of records at before piece it place = place ∙ ap (λ (l : List ℕ). length l) it.front_is ∙ ap (λ (l : List Rec). length (history_bytes l)) (sym (front_of records it.front it.rec it.behind it.cut))
 
 pub starts_uncut : (records : List Rec) (at : ℕ) → BeginsAt (framed_each records) at → StartsAt records at
 starts_uncut records at b =

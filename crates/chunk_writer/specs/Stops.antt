@@ -1,14 +1,12 @@
 -- Where a writer stopped, and what its store holds then.
-use Rattle.std.specs.Prelude.{◌≡◌, ℕ, ◌+◌, ◌-◌, ◌≤◌, List, [], ◌∷◌, ◌++◌, length, take, Option, Some, Result, Ok, Err}
+use Rattle.std.specs.Prelude.{◌≡◌, ℕ, ◌+◌, ◌-◌, ◌≤◌, List, [], ◌++◌, length, take, Option, Some, Result, Ok, Err}
 use Rattle.rec_data.specs.declared.owned.Rec.{Rec}
-use Rattle.rec_data.specs.Owned.{rec_bytes}
 use Rattle.mcap_io.specs.declared.outside.AppendRefused.{AppendRefused}
 use Rattle.mcap_io.specs.declared.outside.AppendRefused.TheVariants as append_refusals
 use Rattle.mcap_io.specs.Outside.{LiveState, RisesOnce, Adds, AddsPart}
 use Rattle.mcap_model.specs.declared.options.FileOptions.{FileOptions}
 use Rattle.mcap_model.specs.declared.ends.Stop.{Stop}
 use Rattle.mcap_model.specs.declared.ends.Stop.TheVariants as stops
-use Rattle.mcap_model.specs.History.{history_bytes}
 use Rattle.mcap_model.specs.Places.{At}
 use Rattle.mcap_model.specs.Blocks.{pieces_of, blocks_in}
 use Rattle.mcap_model.specs.File.{front}
@@ -61,17 +59,6 @@ Added old new piece (Ok it) = Adds old new piece
 Added old new piece (Err (stops.Fault faults)) = AddsPart old new 0 piece
 Added old new piece (Err (stops.Limit blocks bytes)) = ⊥
 Added old new piece (Err stops.Memory) = new ≡ old
-
--- Records that stand at top level were appended up to one that was refused, which begins at that offset of their bytes.
-pub record RefusedAt (old now : Option (List ℕ)) (records : List Rec) (at : ℕ) (stop : Stop) : Type 0 where
-  pub before : List Rec
-  pub rec : Rec
-  pub behind : List Rec
-  pub cut : records ≡ before ++ rec ∷ behind
-  pub place : at ≡ length (history_bytes before)
-  pub between : Option (List ℕ)
-  pub front : Adds old between (history_bytes before)
-  pub added : Added between now (rec_bytes rec) (Err stop)
 
 -- why it was refused, with the count of the store
 abbrev pub refusal : ℕ → AppendRefused → Stop

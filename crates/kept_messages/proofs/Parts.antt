@@ -14,7 +14,11 @@ use Rattle.mcap_model.specs.Plain.{NotBehind, InOrder}
 use Rattle.mcap_model.proofs.Places.{at_none, at_kept, at_last, at_more}
 use Rattle.mcap_model.proofs.NamedTopics.{contained, has_there}
 use Rattle.kept_messages.specs.declared.kept.Head.{Head}
-use Rattle.kept_messages.specs.Heads.{shown_in, same_place, same_head, AreWithin, HeadsInOrder, Represents}
+use Rattle.kept_messages.specs.Heads.{shown_in, same_place, AreWithin, HeadsInOrder, Represents}
+
+-- whether two heads have one time and one place
+abbrev pub same_head : Head → Head → Bool
+same_head h i = same_place (shown_in [] h) (shown_in [] i)
 
 part_kept : (from to : ℕ) (xs ys : List ℕ) → from ≤ to → to ≤ length xs → part from to (xs ++ ys) ≡ part from to xs
 part_kept from to xs ys begins ends =

@@ -27,10 +27,6 @@ HeadsInOrder heads = (k : ℕ) (d : Head) → k + 1 < length heads → HeadNotBe
 abbrev pub same_place : Shown → Shown → Bool
 same_place s r = (s.log_time == r.log_time) && ((s.place.top == r.place.top) && (s.place.inner == r.place.inner))
 
--- whether two heads have
-abbrev pub same_head : Head → Head → Bool
-same_head h i = same_place (shown_in [] h) (shown_in [] i)
-
 -- these are on the channels of those, and on no others
 pub record AreOfChannels (few all : List Shown) : Type 0 where
   pub are : (s : Shown) → Has few s → (r : Shown) × Has all r × (r.channel ≡ s.channel)

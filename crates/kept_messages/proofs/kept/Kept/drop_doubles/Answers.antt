@@ -1,7 +1,7 @@
 use Rattle.std.proofs.Common.{ap, map, rules, ◌∙◌}
 use Rattle.std.proofs.lemmas.Fn.{dedup_same}
-use Rattle.kept_messages.specs.Heads.{shown_in, same_head}
-use Rattle.kept_messages.proofs.Parts.{doubles_dropped, fewer_within}
+use Rattle.kept_messages.specs.Heads.{shown_in}
+use Rattle.kept_messages.proofs.Parts.{same_head, doubles_dropped, fewer_within}
 use Rattle.kept_messages.proofs.kept.Kept.drop_doubles.Goals as goal
 
 pub invariant_of-self : goal.invariant_of-self
