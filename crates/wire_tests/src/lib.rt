@@ -1,8 +1,10 @@
-//! What the lowest crates do on small cases: the outside, numbers and texts as bytes, and the records.
+//! What the lowest crates do on small cases: the outside, numbers and texts as bytes, checksums, and the records.
 #![tactic(auto)]
 
 #[cfg(test)]
 mod callers;
+#[cfg(test)]
+mod checksums;
 #[cfg(test)]
 mod data_records;
 #[cfg(test)]
