@@ -8,12 +8,18 @@ mod checksums;
 #[cfg(test)]
 mod data_records;
 #[cfg(test)]
+mod files;
+#[cfg(test)]
 mod index_records;
 #[cfg(test)]
 mod outside;
 #[cfg(test)]
 mod owned_records;
 #[cfg(test)]
+mod records;
+#[cfg(test)]
 mod same;
 #[cfg(test)]
 mod wire;
+#[cfg(test)]
+mod worlds;
