@@ -13,8 +13,6 @@ mod folded;
 pub mod laws;
 mod sliced;
 mod tables;
-#[cfg(test)]
-mod tests;
 
 use std::marker::Model;
 
@@ -71,7 +69,7 @@ pub fn crc_of(bytes: &[u8]) -> u32
     folded::after(u32::MAX, bytes) ^ u32::MAX
 }
 
-/// The same, a byte at a time: the slow side that tests compare with.
+/// The same, a byte at a time: the plain side, which the fast one is compared with.
 pub fn crc_plain(bytes: &[u8]) -> u32
     ensures { result ≡ remainder bytes.now }
 {

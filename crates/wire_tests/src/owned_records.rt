@@ -1,67 +1,55 @@
-//! Records that own what they hold.
-use crate::same::{holds, holds_at, same};
-use mcap_wire::{Bytes, Text};
-use rec_data::{Rec, RecRefused, SchemaDef};
+//! Texts, bytes and records that own what they hold.
+use crate::data_records::{CHANNEL_RECORD, MESSAGE_RECORD, SCHEMA_RECORD};
+use crate::same::{holds, holds_at};
+use mcap_wire::Text;
+use rec_data::{Rec, RecRefused};
+use std::alloc::Global;
 use std::test::Fail;
 
-const SCHEMA_BYTES: &[u8] = b"\x03\x11\0\0\0\0\0\0\0\x01\0\x01\0\0\0s\0\0\0\0\x02\0\0\0\x01\x02";
-
-const CHANNEL_BYTES: &[u8] = b"\x04\x12\0\0\0\0\0\0\0\x01\0\0\0\x02\0\0\0/a\0\0\0\0\0\0\0\0";
-
-const MESSAGE_BYTES: &[u8] =
-    b"\x05\x17\0\0\0\0\0\0\0\x01\0\x01\0\0\0\x0a\0\0\0\0\0\0\0\x09\0\0\0\0\0\0\0\xaa";
-
 #[test]
-fn records_are_owned(rt: HostRuntime) -> Result<(), Fail> {
-    let alloc = rt.alloc();
-    for (bytes, len) in [(SCHEMA_BYTES, 26), (CHANNEL_BYTES, 27), (MESSAGE_BYTES, 32)] {
-        let record = Rec::from_framed(alloc, bytes)?;
-        let is_shown = match &record {
-            Rec::Schema { schema, .. } => {
-                schema.name.as_str() == "s"
-                    && schema.encoding.as_str() == ""
-                    && schema.payload.as_slice() == [1, 2].as_slice()
-            }
-            Rec::Channel {
-                topic,
-                metadata,
-                ..
-            } => { topic.as_str() == "/a" && metadata.as_slice().is_empty() }
-            Rec::Message { payload, .. } => payload.as_slice() == [0xaa].as_slice(),
-        };
-        holds(&rt, is_shown);
-        same(&rt, &bytes.len(), &len);
-    }
+fn a_text_is_its_bytes(rt: HostRuntime) -> Result<(), Fail> {
+    let text = Text::copied(rt.alloc(), "na\u{ef}ve")?;
+    holds(&rt, text.is("na\u{ef}ve") && !text.is("naive"));
+    holds(
+        &rt,
+        text.into_vec().as_slice() == b"na\xc3\xafve".as_slice(),
+    );
     Ok(())
 }
 
+// Whether the numbers of a record made by hand are those of its fields.
+fn is_shown(record: &Rec) -> bool {
+    match record {
+        Rec::Schema { id, .. } => *id == 0x0102,
+        Rec::Channel { id, schema_id, .. } => *id == 2 && *schema_id == 1,
+        Rec::Message {
+            log_time,
+            publish_time,
+            ..
+        } => *log_time == 7 && *publish_time == 0x0100_0000_0000_0008,
+    }
+}
+
+// Reads a record, says whether it is one of those made by hand, and frames it onto `out`.
+fn read(alloc: Global, bytes: &[u8], out: &mut Vec<u8>) -> Result<bool, RecRefused> {
+    match Rec::from_framed(alloc, bytes) {
+        Ok(record) => Ok(
+            is_shown(&record)
+                && record.framed_len() == bytes.len() as u64
+                && record.frame(out) == Ok(()),
+        ),
+        Err(why) => Err(why),
+    }
+}
+
 #[test]
-fn owned_records_are_framed(rt: HostRuntime) -> Result<(), Fail> {
-    let alloc = rt.alloc();
-    let message = Rec::Message {
-        channel_id: 1,
-        sequence: 1,
-        log_time: 10,
-        publish_time: 9,
-        payload: Bytes::copied(alloc, &[0xaa])?,
-    };
-    let mut out = Vec::new(alloc);
-    same(&rt, &message.framed_len(), &32);
-    message.frame(&mut out)?;
-    same(&rt, &out.as_slice(), &MESSAGE_BYTES);
-    let schema = Rec::Schema {
-        id: 1,
-        schema: SchemaDef {
-            name: Text::copied(alloc, "s")?,
-            encoding: Text::copied(alloc, "")?,
-            payload: Bytes::copied(alloc, &[1, 2])?,
-        },
-    };
-    out.clear();
-    same(&rt, &schema.framed_len(), &26);
-    schema.frame(&mut out)?;
-    same(&rt, &out.as_slice(), &SCHEMA_BYTES);
-    Ok(())
+fn a_record_is_owned_and_written_again(rt: HostRuntime) {
+    let mut out = Vec::new(rt.alloc());
+    for bytes in [SCHEMA_RECORD, CHANNEL_RECORD, MESSAGE_RECORD] {
+        out.clear();
+        let is = read(rt.alloc(), bytes, &mut out) == Ok(true) && out.as_slice() == bytes;
+        holds_at(&rt, is, &bytes);
+    }
 }
 
 #[test]
@@ -79,8 +67,9 @@ fn bytes_that_are_no_record_are_refused(rt: HostRuntime) {
         // a Channel whose topic isn't UTF-8
         b"\x04\x11\0\0\0\0\0\0\0\x01\0\0\0\x01\0\0\0\xff\0\0\0\0\0\0\0\0",
     ];
+    let mut out = Vec::new(rt.alloc());
     for bytes in table {
-        let refused = matches!(Rec::from_framed(rt.alloc(), bytes), Err(RecRefused::Bad));
+        let refused = read(rt.alloc(), bytes, &mut out) == Err(RecRefused::Bad);
         holds_at(&rt, refused, &bytes);
     }
 }

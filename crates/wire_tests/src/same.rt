@@ -10,11 +10,6 @@ pub(crate) fn same<T: PartialEq + Debug>(rt: &impl Abort, got: &T, want: &T) {
     assert_eq!(rt; got, want);
 }
 
-/// The same, saying at which row or number.
-pub(crate) fn same_at<T: PartialEq + Debug>(rt: &impl Abort, got: &T, want: &T, at: &impl Debug) {
-    assert_eq!(rt; got, want, "at {at:?}");
-}
-
 /// Ends the test where this doesn't hold.
 pub(crate) fn holds(rt: &impl Abort, holds: bool)
     ensures { holds ≡ true }
