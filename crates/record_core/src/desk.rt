@@ -344,14 +344,3 @@ fn offer_message(buffer: &mut Cache, m: &NewMessage<'_>) -> Result<(), OfferRefu
         payload: m.payload,
     }))
 }
-
-// An empty desk with no ids that says that so many records were swapped out.
-#[cfg(test)]
-pub(crate) fn desk_that_counts(alloc: Global, limit: u64, taken: u64) -> Result<Desk, Memory>
-    requires limit { limit ≤ 1000 }
-    requires few { taken ≤ record_count_limit }
-{
-    let mut desk = Desk::open(alloc, limit)?;
-    desk.taken = taken;
-    Ok(desk)
-}

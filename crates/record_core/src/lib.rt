@@ -11,6 +11,3 @@ pub mod laws;
 pub use answers::{DeclareRefused, Declared, Empty, Found, NewMessage, PublishRefused};
 pub use desk::Desk;
 pub use framing::declared_size;
-
-#[cfg(test)]
-mod tests;

@@ -1,5 +1,5 @@
 //! The entries of a Message Index in a range, in the order of time and offset.
-use crate::same::{holds, holds_at};
+use crate::same::holds_at;
 use chunk_build::{IndexTable, TimeAt};
 use mcap_model::Range;
 use mcap_wire::EntriesRef;
@@ -12,7 +12,7 @@ fn lie_between(
     alloc: Global,
     entries: &[(u64, u64)],
     range: Range,
-    wanted: &[(u64, u64)],
+    wanted: &[TimeAt],
 ) -> Result<bool, Fail> {
     let index = MessageIndex {
         channel_id: 1,
@@ -21,47 +21,46 @@ fn lie_between(
     let Ok(table) = IndexTable::of(alloc, &index) else {
         return Ok(false);
     };
-    let found = table.between(range);
-    if found.len() != wanted.len() {
-        return Ok(false);
-    }
-    for i in 0..wanted.len() {
-        let (time, offset) = wanted[i];
-        if found.get(i) != Some(&TimeAt { time, offset }) {
-            return Ok(false);
-        }
-    }
-    Ok(true)
+    Ok(table.between(range) == wanted)
 }
+
+// Entries, in their order.
+const FIRST: TimeAt = TimeAt {
+    time: 10,
+    offset: 32,
+};
+
+const SECOND: TimeAt = TimeAt {
+    time: 10,
+    offset: 70,
+};
+
+const THIRD: TimeAt = TimeAt {
+    time: 11,
+    offset: 0,
+};
+
+const LAST: TimeAt = TimeAt {
+    time: 12,
+    offset: 5,
+};
 
 #[test]
 fn entries_of_a_range_in_order(rt: HostRuntime) -> Result<(), Fail> {
-    let mixed = [(12, 5), (10, 70), (11, 0), (10, 32), (10, 32)];
-    for (start, end, wanted) in [
-        (
-            0,
-            None,
-            &[(10, 32), (10, 32), (10, 70), (11, 0), (12, 5)][..],
-        ),
-        (11, None, &[(11, 0), (12, 5)][..]),
-        (10, Some(11), &[(10, 32), (10, 32), (10, 70)][..]),
-        (11, Some(13), &[(11, 0), (12, 5)][..]),
-        (11, Some(11), &[][..]),
-        (12, Some(10), &[][..]),
-        (13, None, &[][..]),
-    ] {
-        let lie = lie_between(rt.alloc(), &mixed, Range { start, end }, wanted)?;
-        holds_at(&rt, lie, &start);
+    let mixed: &[(u64, u64)] = &[(12, 5), (10, 70), (11, 0), (10, 32), (10, 32)];
+    let rows: [(&[(u64, u64)], u64, Option<u64>, &[TimeAt]); 8] = [
+        (mixed, 0, None, &[FIRST, FIRST, SECOND, THIRD, LAST]),
+        (mixed, 11, None, &[THIRD, LAST]),
+        (mixed, 10, Some(11), &[FIRST, FIRST, SECOND]),
+        (mixed, 11, Some(13), &[THIRD, LAST]),
+        (mixed, 11, Some(11), &[]),
+        (mixed, 12, Some(10), &[]),
+        (mixed, 13, None, &[]),
+        (&[], 0, None, &[]),
+    ];
+    for (entries, start, end, wanted) in rows {
+        let lie = lie_between(rt.alloc(), entries, Range { start, end }, wanted)?;
+        holds_at(&rt, lie, &(start, end));
     }
-    let lie = lie_between(
-        rt.alloc(),
-        &[],
-        Range {
-            start: 0,
-            end: None,
-        },
-        &[],
-    )?;
-    holds(&rt, lie);
     Ok(())
 }

@@ -1,10 +1,14 @@
-//! What a recording is made of, on small histories: ids, blocks, summaries, buffers, files and lanes.
+//! What a recording is made of, where no whole run shows it: ids, buffers, desks, blocks, summaries, files, lanes and reports.
 #![tactic(auto)]
 
 #[cfg(test)]
-mod blocks;
-#[cfg(test)]
 mod caches;
+#[cfg(test)]
+mod chunkers;
+#[cfg(test)]
+mod contents;
+#[cfg(test)]
+mod desks;
 #[cfg(test)]
 mod ids;
 #[cfg(test)]
@@ -12,10 +16,12 @@ mod index_tables;
 #[cfg(test)]
 mod lanes;
 #[cfg(test)]
-mod recordings;
+mod reports;
 #[cfg(test)]
 mod same;
 #[cfg(test)]
 mod scribes;
 #[cfg(test)]
-mod written_summaries;
+mod summaries;
+#[cfg(test)]
+mod threads;

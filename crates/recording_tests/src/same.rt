@@ -1,14 +1,9 @@
-//! Comparisons of what a test finds with what it wants. Each stands in a function, so that the text of a failure is made, and
-//! proved, once and not in each test.
+//! The end of a test that doesn't find what it wants. It stands in functions, so that the text of a failure is made, and proved,
+//! once and not in each test.
 ghost use Rattle.std.specs.Prelude.{◌≡◌, true};
 
 use std::fmt::Debug;
 use std::process::Abort;
-
-/// Ends the test where the two differ.
-pub(crate) fn same<T: PartialEq + Debug>(rt: &impl Abort, got: &T, want: &T) {
-    assert_eq!(rt; got, want);
-}
 
 /// Ends the test where this doesn't hold.
 pub(crate) fn holds(rt: &impl Abort, holds: bool)
@@ -17,7 +12,7 @@ pub(crate) fn holds(rt: &impl Abort, holds: bool)
     assert!(rt; holds);
 }
 
-/// The same, saying at which row or number.
+/// The same, saying at which row.
 pub(crate) fn holds_at(rt: &impl Abort, holds: bool, at: &impl Debug) {
     assert!(rt; holds, "at {at:?}");
 }

@@ -2,15 +2,15 @@ use Rattle.std.proofs.Common.{◌<◌, ◌^◌, length, ap, arith}
 use Rattle.std.specs.Prelude.{IsPermutation}
 use Rattle.mcap_wire.specs.Maps.{pair_texts}
 use Rattle.record_core.proofs.Sizes.{length-sorted}
-use Rattle.record_core.proofs.tests.channel.Goals as goal
+use Rattle.recording_tests.proofs.contents.channel.Goals as goal
 
 pub returns : goal.returns
 returns c =
     let moved : IsPermutation c.in_ok-pairs.pairs c.in_ok-metadata.metadata = c.in_ok-metadata.ensures in
     let fits : length (pair_texts c.in_ok-pairs.pairs) < 2 ^ 32 = c.in_ok-pairs.ensures.fits in
     record {
-      schema = c.requires;
-      topic = omega (arith, ap length c.in_ok-topic.ensures);
+      schema = c.requires.schema;
+      topic = omega (arith, ap length c.in_ok-topic.ensures, c.requires.topic);
       encoding = omega (arith, ap length c.in_ok-message_encoding.ensures);
       metadata = omega (arith, length-sorted c.in_ok-pairs.pairs c.in_ok-metadata.metadata moved, fits);
     }

@@ -1,12 +1,11 @@
-use Rattle.std.proofs.Common.{◌≤◌, ◌^◌, List}
+use Rattle.std.proofs.Common.{◌≡◌, ◌≤◌, List}
 use Rattle.rec_data.specs.declared.owned.Rec.{Rec}
 use Rattle.chunk_build.specs.Chunker.{StandsFor}
-use Rattle.recording_tests.proofs.written_summaries.note_all.Given as goal
+use Rattle.recording_tests.proofs.summaries.note_all.Given as goal
 
 abbrev pub invariant-loop-bytes : goal.invariant-loop-bytes
 invariant-loop-bytes l = record {
-  at : l.at ≤ 2 ^ 40;
   messages : l.summary.messages ≤ l.bytes-index;
-  blocks : l.summary.blocks ≤ l.bytes-index;
+  blocks : l.summary.blocks ≡ 0;
   stands : (history : List Rec) × StandsFor l.chunker history;
 }

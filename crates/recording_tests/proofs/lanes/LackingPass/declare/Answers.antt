@@ -1,0 +1,21 @@
+use Rattle.std.proofs.Common.{◌∷◌, ◌++◌, [], false, refl, arith}
+use Rattle.feed_lane.specs.Pass.{for_size}
+use Rattle.feed_lane.specs.Tapes.{found_now}
+use Rattle.feed_lane.proofs.Tapes.{finds}
+use Rattle.recording_tests.proofs.lanes.LackingPass.declare.Goals as goal
+
+pub returns-then : goal.returns-then
+returns-then c = λ begun before (reasons, is). rw is (_, (reasons ++ for_size c.declared_size-len.result ∷ [], refl), (c.declared_size-len.ensures, omega (arith, c.if-len-gt1048576.true), refl))
+
+pub returns : goal.returns
+returns c = λ begun before (reasons, is). rw is (
+  _,
+  (reasons, refl),
+  (
+    found_now 0 0 false,
+    omega (arith, c.if-len-gt1048576.false, c.declared_size-len.ensures),
+    finds [] [] reasons c.args.self.now.asked false false 0 0 (λ ended. ended),
+    refl,
+    refl,
+  ),
+)

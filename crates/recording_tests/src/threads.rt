@@ -1,0 +1,17 @@
+//! What may cross threads.
+use chunk_build::Chunker;
+use id_table::IdTable;
+use record_cache::Cache;
+use record_core::Desk;
+use summary_write::Summary;
+
+fn crosses<T: Send + Sync>() {}
+
+#[test]
+fn parts_of_a_recording_cross_threads() {
+    crosses::<IdTable>();
+    crosses::<Chunker>();
+    crosses::<Summary>();
+    crosses::<Cache>();
+    crosses::<Desk>();
+}
