@@ -1,16 +1,8 @@
-//! What the readers of files do on small files.
+//! What the readers of files do on small files, where no whole run shows it.
 #![tactic(auto)]
 
 #[cfg(test)]
-mod callers;
-#[cfg(test)]
-mod index_rules;
-#[cfg(test)]
-mod indexed_replays;
-#[cfg(test)]
-mod loadings;
-#[cfg(test)]
-mod plain_scans;
+mod indexes;
 #[cfg(test)]
 mod replays;
 #[cfg(test)]
@@ -18,8 +10,4 @@ mod same;
 #[cfg(test)]
 mod scans;
 #[cfg(test)]
-mod sections;
-#[cfg(test)]
-mod summaries;
-#[cfg(test)]
-mod tellings;
+mod sources;

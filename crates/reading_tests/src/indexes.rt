@@ -1,0 +1,89 @@
+//! What is loaded of a summary, and a replay by its indexes.
+use crate::replays::{Wanted, are_shown};
+use crate::same::holds_at;
+use crate::sources::TWO_CHUNKS;
+use indexed_replay::replay_indexed;
+use mcap_io::{QuietStore, Store};
+use mcap_model::Range;
+use mcap_wire::Text;
+use std::test::Fail;
+use summary_read::{Loaded, load};
+
+// A file of a front and a summary alone, of 293 bytes from 34 up to the Footer at 327: a Schema and a Channel of it,
+// Statistics, a Chunk Index at 140 of a Chunk at 7, an Attachment Index, a Metadata Index and a Summary Offset.
+const LISTED: &[u8] = b"\x89MCAP0\r\n\x01\x11\0\0\0\0\0\0\0\0\0\0\0\x09\0\0\0mcaprec 1\
+    \x03\x0f\0\0\0\0\0\0\0\x01\0\x01\0\0\0s\0\0\0\0\0\0\0\0\
+    \x04\x12\0\0\0\0\0\0\0\x01\0\x01\0\x02\0\0\0/a\0\0\0\0\0\0\0\0\
+    \x0b.\0\0\0\0\0\0\0\0\0\0\0\0\0\0\0\0\0\0\0\0\0\0\0\0\0\0\0\0\0\0\0\0\0\0\0\0\0\0\0\0\0\0\0\0\0\0\0\0\0\0\0\0\0\
+    \x08@\0\0\0\0\0\0\0\0\0\0\0\0\0\0\0\0\0\0\0\0\0\0\0\x07\0\0\0\0\0\0\0\0\0\0\0\0\0\0\0\0\0\0\0\0\0\0\0\0\0\0\0\0\0\0\0\0\0\0\0\0\0\0\0\0\0\0\0\0\0\0\0\
+    \x0a\x31\0\0\0\0\0\0\0\0\0\0\0\0\0\0\0\0\0\0\0\0\0\0\0\0\0\0\0\0\0\0\0\0\0\0\0\0\0\0\0\0\0\0\0\0\0\0\0\x01\0\0\0n\0\0\0\0\
+    \x0d\x15\0\0\0\0\0\0\0\0\0\0\0\0\0\0\0\0\0\0\0\0\0\0\0\x01\0\0\0m\
+    \x0e\x11\0\0\0\0\0\0\0\x03\x22\0\0\0\0\0\0\0\x18\0\0\0\0\0\0\0\
+    \x02\x14\0\0\0\0\0\0\0\x22\0\0\0\0\0\0\0\0\0\0\0\0\0\0\0\0\0\0\0\
+    \x89MCAP0\r\n";
+
+// Whether the declarations of that file and its ends are found.
+fn is_declared(it: &Loaded) -> bool {
+    it.header().library == "mcaprec 1"
+        && it.footer().summary_start == 34
+        && it.statistics().is_some()
+        && it.schemas() == 1
+        && it.schema(0).name == "s"
+        && it.channels() == 1
+        && it.channel(0).topic == "/a"
+}
+
+// Whether its indexes are found.
+fn is_indexed(it: &Loaded) -> bool {
+    it.chunk_indexes() == 1
+        && it.chunk_index(0).chunk_start_offset == 7
+        && it.chunk_index_offset(0) == 140
+        && it.attachment_indexes() == 1
+        && it.attachment_index(0).name == "n"
+        && it.metadata_indexes() == 1
+        && it.metadata_index(0).name == "m"
+        && it.summary_offsets() == 1
+        && it.summary_offset(0).group_start == 34
+}
+
+#[test]
+fn the_records_of_a_summary_are_listed(rt: HostRuntime) -> Result<(), Fail> {
+    let mut store = QuietStore::new(Vec::from_slice(rt.alloc(), LISTED)?);
+    let found = match load(rt.alloc(), &mut store) {
+        Ok(it) => is_declared(&it) && is_indexed(&it),
+        Err(_) => false,
+    };
+    // 37 at the end, 17 at the front, the Header's content and the summary
+    holds_at(
+        &rt,
+        found && store.asked() == 37 + 17 + 17 + 293,
+        &store.asked(),
+    );
+    Ok(())
+}
+
+#[test]
+fn indexes_lead_to_messages_of_their_own(rt: HostRuntime) -> Result<(), Fail> {
+    let alloc = rt.alloc();
+    let mut store = QuietStore::new(Vec::from_slice(alloc, TWO_CHUNKS)?);
+    let asked = Text::copied(alloc, "/a")?;
+    let range = Range {
+        start: 10,
+        end: Some(12),
+    };
+    let wanted = Wanted {
+        lines: "10 9 1 1 \"/a\" 01\n11 9 1 2 \"/a\" 02\n",
+        places: &[(34, 27), (173, 0)],
+    };
+    let found = match replay_indexed(alloc, &mut store, range, Some(&asked)) {
+        Ok(played) => are_shown(alloc, &played, wanted),
+        Err(_) => false,
+    };
+    // the ends and the summary; of each chunk its front, its Message Index and its message
+    holds_at(
+        &rt,
+        found && store.asked() == 37 + 34 + 336 + 2 * (49 + 31 + 32),
+        &store.asked(),
+    );
+    Ok(())
+}
