@@ -1,9 +1,11 @@
 //! Desks that are full, swapped, closed and stopped, ids by content, and the order of refusals.
 ghost use Rattle.std.specs.Prelude.{◌≡◌, ◌≤◌};
+ghost use Rattle.record_core.specs.Sights.{DefFits};
 
 use crate::contents::{channel, schema};
 use crate::same::holds_at;
 use mcap_model::{End, Stop};
+use rec_data::ChannelDef;
 use record_cache::Cache;
 use record_core::{DeclareRefused, Declared, Desk, NewMessage, PublishRefused};
 use std::alloc::Global;
@@ -35,6 +37,22 @@ enum Call {
 // A call, and how many bytes the desk holds then.
 type Step = (Call, u64);
 
+// No call changes the limit.
+fn declare(desk: &mut Desk, channel: &ChannelDef) -> Result<Declared, DeclareRefused>
+    requires { DefFits channel.now }
+    ensures { desk.new.limit ≡ desk.old.limit }
+{
+    let answer = desk.declare(channel);
+    answer
+}
+
+fn publish(desk: &mut Desk, m: &NewMessage<'_>) -> Result<u64, PublishRefused>
+    ensures { desk.new.limit ≡ desk.old.limit }
+{
+    let answer = desk.publish(m);
+    answer
+}
+
 fn declares(
     alloc: Global,
     desk: &mut Desk,
@@ -50,8 +68,7 @@ fn declares(
         None
     };
     let channel = channel(alloc, "/a", pairs, schema(alloc, content)?)?;
-    let answer = desk.declare(&channel);
-    Ok(answer == *wanted)
+    Ok(declare(desk, &channel) == *wanted)
 }
 
 fn publishes(
@@ -71,8 +88,7 @@ fn publishes(
         publish_time: 9,
         payload: payload.as_slice(),
     };
-    let answer = desk.publish(&message);
-    Ok(answer == *wanted)
+    Ok(publish(desk, &message) == *wanted)
 }
 
 fn swaps(

@@ -9,8 +9,8 @@ unknown : (channel : ℕ) → (channel ≡ 0) ⊎ (0 < channel)
 unknown zero = inl refl
 unknown (suc n) = inr (omega arith)
 
-pub returns-then : goal.returns-then
-returns-then c = λ begun before (reasons, is). rw is (_, (reasons ++ for_size (length c.args.m.now.payload.now) ∷ [], refl), (refl, omega (arith, c.if-len-gt33554432.true), refl))
+pub returns-then-len-gt33554432 : goal.returns-then-len-gt33554432
+returns-then-len-gt33554432 c = λ begun before (reasons, is). rw is (_, (reasons ++ for_size (length c.args.m.now.payload.now) ∷ [], refl), (refl, omega (arith, c.if-len-gt33554432.true), refl))
 
 pub returns : goal.returns
 returns c = λ begun before (reasons, is). rw is (
