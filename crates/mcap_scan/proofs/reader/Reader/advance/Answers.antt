@@ -1,4 +1,4 @@
-use Rattle.std.proofs.Common.{subst}
+use Rattle.std.proofs.Common.{refl, subst}
 use Rattle.mcap_scan.specs.declared.reader.Stage.{Stage}
 use Rattle.mcap_scan.specs.Scanning.{StageStands}
 use Rattle.mcap_scan.proofs.Scanning.{ended_so}
@@ -18,3 +18,20 @@ returns-in-Ended-clause-steps g c = λ before tops stands.
       stands = stands;
       halts = ended_so c.args.self.now.tables c.args.self.now.offset before (g.S.Source.state c.args.source.now) tops is;
     }
+
+pub returns-in-Ended-clause-moves : goal.returns-in-Ended-clause-moves
+returns-in-Ended-clause-moves g c = tt
+
+pub returns-in-Ended-clause-over : goal.returns-in-Ended-clause-over
+returns-in-Ended-clause-over g c = λ done. (refl, refl, tt)
+
+pub returns-in-Stopped-clause-steps : goal.returns-in-Stopped-clause-steps
+returns-in-Stopped-clause-steps g c = λ before tops stands.
+    record {
+      why = c.in-Stopped.why;
+      stage = c.in-Stopped.is;
+      stands = subst (λ (s : Stage). StageStands s c.args.self.now.tables c.args.self.now.offset before (g.S.Source.state c.args.source.now) tops) c.in-Stopped.is stands;
+    }
+
+pub returns-in-Stopped-clause-over : goal.returns-in-Stopped-clause-over
+returns-in-Stopped-clause-over g c = λ done. (refl, refl, tt)
