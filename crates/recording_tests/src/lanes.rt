@@ -19,7 +19,7 @@ const FEED: &[u8] = b"\x89MCAP0\r\n\
     \x05\x17\0\0\0\0\0\0\0\x07\0\x02\0\0\0\x0b\0\0\0\0\0\0\0\x09\0\0\0\0\0\0\0\xbb\
     \x0f\x04\0\0\0\0\0\0\0\0\0\0\0";
 
-/// A pass that refuses all for want of memory, and counts the declarations.
+/// A pass that declares nothing for want of memory, and so knows no channel. It counts the declarations.
 #[derive(Drop)]
 struct Lacking {
     asked: bool,

@@ -141,6 +141,8 @@ fn a_piece_may_reach_the_limit_and_not_pass_it(rt: HostRuntime) {
     for (blocks, bytes, more, piece, want) in rows {
         if blocks <= 4_294_967_295 && bytes <= 1 << 40 && more <= 1 {
             holds_at(&rt, keep_limit(blocks, bytes, more, piece) == want, &blocks);
+        } else {
+            holds_at(&rt, false, &blocks);
         }
     }
 }

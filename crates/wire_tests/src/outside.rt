@@ -132,7 +132,11 @@ fn tells_pieces<L: LiveStore<Extent = Piece>>(
         };
         through = !through;
         let as_wanted = match appended {
-            Ok(piece) => *answer == Ok(()) && piece.same().bytes() == *bytes,
+            Ok(piece) => {
+                *answer == Ok(())
+                    && piece.same().bytes() == *bytes
+                    && piece.len() == bytes.len() as u64
+            }
             Err(why) => *answer == Err(why),
         };
         if !as_wanted {
@@ -158,4 +162,5 @@ fn a_live_store_tells_where_each_piece_stands(rt: HostRuntime) {
     let pieces: [(&[u8], Result<(), AppendRefused>); 2] = [(b"xyz", Ok(())), (b"w", Ok(()))];
     holds(&rt, tells_pieces(&mut quiet, &pieces));
     same(&rt, &quiet.bytes(), &b"xyzw".as_slice());
+    same(&rt, &quiet.faults(), &0);
 }

@@ -154,78 +154,80 @@ fn a_byte_may_follow_each_record_but_a_footer(rt: HostRuntime) {
     }
 }
 
+// Contents, and which field of each is refused for what.
+const REFUSED: [(u8, &[u8], u8, Why); 17] = [
+    (HEADER, b"\x01\0\0\0\xff\0\0\0\0", 1, Why::BadText),
+    (HEADER, b"\x01\0\0\0a\x01\0\0\0\xff", 2, Why::BadText),
+    // a lead byte without its continuation, and one whose continuation stands behind the text
+    (HEADER, b"\x02\0\0\0\xc3\x28\0\0\0\0", 1, Why::BadText),
+    (HEADER, b"\x01\0\0\0\xc3\xa9\0\0\0\0", 1, Why::BadText),
+    (HEADER, b"\xff\xff\xff\xfff", 1, Why::Short),
+    // the data's length is past the content
+    (
+        SCHEMA,
+        b"\x01\0\0\0\0\0\0\0\0\0\xff\xff\xff\xff\0",
+        4,
+        Why::Short,
+    ),
+    (CHUNK, &[0xff; 45], 5, Why::Short),
+    // a key's length, a key, and a value that are cut short by the end of the map
+    (METADATA, b"\0\0\0\0\x01\0\0\0\0", 2, Why::BadLength),
+    (
+        METADATA,
+        b"\0\0\0\0\x05\0\0\0\x02\0\0\0a",
+        2,
+        Why::BadLength,
+    ),
+    (
+        METADATA,
+        b"\0\0\0\0\x06\0\0\0\x01\0\0\0a\0",
+        2,
+        Why::BadLength,
+    ),
+    (
+        METADATA,
+        b"\0\0\0\0\x05\0\0\0\x01\0\0\0\xff",
+        2,
+        Why::BadText,
+    ),
+    (
+        METADATA,
+        b"\0\0\0\0\x0a\0\0\0\x01\0\0\0a\x01\0\0\0\xff",
+        2,
+        Why::BadText,
+    ),
+    // the key "" twice, and a second time without a value
+    (
+        METADATA,
+        b"\0\0\0\0\x10\0\0\0\0\0\0\0\0\0\0\0\0\0\0\0\0\0\0\0",
+        2,
+        Why::DoubleKey,
+    ),
+    (
+        METADATA,
+        b"\0\0\0\0\x0c\0\0\0\0\0\0\0\0\0\0\0\0\0\0\0",
+        2,
+        Why::DoubleKey,
+    ),
+    (MESSAGE_INDEX, b"\0\0\x01\0\0\0\0", 2, Why::BadLength),
+    (
+        METADATA_INDEX,
+        b"\0\0\0\0\0\0\0\0\0\0\0\0\0\0\0\0\x01\0\0\0\xff",
+        3,
+        Why::BadText,
+    ),
+    (
+        ATTACHMENT,
+        b"\0\0\0\0\0\0\0\0\0\0\0\0\0\0\0\0\x01\0\0\0\xff",
+        3,
+        Why::BadText,
+    ),
+];
+
 #[test]
 fn contents_that_are_refused(rt: HostRuntime) {
-    let table: [(u8, &[u8], u8, Why); 17] = [
-        (HEADER, b"\x01\0\0\0\xff\0\0\0\0", 1, Why::BadText),
-        (HEADER, b"\x01\0\0\0a\x01\0\0\0\xff", 2, Why::BadText),
-        // a lead byte without its continuation, and one whose continuation stands behind the text
-        (HEADER, b"\x02\0\0\0\xc3\x28\0\0\0\0", 1, Why::BadText),
-        (HEADER, b"\x01\0\0\0\xc3\xa9\0\0\0\0", 1, Why::BadText),
-        (HEADER, b"\xff\xff\xff\xfff", 1, Why::Short),
-        // the data's length is past the content
-        (
-            SCHEMA,
-            b"\x01\0\0\0\0\0\0\0\0\0\xff\xff\xff\xff\0",
-            4,
-            Why::Short,
-        ),
-        (CHUNK, &[0xff; 45], 5, Why::Short),
-        // a key's length, a key, and a value that are cut short by the end of the map
-        (METADATA, b"\0\0\0\0\x01\0\0\0\0", 2, Why::BadLength),
-        (
-            METADATA,
-            b"\0\0\0\0\x05\0\0\0\x02\0\0\0a",
-            2,
-            Why::BadLength,
-        ),
-        (
-            METADATA,
-            b"\0\0\0\0\x06\0\0\0\x01\0\0\0a\0",
-            2,
-            Why::BadLength,
-        ),
-        (
-            METADATA,
-            b"\0\0\0\0\x05\0\0\0\x01\0\0\0\xff",
-            2,
-            Why::BadText,
-        ),
-        (
-            METADATA,
-            b"\0\0\0\0\x0a\0\0\0\x01\0\0\0a\x01\0\0\0\xff",
-            2,
-            Why::BadText,
-        ),
-        // the key "" twice, and a second time without a value
-        (
-            METADATA,
-            b"\0\0\0\0\x10\0\0\0\0\0\0\0\0\0\0\0\0\0\0\0\0\0\0\0",
-            2,
-            Why::DoubleKey,
-        ),
-        (
-            METADATA,
-            b"\0\0\0\0\x0c\0\0\0\0\0\0\0\0\0\0\0\0\0\0\0",
-            2,
-            Why::DoubleKey,
-        ),
-        (MESSAGE_INDEX, b"\0\0\x01\0\0\0\0", 2, Why::BadLength),
-        (
-            METADATA_INDEX,
-            b"\0\0\0\0\0\0\0\0\0\0\0\0\0\0\0\0\x01\0\0\0\xff",
-            3,
-            Why::BadText,
-        ),
-        (
-            ATTACHMENT,
-            b"\0\0\0\0\0\0\0\0\0\0\0\0\0\0\0\0\x01\0\0\0\xff",
-            3,
-            Why::BadText,
-        ),
-    ];
     let mut out = Vec::new(rt.alloc());
-    for (op, content, field, why) in table {
+    for (op, content, field, why) in REFUSED {
         holds_at(
             &rt,
             read(op, content, &mut out) == Err(Bad { field, why }),
