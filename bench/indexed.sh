@@ -8,7 +8,6 @@ export LC_ALL=C
 here="$(cd "$(dirname "$0")" && pwd)"
 mib="${1:-256}"
 program="${MCAPREC:-$here/../mcaprec}"
-. "$here/../.ci/memory"
 if ! command -v perl >/dev/null; then
     echo "bench/indexed.sh: skipped, perl is not there (Debian: perl-base)"
     exit 0
@@ -81,10 +80,14 @@ range=(--start "$start" --end "$end")
 "$program" cat "${range[@]}" "$work/file.mcap" >"$work/wanted"
 "$program" cat --indexed "${range[@]}" "$work/file.mcap" | cmp - "$work/wanted"
 rm "$work/wanted"
+# As the launcher does.
+had=${GLIBC_TUNABLES-}
+. "$here/../.ci/memory"
 time_best "$program" cat "${range[@]}" "$work/file.mcap"
 scanned=$best
 time_best "$program" cat --indexed "${range[@]}" "$work/file.mcap"
 indexed=$best
+[ -n "$had" ] || unset GLIBC_TUNABLES
 time_best "$program" info "$work/file.mcap"
 told=$best
 time_best cp "$work/file.mcap" "$work/copy.mcap"

@@ -8,7 +8,6 @@ export LC_ALL=C
 here="$(cd "$(dirname "$0")" && pwd)"
 mib="${1:-64}"
 program="${MCAPREC:-$here/../mcaprec}"
-. "$here/../.ci/memory"
 if ! command -v perl >/dev/null; then
     echo "bench/record.sh: skipped, perl is not there (Debian: perl-base)"
     exit 0
@@ -106,7 +105,7 @@ for size in 1000 64; do
         if [ "$channels" -eq 1 ]; then
             row check "ok indexed messages=$count .*" "$program" check "$chunked"
             sink=/dev/null
-            row cat '' "$program" cat "$chunked"
+            (. "$here/../.ci/memory" && row cat '' "$program" cat "$chunked")
             sink="$work/printed"
         fi
     done
