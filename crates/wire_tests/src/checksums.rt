@@ -1,5 +1,5 @@
 //! The CRC-32, and its plain side.
-use crate::same::{holds, holds_at};
+use crate::same::holds_at;
 use mcap_crc::{Crc, crc_of, crc_plain};
 use std::test::Fail;
 
@@ -49,8 +49,8 @@ fn both_sides_agree_at_each_length_and_each_cut(rt: HostRuntime) -> Result<(), F
         state = state.wrapping_mul(1_664_525).wrapping_add(1_013_904_223);
         bytes.push((state >> 24) as u8)?;
     }
-    holds(&rt, both_agree(&bytes, 333_333));
+    holds_at(&rt, both_agree(&bytes, 333_333), &"a large message");
     bytes.truncate(400);
-    holds(&rt, all_agree(&bytes));
+    holds_at(&rt, all_agree(&bytes), &"a small message");
     Ok(())
 }

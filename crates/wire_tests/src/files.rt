@@ -1,134 +1,139 @@
 //! The world of files.
-use crate::outside::gives;
-use crate::same::{holds, same};
-use crate::worlds::refuses;
-use mcap_io::*;
+use crate::outside::{Stretch, gives};
+use crate::same::holds_at;
+use mcap_io::{Failed, FileWorld, LiveStore, OpenRefused, Store, World};
 use std::alloc::Global;
 use std::fs;
 use std::rt::Files;
 use std::test::Fail;
 
-// How long the file is; 0 where it isn't there.
-fn len_of(rt: &impl Files, name: &str) -> u64 {
-    match fs::metadata(rt, name) {
-        Ok(metadata) => metadata.len(),
-        Err(_) => 0,
+// Whether the opening of an output fails. What is opened in spite of that is taken back.
+fn refuses_output<W: World>(world: &mut W, name: &str) -> bool {
+    match world.live(name) {
+        Ok(live) => {
+            let _kept = world.keep_live(name, live);
+            false
+        }
+        Err(why) => why == OpenRefused::Failed,
     }
 }
 
-// Whether a live store of that name takes these pieces: whether each is passed through, and how long the file is then.
-fn keeps<W: World>(rt: &impl Files, world: &mut W, pieces: &[(&[u8], bool, u64)]) -> bool {
+// Whether a source of that name gives these stretches and is kept, and while it is open the output isn't opened.
+fn gives_back<W: World>(
+    alloc: Global,
+    world: &mut W,
+    (name, output): (&str, &str),
+    stretches: &[Stretch<'_>],
+) -> Result<bool, OpenRefused> {
+    let mut source = match world.source(name) {
+        Ok(source) => source,
+        Err(why) => return Err(why),
+    };
+    let refused = refuses_output(world, output);
+    let mut buffer = Vec::new(alloc);
+    let given = gives(&mut source, &mut buffer, stretches);
+    Ok(world.keep_source(name, source) == Ok(()) && refused && given)
+}
+
+// Whether the file has these bytes: two are read, then all that follow.
+fn has<W: World>(alloc: Global, world: &mut W, bytes: &[u8]) -> bool {
+    let (front, rest) = bytes.split_at(bytes.len().min(2));
+    let stretches: [Stretch<'_>; 3] = [
+        (2, Ok(()), front, 0),
+        (400_000, Ok(()), rest, 0),
+        (9, Ok(()), b"", 0),
+    ];
+    gives_back(alloc, world, ("record", "./record"), &stretches) == Ok(true)
+}
+
+// Whether a live store takes the bytes in pieces: where each ends, whether it is passed through, and how many bytes the file
+// has then.
+fn keeps<W: World>(
+    alloc: Global,
+    world: &mut W,
+    bytes: &[u8],
+    pieces: &[(usize, bool, usize)],
+) -> bool {
     let Ok(mut live) = world.live("record") else {
         return false;
     };
     let mut taken = true;
-    for (piece, through, stored) in pieces {
+    let mut from = 0;
+    for (to, through, stored) in pieces {
+        let piece = bytes.get(from..*to).unwrap_or(&[]);
         let appended = match through {
-            true => live.append_through(piece),
-            false => live.append(piece),
+            true => live.append_through(piece).is_ok(),
+            false => live.append(piece).is_ok(),
         };
-        taken = taken && appended.is_ok() && len_of(rt, "record") == *stored;
+        taken = taken && appended && has(alloc, world, bytes.get(..*stored).unwrap_or(&[]));
+        from = *to;
     }
     world.keep_live("record", live) == Ok(()) && taken
 }
 
-// Whether a source of that name gives these stretches. While it is open, the file isn't opened as an output.
-fn gives_back<W: World>(
-    alloc: Global,
-    world: &mut W,
-    stretches: &[(u64, Result<(), ReadRefused>, &[u8], u64)],
-) -> bool {
-    let Ok(mut source) = world.source("record") else {
-        return false;
-    };
-    let refused = refuses(world, ObjectKind::Live, "./record");
-    let mut buffer = Vec::new(alloc);
-    let given = gives(&mut source, &mut buffer, stretches);
-    world.keep_source("record", source) == Ok(()) && refused && given
-}
+// A piece of 300,000 bytes goes past the buffer, with what waits there; three bytes wait until one is passed through.
+const PIECES: [(usize, bool, usize); 4] = [
+    (2, false, 0),
+    (300_002, false, 300_002),
+    (300_005, false, 300_002),
+    (300_006, true, 300_006),
+];
 
-// A piece of 300,000 bytes goes past the buffer, with what waits there; three bytes wait until one is passed through. Behind
-// the keeping of its source the file is opened as an output, and is emptied.
-#[test]
-fn a_file_gives_back_what_was_kept(rt: HostRuntime) -> Result<(), Fail> {
-    let large = vec![in rt.alloc(); 7u8; 300_000]?;
-    let mut world = FileWorld::new(&rt);
-    holds(&rt, refuses(&mut world, ObjectKind::Source, "none"));
-    let pieces = [
-        (b"ab".as_slice(), false, 0),
-        (large.as_slice(), false, 300_002),
-        (b"cde", false, 300_002),
-        (b"f", true, 300_006),
-    ];
-    holds(&rt, keeps(&rt, &mut world, &pieces));
-    let stretches = [
-        (2, Ok(()), b"ab".as_slice(), 0),
-        (300_000, Ok(()), large.as_slice(), 0),
-        (9, Ok(()), b"cdef", 0),
-        (9, Ok(()), b"", 0),
-    ];
-    holds(&rt, gives_back(rt.alloc(), &mut world, &stretches));
-    holds(&rt, keeps(&rt, &mut world, &[(b"", true, 0)]));
-    same(&rt, &world.faults(), &2);
-    fs::remove_file(&rt, "record")?;
-    Ok(())
-}
-
-// Whether a store of "abcdef" gives parts of what is left behind the question for its length: the file is cut to "abc", and
-// a read of what was never read fails.
+// Whether a store of what was kept gives two bytes where two blocks meet that are read ahead; and once the file is cut, a
+// read of what was never read fails, and the next one of the front gives it.
 fn gives_what_is_left<T: Store>(rt: &impl Files, store: &mut T) -> bool {
-    if store.len() != Ok(6) || fs::write(rt, "stored", b"abc").is_err() {
+    if store.len() != Ok(300_006) {
         return false;
     }
-    let mut last = [0; 2];
-    let mut first = [0; 2];
-    store.read_at(2, &mut first) == Err(Failed)
-        && store.read_at(1, &mut last) == Ok(())
-        && store.read_at(0, &mut first) == Ok(())
-        && (first, last) == (*b"ab", *b"bc")
-        && (store.asked(), store.faults()) == (6, 1)
+    let mut room = [1; 2];
+    let met = store.read_at(16_383, &mut room) == Ok(()) && room == [0, 7];
+    let cut = fs::write(rt, "record", &[0; 3]).is_ok();
+    let refused = store.read_at(300_004, &mut room) == Err(Failed);
+    let given = store.read_at(0, &mut room) == Ok(()) && room == [0, 0];
+    met && cut && refused && given && (store.asked(), store.faults()) == (6, 1)
 }
 
 // Whether it does, of a file that isn't opened as an output while it is open as a store.
 fn stores<W: World>(rt: &impl Files, world: &mut W) -> bool {
-    let Ok(mut store) = world.store("stored") else {
+    let Ok(mut store) = world.store("record") else {
         return false;
     };
-    let refused = refuses(world, ObjectKind::Live, "stored");
+    let refused = refuses_output(world, "./record");
     let given = gives_what_is_left(rt, &mut store);
-    world.keep_store("stored", store) == Ok(()) && refused && given
+    world.keep_store("record", store) == Ok(()) && refused && given
 }
 
-// Two bytes of the store from there on, where it has so many.
-fn two_from<W: World>(world: &mut W, at: u64) -> Option<[u8; 2]> {
-    let Ok(mut store) = world.store("stored") else {
-        return None;
-    };
-    let mut room = [0; 2];
-    let read = match store.len() {
-        Ok(len) if len >= 2 && at <= len - 2 => store.read_at(at, &mut room) == Ok(()),
-        _ => false,
-    };
-    match world.keep_store("stored", store) {
-        Ok(()) if read => Some(room),
-        _ => None,
+// Whether a folder is no store.
+fn refuses_folder<W: World>(world: &mut W) -> bool {
+    match world.store(".") {
+        Ok(store) => {
+            let _kept = world.keep_store(".", store);
+            false
+        }
+        Err(why) => why == OpenRefused::Failed,
     }
 }
 
-// Bytes are read at any place, and where two blocks that are read ahead meet.
+// Whether a world of files goes so. What isn't there isn't opened; behind the keeping of its inputs a file is opened as an
+// output, and is emptied. The faults are a refused output for each look at the pieces and for the store, the folder, and the
+// name that isn't there.
+fn goes<W: World>(rt: &impl Files, alloc: Global, world: &mut W, bytes: &[u8]) -> bool {
+    keeps(alloc, world, bytes, &PIECES)
+        && stores(rt, world)
+        && refuses_folder(world)
+        && gives_back(alloc, world, ("none", "none"), &[]) == Err(OpenRefused::Failed)
+        && keeps(alloc, world, &[], &[(0, true, 0)])
+        && (world.faults(), world.input_faults(), world.output_faults()) == (8, 1, 0)
+}
+
+// Zeros up to where the second block of the file begins, then sevens, and other bytes at the end.
 #[test]
-fn a_file_is_read_at_any_place(rt: HostRuntime) -> Result<(), Fail> {
-    let mut blocks = vec![in rt.alloc(); 0; 16_384]?;
-    blocks.push(7)?;
-    fs::write(&rt, "stored", &blocks)?;
+fn a_file_gives_back_what_was_kept_at_any_place(rt: HostRuntime) -> Result<(), Fail> {
+    let mut bytes = vec![in rt.alloc(); 0; 16_384]?;
+    bytes.resize(300_002, 7)?;
+    bytes.extend_from_slice(b"cdef")?;
     let mut world = FileWorld::new(&rt);
-    holds(&rt, two_from(&mut world, 16_383) == Some([0, 7]));
-    fs::write(&rt, "stored", b"abcdef")?;
-    holds(&rt, stores(&rt, &mut world));
-    for name in ["none", "."] {
-        holds(&rt, refuses(&mut world, ObjectKind::Store, name));
-    }
-    same(&rt, &(world.faults(), world.input_faults()), &(3, 1));
-    fs::remove_file(&rt, "stored")?;
+    holds_at(&rt, goes(&rt, rt.alloc(), &mut world, &bytes), &"a world");
+    fs::remove_file(&rt, "record")?;
     Ok(())
 }

@@ -2,8 +2,6 @@
 #![tactic(auto)]
 
 #[cfg(test)]
-mod callers;
-#[cfg(test)]
 mod checksums;
 #[cfg(test)]
 mod data_records;
@@ -21,5 +19,3 @@ mod records;
 mod same;
 #[cfg(test)]
 mod wire;
-#[cfg(test)]
-mod worlds;

@@ -1,6 +1,5 @@
 //! Sources, sinks and stores, and how each goes on behind a call that failed.
-use crate::callers::read_front;
-use crate::same::{holds, same};
+use crate::same::holds_at;
 use mcap_io::*;
 use std::alloc::Global;
 
@@ -12,12 +11,14 @@ pub(crate) fn copied<T: Copy>(alloc: Global, items: &[T]) -> Vec<T> {
     }
 }
 
-// Whether the source gives these stretches: how long each is to be, how that goes, what is read of it, and how often the
-// source has failed by then.
+// How long a stretch is to be, how that goes, what is read of it, and how often the source has failed by then.
+pub(crate) type Stretch<'a> = (u64, Result<(), ReadRefused>, &'a [u8], u64);
+
+// Whether the source gives these stretches.
 pub(crate) fn gives<S: Source>(
     source: &mut S,
     buffer: &mut Vec<u8>,
-    stretches: &[(u64, Result<(), ReadRefused>, &[u8], u64)],
+    stretches: &[Stretch<'_>],
 ) -> bool {
     for (len, answer, held, faults) in stretches {
         let got = read_up_to(source, buffer, *len);
@@ -33,53 +34,39 @@ pub(crate) fn gives<S: Source>(
 fn a_source_goes_on_behind_a_read_that_failed(rt: HostRuntime) {
     let mut source = MemorySource::new(copied(rt.alloc(), b"abcdefghij"), copied(rt.alloc(), &[1]));
     let mut buffer = Vec::new(rt.alloc());
-    let stretches: [(u64, Result<(), ReadRefused>, &[u8], u64); 5] = [
+    let stretches: [Stretch<'_>; 5] = [
         (4, Ok(()), b"abcd", 0),
         (3, Err(ReadRefused::Failed), b"", 1),
         (3, Ok(()), b"efg", 1),
         (9, Ok(()), b"hij", 1),
         (9, Ok(()), b"", 1),
     ];
-    holds(&rt, gives(&mut source, &mut buffer, &stretches));
+    holds_at(
+        &rt,
+        gives(&mut source, &mut buffer, &stretches),
+        &"a source",
+    );
 }
 
-// "ab", of which 256 MiB and more than any memory are asked for, and then 100,000 bytes.
+// Whether a source of these bytes gives these stretches, and how much room that took is this.
+fn takes_room(alloc: Global, bytes: &[u8], stretches: &[Stretch<'_>], room: usize) -> bool {
+    let mut source = QuietSource::new(copied(alloc, bytes));
+    let mut buffer = Vec::new(alloc);
+    gives(&mut source, &mut buffer, stretches) && buffer.capacity() == room
+}
+
+// "ab", of which 256 MiB and more than any memory are asked for; and 99,999 bytes of 100,000.
 #[test]
 fn a_short_input_costs_little_room(rt: HostRuntime) {
-    let mut source = QuietSource::new(copied(rt.alloc(), b"ab"));
-    let mut buffer = Vec::new(rt.alloc());
-    let stretches: [(u64, Result<(), ReadRefused>, &[u8], u64); 2] = [
-        (268_435_456, Ok(()), b"ab", 0),
-        (u64::MAX, Ok(()), b"", 0),
-    ];
-    holds(&rt, gives(&mut source, &mut buffer, &stretches));
-    same(&rt, &buffer.capacity(), &65_536);
     let sevens = [7; 100_000];
-    let mut large = QuietSource::new(copied(rt.alloc(), &sevens));
-    let stretch = [(99_999, Ok(()), &sevens[..99_999], 0)];
-    holds(&rt, gives(&mut large, &mut buffer, &stretch));
-    same(&rt, &(buffer.capacity(), large.rest().len()), &(99_999, 1));
-}
-
-// Of "abcdefgh" the first five bytes; the first read behind the question for the length fails once, and counts as asked
-// for.
-#[test]
-fn a_source_gives_the_front_of_a_store(rt: HostRuntime) {
-    let mut store = MemoryStore::new(copied(rt.alloc(), b"abcdefgh"), copied(rt.alloc(), &[1]));
-    holds(&rt, store.len() == Ok(8));
-    let mut source = StoreSource::new(&mut store, 5);
-    let mut buffer = Vec::new(rt.alloc());
-    let stretches: [(u64, Result<(), ReadRefused>, &[u8], u64); 4] = [
-        (3, Err(ReadRefused::Failed), b"", 1),
-        (3, Ok(()), b"abc", 1),
-        (3, Ok(()), b"de", 1),
-        (3, Ok(()), b"", 1),
-    ];
-    holds(&rt, gives(&mut source, &mut buffer, &stretches));
-    same(&rt, &(store.asked(), store.faults()), &(8, 1));
-    let len = store.len().unwrap_or(0).min(2);
-    holds(&rt, read_front(&mut store, &mut buffer, len) == Ok(()));
-    same(&rt, &buffer.as_slice(), &b"ab".as_slice());
+    let short: [Stretch<'_>; 2] = [(268_435_456, Ok(()), b"ab", 0), (u64::MAX, Ok(()), b"", 0)];
+    holds_at(&rt, takes_room(rt.alloc(), b"ab", &short, 65_536), &"ab");
+    let large = [(99_999, Ok(()), &sevens[..99_999], 0)];
+    holds_at(
+        &rt,
+        takes_room(rt.alloc(), &sevens, &large, 99_999),
+        &"sevens",
+    );
 }
 
 // Whether the sink takes these pieces: how that goes, and how often the sink has failed by then.
@@ -102,24 +89,24 @@ fn a_sink_goes_on_behind_a_write_that_failed(rt: HostRuntime) {
         (b"defg", Err(Short { taken: 0 }), 1),
         (b"h", Ok(()), 1),
     ];
-    holds(&rt, takes(&mut sink, &pieces));
-    same(&rt, &sink.bytes(), &b"abcdeh".as_slice());
+    let taken = takes(&mut sink, &pieces);
+    holds_at(
+        &rt,
+        taken && sink.bytes() == b"abcdeh".as_slice(),
+        &"a sink",
+    );
 }
 
 #[test]
 fn a_writer_takes_all_pieces(rt: HostRuntime) {
     let mut sink = WriterSink::new(Vec::new(rt.alloc()));
-    let pieces: [(&[u8], Result<(), Short>, u64); 3] = [
-        (b"ab", Ok(()), 0),
-        (b"", Ok(()), 0),
-        (b"cd", Ok(()), 0),
-    ];
-    holds(&rt, takes(&mut sink, &pieces));
-    same(&rt, &sink.into_inner().as_slice(), &b"abcd".as_slice());
+    let taken = takes(&mut sink, &[(b"ab", Ok(()), 0), (b"cd", Ok(()), 0)]);
+    let is = taken && sink.into_inner().as_slice() == b"abcd".as_slice();
+    holds_at(&rt, is, &"a writer");
 }
 
-// Whether the store takes each of these pieces and tells where it stands, or is refused so; every other one is passed
-// through.
+// Whether the store takes each of these pieces and tells where it stands, or is refused so. The first is appended and the
+// others are passed through.
 fn tells_pieces<L: LiveStore<Extent = Piece>>(
     store: &mut L,
     pieces: &[(&[u8], Result<(), AppendRefused>)],
@@ -130,7 +117,7 @@ fn tells_pieces<L: LiveStore<Extent = Piece>>(
             false => store.append(bytes),
             true => store.append_through(bytes),
         };
-        through = !through;
+        through = true;
         let as_wanted = match appended {
             Ok(piece) => {
                 *answer == Ok(())
@@ -155,12 +142,18 @@ fn a_live_store_tells_where_each_piece_stands(rt: HostRuntime) {
         (b"cd", Err(AppendRefused::Failed { taken: 1 })),
         (b"ef", Ok(())),
     ];
-    holds(&rt, tells_pieces(&mut store, &pieces));
-    same(&rt, &store.bytes(), &b"abcef".as_slice());
-    // The quiet store takes all of them.
-    let mut quiet = QuietLive::new(rt.alloc());
-    let pieces: [(&[u8], Result<(), AppendRefused>); 2] = [(b"xyz", Ok(())), (b"w", Ok(()))];
-    holds(&rt, tells_pieces(&mut quiet, &pieces));
-    same(&rt, &quiet.bytes(), &b"xyzw".as_slice());
-    same(&rt, &quiet.faults(), &0);
+    let told = tells_pieces(&mut store, &pieces);
+    holds_at(
+        &rt,
+        told && store.bytes() == b"abcef".as_slice(),
+        &"a store",
+    );
+}
+
+#[test]
+fn a_quiet_store_takes_all_pieces(rt: HostRuntime) {
+    let mut store = QuietLive::new(rt.alloc());
+    let told = tells_pieces(&mut store, &[(b"xyz", Ok(())), (b"w", Ok(()))]);
+    let is = told && store.bytes() == b"xyzw".as_slice() && store.faults() == 0;
+    holds_at(&rt, is, &"a quiet store");
 }
