@@ -1,7 +1,7 @@
 //! What a replay gives of a small file, by a scan and by the plain scan.
 use crate::same::holds_at;
-use crate::sources::{Slow, quiet};
-use mcap_io::{MemorySink, Source};
+use crate::sources::quiet;
+use mcap_io::MemorySink;
 use mcap_model::{Range, Replayed, Shown, replay_plain, scan_plain};
 use mcap_wire::Text;
 use std::alloc::Global;
@@ -82,37 +82,18 @@ fn are_printed(alloc: Global, played: Replayed, lines: &str) -> bool {
     printer.print(alloc, &mut sink).is_ok() && sink.bytes() == lines.as_bytes()
 }
 
-// Whether a replay of the source gives these messages.
-fn replays<S: Source>(
-    alloc: Global,
-    source: &mut S,
-    range: Range,
-    topic: Option<&Text>,
-    wanted: Wanted,
-) -> bool {
-    match replay_scan(alloc, source, range, topic) {
-        Ok(played) => {
-            are_shown(alloc, &played, wanted) && are_printed(alloc, played, wanted.lines)
-        }
-        Err(_) => false,
-    }
-}
-
 // Whether a replay of the file gives these messages, and leaves what stands behind its Data End.
 fn replays_file(alloc: Global, range: Range, topic: Option<&Text>, wanted: Wanted) -> bool {
     let Ok(mut source) = quiet(alloc, MIXED) else {
         return false;
     };
-    replays(alloc, &mut source, range, topic, wanted) && source.rest() == b"left".as_slice()
-}
-
-// The same where each read gives one byte.
-fn replays_slowly(alloc: Global, range: Range, topic: Option<&Text>, wanted: Wanted) -> bool {
-    let Ok(source) = quiet(alloc, MIXED) else {
-        return false;
+    let found = match replay_scan(alloc, &mut source, range, topic) {
+        Ok(played) => {
+            are_shown(alloc, &played, wanted) && are_printed(alloc, played, wanted.lines)
+        }
+        Err(_) => false,
     };
-    let mut slow = Slow { source };
-    replays(alloc, &mut slow, range, topic, wanted) && slow.source.rest() == b"left".as_slice()
+    found && source.rest() == b"left".as_slice()
 }
 
 // Whether the plain replay of the file gives these messages.
@@ -159,7 +140,6 @@ fn messages_come_by_log_time_and_place(rt: HostRuntime) -> Result<(), Fail> {
         let topic = if on_a { Some(&asked) } else { None };
         let wanted = Wanted { lines, places };
         let found = replays_file(alloc, range, topic, wanted)
-            && replays_slowly(alloc, range, topic, wanted)
             && replays_plainly(alloc, range, topic, wanted);
         holds_at(&rt, found, &(start, end));
     }

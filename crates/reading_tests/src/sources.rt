@@ -1,5 +1,5 @@
-//! Sources and a file that several tests read.
-use mcap_io::{Failed, QuietSource, Source};
+//! A source and a file that several tests read.
+use mcap_io::QuietSource;
 use mcap_wire::Memory;
 use std::alloc::Global;
 
@@ -13,32 +13,5 @@ pub(crate) fn quiet(alloc: Global, bytes: &[u8]) -> Result<QuietSource, Memory> 
     match Vec::from_slice(alloc, bytes) {
         Ok(bytes) => Ok(QuietSource::new(bytes)),
         Err(_) => Err(Memory),
-    }
-}
-
-/// A source that gives one byte at each read.
-#[derive(Drop)]
-pub(crate) struct Slow {
-    pub source: QuietSource,
-}
-
-impl Source for Slow {
-    ghost state = { λ slow. ⟦<QuietSource as Source>⟧.state slow.source };
-
-    ghost stays = { λ slow later. ⟦<QuietSource as Source>⟧.stays slow.source later.source };
-
-    ghost stays_so = { λ slow. ⟦<QuietSource as Source>⟧.stays_so slow.source };
-
-    ghost stays_on = { λ s t u first second. ⟦<QuietSource as Source>⟧.stays_on s.source t.source u.source first second };
-
-    fn read(&mut self, out: &mut [u8]) -> Result<usize, Failed> {
-        if out.len() < 2 {
-            return self.source.read(out);
-        }
-        self.source.read(&mut out[..1])
-    }
-
-    fn faults(&self) -> u64 {
-        self.source.faults()
     }
 }
