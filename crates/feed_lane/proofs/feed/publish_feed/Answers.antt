@@ -1,4 +1,5 @@
 use Rattle.std.proofs.Common.{◌∷◌, ◌++◌, [], ℕ, List, length, sym, ap, subst, ◌∙◌, arith, refl}
+use Rattle.std.proofs.lemmas.Grind.{common_steps}
 use Rattle.mcap_model.specs.Tops.{Top, flat}
 use Rattle.mcap_model.specs.Made.{top}
 use Rattle.mcap_scan.specs.Scanning.{Stands, offset_of}
@@ -109,3 +110,9 @@ returns-in-Some-clause-reports g c = λ limit since.
       subst (Reports before now was.0) (sym (c.report-in-Some.ensures ∙ ap (λ (e : _). report_of lane e) c.end_of.ensures))
           (reports_refused lane was.0 before now i.0.0 why was.3 (refusal_stands c.advance.new.self before now i.0.0 why s c.in-Some.ensures)),
     )
+
+pub returns-in-Err-take-clause-stays : goal.returns-in-Err-take-clause-stays
+returns-in-Err-take-clause-stays g c = grind (arith, common_steps)
+
+pub returns-in-Some-clause-stays : goal.returns-in-Some-clause-stays
+returns-in-Some-clause-stays g c = grind (arith, common_steps)

@@ -1,4 +1,4 @@
-use Rattle.std.proofs.Common.{◌+◌, ◌≤◌, sym, ◌∙◌, arith}
+use Rattle.std.proofs.Common.{rules, ◌+◌, ◌≤◌, sym, ◌∙◌, arith}
 use Rattle.indexed_replay.specs.Steps.{entries_cost}
 use Rattle.indexed_replay.proofs.Adding.{listed_more, listed_skip, cost_next, cost_skip, cost_all}
 use Rattle.kept_messages.specs.Keeping.{kept_in}
@@ -30,3 +30,6 @@ entries-preserved g c =
       shows = λ file told size. listed_more file c.args.range c.args.spot c.args.entries.now c.entries.i (c.entries.i + 1) c.item-entry.result (kept_in c.args.shown.now) (kept_in c.entries.shown) (kept_in c.show_entry.new.shown) c.item-entry.ensures (omega arith) (sym c.if-not-is_within.ensures) (i.shows file told size) (e.told file (i.stays.bytes ∙ told) size);
       asks = λ file told size. cost_next file c.args.range c.args.spot.chunk c.args.entries.now c.entries.i (c.entries.i + 1) c.item-entry.result (g.T.Store.state c.args.store.now).asked (g.T.Store.state c.entries.store).asked (g.T.Store.state c.show_entry.new.store).asked c.item-entry.ensures (omega arith) (sym c.if-not-is_within.ensures) (i.asks file told size) (e.asks file (i.stays.bytes ∙ told) size);
     }
+
+pub entries-init : goal.entries-init
+entries-init g c = search rules

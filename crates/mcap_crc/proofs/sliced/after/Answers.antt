@@ -1,4 +1,4 @@
-use Rattle.std.proofs.Common.{◌≡◌, ◌∙◌, ap, take, drop}
+use Rattle.std.proofs.Common.{rules, ◌≡◌, ◌∙◌, ap, take, drop}
 use Rattle.mcap_crc.specs.Register.{register_after}
 use Rattle.mcap_crc.proofs.Register.{register_after-cut}
 use Rattle.mcap_crc.proofs.sliced.after.Goals as goal
@@ -11,3 +11,6 @@ loop-block-preserved c =
     ap (λ r. register_after r c.in-Some.tail.now) (c.after_block-register.ensures ∙ ap (register_after c.loop-block.register) block)
     ∙ ap (register_after (register_after c.loop-block.register (take 16 c.loop-block.rest.now))) tail
     ∙ cut ∙ c.loop-block.invariant
+
+pub returns : goal.returns
+returns c = search rules

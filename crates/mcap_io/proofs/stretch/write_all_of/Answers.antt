@@ -1,5 +1,6 @@
 -- One write more goes on from what was written; a failed one adds a part of what was left of the piece.
 use Rattle.std.proofs.Common.{◌∙◌, ap, ◌-◌, length, drop, arith, length-take, length-drop}
+use Rattle.std.proofs.lemmas.Grind.{common_steps}
 use Rattle.mcap_io.proofs.Filling.{written-more, written-part}
 use Rattle.mcap_io.specs.Outside.{one_more}
 use Rattle.mcap_io.proofs.stretch.write_all_of.Goals as goal
@@ -21,3 +22,6 @@ returns-in-Err g c =
       c.pieces-test.true,
       written-part _ _ _ _ _ c.pieces.invariant.bound c.pieces.invariant.so_far c.in-Err.ensures.takes,
     )
+
+pub returns : goal.returns
+returns g c = grind (arith, common_steps)

@@ -1,4 +1,5 @@
-use Rattle.std.proofs.Common.{◌≡◌, ◌∷◌, ◌++◌, [], ℕ, List, Err, sym, subst}
+use Rattle.std.proofs.Common.{arith, ◌≡◌, ◌∷◌, ◌++◌, [], ℕ, List, Err, sym, subst}
+use Rattle.std.proofs.lemmas.Grind.{common_steps}
 use Rattle.mcap_model.specs.Tops.{Top, flat}
 use Rattle.mcap_model.specs.Declarations.{TablesOf}
 use Rattle.mcap_model.specs.Made.{top}
@@ -104,3 +105,6 @@ pub returns-in-Err-clause-reads : goal.returns-in-Err-clause-reads
 returns-in-Err-clause-reads g c =
     let before = g.S.Source.state c.args.source.now in
     subst (λ (why : SectionRefused). Reads before before (Err why)) (sym c.refused.ensures) ([], nothing_read before)
+
+pub records-init : goal.records-init
+records-init g c = grind (arith, common_steps)

@@ -1,5 +1,6 @@
 -- A buffer was put, whole or up to the record that was refused.
 use Rattle.std.proofs.Common.{refl, arith}
+use Rattle.std.proofs.lemmas.Grind.{common_steps}
 use Rattle.record_cache.proofs.Walking.{next_there}
 use Rattle.chunk_writer.specs.Scribes.{seen_before}
 use Rattle.chunk_writer.proofs.Taking.{step, starts, all_grows, all_front, stopped_grows}
@@ -37,3 +38,12 @@ pub returns-clause-front : goal.returns-clause-front
 returns-clause-front g c =
     let (way, held, kept) = c.records.invariant in
     all_front g.L.LiveStore.state _ c.args.self.now c.records.self c.args.full.now.records c.records.at _ way (λ less. omega (arith, c.records-test.false, held, less))
+
+pub record-found-requires : goal.record-found-requires
+record-found-requires g c = grind (arith, common_steps)
+
+pub returns-in-Err-clause-front : goal.returns-in-Err-clause-front
+returns-in-Err-clause-front g c = grind (arith, common_steps)
+
+pub returns-in-Err-clause-keeps : goal.returns-in-Err-clause-keeps
+returns-in-Err-clause-keeps g c = grind (arith, common_steps)

@@ -1,5 +1,6 @@
 -- A record was put, or its piece was refused.
-use Rattle.std.proofs.Common.{}
+use Rattle.std.proofs.Common.{arith}
+use Rattle.std.proofs.lemmas.Grind.{common_steps}
 use Rattle.chunk_writer.specs.declared.entry.Entry.{Entry}
 use Rattle.chunk_writer.specs.Scribes.{seen_before}
 use Rattle.chunk_writer.proofs.Stopping.{added_err}
@@ -40,3 +41,6 @@ returns-in-Err-append_record-clause-grows g c = λ r framed options opened histo
 pub returns-in-Err-clause-grows : goal.returns-in-Err-clause-grows
 returns-in-Err-clause-grows g c = λ r framed options opened history stands.
     add_refused options opened.held _ history r c.args.self.now.plan c.add.new.self c.in-Err.stop c.requires.going (c.in-Err.ensures.err r framed) c.in-Err.ensures.stopped stands
+
+pub returns-in-Ok-append_record-clause-entry : goal.returns-in-Ok-append_record-clause-entry
+returns-in-Ok-append_record-clause-entry g c = grind (arith, common_steps)

@@ -1,4 +1,4 @@
-use Rattle.std.proofs.Common.{◌≡◌, ◌∷◌, [], ℕ, List, refl, sym, ap, subst, ◌∙◌}
+use Rattle.std.proofs.Common.{rules, ◌≡◌, ◌∷◌, [], ℕ, List, refl, sym, ap, subst, ◌∙◌}
 use Rattle.mcap_model.specs.Tops.{records_in, opened}
 use Rattle.mcap_model.specs.Made.{top}
 use Rattle.mcap_model.specs.Fields.{ChunkFields, IsChunk}
@@ -64,3 +64,6 @@ returns-in-Err-clause-passed g c = λ v6.
 pub returns-in-5-clause-passed : goal.returns-in-5-clause-passed
 returns-in-5-clause-passed g c = λ v6.
     counted_none c.args.self.now.passed c.take_message.new.self.passed (passed_in (top c.args.op c.args.content.now)) c.take_message.result c.take_message.ensures.passed (ap (λ (n : ℕ). passed_in (top n c.args.content.now)) c.in-5.is)
+
+pub returns-in_default-clause-passed : goal.returns-in_default-clause-passed
+returns-in_default-clause-passed g c = search rules

@@ -1,5 +1,6 @@
 -- The bytes are the front of what is left, and the store is the same.
 use Rattle.std.proofs.Common.{refl, arith, length-take}
+use Rattle.std.proofs.lemmas.Grind.{common_steps}
 use Rattle.std.proofs.Math.Nat.{le_trans}
 use Rattle.mcap_io.proofs.Fronts.{part_gives, store_read}
 use Rattle.mcap_io.proofs.store_source.StoreSourceSource.read.Goals as goal
@@ -16,3 +17,6 @@ returns-in-Ok-clause-stays g c = (refl, refl, store_read _ _ _ _ _ c.read_at.ens
 
 pub returns-in-Err-clause-stays : goal.returns-in-Err-clause-stays
 returns-in-Err-clause-stays g c = (refl, refl, store_read _ _ _ _ _ c.read_at.ensures)
+
+pub returns-then-n-eq0-clause-gives : goal.returns-then-n-eq0-clause-gives
+returns-then-n-eq0-clause-gives g c = grind (arith, common_steps)

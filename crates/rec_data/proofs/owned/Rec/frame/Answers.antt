@@ -1,4 +1,4 @@
-use Rattle.std.proofs.Common.{◌≡◌, ◌∙◌, ℕ, ◌+◌, List, length, sym, subst, ap, arith, OnErr}
+use Rattle.std.proofs.Common.{rules, ◌≡◌, ◌∙◌, ℕ, ◌+◌, List, length, sym, subst, ap, arith, OnErr}
 use Rattle.mcap_wire.specs.Maps.{pair_texts}
 use Rattle.mcap_wire.specs.Writing.{LacksRoom}
 use Rattle.rec_data.specs.declared.owned.Rec.{Rec}
@@ -36,3 +36,6 @@ returns-in-Message-clause-full c =
     in
     let Q : ℕ → Type 0 = λ n. OnErr c.frame-in-Message.result (LacksRoom c.args.out.now n) in
     subst Q same c.frame-in-Message.ensures.full
+
+pub returns-in-Message-clause-ok : goal.returns-in-Message-clause-ok
+returns-in-Message-clause-ok c = search rules

@@ -18,3 +18,6 @@ returns-in_err-entries-clause-first_fault c =
 
 pub returns-in_err-entries-clause-none : goal.returns-in_err-entries-clause-none
 returns-in_err-entries-clause-none c = message_index_none c.args.content.now c.from_residual-in_err-entries.result (returns-in_err-entries-clause-first_fault c)
+
+pub returns-clause-shown : goal.returns-clause-shown
+returns-clause-shown c = search rules

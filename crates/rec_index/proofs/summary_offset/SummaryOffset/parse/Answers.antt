@@ -10,3 +10,6 @@ returns-in_err-group_start-clause-none c = summary_offset_none c.args.content.no
 
 pub returns-in_err-group_length-clause-none : goal.returns-in_err-group_length-clause-none
 returns-in_err-group_length-clause-none c = summary_offset_none c.args.content.now c.from_residual-in_err-group_length.result (search rules)
+
+pub returns-clause-shown : goal.returns-clause-shown
+returns-clause-shown c = search rules
