@@ -1,3 +1,13 @@
+pub mod Answering
+pub mod Listing
+pub mod Flattening
+pub mod Counting
+pub mod Followed
+pub mod Noted
+pub mod Gathered
+pub mod Finished
+pub mod ReadOut
+pub mod Flawed
 pub mod Halted
 pub mod Parts
 pub mod Refusing

@@ -11,9 +11,9 @@ use Rattle.mcap_model.specs.Kept.{reading_limits, Good, Halt, grammar, Halts}
 use Rattle.mcap_model.specs.Whole.{EndsWithMagic, V9}
 use Rattle.mcap_model.specs.Valid.{IsPlain, WherePlain, FailsAmong, Flaw, flaw_2, flaw_9}
 use Rattle.mcap_scan.specs.Scanning.{HaltsSo}
-use Rattle.section_check.specs.LastChunk.{IndexFails}
+use Rattle.file_check.specs.LastChunk.{IndexFails}
 use Rattle.index_check.specs.declared.section.Section.{Section}
-use Rattle.section_check.specs.Reading.{IndexIsWrong, Reads}
+use Rattle.file_check.specs.Reading.{IndexIsWrong, Reads}
 use Rattle.file_check.specs.declared.flaws.FailedRule.{FailedRule}
 use Rattle.file_check.specs.Halting.{told_flaw}
 use Rattle.file_check.specs.declared.refusals.CheckRefused.{CheckRefused}

@@ -17,8 +17,8 @@ use Rattle.file_check.specs.declared.refusals.CheckRefused.{CheckRefused}
 use Rattle.file_check.specs.declared.refusals.CheckRefused.TheVariants as refusals
 use Rattle.index_check.specs.declared.section.Section.{Section}
 use Rattle.index_check.specs.Section.{SectionOf}
-use Rattle.section_check.specs.declared.reading.SectionRefused.{SectionRefused}
-use Rattle.section_check.specs.Reading.{Reads}
+use Rattle.file_check.specs.declared.reading.SectionRefused.{SectionRefused}
+use Rattle.file_check.specs.Reading.{Reads}
 use Rattle.summary_check.specs.declared.refusals.SummaryRefused.{SummaryRefused}
 use Rattle.summary_check.specs.declared.refusals.SummaryRefused.TheVariants as summaries
 use Rattle.summary_check.specs.Judging.{IsJudged}

@@ -2,18 +2,18 @@
 ghost use Rattle.std.specs.Prelude.{◌≡◌, ◌≤◌, ◌<◌, ◌+◌, ◌^◌, ℕ, List, Some, Err, length, take, drop, IfOk, IfErr};
 ghost use Rattle.mcap_io.specs.Stores.{StoreStays};
 ghost use Rattle.summary_check.specs.Sectioned.{IsSectioned};
-ghost use Rattle.section_check.specs.declared.reading.SectionRefused.TheVariants as sections;
+ghost use Rattle.file_check.specs.declared.reading.SectionRefused.TheVariants as sections;
 ghost use Rattle.mcap_model.specs.Tops.{Top};
 ghost use Rattle.index_check.specs.Section.{SectionOf};
 ghost use Rattle.file_check.specs.Checking.{Counted, CheckCause, SectionReads, TellsRefused, RefusedCause, TellsJudged, TellsFile, IsUnchecked, told_by, Judges};
 
 use crate::ends::tell_flaw;
+use crate::reading::{SectionRefused, read_section};
 use crate::refusals::CheckRefused;
 use index_check::Section;
 use mcap_io::{ReadRefused, Store, StoreSource, read_part};
 use mcap_model::{Counts, Verdict};
 use mcap_scan::ScanRefused;
-use section_check::{SectionRefused, read_section};
 use std::alloc::Global;
 use summary_check::{SummaryRefused, judge_summary};
 

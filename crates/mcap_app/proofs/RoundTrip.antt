@@ -15,14 +15,14 @@ use Rattle.mcap_model.proofs.Halting.{readings_halt_once}
 use Rattle.recorder.specs.declared.report.Report.{Report}
 use Rattle.recorder.specs.Laws.{AreReadable, ReadsAs}
 use Rattle.recorder.proofs.ReadBack.{recordings_are_read_back}
-use Rattle.cat_command.specs.declared.cat.Reading.{Reading}
-use Rattle.cat_command.specs.declared.cat.Reading.TheVariants as readings
+use Rattle.file_commands.specs.declared.cat.Reading.{Reading}
+use Rattle.file_commands.specs.declared.cat.Reading.TheVariants as readings
 use Rattle.command_base.specs.Ran.{Scene, counts_in, AnyRose, CountsKept, world_faults}
 use Rattle.record_command.specs.Record.{Reported, EndsWith, Records}
 use Rattle.mcap_scan.specs.declared.answers.ScanRefused.TheVariants as refusals
 use Rattle.command_base.specs.OneFile.{was_read}
 use Rattle.command_base.specs.Printing.{TellsAll}
-use Rattle.cat_command.specs.Cat.{ComesTo, IsReading, IsPrinted, ending_of}
+use Rattle.file_commands.specs.Cat.{ComesTo, IsReading, IsPrinted, ending_of}
 use Rattle.mcap_app.specs.Laws.{everything, PrintsHistory, RecordingsArePrinted}
 
 -- ---- the recording

@@ -8,10 +8,10 @@ use Rattle.recorder.specs.declared.report.Report.{Report}
 use Rattle.recorder.specs.declared.options.RecordOptions.{RecordOptions}
 use Rattle.command_base.specs.Ran.{Scene}
 use Rattle.record_command.proofs.Answered.{not_two as record_not_two}
-use Rattle.info_command.proofs.Tellings.{not_two as info_not_two}
-use Rattle.check_command.proofs.Checks.{not_two as check_not_two}
-use Rattle.cat_command.proofs.Cats.{not_two as cat_not_two}
-use Rattle.cat_command.proofs.Followings.{indexed_not_two}
+use Rattle.file_commands.proofs.Tellings.{not_two as info_not_two}
+use Rattle.file_commands.proofs.Checks.{not_two as check_not_two}
+use Rattle.file_commands.proofs.Cats.{not_two as cat_not_two}
+use Rattle.file_commands.proofs.Followings.{indexed_not_two}
 use Rattle.mcap_app.specs.Runs.{IsAllowed, Runs}
 
 -- no command has the status of bad words

@@ -32,10 +32,10 @@ use Rattle.recorder.proofs.ReadBack.{recordings_are_read_back}
 use Rattle.recorder.proofs.Validity.{recordings_are_valid}
 use Rattle.file_check.specs.declared.refusals.CheckRefused.TheVariants as refusals
 use Rattle.file_check.specs.Checking.{IsSo, HaltsBefore}
-use Rattle.check_command.specs.declared.checking.Judgement.{Judgement}
-use Rattle.check_command.specs.declared.checking.Judgement.TheVariants as judgements
+use Rattle.file_commands.specs.declared.checking.Judgement.{Judgement}
+use Rattle.file_commands.specs.declared.checking.Judgement.TheVariants as judgements
 use Rattle.command_base.specs.Ran.{world_faults}
-use Rattle.check_command.specs.Check.{verdict_status, Decides}
+use Rattle.file_commands.specs.Check.{verdict_status, Decides}
 use Rattle.mcap_app.specs.Laws.{IsSaid, RecordingsAreSound}
 use Rattle.mcap_app.proofs.RoundTrip.{calm, kept_well}
 

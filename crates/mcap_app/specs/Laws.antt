@@ -15,8 +15,8 @@ use Rattle.command_base.specs.Printing.{TellsAll}
 use Rattle.command_base.specs.Ran.{Scene, counts_in, AnyRose}
 use Rattle.recorder.specs.declared.options.RecordOptions.{RecordOptions}
 use Rattle.record_command.specs.Record.{AreAllowed, Records}
-use Rattle.cat_command.specs.Cat.{Selection, Cats}
-use Rattle.check_command.specs.Check.{verdict_line, FileChecks}
+use Rattle.file_commands.specs.Cat.{Selection, Cats}
+use Rattle.file_commands.specs.Check.{verdict_line, FileChecks}
 
 -- all messages are asked for
 abbrev pub everything : Selection

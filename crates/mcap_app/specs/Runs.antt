@@ -7,10 +7,10 @@ use Rattle.command_base.specs.Texts.{no_memory, said}
 use Rattle.command_base.specs.Printing.{Takes}
 use Rattle.command_base.specs.Ran.{Scene}
 use Rattle.record_command.specs.Record.{AreAllowed, Records}
-use Rattle.info_command.specs.Info.{Describes}
-use Rattle.check_command.specs.Check.{FileChecks}
-use Rattle.cat_command.specs.Cat.{selection, Cats}
-use Rattle.cat_command.specs.Indexed.{IndexedCats}
+use Rattle.file_commands.specs.Info.{Describes}
+use Rattle.file_commands.specs.Check.{FileChecks}
+use Rattle.file_commands.specs.Cat.{selection, Cats}
+use Rattle.file_commands.specs.Indexed.{IndexedCats}
 
 -- the numbers and texts of a recording are in their ranges
 abbrev pub IsAllowed : Command → Type 0

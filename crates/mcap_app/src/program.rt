@@ -7,11 +7,9 @@ ghost use Rattle.command_base.specs.Printing.{Takes};
 ghost use Rattle.command_base.specs.Ran.{scene};
 ghost use Rattle.mcap_app.specs.Runs.{IsAllowed, Runs, LacksForWords};
 
-use cat_command::{print_file, print_indexed};
-use check_command::check_file;
 use command_base::{refuse_for_memory, refuse_words};
 use command_words::{Command, WordsRefused, parse_words};
-use info_command::describe_file;
+use file_commands::{check_file, describe_file, print_file, print_indexed};
 use mcap_io::{Sink, World};
 use mcap_wire::Text;
 use record_command::{Ended, record_file};

@@ -1,7 +1,7 @@
 use Rattle.std.proofs.Common.{rules, subst}
 use Rattle.mcap_io.specs.Outside.{SourceState}
 use Rattle.mcap_io.specs.StoreSources.{front_left}
-use Rattle.section_check.specs.Reading.{Reads}
+use Rattle.file_check.specs.Reading.{Reads}
 use Rattle.file_check.proofs.checking.read_front.Goals as goal
 
 pub returns-clause-reads : goal.returns-clause-reads

@@ -1,6 +1,6 @@
 use Rattle.std.proofs.Common.{subst, Err}
-use Rattle.section_check.specs.declared.reading.SectionRefused.{SectionRefused}
-use Rattle.section_check.specs.Reading.{Reads}
+use Rattle.file_check.specs.declared.reading.SectionRefused.{SectionRefused}
+use Rattle.file_check.specs.Reading.{Reads}
 use Rattle.file_check.specs.Checking.{front_of}
 use Rattle.file_check.proofs.Refusing.{index_read}
 use Rattle.file_check.proofs.checking.tell_section.Goals as goal

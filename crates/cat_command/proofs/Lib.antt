@@ -1,4 +1,0 @@
-mod IndexedNames
-mod Names
-pub mod Cats
-pub mod Followings

@@ -1,4 +1,0 @@
-pub mod Cat
-pub mod Indexed
-pub mod IndexedNames
-pub mod Names

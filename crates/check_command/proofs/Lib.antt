@@ -1,2 +1,0 @@
-pub mod Checks
-mod Names

@@ -1,0 +1,35 @@
+-- The last chunk and the Message Indexes behind it.
+use Rattle.std.specs.Prelude.{◌≡◌, ℕ, List, Result, Ok, Err, true, false}
+use Rattle.mcap_model.specs.Places.{At}
+use Rattle.mcap_model.specs.Tops.{Top, offset_behind}
+use Rattle.mcap_model.specs.Whole.{offset_of, V9}
+use Rattle.mcap_model.specs.Valid.{Keeps}
+use Rattle.index_check.specs.Behind.{IsOpen}
+use Rattle.index_check.specs.Chunks.{EndsWithChunk}
+use Rattle.file_check.specs.declared.last_chunk.LastChunk.{LastChunk}
+use Rattle.file_check.specs.declared.last_chunk.TakeRefused.{TakeRefused}
+use Rattle.file_check.specs.declared.last_chunk.TakeRefused.TheVariants as refusals
+
+-- the records end with the chunk that is kept and its Message Indexes
+pub record IsKept (tops : List Top) (last : LastChunk) : Type 0 where
+  pub is : IsOpen tops last.messages last.channels
+  pub there : last.offset ≡ offset_behind is.others
+
+-- so do they, or with no chunk
+pub record LastOf (tops : List Top) (last : LastChunk) : Type 0 where
+  pub kept : last.is_open ≡ true → IsKept tops last
+  pub none : last.is_open ≡ false → EndsWithChunk tops → ⊥
+
+-- one of the records breaks V9 at that offset
+pub record IndexFails (tops : List Top) (offset : ℕ) : Type 0 where
+  pub place : ℕ
+  pub top : Top
+  pub at : At tops place top
+  pub there : offset ≡ offset_of tops place
+  pub breaks : V9 tops place top → ⊥
+
+-- the last of these records was taken
+abbrev pub LastTaken : List Top → LastChunk → Result Unit TakeRefused → Type 0
+LastTaken tops last (Ok it) = LastOf tops last × Keeps V9 tops
+LastTaken tops last (Err (refusals.Index offset)) = IndexFails tops offset
+LastTaken tops last (Err refusals.Memory) = Unit {0}

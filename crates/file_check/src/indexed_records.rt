@@ -1,0 +1,150 @@
+//! The records that an index can repeat.
+ghost use Rattle.std.specs.Prelude.{◌≡◌, ◌↔◌, ◌+◌, ◌-◌, ◌^◌, ◌<◌, ◌∷◌, ◌++◌, [], min, List, length, IsTrue, OnOk};
+ghost use Rattle.mcap_model.specs.Places.{Each};
+ghost use Rattle.mcap_model.specs.Tops.{Top, records_in, offset_behind};
+ghost use Rattle.mcap_model.specs.Kept.{reading_limits, Fits};
+ghost use Rattle.mcap_model.specs.Made.{top};
+ghost use Rattle.index_check.specs.Chunks.{HasMessage, EndsWithChunk};
+ghost use Rattle.file_check.specs.IndexedRecords.{IndexedOf};
+
+use index_check::{Attachments, Chunks, MetadataList};
+use mcap_model::InnerWalk;
+use mcap_wire::Memory;
+use rec_data::{ATTACHMENT, Attachment, MESSAGE, METADATA, Metadata};
+use rec_index::{CHUNK, Chunk, MESSAGE_INDEX, MessageIndex};
+use std::alloc::Global;
+
+/// The length of a record's head: the opcode and the content's length.
+const HEAD_LENGTH: u64 = 9;
+
+/// The chunks of a data section with the Message Indexes behind them, its Attachments and its Metadata records.
+#[derive(Drop)]
+pub(crate) struct IndexedRecords {
+    pub chunks: Chunks,
+    pub attachments: Attachments,
+    pub metadata: MetadataList,
+}
+
+// The length of the whole record of that content.
+fn framed_length(content: &[u8]) -> u64
+    ensures { result ≡ min (9 + length content.now) (2 ^ 64 - 1) }
+{
+    HEAD_LENGTH.saturating_add(content.len() as u64)
+}
+
+// Whether there is a Message among the records of a chunk.
+fn holds_message(records: &[u8]) -> bool
+    ensures { IsTrue result ↔ HasMessage (records_in records.now) }
+{
+    let mut walk = InnerWalk::new(records);
+    'records: while let Some(inner) = walk.next() {
+        if inner.op == MESSAGE {
+            return true;
+        }
+    }
+    return false;
+}
+
+impl IndexedRecords {
+    pub(crate) fn new(alloc: Global) -> IndexedRecords
+        ensures { IndexedOf [] result }
+    {
+        IndexedRecords {
+            chunks: Chunks::new(alloc),
+            attachments: Attachments::new(alloc),
+            metadata: MetadataList::new(alloc),
+        }
+    }
+
+    fn take_chunk(&mut self, alloc: Global, offset: u64, content: &[u8]) -> Result<(), Memory>
+        requires { Each (λ s. s.offset < offset) self.old.chunks.spots }
+        ensures { OnOk result ((tops : List Top) → IndexedOf tops self.old → Fits reading_limits tops (top 6 content.now) → offset ≡ offset_behind tops → IndexedOf (tops ++ top 6 content.now ∷ []) self.new) }
+    {
+        let chunk = match Chunk::parse(content) {
+            Ok(chunk) => chunk,
+            Err(_) => return Ok(()),
+        };
+        let messages = holds_message(chunk.records);
+        match self
+            .chunks
+            .add(alloc, offset, framed_length(content), &chunk, messages)
+        {
+            Ok(()) => return Ok(()),
+            Err(memory) => return Err(memory),
+        }
+    }
+
+    fn take_index(&mut self, offset: u64, content: &[u8]) -> Result<(), Memory>
+        ensures { OnOk result ((tops : List Top) → IndexedOf tops self.old → Fits reading_limits tops (top 7 content.now) → EndsWithChunk tops → offset ≡ offset_behind tops → IndexedOf (tops ++ top 7 content.now ∷ []) self.new) }
+    {
+        let index = match MessageIndex::parse(content) {
+            Ok(index) => index,
+            Err(_) => return Ok(()),
+        };
+        match self
+            .chunks
+            .add_index(offset, framed_length(content), &index)
+        {
+            Ok(()) => return Ok(()),
+            Err(memory) => return Err(memory),
+        }
+    }
+
+    fn take_attachment(&mut self, alloc: Global, offset: u64, content: &[u8]) -> Result<(), Memory>
+        requires { Each (λ s. s.offset < offset) self.old.attachments.spots }
+        ensures { OnOk result ((tops : List Top) → IndexedOf tops self.old → Fits reading_limits tops (top 9 content.now) → offset ≡ offset_behind tops → IndexedOf (tops ++ top 9 content.now ∷ []) self.new) }
+    {
+        let attachment = match Attachment::parse(content) {
+            Ok(attachment) => attachment,
+            Err(_) => return Ok(()),
+        };
+        match self
+            .attachments
+            .add(alloc, offset, framed_length(content), &attachment)
+        {
+            Ok(()) => return Ok(()),
+            Err(memory) => return Err(memory),
+        }
+    }
+
+    fn take_metadata(&mut self, alloc: Global, offset: u64, content: &[u8]) -> Result<(), Memory>
+        requires { Each (λ s. s.offset < offset) self.old.metadata.spots }
+        ensures { OnOk result ((tops : List Top) → IndexedOf tops self.old → Fits reading_limits tops (top 12 content.now) → offset ≡ offset_behind tops → IndexedOf (tops ++ top 12 content.now ∷ []) self.new) }
+    {
+        let metadata = match Metadata::parse(content) {
+            Ok(metadata) => metadata,
+            Err(_) => return Ok(()),
+        };
+        match self
+            .metadata
+            .add(alloc, offset, framed_length(content), &metadata)
+        {
+            Ok(()) => return Ok(()),
+            Err(memory) => return Err(memory),
+        }
+    }
+
+    /// Takes the next record, which stands at that offset; a Message Index behind a chunk alone. After a want of memory what is
+    /// kept is of no use.
+    pub(crate) fn take(
+        &mut self,
+        alloc: Global,
+        op: u8,
+        offset: u64,
+        content: &[u8],
+    ) -> Result<(), Memory>
+        requires chunks { Each (λ s. s.offset < offset) self.old.chunks.spots }
+        requires attachments { Each (λ s. s.offset < offset) self.old.attachments.spots }
+        requires metadata { Each (λ s. s.offset < offset) self.old.metadata.spots }
+        ensures { OnOk result ((tops : List Top) → IndexedOf tops self.old → Fits reading_limits tops (top op content.now) → (op ≡ 7 → EndsWithChunk tops) → offset ≡ offset_behind tops
+            → IndexedOf (tops ++ top op content.now ∷ []) self.new) }
+    {
+        match op {
+            CHUNK => return self.take_chunk(alloc, offset, content),
+            MESSAGE_INDEX => return self.take_index(offset, content),
+            ATTACHMENT => return self.take_attachment(alloc, offset, content),
+            METADATA => return self.take_metadata(alloc, offset, content),
+            _ => return Ok(()),
+        }
+    }
+}

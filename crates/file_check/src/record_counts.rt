@@ -1,0 +1,133 @@
+//! What Statistics count of Schemas, Channels and Messages.
+ghost use Rattle.std.specs.Prelude.{◌≡◌, ◌+◌, ◌^◌, ◌<◌, ◌∷◌, ◌++◌, [], List, length, filter, OnOk};
+ghost use Rattle.mcap_model.specs.Places.{Each};
+ghost use Rattle.mcap_model.specs.Tops.{Top, records_in, is_flat_kind, flat};
+ghost use Rattle.mcap_model.specs.Rules.{V6};
+ghost use Rattle.mcap_model.specs.Kept.{reading_limits, Fits};
+ghost use Rattle.mcap_model.specs.Made.{top};
+ghost use Rattle.file_check.specs.RecordCounts.{CountsOf, Hears};
+
+use crate::message_counts::MessageCounts;
+use index_check::Ids;
+use mcap_model::InnerWalk;
+use mcap_wire::Memory;
+use rec_data::{CHANNEL, Channel, MESSAGE, Message, SCHEMA, Schema};
+use rec_index::{CHUNK, Chunk};
+use std::alloc::Global;
+
+/// What was counted of Schemas, Channels and Messages: the number of Messages, the least and the greatest of their log times
+/// in nanoseconds, where there are any, and their number on each channel; and the ids of Schemas and of Channels.
+#[derive(Drop)]
+pub(crate) struct RecordCounts {
+    pub messages: u64,
+    pub any: bool,
+    pub least: u64,
+    pub greatest: u64,
+    pub by_channel: MessageCounts,
+    pub schemas: Ids,
+    pub channels: Ids,
+}
+
+impl RecordCounts {
+    pub(crate) fn new(alloc: Global) -> RecordCounts
+        ensures { CountsOf [] result }
+    {
+        RecordCounts {
+            messages: 0,
+            any: false,
+            least: 0,
+            greatest: 0,
+            by_channel: MessageCounts::new(alloc),
+            schemas: Ids::new(alloc),
+            channels: Ids::new(alloc),
+        }
+    }
+
+    // Counts a Message of that log time.
+    fn hear(&mut self, time: u64)
+        ensures { Hears self.old time self.new }
+    {
+        self.messages = self.messages.saturating_add(1);
+        if self.any {
+            self.least = self.least.min(time);
+            self.greatest = self.greatest.max(time);
+        } else {
+            self.any = true;
+            self.least = time;
+            self.greatest = time;
+        }
+    }
+
+    fn take_message(&mut self, content: &[u8]) -> Result<(), Memory>
+        ensures { OnOk result ((records : List Top) → CountsOf records self.old → V6 (top 5 content.now) → length records + 1 < 2 ^ 64 → CountsOf (records ++ top 5 content.now ∷ []) self.new) }
+    {
+        let message = match Message::parse(content) {
+            Ok(message) => message,
+            Err(_) => return Ok(()),
+        };
+        match self.by_channel.add(message.channel_id) {
+            Ok(()) => {}
+            Err(memory) => return Err(memory),
+        }
+        self.hear(message.log_time);
+        return Ok(());
+    }
+
+    fn take_schema(&mut self, content: &[u8]) -> Result<(), Memory>
+        ensures { OnOk result ((records : List Top) → CountsOf records self.old → V6 (top 3 content.now) → CountsOf (records ++ top 3 content.now ∷ []) self.new) }
+    {
+        match Schema::parse(content) {
+            Ok(schema) => return self.schemas.add_once(schema.id),
+            Err(_) => return Ok(()),
+        }
+    }
+
+    fn take_channel(&mut self, content: &[u8]) -> Result<(), Memory>
+        ensures { OnOk result ((records : List Top) → CountsOf records self.old → V6 (top 4 content.now) → CountsOf (records ++ top 4 content.now ∷ []) self.new) }
+    {
+        match Channel::parse(content) {
+            Ok(channel) => return self.channels.add_once(channel.id),
+            Err(_) => return Ok(()),
+        }
+    }
+
+    // Takes a record of the top level or of a chunk: others than Schemas, Channels and Messages aren't counted.
+    fn take_one(&mut self, op: u8, content: &[u8]) -> Result<(), Memory>
+        ensures { OnOk result ((records : List Top) → CountsOf records self.old → V6 (top op content.now) → length records + 1 < 2 ^ 64 → CountsOf (records ++ filter is_flat_kind (top op content.now ∷ [])) self.new) }
+    {
+        match op {
+            SCHEMA => return self.take_schema(content),
+            CHANNEL => return self.take_channel(content),
+            MESSAGE => return self.take_message(content),
+            _ => return Ok(()),
+        }
+    }
+
+    // Takes the records of a chunk.
+    fn take_inside(&mut self, bytes: &[u8]) -> Result<(), Memory>
+        ensures { OnOk result ((records : List Top) → CountsOf records self.old → Each V6 (records_in bytes.now) → length records + length (records_in bytes.now) < 2 ^ 64 → CountsOf (records ++ filter is_flat_kind (records_in bytes.now)) self.new) }
+    {
+        let mut walk = InnerWalk::new(bytes);
+        'records: while let Some(inner) = walk.next() {
+            match self.take_one(inner.op, inner.content) {
+                Ok(()) => {}
+                Err(memory) => return Err(memory),
+            }
+        }
+        return Ok(());
+    }
+
+    /// Takes the next record of the top level, with those inside it where it is a chunk. After a want of memory the counts are
+    /// of no use.
+    pub(crate) fn take(&mut self, op: u8, content: &[u8]) -> Result<(), Memory>
+        ensures { OnOk result ((tops : List Top) → CountsOf (flat tops) self.old → Fits reading_limits tops (top op content.now) → CountsOf (flat (tops ++ top op content.now ∷ [])) self.new) }
+    {
+        if op != CHUNK {
+            return self.take_one(op, content);
+        }
+        match Chunk::parse(content) {
+            Ok(chunk) => return self.take_inside(chunk.records),
+            Err(_) => return Ok(()),
+        }
+    }
+}

@@ -1,0 +1,5 @@
+mod Names
+pub mod Tellings
+pub mod Checks
+pub mod Cats
+pub mod Followings

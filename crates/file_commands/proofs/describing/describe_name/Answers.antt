@@ -1,0 +1,48 @@
+-- The opening, the reading and the keeping come to what a telling does to the world.
+use Rattle.std.proofs.Common.{◌≡◌, refl, sym, ap, inl, inr, ◌∙◌}
+use Rattle.mcap_io.specs.Outside.{went_well}
+use Rattle.mcap_io.specs.declared.outside.ObjectKind.TheVariants as kinds
+use Rattle.summary_read.specs.declared.refusals.LoadRefused.TheVariants as refusals
+use Rattle.file_commands.specs.declared.describing.Description.TheVariants as descriptions
+use Rattle.command_base.specs.Ran.{failed_so}
+use Rattle.command_base.proofs.OneFile.{store_input, store_keeping}
+use Rattle.file_commands.specs.Info.{seen, InfoComesTo, IsDescribed, ending_of}
+use Rattle.file_commands.proofs.Names.{unopened, lacking_memory, store_ends}
+use Rattle.file_commands.proofs.Tellings.{sure}
+use Rattle.file_commands.proofs.describing.describe_name.Goals as goal
+
+pub returns-in-Err-Failed : goal.returns-in-Err-Failed
+returns-in-Err-Failed g c =
+    unopened kinds.Store c.args.file.now (λ entries. IsDescribed c.args.file.now (g.W.World.state c.args.world.now) entries descriptions.Unopened) (g.W.World.state c.args.world.now) (g.W.World.state c.store.new.self) c.in-Err-Failed.field-0 c.in-Err-Failed.field-0-is
+    c.in-Err-Failed.ensures.opens c.in-Err-Failed.ensures.counts c.in-Err-Failed.ensures.cause c.requires.inputs_fit c.requires.outputs_fit store_input (inl (refl, refl))
+
+pub returns-in-Err-Memory : goal.returns-in-Err-Memory
+returns-in-Err-Memory g c =
+    lacking_memory kinds.Store c.args.file.now (λ entries. IsDescribed c.args.file.now (g.W.World.state c.args.world.now) entries (descriptions.Unloaded refusals.Memory)) (g.W.World.state c.args.world.now) (g.W.World.state c.store.new.self) c.in-Err-Memory.field-0 c.in-Err-Memory.field-0-is
+    c.in-Err-Memory.ensures.opens c.in-Err-Memory.ensures.counts c.in-Err-Memory.ensures.cause c.requires.world_fits c.requires.inputs_fit c.requires.outputs_fit refl
+
+pub returns : goal.returns
+returns g c =
+    let file = c.args.file.now in
+    let world = g.W.World.state c.args.world.now in
+    let store = g.W.Store.Store.state c.in-Ok.store in
+    let store_now = g.W.Store.Store.state c.describe_store-description.new.store in
+    let kept = c.keep_store-kept.result in
+    let description = c.describe_store-description.result in
+    let failed : failed_so (went_well kept) store_now.faults ≡ c.has_failed.result = sym (c.has_failed.ensures ∙ ap (failed_so (went_well kept)) c.faults-faults.ensures) in
+    store_ends file (λ entries. IsDescribed file world entries description) (λ store faults asked. InfoComesTo store (seen faults asked) description) (ending_of file description) c.has_failed.result
+    world (g.W.World.state c.store.new.self) (g.W.World.state c.keep_store-kept.new.self) store store_now kept (record {
+      opens = c.in-Ok.ensures.opens;
+      stands = c.in-Ok.ensures.counts;
+      still = c.in-Ok.ensures.cause;
+      tells = c.in-Ok.ensures.tells;
+      unused = c.in-Ok.ensures.unused;
+      comes = c.describe_store-description.ensures;
+      keeps = c.keep_store-kept.ensures.keeps;
+      inputs = c.keep_store-kept.ensures.input_faults;
+      outputs = c.keep_store-kept.ensures.output_faults;
+      cause = c.keep_store-kept.ensures.cause;
+      world_fits = c.requires.world_fits;
+      inputs_fit = c.requires.inputs_fit;
+      outputs_fit = c.requires.outputs_fit;
+    }) failed (sure file store (seen store_now.faults store_now.asked) description (went_well kept) c.in-Ok.ensures.unused.faults c.describe_store-description.ensures.finds) (λ under. inr (store_keeping store_now kept, refl, under))

@@ -1,0 +1,53 @@
+-- The opening, the reading and the keeping come to what a printing does to the world.
+use Rattle.std.proofs.Common.{◌≡◌, refl, sym, ap, inl, inr, ◌∙◌}
+use Rattle.mcap_io.specs.Outside.{went_well}
+use Rattle.mcap_io.specs.declared.outside.ObjectKind.TheVariants as kinds
+use Rattle.mcap_model.specs.Plain.{asked_topic}
+use Rattle.indexed_replay.specs.declared.answers.ReplayRefused.TheVariants as refusals
+use Rattle.file_commands.specs.declared.indexed.Following.TheVariants as followings
+use Rattle.command_base.specs.Ran.{failed_so}
+use Rattle.command_base.proofs.OneFile.{store_input, store_keeping}
+use Rattle.file_commands.specs.Cat.{selection}
+use Rattle.file_commands.specs.Indexed.{now_of, ComesTo, IsFollowed, ending_of}
+use Rattle.file_commands.proofs.Names.{unopened, lacking_memory, store_ends}
+use Rattle.file_commands.proofs.Followings.{sure}
+use Rattle.file_commands.proofs.indexed.follow_name.Goals as goal
+
+pub returns-in-Err-Failed : goal.returns-in-Err-Failed
+returns-in-Err-Failed g c =
+    let asked = selection c.args.range (asked_topic c.args.topic) in
+    unopened kinds.Store c.args.file.now (λ entries. IsFollowed asked c.args.file.now (g.W.World.state c.args.world.now) entries followings.Unopened) (g.W.World.state c.args.world.now) (g.W.World.state c.store.new.self) c.in-Err-Failed.field-0 c.in-Err-Failed.field-0-is
+    c.in-Err-Failed.ensures.opens c.in-Err-Failed.ensures.counts c.in-Err-Failed.ensures.cause c.requires.inputs_fit c.requires.outputs_fit store_input (inl (refl, refl))
+
+pub returns-in-Err-Memory : goal.returns-in-Err-Memory
+returns-in-Err-Memory g c =
+    let asked = selection c.args.range (asked_topic c.args.topic) in
+    lacking_memory kinds.Store c.args.file.now (λ entries. IsFollowed asked c.args.file.now (g.W.World.state c.args.world.now) entries (followings.Refused refusals.Memory)) (g.W.World.state c.args.world.now) (g.W.World.state c.store.new.self) c.in-Err-Memory.field-0 c.in-Err-Memory.field-0-is
+    c.in-Err-Memory.ensures.opens c.in-Err-Memory.ensures.counts c.in-Err-Memory.ensures.cause c.requires.world_fits c.requires.inputs_fit c.requires.outputs_fit refl
+
+pub returns : goal.returns
+returns g c =
+    let asked = selection c.args.range (asked_topic c.args.topic) in
+    let file = c.args.file.now in
+    let world = g.W.World.state c.args.world.now in
+    let store = g.W.Store.Store.state c.in-Ok.store in
+    let store_now = g.W.Store.Store.state c.follow_store-following.new.store in
+    let kept = c.keep_store-kept.result in
+    let following = c.follow_store-following.result in
+    let failed : failed_so (went_well kept) store_now.faults ≡ c.has_failed.result = sym (c.has_failed.ensures ∙ ap (failed_so (went_well kept)) c.faults-faults.ensures) in
+    store_ends file (λ entries. IsFollowed asked file world entries following) (λ store faults requested. ComesTo asked store (now_of store faults requested) following) (ending_of file following) c.has_failed.result
+    world (g.W.World.state c.store.new.self) (g.W.World.state c.keep_store-kept.new.self) store store_now kept (record {
+      opens = c.in-Ok.ensures.opens;
+      stands = c.in-Ok.ensures.counts;
+      still = c.in-Ok.ensures.cause;
+      tells = c.in-Ok.ensures.tells;
+      unused = c.in-Ok.ensures.unused;
+      comes = c.follow_store-following.ensures;
+      keeps = c.keep_store-kept.ensures.keeps;
+      inputs = c.keep_store-kept.ensures.input_faults;
+      outputs = c.keep_store-kept.ensures.output_faults;
+      cause = c.keep_store-kept.ensures.cause;
+      world_fits = c.requires.world_fits;
+      inputs_fit = c.requires.inputs_fit;
+      outputs_fit = c.requires.outputs_fit;
+    }) failed (sure asked file store (now_of store store_now.faults store_now.asked) following (went_well kept) c.in-Ok.ensures.unused.faults c.follow_store-following.ensures) (λ under. inr (store_keeping store_now kept, refl, under))

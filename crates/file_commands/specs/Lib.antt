@@ -1,0 +1,5 @@
+pub mod Names
+pub mod Info
+pub mod Check
+pub mod Cat
+pub mod Indexed

@@ -1,6 +1,0 @@
-pub mod MessageCounts
-pub mod RecordCounts
-pub mod LastChunk
-pub mod IndexedRecords
-pub mod Gathering
-pub mod Reading
