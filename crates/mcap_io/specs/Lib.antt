@@ -8,4 +8,5 @@ pub mod Stores
 pub mod StoreSources
 pub mod Planned
 pub mod Standing
+pub mod Rooms
 pub mod Stretch

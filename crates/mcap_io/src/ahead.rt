@@ -6,17 +6,24 @@ use crate::outside::Failed;
 use std::alloc::{AllocError, Global};
 use std::io::{ErrorKind, Read};
 
-/// How many bytes are read ahead, and how many gathered before they are written.
+/// How many bytes are read ahead at most, and how many gathered before they are written.
 pub(crate) const ROOM: usize = 262_144;
 
-// The bytes from `from` to `to` of the buffer were read and not yet given.
+/// How many bytes are read ahead at least.
+const LEAST: usize = 16_384;
+
+// The bytes from `from` to `to` of the buffer were read and not yet given. Behind a read that went past the buffer little
+// is read ahead, since another such read may be near, whose bytes would be copied out of the buffer; and then twice as
+// much each time.
 #[derive(Drop)]
 pub(crate) struct ReadAhead<F> {
     file: F,
     buffer: Vec<u8>,
     from: usize,
     to: usize,
+    next: usize,
     ghost within: { (from ≤ to) × (to ≤ vec_len buffer) },
+    ghost some: { 0 < vec_len buffer },
 }
 
 impl<F: Read + Drop> ReadAhead<F> {
@@ -29,6 +36,7 @@ impl<F: Read + Drop> ReadAhead<F> {
             buffer,
             from: 0,
             to: 0,
+            next: ROOM,
         })
     }
 
@@ -42,6 +50,7 @@ impl<F: Read + Drop> ReadAhead<F> {
             return Ok(self.give(out));
         }
         if self.buffer.len() <= out.len() {
+            self.next = LEAST;
             return read_some(&mut self.file, out);
         }
         match self.refill() {
@@ -59,7 +68,9 @@ impl<F: Read + Drop> ReadAhead<F> {
     {
         self.from = 0;
         self.to = 0;
-        self.to = read_some(&mut self.file, self.buffer.as_mut_slice())?;
+        let len = self.next.max(LEAST).min(self.buffer.len());
+        self.next = len.saturating_mul(2);
+        self.to = read_front(&mut self.file, self.buffer.as_mut_slice(), len)?;
         Ok(())
     }
 
@@ -78,6 +89,17 @@ impl<F: Read + Drop> ReadAhead<F> {
         self.from += n;
         n
     }
+}
+
+// One read into the first `len` bytes.
+#[inline(always)]
+fn read_front<F: Read>(file: &mut F, out: &mut [u8], len: usize) -> Result<usize, Failed>
+    requires some { 0 < len }
+    requires within { len ≤ length out.old }
+    ensures bound { IfOk result (λ n. n ≤ length out.new) }
+    ensures gives { AheadReads (F.remaining file.old) (F.remaining file.new) out.new result }
+{
+    read_some(file, &mut out[..len])
 }
 
 // One read. One that was interrupted is tried again.

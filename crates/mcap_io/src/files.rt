@@ -26,7 +26,7 @@ use std::io::{Read, Write};
 use std::os::unix::fs::FileExt;
 use std::rt::Files;
 
-/// A source over a file. It reads 262,144 bytes ahead; a larger read goes past its buffer.
+/// A source over a file. It reads up to 262,144 bytes ahead; a larger read goes past its buffer.
 pub struct FileSource<F> {
     ahead: ReadAhead<F>,
     id: FileId,

@@ -12,6 +12,7 @@ mod memory_world;
 mod openings;
 mod outside;
 mod pieces;
+mod room;
 mod store;
 mod store_files;
 mod store_memory;
@@ -31,6 +32,7 @@ pub use outside::{
     Short, Sink, Source, World,
 };
 pub use pieces::Pieces;
+pub use room::Room;
 pub use store::Store;
 pub use store_files::FileStore;
 pub use store_memory::{MemoryStore, QuietStore};

@@ -1,7 +1,7 @@
 //! Whole stretches: reading up to a length, and writing all of a piece.
 ghost use Rattle.std.specs.Prelude.{◌≡◌, ◌≤◌, ◌<◌, ◌+◌, ◌-◌, length, take, drop, vec_len, [], IfOk, IfErr, OnErr, IsErrOf};
 ghost use Rattle.mcap_io.specs.Outside.{HasCause, ReadCause, StretchTaken, WritesAll};
-ghost use Rattle.mcap_io.specs.Stretch.{Fills, FillsBehind};
+ghost use Rattle.mcap_io.specs.Stretch.{Fills, FillsFront, FillsBehind};
 
 use crate::outside::{Failed, ReadRefused, Short, Sink, Source};
 
@@ -25,6 +25,22 @@ fn fill<S: Source>(source: &mut S, out: &mut [u8]) -> Result<usize, Failed>
         }
     }
     Ok(filled)
+}
+
+/// Reads until the first `len` bytes of `out` are filled or the input ends, and says how many bytes it read.
+#[inline(always)]
+pub(crate) fn fill_front<S: Source>(
+    source: &mut S,
+    out: &mut [u8],
+    len: usize,
+) -> Result<usize, Failed>
+    requires { len ≤ length out.old }
+    ensures bound { IfOk result (λ n. n ≤ len) }
+    ensures fills { FillsFront (S.state source.old).left (S.state source.new).left out.new len result }
+    ensures cause { HasCause (S.state source.old).faults (S.state source.new).faults result }
+    ensures stays { S.stays source.old source.new }
+{
+    fill(source, &mut out[..len])
 }
 
 // Reads on behind the first `filled` bytes, until the buffer holds `room` or the input ends, and says how many bytes it

@@ -29,7 +29,7 @@ use Rattle.mcap_model.proofs.Prefixes.{next_stands}
 use Rattle.mcap_scan.specs.Sources.{ReadTo, unread_behind, IsCutOff}
 use Rattle.mcap_scan.specs.Taking.{RefusalCause, MagicRefused, RecordRefused, TakesRecord, IsTakable}
 use Rattle.mcap_scan.proofs.Taking.{unread_broken}
-use Rattle.mcap_scan.specs.Scanning.{IsUnfinished, IsEnded, HaltsSo, MemoryStands, RefusalStands, IsFresh, StageStands, Stands, Advanced, Given, IsGoing, Moves}
+use Rattle.mcap_scan.specs.Scanning.{content_of, IsUnfinished, IsEnded, HaltsSo, MemoryStands, RefusalStands, IsFresh, StageStands, Stands, Advanced, Given, IsGoing, Moves}
 
 -- ---- where a reading halts
 
@@ -301,7 +301,7 @@ going_on false = tt
 
 pub stepped : (reader : Reader) (tables : Tables) (offset : ℕ) (before now now_new : SourceState) (tops : List Top) (op : ℕ) (content : List ℕ) (how : Judged) (step : Step)
     → IsUnfinished tables offset before now tops → now_new.faults ≡ now.faults → ((rest : List ℕ) → now.left ≡ Some rest → TakesRecord rest now_new.left op content) → IsTakable offset op (length content)
-    → JudgedAs tops (top op content) reader.tables how → Given offset (length content) reader.offset reader.stage op how step → reader.room.items ≡ content → Advanced reader before now_new tops step
+    → JudgedAs tops (top op content) reader.tables how → Given offset (length content) reader.offset reader.stage op how step → content_of reader ≡ content → Advanced reader before now_new tops step
 stepped reader tables offset before now now_new tops op content judged.Fits step was same taken takable (keeps, are) (step_is, offset_is, stage_is) room =
     subst (Advanced reader before now_new tops) (sym step_is)
     (record {

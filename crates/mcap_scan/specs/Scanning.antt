@@ -1,6 +1,7 @@
 -- For which records a reader stands, and what its next step adds.
 use Rattle.std.specs.Prelude.{◌≡◌, ℕ, ◌+◌, ◌-◌, ◌^◌, ◌<◌, ◌≤◌, ◌==◌, min, if◌then◌else◌, List, [], ◌∷◌, ◌++◌, Option, Some, None}
 use Rattle.mcap_io.specs.Outside.{SourceState, RisesOnce}
+use Rattle.mcap_io.specs.Rooms.{held_in}
 use Rattle.mcap_wire.specs.Limits.{file_limit}
 use Rattle.mcap_model.specs.Tops.{Top, offset_behind, flat}
 use Rattle.mcap_model.specs.Rules.{HasDataEnd}
@@ -95,7 +96,7 @@ Stands reader before now tops = StageStands reader.stage reader.tables reader.of
 
 -- the content of the record that was given last
 abbrev pub content_of : Reader → List ℕ
-content_of reader = reader.room.items
+content_of reader = held_in reader.room
 
 -- the declarations so far
 abbrev pub tables_of : Reader → Tables

@@ -1,7 +1,7 @@
 //! Reading the records of a file from a source that is handed in at each call.
 use crate::answers::{ScanRefused, Step};
 use crate::heads::{take_magic, take_record};
-use mcap_io::Source;
+use mcap_io::{Room, Source};
 use mcap_model::{Judged, Tables, judge, judge_first};
 use mcap_wire::Memory;
 use rec_data::DATA_END;
@@ -25,7 +25,7 @@ pub(crate) enum Stage {
 pub struct Reader {
     alloc: Global,
     head: Vec<u8>,
-    room: Vec<u8>,
+    room: Room,
     tables: Tables,
     offset: u64,
     stage: Stage,
@@ -35,6 +35,7 @@ impl Reader {
     ghost use Rattle.std.specs.Prelude.{◌≡◌, ◌+◌, ◌==◌, if◌then◌else◌, min, ◌^◌, ◌-◌, ℕ, List, [], Option, Some, length, IfOk};
     ghost use Rattle.mcap_model.specs.Tops.{Top};
     ghost use Rattle.mcap_io.specs.Outside.{SourceState};
+    ghost use Rattle.mcap_io.specs.Rooms.{held_in};
     ghost use Rattle.mcap_scan.specs.Scanning.{content_of, tables_of, offset_of, KeptBy, HandsOut, Moves, Stands, IsFresh, IsInside, Advanced, Given, IsDone, IsLast};
 
     /// A reader of which nothing was asked yet.
@@ -47,7 +48,7 @@ impl Reader {
                 return Ok(Reader {
                     alloc,
                     head,
-                    room: Vec::new(alloc),
+                    room: Room::new(alloc),
                     tables: Tables::new(alloc),
                     offset: 8,
                     stage: Stage::Fresh,
@@ -144,7 +145,7 @@ impl Reader {
     // Gives the record that was read and judged.
     #[inline(always)]
     fn give(&mut self, op: u8, judged: Judged) -> Step
-        ensures given { Given self.old.offset (length self.old.room.items) self.new.offset self.new.stage op judged result }
+        ensures given { Given self.old.offset (length (held_in self.old.room)) self.new.offset self.new.stage op judged result }
         ensures room { self.new.room ≡ self.old.room }
         ensures tables { self.new.tables ≡ self.old.tables }
     {
@@ -153,7 +154,7 @@ impl Reader {
             Judged::Fits => {
                 self.offset = offset
                     .saturating_add(9)
-                    .saturating_add(self.room.len() as u64);
+                    .saturating_add(self.room.len());
                 if op == DATA_END {
                     self.stage = Stage::Ended;
                 } else {
@@ -183,7 +184,7 @@ impl Reader {
         }
         match take_record(source, &mut self.head, &mut self.room, self.offset) {
             Ok(op) => {
-                let judged = judge_first(op, &self.room);
+                let judged = judge_first(op, self.room.as_slice());
                 return self.give(op, judged);
             }
             Err(why) => return self.stop(why),
@@ -199,7 +200,7 @@ impl Reader {
     {
         match take_record(source, &mut self.head, &mut self.room, self.offset) {
             Ok(op) => {
-                let judged = judge(self.alloc, &mut self.tables, op, &self.room);
+                let judged = judge(self.alloc, &mut self.tables, op, self.room.as_slice());
                 return self.give(op, judged);
             }
             Err(why) => return self.stop(why),

@@ -1,4 +1,5 @@
 use Rattle.std.proofs.Common.{[], List, ℕ, sym, ap, subst}
+use Rattle.mcap_io.specs.Rooms.{held_in}
 use Rattle.mcap_model.specs.Tops.{Top}
 use Rattle.mcap_model.specs.Made.{top}
 use Rattle.mcap_model.specs.Declarations.{TablesOf}
@@ -16,12 +17,12 @@ returns-in-Err-clause-steps g c = λ before tops was.
 pub returns-in-Ok-take_record-clause-steps : goal.returns-in-Ok-take_record-clause-steps
 returns-in-Ok-take_record-clause-steps g c = λ before tops was.
     let reading = magic_taken c.args.self.now.tables c.args.self.now.offset before (g.S.Source.state c.args.source.now) (g.S.Source.state c.take_magic.new.source) tops was c.in-Ok.ensures.cause c.in-Ok.ensures.taken in
-    let content = c.take_record.new.room.items in
-    let first : FirstJudged (top c.in-Ok-take_record.op content) c.judge_first-judged.result = subst (λ (l : List ℕ). FirstJudged (top c.in-Ok-take_record.op l) c.judge_first-judged.result) c.deref.ensures.value c.judge_first-judged.ensures in
+    let content = held_in c.take_record.new.room in
+    let first : FirstJudged (top c.in-Ok-take_record.op content) c.judge_first-judged.result = subst (λ (l : List ℕ). FirstJudged (top c.in-Ok-take_record.op l) c.judge_first-judged.result) c.as_slice.ensures c.judge_first-judged.ensures in
     let there = first_by c.in-Ok-take_record.op content c.give.new.self.tables c.judge_first-judged.result first (subst (TablesOf []) (sym c.give.ensures.tables) was.tables_are) in
     subst (λ (l : List Top). Advanced c.give.new.self before (g.S.Source.state c.take_record.new.source) l c.give.result) (sym was.none)
     (stepped c.give.new.self c.args.self.now.tables c.args.self.now.offset before (g.S.Source.state c.take_magic.new.source) (g.S.Source.state c.take_record.new.source) [] c.in-Ok-take_record.op content c.judge_first-judged.result c.give.result
-    reading c.in-Ok-take_record.ensures.cause c.in-Ok-take_record.ensures.taken c.in-Ok-take_record.ensures.takable there c.give.ensures.given (ap (λ v. v.items) c.give.ensures.room))
+    reading c.in-Ok-take_record.ensures.cause c.in-Ok-take_record.ensures.taken c.in-Ok-take_record.ensures.takable there c.give.ensures.given (ap held_in c.give.ensures.room))
 
 pub returns-in-Err-take_record-clause-steps : goal.returns-in-Err-take_record-clause-steps
 returns-in-Err-take_record-clause-steps g c = λ before tops was.
