@@ -1,12 +1,11 @@
-//! Buffers that are full, and walks over their records.
+//! Walks over the records of a buffer.
 ghost use Rattle.std.specs.Prelude.{◌≤◌, length};
-ghost use Rattle.mcap_wire.specs.Limits.{buffer_limit};
 ghost use Rattle.rec_data.specs.Owned.{rec_bytes};
 ghost use Rattle.record_cache.specs.Buffers.{IsKept};
 ghost use Rattle.record_cache.specs.Offers.{rec_of};
 
-use crate::same::{holds, holds_at};
-use mcap_wire::{Memory, PairsRef};
+use crate::same::holds;
+use mcap_wire::PairsRef;
 use rec_data::{Channel, Message, Rec, Schema};
 use record_cache::*;
 use std::alloc::Global;
@@ -59,74 +58,6 @@ fn message() -> RecRef<'static>
     })
 }
 
-// Offers the Channel, or the Schema and the Channel.
-fn offered(cache: &mut Cache, are_two: bool) -> Result<(), OfferRefused> {
-    if are_two {
-        return cache.offer_two(schema(), channel());
-    }
-    cache.offer(channel())
-}
-
-// Whether two are offered, the answer, and the bytes and records of the buffer then.
-type Offer = (bool, Result<(), OfferRefused>, u64, u64);
-
-// How many of these offers a buffer of that limit answers as is wanted, up to the first that differs. It is cleared then.
-fn offers_of(alloc: Global, limit: u64, offers: &[Offer]) -> Result<u64, Memory>
-    requires { limit ≤ buffer_limit }
-{
-    let mut cache = Cache::new(alloc, limit)?;
-    let mut count = 0u64;
-    'offers: for (are_two, wanted, held, records) in offers {
-        let answer = offered(&mut cache, *are_two);
-        if answer != *wanted || cache.held() != *held || cache.count() != *records {
-            return Ok(count);
-        }
-        count = count.saturating_add(1);
-    }
-    cache.clear();
-    if cache.held() != 0 || cache.count() != 0 || cache.limit() != limit {
-        return Ok(0);
-    }
-    Ok(count)
-}
-
-// At the limit a buffer is full for one record and for two; one byte below it takes two, which are tested once.
-const AT_27: &[Offer] = &[
-    (false, Ok(()), 27, 1),
-    (false, Err(OfferRefused::Full { held: 27 }), 27, 1),
-    (true, Err(OfferRefused::Full { held: 27 }), 27, 1),
-];
-
-const AT_28: &[Offer] = &[
-    (false, Ok(()), 27, 1),
-    (true, Ok(()), 80, 3),
-    (false, Err(OfferRefused::Full { held: 80 }), 80, 3),
-];
-
-#[test]
-fn a_buffer_is_full_from_its_limit_on(rt: HostRuntime) -> Result<(), Fail> {
-    for (limit, offers) in [(27, AT_27), (28, AT_28)] {
-        let count = offers_of(rt.alloc(), limit, offers)?;
-        holds_at(&rt, count == 3, &(limit, count));
-    }
-    Ok(())
-}
-
-// The records' bytes, and the kind of each that is read back.
-fn walked(alloc: Global, cache: &Cache) -> Result<(Vec<u8>, Vec<u8>), Fail> {
-    let mut bytes = Vec::new(alloc);
-    let mut kinds = Vec::new(alloc);
-    let held = cache.held();
-    let mut at = 0;
-    'records: while at < held {
-        let found = cache.record(at);
-        bytes.extend_from_slice(found.framed)?;
-        kinds.push(kind_of(&cache.owned(alloc, at)?.rec))?;
-        at = found.next;
-    }
-    Ok((bytes, kinds))
-}
-
 // The letter of a record's kind.
 fn kind_of(rec: &Rec) -> u8 {
     match rec {
@@ -136,15 +67,34 @@ fn kind_of(rec: &Rec) -> u8 {
     }
 }
 
+// Whether the three stand in the buffer, one behind the other, and each is read back as one of its kind.
+fn are_walked(alloc: Global, cache: &Cache) -> Result<bool, Fail> {
+    let held = cache.held();
+    let mut kinds = b"scm".iter();
+    let mut at = 0;
+    'records: while at < held {
+        let found = cache.record(at);
+        let kind = kind_of(&cache.owned(alloc, at)?.rec);
+        let bytes = three().get(at as usize..found.next as usize);
+        if bytes != Some(found.framed) || kinds.next() != Some(&kind) {
+            return Ok(false);
+        }
+        at = found.next;
+    }
+    Ok(at == 85 && kinds.next().is_none())
+}
+
+// Whether an empty buffer takes the three and is walked so.
+fn takes_three(alloc: Global, cache: &mut Cache) -> Result<bool, Fail> {
+    let are_taken = cache.offer_two(schema(), channel()) == Ok(())
+        && cache.offer(message()) == Ok(());
+    Ok(are_taken && are_walked(alloc, cache)?)
+}
+
 #[test]
 fn records_are_walked_in_the_order_of_their_offers(rt: HostRuntime) -> Result<(), Fail> {
     let mut cache = Cache::new(rt.alloc(), 1000)?;
-    let are_taken = cache.offer_two(schema(), channel()) == Ok(())
-        && cache.offer(message()) == Ok(());
-    let (bytes, kinds) = walked(rt.alloc(), &cache)?;
-    holds(
-        &rt,
-        are_taken && bytes.as_slice() == three() && kinds.as_slice() == b"scm".as_slice(),
-    );
+    let is_so = takes_three(rt.alloc(), &mut cache)?;
+    holds(&rt, is_so);
     Ok(())
 }

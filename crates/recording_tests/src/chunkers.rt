@@ -1,6 +1,9 @@
 //! Records that are put as values, and the vectors of blocks.
+ghost use Rattle.std.specs.Prelude.{◌≤◌};
+
 use crate::same::holds_at;
 use chunk_build::Chunker;
+use mcap_model::Block;
 use rec_data::Rec;
 use std::alloc::Global;
 use std::test::Fail;
@@ -26,26 +29,54 @@ fn block() -> &'static [u8] {
     \x07\x16\0\0\0\0\0\0\0\x01\0\x10\0\0\0\x0a\0\0\0\0\0\0\0\x1b\0\0\0\0\0\0\0"
 }
 
+// Puts a record.
+fn put(alloc: Global, chunker: &mut Chunker, framed: &[u8]) -> Result<Option<Block>, Fail> {
+    let record = Rec::from_framed(alloc, framed)?;
+    Ok(chunker.put(&record)?)
+}
+
+// The vector of the block that waits.
+fn last(chunker: &mut Chunker) -> Result<Vec<u8>, Fail> {
+    match chunker.finish()? {
+        Some(block) => Ok(block.bytes.into_vec()),
+        None => Err(Fail::from("no block")),
+    }
+}
+
 // The vector of their block, put behind a vector that is given back.
 fn next_block(alloc: Global, chunker: &mut Chunker, given: usize) -> Result<Vec<u8>, Fail> {
     chunker.give_back(Vec::with_capacity(alloc, given)?);
-    let _none = chunker.put(&Rec::from_framed(alloc, channel())?)?;
-    let closed = chunker.put(&Rec::from_framed(alloc, message())?)?;
-    let last = chunker.finish()?;
-    let block = closed.or(last).ok_or("no block")?;
-    Ok(block.bytes.into_vec())
+    let _none = put(alloc, chunker, channel())?;
+    match put(alloc, chunker, message())? {
+        Some(block) => Ok(block.bytes.into_vec()),
+        None => last(chunker),
+    }
+}
+
+// Whether the chunker puts their block into each of two vectors that are given back.
+fn fills_both(alloc: Global, chunker: &mut Chunker) -> Result<bool, Fail> {
+    for given in [5000, 6000] {
+        let bytes = next_block(alloc, chunker, given)?;
+        if bytes.as_slice() != block() || bytes.capacity() != given {
+            return Ok(false);
+        }
+    }
+    Ok(true)
+}
+
+// The same of a new chunker. Each way out of a function that owns one is proved to drop it, so it has one.
+fn new_fills_both(alloc: Global, size: u64) -> Result<bool, Fail>
+    requires some { 1 ≤ size }
+    requires small { size ≤ 1000 }
+{
+    let mut chunker = Chunker::new(alloc, size)?;
+    fills_both(alloc, &mut chunker)
 }
 
 #[test]
 fn a_vector_given_back_holds_a_later_block(rt: HostRuntime) -> Result<(), Fail> {
     // a block that is full, and one that isn't
-    for size in [59, 60] {
-        let mut chunker = Chunker::new(rt.alloc(), size)?;
-        for given in [5000, 6000] {
-            let bytes = next_block(rt.alloc(), &mut chunker, given)?;
-            let is_so = bytes.as_slice() == block() && bytes.capacity() == given;
-            holds_at(&rt, is_so, &(size, given));
-        }
-    }
+    holds_at(&rt, new_fills_both(rt.alloc(), 59)?, &59);
+    holds_at(&rt, new_fills_both(rt.alloc(), 60)?, &60);
     Ok(())
 }

@@ -25,7 +25,6 @@ const FAULT: Stop = Stop::Fault { faults: 1 };
 // A call of a desk, and what it answers. The channel `/a` with these pairs is declared, and perhaps a schema of 26 bytes; so
 // many bytes are published on a channel; a swap gives so many bytes or, where there are none, the end and the number of records;
 // and an end is set, and its place answered.
-#[derive(Clone, Copy)]
 enum Call {
     Declare(&'static [u8], bool, Result<Declared, DeclareRefused>),
     Publish(u16, usize, Result<u64, PublishRefused>),
@@ -121,19 +120,27 @@ fn answers_so(alloc: Global, desk: &mut Desk, limit: u64, call: &Call) -> Result
     }
 }
 
-// How many of these steps a new desk of that limit answers as is wanted, up to the first that differs.
-fn steps_of(alloc: Global, limit: u64, steps: &[Step]) -> Result<u64, Fail>
-    requires { limit ≤ 1000 }
+// How many of these steps the desk of that limit answers as is wanted, up to the first that differs.
+fn steps_answered(alloc: Global, desk: &mut Desk, limit: u64, steps: &[Step]) -> Result<u64, Fail>
+    requires same { desk.old.limit ≡ limit }
+    requires small { limit ≤ 1000 }
 {
-    let mut desk = Desk::open(alloc, limit)?;
     let mut count = 0u64;
     'steps: for (call, held) in steps {
-        if !answers_so(alloc, &mut desk, limit, call)? || desk.held() != *held {
+        if !answers_so(alloc, desk, limit, call)? || desk.held() != *held {
             return Ok(count);
         }
         count = count.saturating_add(1);
     }
     Ok(count)
+}
+
+// The same of a new desk. Each way out of a function that owns one is proved to drop it, so it has one.
+fn steps_of(alloc: Global, limit: u64, steps: &[Step]) -> Result<u64, Fail>
+    requires { limit ≤ 1000 }
+{
+    let mut desk = Desk::open(alloc, limit)?;
+    steps_answered(alloc, &mut desk, limit, steps)
 }
 
 // A Channel of `/a` has 27 bytes, 37 with one pair and 47 with two, a Schema 26, and a Message of one byte 32.

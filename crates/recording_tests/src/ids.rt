@@ -35,12 +35,21 @@ fn are_taken_back(table: &mut IdTable, d: &ChannelDef) -> bool {
     is_given && table.schemas() == 0 && table.channels() == 0
 }
 
+// Whether the table, which has no ids, gives those again that it took back.
+fn gives_again(table: &mut IdTable, alloc: Global) -> Result<bool, Fail> {
+    let d = channel(alloc, "/a", NO_PAIRS, schema(alloc, Some(("s", &[1, 2])))?)?;
+    Ok(are_taken_back(table, &d) && are_taken_back(table, &d))
+}
+
+// The same of a new table. Each way out of a function that owns one is proved to drop it, so it has one.
+fn new_table_gives_again(alloc: Global) -> Result<bool, Fail> {
+    let mut table = IdTable::new(alloc)?;
+    gives_again(&mut table, alloc)
+}
+
 #[test]
 fn ids_that_are_taken_back_are_given_again(rt: HostRuntime) -> Result<(), Fail> {
-    let schema = schema(rt.alloc(), Some(("s", &[1, 2])))?;
-    let d = channel(rt.alloc(), "/a", NO_PAIRS, schema)?;
-    let mut table = IdTable::new(rt.alloc())?;
-    let is_so = are_taken_back(&mut table, &d) && are_taken_back(&mut table, &d);
+    let is_so = new_table_gives_again(rt.alloc())?;
     holds(&rt, is_so);
     Ok(())
 }
@@ -73,18 +82,23 @@ const ROWS: &[Row] = &[
     ("7", None, Err(IdRefused::TooManyChannels)),
 ];
 
-// How many rows a full table answers as is wanted, up to the first that differs.
-fn rows_of(alloc: Global) -> Result<u64, Fail> {
-    let mut table = IdTable::new(alloc)?;
-    fill(&mut table, alloc)?;
+// How many rows the table answers as is wanted once it is full, up to the first that differs.
+fn rows_answered(table: &mut IdTable, alloc: Global) -> Result<u64, Fail> {
+    fill(table, alloc)?;
     let mut count = 0u64;
     for (topic, schema, want) in ROWS {
-        if declared(&mut table, alloc, topic, *schema)? != *want {
+        if declared(table, alloc, topic, *schema)? != *want {
             return Ok(count);
         }
         count = count.saturating_add(1);
     }
     Ok(count)
+}
+
+// The same of a new table.
+fn rows_of(alloc: Global) -> Result<u64, Fail> {
+    let mut table = IdTable::new(alloc)?;
+    rows_answered(&mut table, alloc)
 }
 
 #[test]

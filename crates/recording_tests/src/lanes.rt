@@ -3,7 +3,7 @@ ghost use Rattle.std.specs.Prelude.{◌≡◌};
 ghost use Rattle.feed_lane.specs.Pass.{no_calls};
 
 use crate::same::holds;
-use feed_lane::{Cause, FeedEnd, FeedReport, Pass, publish_feed};
+use feed_lane::{Cause, FeedEnd, FeedReport, Pass, Refused, publish_feed};
 use mcap_io::MemorySource;
 use rec_data::ChannelDef;
 use record_core::{DeclareRefused, Declared, Found, NewMessage, PublishRefused, declared_size};
@@ -78,13 +78,25 @@ impl Pass for Lacking {
     }
 }
 
-// Whether the report lists these messages as refused for want of memory, and no more.
-fn is_refused(report: &FeedReport, indexes: &[u64]) -> bool {
+// Both messages, refused for want of memory.
+const BOTH: &[Refused] = &[
+    Refused {
+        index: 0,
+        cause: Cause::Memory,
+    },
+    Refused {
+        index: 1,
+        cause: Cause::Memory,
+    },
+];
+
+// Whether the report lists both messages as refused for want of memory, and no more.
+fn is_refused(report: &FeedReport) -> bool {
     report.accepted.is_empty()
         && report.declared.is_empty()
-        && report.refused.len() == indexes.len()
-        && report.refused.iter().zip(indexes).all(|(refused, index)| refused.index == *index
-            && refused.cause == Cause::Memory)
+        && report.refused.as_slice() == BOTH
+        && report.passed == 1
+        && matches!(report.end, FeedEnd::Done)
 }
 
 #[test]
@@ -93,8 +105,6 @@ fn a_channel_is_declared_again_behind_a_want_of_memory(rt: HostRuntime) -> Resul
     let mut source = MemorySource::new(Vec::from_slice(alloc, FEED)?, Vec::new(alloc));
     let mut pass = Lacking::new();
     let report = publish_feed(alloc, &mut source, &mut pass);
-    holds(&rt, is_refused(&report, &[0, 1]));
-    holds(&rt, pass.declarations == 2 && report.passed == 1);
-    holds(&rt, matches!(report.end, FeedEnd::Done));
+    holds(&rt, is_refused(&report) && pass.declarations == 2);
     Ok(())
 }

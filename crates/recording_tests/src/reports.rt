@@ -1,5 +1,5 @@
 //! What is said of reports that no run brings about.
-use crate::same::holds_at;
+use crate::same::{holds, holds_at};
 use mcap_io::MemorySink;
 use mcap_model::{End, Stop};
 use record_command::{Failures, answer, print_report};
@@ -24,34 +24,48 @@ const LIMIT: Stop = Stop::Limit {
     bytes: 173,
 };
 
-// A feed that ended so, of which these messages were refused.
-fn feed(alloc: Global, refused: &[Refused], end: FeedEnd) -> Result<FeedReport, AllocError> {
-    Ok(FeedReport {
+// Adds a feed that ended so, of which these messages were refused.
+fn add_feed(
+    alloc: Global,
+    feeds: &mut Vec<FeedReport>,
+    refused: &[Refused],
+    end: FeedEnd,
+) -> Result<(), AllocError> {
+    let refused = Vec::from_slice(alloc, refused)?;
+    feeds.push(FeedReport {
         accepted: Vec::new(alloc),
         declared: Vec::new(alloc),
-        refused: Vec::from_slice(alloc, refused)?,
+        refused,
         passed: 0,
         end,
-    })
+    })?;
+    Ok(())
 }
 
-// A report of a feed of which two messages were refused for the cause, of another, for which memory lacked or not, and of a file
-// that ended so.
+// Adds a feed of which two messages were refused for the cause, and another, for which memory lacked or not.
+fn add_feeds(
+    alloc: Global,
+    feeds: &mut Vec<FeedReport>,
+    cause: Cause,
+    is_lacking: bool,
+) -> Result<(), AllocError> {
+    let refused = [Refused { index: 0, cause }, Refused { index: 1, cause }];
+    add_feed(alloc, feeds, &refused, FeedEnd::Done)?;
+    if is_lacking {
+        return add_feed(alloc, feeds, &[], FeedEnd::Memory);
+    }
+    add_feed(alloc, feeds, &[], FeedEnd::Done)
+}
+
+// A report of these feeds, and of a file that ended so.
 fn report_of(
     alloc: Global,
     cause: Cause,
     is_lacking: bool,
     end: End,
 ) -> Result<Report, AllocError> {
-    let refused = [Refused { index: 0, cause }, Refused { index: 1, cause }];
-    let other = if is_lacking {
-        FeedEnd::Memory
-    } else {
-        FeedEnd::Done
-    };
     let mut feeds = Vec::new(alloc);
-    feeds.push(feed(alloc, &refused, FeedEnd::Done)?)?;
-    feeds.push(feed(alloc, &[], other)?)?;
+    add_feeds(alloc, &mut feeds, cause, is_lacking)?;
     let writer = WriterReport {
         records: 0,
         blocks: 0,
@@ -62,20 +76,48 @@ fn report_of(
 }
 
 // A status, and what standard error is told and standard output holds.
-type Told<'a> = (u8, &'a str, &'a str);
+type Told = (u8, &'static str, &'static str);
 
-// Whether that is told of a report.
-fn is_told(alloc: Global, report: &Option<Report>, failed: Failures, told: &Told<'_>) -> bool {
-    let (want, complaints, lines) = *told;
+// Whether that is printed of a report.
+fn is_printed(alloc: Global, report: &Report, lines: &str) -> bool {
     let mut out = MemorySink::new(alloc, Vec::new(alloc));
+    print_report(&mut out, report).is_ok() && out.bytes() == lines.as_bytes()
+}
+
+// Whether that is answered and complained of.
+fn is_answered(
+    alloc: Global,
+    report: &Option<Report>,
+    failed: Failures,
+    status: u8,
+    complaints: &str,
+) -> bool {
     let mut err = MemorySink::new(alloc, Vec::new(alloc));
-    if let Some(report) = report {
-        if print_report(&mut out, report).is_err() {
-            return false;
+    answer(alloc, &mut err, "OUT", "F", report, failed) == status
+        && err.bytes() == complaints.as_bytes()
+}
+
+// The cause, whether memory lacked for the other feed, the file's end, what failed besides; and what is told.
+type Row = (Cause, bool, End, Failures, Told);
+
+// Whether what a row wants is told of the report.
+fn is_told(alloc: Global, report: Report, failed: Failures, told: &Told) -> bool {
+    let (status, complaints, lines) = *told;
+    is_printed(alloc, &report, lines)
+        && is_answered(alloc, &Some(report), failed, status, complaints)
+}
+
+// How many rows are told so, up to the first that isn't.
+fn told_rows(alloc: Global) -> Result<u64, AllocError> {
+    let mut count = 0u64;
+    for (cause, is_lacking, end, failed, told) in ROWS {
+        let report = report_of(alloc, *cause, *is_lacking, *end)?;
+        if !is_told(alloc, report, *failed, told) {
+            return Ok(count);
         }
+        count = count.saturating_add(1);
     }
-    let status = answer(alloc, &mut err, "OUT", "F", report, failed);
-    status == want && err.bytes() == complaints.as_bytes() && out.bytes() == lines.as_bytes()
+    Ok(count)
 }
 
 const CLOSED: &str =
@@ -102,79 +144,78 @@ const FULL: Cause = Cause::Full {
     to: 2,
 };
 
-fn stopped(stop: Stop) -> (Cause, End) {
-    (Cause::Stopped { at: 2, stop }, End::Stopped { stop })
-}
+const CLOSE: End = End::Closed;
+
+const AT_A_LIMIT: End = End::Stopped { stop: LIMIT };
+
+const FOR_A_LIMIT: Cause = Cause::Stopped { at: 2, stop: LIMIT };
+
+const WITHOUT: End = End::Stopped { stop: Stop::Memory };
+
+const FOR_MEMORY: Cause = Cause::Stopped {
+    at: 2,
+    stop: Stop::Memory,
+};
+
+const MANY: Cause = Cause::TooManyRecords { count: 7 };
+
+const ROWS: &[Row] = &[
+    (FULL, false, CLOSE, NO_FAILURE, (0, "", CLOSED)),
+    (
+        Cause::TooManySchemas,
+        false,
+        CLOSE,
+        NO_FAILURE,
+        (4, TOO_MUCH, CLOSED),
+    ),
+    (MANY, false, CLOSE, NO_FAILURE, (4, TOO_MUCH, CLOSED)),
+    (
+        FOR_A_LIMIT,
+        false,
+        AT_A_LIMIT,
+        NO_FAILURE,
+        (4, TOO_MUCH, AT_LIMIT),
+    ),
+    (
+        Cause::Memory,
+        false,
+        CLOSE,
+        NO_FAILURE,
+        (5, NO_MEMORY, CLOSED),
+    ),
+    (
+        Cause::Memory,
+        false,
+        CLOSE,
+        FEED_FAILURE,
+        (5, FAULT_AND_NO_MEMORY, CLOSED),
+    ),
+    (
+        FOR_MEMORY,
+        false,
+        WITHOUT,
+        NO_FAILURE,
+        (5, NO_MEMORY, WITHOUT_MEMORY),
+    ),
+    (FULL, true, CLOSE, NO_FAILURE, (5, NO_MEMORY, LACKING)),
+    (
+        FULL,
+        true,
+        CLOSE,
+        FEED_FAILURE,
+        (5, FAULT_AND_NO_MEMORY, LACKING),
+    ),
+];
 
 // A limit is told once, however often it was met, and a want of memory last.
 #[test]
 fn what_messages_were_refused_for_is_told(rt: HostRuntime) -> Result<(), Fail> {
-    let (for_limit, at_limit) = stopped(LIMIT);
-    let (for_memory, without_memory) = stopped(Stop::Memory);
-    let closed = End::Closed;
-    // the cause, whether memory lacked for the other feed, the file's end, what failed besides; and what is told
-    let rows: [(Cause, bool, End, Failures, Told<'_>); 9] = [
-        (FULL, false, closed, NO_FAILURE, (0, "", CLOSED)),
-        (
-            Cause::TooManySchemas,
-            false,
-            closed,
-            NO_FAILURE,
-            (4, TOO_MUCH, CLOSED),
-        ),
-        (
-            Cause::TooManyRecords { count: 7 },
-            false,
-            closed,
-            NO_FAILURE,
-            (4, TOO_MUCH, CLOSED),
-        ),
-        (
-            for_limit,
-            false,
-            at_limit,
-            NO_FAILURE,
-            (4, TOO_MUCH, AT_LIMIT),
-        ),
-        (
-            Cause::Memory,
-            false,
-            closed,
-            NO_FAILURE,
-            (5, NO_MEMORY, CLOSED),
-        ),
-        (
-            Cause::Memory,
-            false,
-            closed,
-            FEED_FAILURE,
-            (5, FAULT_AND_NO_MEMORY, CLOSED),
-        ),
-        (
-            for_memory,
-            false,
-            without_memory,
-            NO_FAILURE,
-            (5, NO_MEMORY, WITHOUT_MEMORY),
-        ),
-        (FULL, true, closed, NO_FAILURE, (5, NO_MEMORY, LACKING)),
-        (
-            FULL,
-            true,
-            closed,
-            FEED_FAILURE,
-            (5, FAULT_AND_NO_MEMORY, LACKING),
-        ),
-    ];
-    for (row, (cause, is_lacking, end, failed, told)) in rows.iter().enumerate() {
-        let report = Some(report_of(rt.alloc(), *cause, *is_lacking, *end)?);
-        holds_at(&rt, is_told(rt.alloc(), &report, *failed, told), &row);
-    }
-    let is_so = is_told(rt.alloc(), &None, NO_FAILURE, &(5, NO_MEMORY, ""));
-    holds_at(
+    let count = told_rows(rt.alloc())?;
+    holds_at(&rt, count == ROWS.len() as u64, &count);
+    // a report that is missing though nothing failed
+    holds(
         &rt,
-        is_so,
-        &"a report that is missing though nothing failed",
+        is_answered(rt.alloc(), &None, NO_FAILURE, 5, NO_MEMORY),
     );
     Ok(())
 }

@@ -1,10 +1,11 @@
 //! Files that are written record by record, the entries of their blocks, and the limits.
 ghost use Rattle.std.specs.Prelude.{◌≡◌, ◌≤◌, ℕ, Some};
 ghost use Rattle.mcap_wire.specs.Limits.{chunk_size_limit};
+ghost use Rattle.rec_data.specs.Owned.{LengthsFit};
 
 use crate::same::{holds, holds_at};
 use chunk_writer::{Entry, Phase, Scribe, keep_limit};
-use mcap_io::{MemoryLive, Piece};
+use mcap_io::{LiveStore, MemoryLive, Piece};
 use mcap_model::{FileOptions, Stop};
 use mcap_wire::{Memory, Text};
 use rec_data::Rec;
@@ -45,6 +46,35 @@ struct Outcome {
     entries: Vec<Entry<Piece>>,
 }
 
+// Puts a record of a file that goes on. It is proved for any store, which costs less than for one.
+fn put_record<L: LiveStore>(
+    scribe: &mut Scribe<L>,
+    r: &Rec,
+) -> Result<Option<Entry<L::Extent>>, Stop>
+    requires { LengthsFit r.now }
+{
+    match scribe.phase() {
+        Phase::Going => scribe.put(r),
+        _ => Err(Stop::Memory),
+    }
+}
+
+// Ends a file that goes on.
+fn end_file<L: LiveStore>(scribe: &mut Scribe<L>) -> Option<Entry<L::Extent>> {
+    match scribe.phase() {
+        Phase::Going => scribe.finish().last,
+        _ => None,
+    }
+}
+
+// Keeps an entry, if there is one.
+fn keep(entry: Option<Entry<Piece>>, entries: &mut Vec<Entry<Piece>>) -> Result<(), Fail> {
+    if let Some(entry) = entry {
+        entries.push(entry)?;
+    }
+    Ok(())
+}
+
 // Puts a record, and keeps the entry that this gives.
 fn put(
     alloc: Global,
@@ -53,47 +83,50 @@ fn put(
     entries: &mut Vec<Entry<Piece>>,
 ) -> Result<(), Fail> {
     let record = Rec::from_framed(alloc, framed)?;
-    match scribe.phase() {
-        Phase::Going => {}
-        _ => return Err(Memory)?,
+    match put_record(scribe, &record) {
+        Ok(entry) => keep(entry, entries),
+        Err(_) => Err(Fail::from("a record isn't taken")),
     }
-    if let Ok(Some(entry)) = scribe.put(&record) {
-        entries.push(entry)?;
-    }
-    Ok(())
 }
 
-// Ends the file, and keeps the entry that this gives.
-fn end(scribe: &mut Scribe<MemoryLive>, entries: &mut Vec<Entry<Piece>>) -> Result<(), Fail> {
-    match scribe.phase() {
-        Phase::Going => {}
-        _ => return Err(Memory)?,
-    }
-    if let Some(entry) = scribe.finish().last {
-        entries.push(entry)?;
-    }
-    Ok(())
+// Writes the three records and the end of their file.
+fn write_all(
+    alloc: Global,
+    scribe: &mut Scribe<MemoryLive>,
+    entries: &mut Vec<Entry<Piece>>,
+) -> Result<(), Fail> {
+    put(alloc, scribe, channel(), entries)?;
+    put(alloc, scribe, first(), entries)?;
+    put(alloc, scribe, second(), entries)?;
+    keep(end_file(scribe), entries)
 }
 
-// Writes a file of the three records.
-fn write(alloc: Global, chunk: Option<u64>) -> Result<Outcome, Fail>
+// Begins a file without a profile.
+fn open(alloc: Global, chunk: Option<u64>) -> Result<Scribe<MemoryLive>, Fail>
     requires { (n : ℕ) → chunk ≡ Some n → (1 ≤ n) × (n ≤ chunk_size_limit) }
 {
     let options = FileOptions {
         profile: Text::copied(alloc, "")?,
         chunk,
     };
+    match Scribe::open(alloc, MemoryLive::new(alloc, Vec::new(alloc)), &options) {
+        Ok(scribe) => Ok(scribe),
+        Err(_) => return Err(Memory)?,
+    }
+}
+
+// Writes a file of the three records.
+fn write(alloc: Global, chunk: Option<u64>) -> Result<Outcome, Fail>
+    requires { (n : ℕ) → chunk ≡ Some n → (1 ≤ n) × (n ≤ chunk_size_limit) }
+{
+    let mut scribe = open(alloc, chunk)?;
     let mut entries = Vec::new(alloc);
-    let store = MemoryLive::new(alloc, Vec::new(alloc));
-    let Ok(mut scribe) = Scribe::open(alloc, store, &options) else {
-        return Err(Memory)?;
-    };
-    put(alloc, &mut scribe, channel(), &mut entries)?;
-    put(alloc, &mut scribe, first(), &mut entries)?;
-    put(alloc, &mut scribe, second(), &mut entries)?;
-    end(&mut scribe, &mut entries)?;
+    let written = write_all(alloc, &mut scribe, &mut entries);
     let text = scribe.into_store().into_bytes();
-    Ok(Outcome { text, entries })
+    match written {
+        Ok(()) => Ok(Outcome { text, entries }),
+        Err(fail) => Err(fail),
+    }
 }
 
 // Where a block starts and ends in the file, the length of its Chunk, its time, and its numbers of messages and of declarations.
@@ -107,14 +140,22 @@ fn tells(entry: &Entry<Piece>, file: &[u8], row: &Row) -> bool {
         && (entry.messages, entry.declared) == (messages, declared)
 }
 
+const ROWS: &[Row] = &[(34, 173, 108, 10, 1, 1), (173, 285, 81, 11, 1, 0)];
+
+// Whether the entries tell of the blocks.
+fn all_tell(file: &Outcome) -> bool {
+    for (entry, row) in file.entries.iter().zip(ROWS) {
+        if !tells(&entry.same(), &file.text, row) {
+            return false;
+        }
+    }
+    file.text.len() == 671 && file.entries.len() == 2
+}
+
 #[test]
 fn an_entry_tells_of_its_block(rt: HostRuntime) -> Result<(), Fail> {
     let file = write(rt.alloc(), Some(59))?;
-    let rows = [(34, 173, 108, 10, 1, 1), (173, 285, 81, 11, 1, 0)];
-    holds(&rt, file.text.len() == 671 && file.entries.len() == 2);
-    for (entry, row) in file.entries.iter().zip(&rows) {
-        holds_at(&rt, tells(&entry.same(), &file.text, row), row);
-    }
+    holds(&rt, all_tell(&file));
     Ok(())
 }
 

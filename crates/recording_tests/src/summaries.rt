@@ -1,5 +1,5 @@
 //! A summary, byte by byte, of ids that stand in another order than their records.
-ghost use Rattle.std.specs.Prelude.{◌≡◌, ◌≤◌, List, length, IfOk, IfSome};
+ghost use Rattle.std.specs.Prelude.{◌≡◌, ◌≤◌, ◌+◌, List, length, IfOk, IfSome};
 ghost use Rattle.rec_data.specs.declared.owned.Rec.{Rec};
 ghost use Rattle.rec_data.specs.Owned.{LengthsFit};
 ghost use Rattle.mcap_model.specs.Built.{IsBlock};
@@ -66,7 +66,45 @@ fn last(chunker: &mut Chunker) -> Result<Option<Block>, Memory>
     chunker.finish()
 }
 
-// Notes records, and gives the block of all.
+// Notes a record, and puts it.
+fn note_and_put(summary: &mut Summary, chunker: &mut Chunker, r: &Rec) -> Result<(), Memory>
+    requires fits { LengthsFit r.now }
+    requires few { summary.old.messages ≤ 10 }
+    requires stands { (history : List Rec) × StandsFor chunker.old history }
+    ensures messages { summary.new.messages ≤ summary.old.messages + 1 }
+    ensures blocks { summary.new.blocks ≡ summary.old.blocks }
+    ensures stands { (history : List Rec) × StandsFor chunker.new history }
+{
+    summary.note_record(r)?;
+    put(chunker, r)
+}
+
+// Notes records, and gives the block of all, where the chunker stands for none yet.
+fn note_each(
+    alloc: Global,
+    summary: &mut Summary,
+    chunker: &mut Chunker,
+    records: &[&[u8]],
+) -> Result<Block, Fail>
+    requires few { length records.now ≤ 10 }
+    requires messages { summary.old.messages ≡ 0 }
+    requires blocks { summary.old.blocks ≡ 0 }
+    requires stands { (history : List Rec) × StandsFor chunker.old history }
+    ensures blocks { summary.new.blocks ≡ 0 }
+    ensures block { IfOk result (λ b. (records : List Rec) × IsBlock b records) }
+{
+    for bytes in records {
+        let record = Rec::from_framed(alloc, bytes)?;
+        note_and_put(summary, chunker, &record)?;
+    }
+    match last(chunker)? {
+        Some(block) => return Ok(block),
+        None => return Err(Memory)?,
+    }
+}
+
+// The same with a new chunker. Each way out of a function that owns one is proved to drop it, so it has one; so of a summary
+// and a block.
 fn note_all(alloc: Global, summary: &mut Summary, records: &[&[u8]]) -> Result<Block, Fail>
     requires few { length records.now ≤ 10 }
     requires messages { summary.old.messages ≡ 0 }
@@ -75,26 +113,37 @@ fn note_all(alloc: Global, summary: &mut Summary, records: &[&[u8]]) -> Result<B
     ensures block { IfOk result (λ b. (records : List Rec) × IsBlock b records) }
 {
     let mut chunker = Chunker::new(alloc, 786432)?;
-    for bytes in records {
-        let record = Rec::from_framed(alloc, bytes)?;
-        summary.note_record(&record)?;
-        put(&mut chunker, &record)?;
-    }
-    match last(&mut chunker)? {
-        Some(block) => return Ok(block),
-        None => return Err(Memory)?,
-    }
+    note_each(alloc, summary, &mut chunker, records)
+}
+
+// The end of a file with this block, of whose records it knows.
+fn text_behind(summary: &mut Summary, block: &Block, at: u64) -> Result<Bytes, Memory>
+    requires block { (records : List Rec) × IsBlock block.now records }
+    requires blocks { summary.old.blocks ≡ 0 }
+    requires at { at ≤ 1000 }
+{
+    summary.note_block(34, block)?;
+    summary.text(at)
 }
 
 // The summary of a few records in one chunk, behind magic and a Header of 34 bytes, that and a Data End.
+fn text_of(alloc: Global, summary: &mut Summary, records: &[&[u8]], at: u64) -> Result<Bytes, Fail>
+    requires few { length records.now ≤ 10 }
+    requires messages { summary.old.messages ≡ 0 }
+    requires blocks { summary.old.blocks ≡ 0 }
+    requires at { at ≤ 1000 }
+{
+    let block = note_all(alloc, summary, records)?;
+    Ok(text_behind(summary, &block, at)?)
+}
+
+// The same with a new summary.
 fn summary_of(alloc: Global, records: &[&[u8]], at: u64) -> Result<Bytes, Fail>
     requires few { length records.now ≤ 10 }
     requires at { at ≤ 1000 }
 {
     let mut summary = Summary::new(alloc)?;
-    let block = note_all(alloc, &mut summary, records)?;
-    summary.note_block(34, &block)?;
-    Ok(summary.text(at)?)
+    text_of(alloc, &mut summary, records, at)
 }
 
 #[test]

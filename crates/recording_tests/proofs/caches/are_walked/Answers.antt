@@ -1,6 +1,6 @@
 use Rattle.std.proofs.Common.{arith}
 use Rattle.record_cache.proofs.Walking.{starts_there, next_there}
-use Rattle.recording_tests.proofs.caches.walked.Goals as goal
+use Rattle.recording_tests.proofs.caches.are_walked.Goals as goal
 
 pub records-smaller : goal.records-smaller
 records-smaller c =
