@@ -1,4 +1,4 @@
-use Rattle.std.proofs.Common.{ℕ, None, arith}
+use Rattle.std.proofs.Common.{rules, ℕ, None, arith}
 use Rattle.mcap_model.specs.Tops.{Top}
 use Rattle.mcap_model.specs.Made.{top}
 use Rattle.summary_read.specs.Parts.{tops_of}
@@ -15,3 +15,6 @@ pub returns : goal.returns
 returns c = λ k t at.
     let within = tops_within c.args.bytes.now c.args.cuts.now k t at in
     c.records.invariant k t at (omega (arith, within, c.records-test.false))
+
+pub returns-in-Some : goal.returns-in-Some
+returns-in-Some c = search rules

@@ -1,4 +1,4 @@
-use Rattle.std.proofs.Common.{◌++◌, ◌∷◌, [], List, take, sym, ap, ◌∙◌}
+use Rattle.std.proofs.Common.{rules, ◌++◌, ◌∷◌, [], List, take, sym, ap, ◌∙◌}
 use Rattle.mcap_model.specs.declared.replay.Shown.{Shown}
 use Rattle.mcap_model.proofs.OneMore.{taken_more}
 use Rattle.kept_messages.specs.Keeping.{kept_in}
@@ -12,3 +12,6 @@ messages-preserved c =
     ∙ ap (λ (l : List Shown). l ++ c.in-Ok.copy ∷ []) c.messages.invariant
     ∙ ap (λ (s : Shown). take c.messages.i all ++ s ∷ []) c.in-Ok.ensures
     ∙ sym (taken_more all c.messages.i (shown_of c.get.result) c.get.ensures)
+
+pub messages-init : goal.messages-init
+messages-init c = search rules

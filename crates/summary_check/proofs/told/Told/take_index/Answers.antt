@@ -1,4 +1,4 @@
-use Rattle.std.proofs.Common.{arith}
+use Rattle.std.proofs.Common.{rules, arith}
 use Rattle.rec_index.specs.Parsed.{chunk_index_fields, attachment_index_fields}
 use Rattle.mcap_model.specs.Made.{top}
 use Rattle.mcap_model.specs.Fields.{IsChunkIndex, IsAttachmentIndex, IsMetadataIndex}
@@ -51,3 +51,6 @@ pub returns : goal.returns
 returns c = λ all n was at.
     told_other all n (top c.args.op c.args.content.now) at c.args.self.now was
     (λ f is. omega (arith, is.kind, c.if-op-eq-CHUNK_INDEX.false)) (λ f is. omega (arith, is.kind, c.if-op-eq-ATTACHMENT_INDEX.false)) (λ offset size name is. omega (arith, is.kind, c.if-op-eq-METADATA_INDEX.false))
+
+pub returns-then-op-eq-CHUNK_INDEX : goal.returns-then-op-eq-CHUNK_INDEX
+returns-then-op-eq-CHUNK_INDEX c = search rules
