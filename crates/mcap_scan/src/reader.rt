@@ -152,9 +152,7 @@ impl Reader {
         let offset = self.offset;
         match judged {
             Judged::Fits => {
-                self.offset = offset
-                    .saturating_add(9)
-                    .saturating_add(self.room.len());
+                self.offset = offset.saturating_add(9).saturating_add(self.room.len());
                 if op == DATA_END {
                     self.stage = Stage::Ended;
                 } else {
