@@ -110,7 +110,7 @@ spread-shifted_by n a b c d =
 abbrev added : ℕ → List ℕ → ℕ
 added k block = register_after 0 (map (folded_byte k) block)
 
-first_byte : (b : ℕ) (bytes : List ℕ) → register_after 0 (b ∷ bytes) ≡ bit_xor (shifted_by (8 * length bytes) (shifted_by 8 b)) (register_after 0 bytes)
+pub first_byte : (b : ℕ) (bytes : List ℕ) → register_after 0 (b ∷ bytes) ≡ bit_xor (shifted_by (8 * length bytes) (shifted_by 8 b)) (register_after 0 bytes)
 unfolding register_after
 first_byte b bytes = register_after-start (shifted_by 8 b) bytes
 
@@ -213,7 +213,7 @@ module _ (a b c d e n : List ℕ) (la : length a ≡ 16) (lb : length b ≡ 16) 
 
 -- ---- the first five blocks
 
-shifted_by_nothing : (n : ℕ) → shifted_by n 0 ≡ 0
+pub shifted_by_nothing : (n : ℕ) → shifted_by n 0 ≡ 0
 unfolding shifted_by shifted
 shifted_by_nothing zero = refl
 shifted_by_nothing (suc n) = shifted_by_nothing n
@@ -240,7 +240,7 @@ byte_at_is : (i n : ℕ) → byte_at i n ≡ n / 2 ^ (8 * i) % 256
 byte_at_is zero n = omega arith
 byte_at_is (suc i) n = ap (λ x. n / x % 256) (pow-256 (suc i))
 
-number-bytes_low_first : (i k n : ℕ) → number (bytes_low_first i k n) ≡ n / 2 ^ (8 * i) % 2 ^ (8 * k)
+pub number-bytes_low_first : (i k n : ℕ) → number (bytes_low_first i k n) ≡ n / 2 ^ (8 * i) % 2 ^ (8 * k)
 unfolding number
 number-bytes_low_first i zero n = omega arith
 number-bytes_low_first i (suc k) n =
@@ -253,7 +253,7 @@ number-bytes_low_first i (suc k) n =
     let byte : byte_at i n ≡ m % 256 = byte_at_is i n in
     omega (arith, rest, whole, byte)
 
-bytes_low_first-lt : (i k n j : ℕ) → get_or (bytes_low_first i k n) j 0 < 256
+pub bytes_low_first-lt : (i k n j : ℕ) → get_or (bytes_low_first i k n) j 0 < 256
 bytes_low_first-lt i zero n j = omega arith
 bytes_low_first-lt i (suc k) n zero = omega (arith, byte_at_is i n)
 bytes_low_first-lt i (suc k) n (suc j) = bytes_low_first-lt (suc i) k n j

@@ -5,4 +5,6 @@ mod Folding
 mod Below
 pub mod Nibbles
 mod Lanes
+mod Sparse
+mod Gathering
 pub mod RemainderLemmas

@@ -1,3 +1,4 @@
 pub mod Remainder
 pub mod Register
 pub mod Fold
+pub mod Gather

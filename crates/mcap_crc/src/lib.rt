@@ -10,6 +10,7 @@ ghost use Rattle.mcap_crc.specs.Remainder.{IsChecksumOf, remainder};
 
 mod bytewise;
 mod folded;
+mod gathered;
 pub mod laws;
 mod sliced;
 mod tables;
@@ -42,7 +43,7 @@ impl Crc {
     pub fn update(&mut self, bytes: &[u8])
         ensures { (before : List ℕ) → IsChecksumOf self.old before → IsChecksumOf self.new (before ++ bytes.now) }
     {
-        self.value = folded::after(self.value ^ u32::MAX, bytes) ^ u32::MAX;
+        self.value = gathered::after(self.value ^ u32::MAX, bytes) ^ u32::MAX;
     }
 
     /// The CRC-32 of what came so far.
@@ -66,7 +67,7 @@ impl Default for Crc {
 pub fn crc_of(bytes: &[u8]) -> u32
     ensures { result ≡ remainder bytes.now }
 {
-    folded::after(u32::MAX, bytes) ^ u32::MAX
+    gathered::after(u32::MAX, bytes) ^ u32::MAX
 }
 
 /// The same, a byte at a time: the plain side, which the fast one is compared with.
