@@ -62,63 +62,63 @@ mixed x b y1 y2 y3 =
     ∙ xor_assoc (bit_xor b (bit_xor x y1)) y2 y3
     ∙ xor_assoc b (bit_xor x y1) (bit_xor y2 y3)
 
-taken : (r b q x : ℕ) (rest : List ℕ) → length rest ≡ 4799 → q < 256
-    → q ≡ bit_xor (bit_xor (bit_xor (bit_xor x b) (get_or (x ∷ rest) 1424 0)) (get_or (x ∷ rest) 1872 0)) (get_or (x ∷ rest) 2480 0)
+taken : (r b q x : ℕ) (rest : List ℕ) → length rest ≡ 2399 → q < 256
+    → q ≡ bit_xor (bit_xor (bit_xor (bit_xor x b) (get_or (x ∷ rest) 712 0)) (get_or (x ∷ rest) 936 0)) (get_or (x ∷ rest) 1240 0)
     → StandsFor r (x ∷ rest) → StandsFor (shifted_by 8 (bit_xor r b)) (rest ++ q ∷ [])
 unfolding pending
 taken r b q x rest long small is stands =
     let old : List ℕ = x ∷ rest in
-    let all : length rest + 1 ≡ 4800 = omega arith in
-    let far : ℕ → ℕ = λ v. shifted_by 38400 (shifted_by 8 v) in
+    let all : length rest + 1 ≡ 2400 = omega arith in
+    let far : ℕ → ℕ = λ v. shifted_by 19200 (shifted_by 8 v) in
     let was : ℕ → ℕ = λ place. shifted_by 8 (from_place place old) in
     let gone : ℕ → ℕ = λ place. far (get_or old place 0) in
     let come : ℕ → ℕ = λ place. shifted_by (8 * place) (shifted_by 8 q) in
-    let sum : ℕ = four x (get_or old 1424 0) (get_or old 1872 0) (get_or old 2480 0) in
-    let next : (place : ℕ) → place < 4800 → from_place place (rest ++ q ∷ []) ≡ bit_xor (bit_xor (was place) (gone place)) (come place) =
-    λ place h. from_place_next 4800 place x q rest all h in
-    let four_was : four (was 0) (was 1424) (was 1872) (was 2480) ≡ far r =
-    sym (four-shifted_by 8 (from_place 0 old) (from_place 1424 old) (from_place 1872 old) (from_place 2480 old))
+    let sum : ℕ = four x (get_or old 712 0) (get_or old 936 0) (get_or old 1240 0) in
+    let next : (place : ℕ) → place < 2400 → from_place place (rest ++ q ∷ []) ≡ bit_xor (bit_xor (was place) (gone place)) (come place) =
+    λ place h. from_place_next 2400 place x q rest all h in
+    let four_was : four (was 0) (was 712) (was 936) (was 1240) ≡ far r =
+    sym (four-shifted_by 8 (from_place 0 old) (from_place 712 old) (from_place 936 old) (from_place 1240 old))
     ∙ ap (shifted_by 8) stands
-    ∙ sym (shifted_by-add 38400 8 r) ∙ shifted_by-add 8 38400 r in
+    ∙ sym (shifted_by-add 19200 8 r) ∙ shifted_by-add 8 19200 r in
     let far-xor : (u v : ℕ) → far (bit_xor u v) ≡ bit_xor (far u) (far v) =
-    λ u v. ap (shifted_by 38400) (shifted_by-xor 8 u v) ∙ shifted_by-xor 38400 (shifted_by 8 u) (shifted_by 8 v) in
-    let four_gone : four (gone 0) (gone 1424) (gone 1872) (gone 2480) ≡ far sum =
-    sym (ap (shifted_by 38400) (four-shifted_by 8 x (get_or old 1424 0) (get_or old 1872 0) (get_or old 2480 0))
-    ∙ four-shifted_by 38400 (shifted_by 8 x) (shifted_by 8 (get_or old 1424 0)) (shifted_by 8 (get_or old 1872 0)) (shifted_by 8 (get_or old 2480 0))) in
-    let four_come : four (come 0) (come 1424) (come 1872) (come 2480) ≡ far q =
-    ap (λ v. four v (come 1424) (come 1872) (come 2480)) (shifted_by_zero (shifted_by 8 q)) ∙ far_cancels q small in
-    (λ i. four (next 0 (omega arith) i) (next 1424 (omega arith) i) (next 1872 (omega arith) i) (next 2480 (omega arith) i))
-    ∙ four-xor (bit_xor (was 0) (gone 0)) (bit_xor (was 1424) (gone 1424)) (bit_xor (was 1872) (gone 1872)) (bit_xor (was 2480) (gone 2480)) (come 0) (come 1424) (come 1872) (come 2480)
-    ∙ ap (λ v. bit_xor v (four (come 0) (come 1424) (come 1872) (come 2480)))
-    (four-xor (was 0) (was 1424) (was 1872) (was 2480) (gone 0) (gone 1424) (gone 1872) (gone 2480))
+    λ u v. ap (shifted_by 19200) (shifted_by-xor 8 u v) ∙ shifted_by-xor 19200 (shifted_by 8 u) (shifted_by 8 v) in
+    let four_gone : four (gone 0) (gone 712) (gone 936) (gone 1240) ≡ far sum =
+    sym (ap (shifted_by 19200) (four-shifted_by 8 x (get_or old 712 0) (get_or old 936 0) (get_or old 1240 0))
+    ∙ four-shifted_by 19200 (shifted_by 8 x) (shifted_by 8 (get_or old 712 0)) (shifted_by 8 (get_or old 936 0)) (shifted_by 8 (get_or old 1240 0))) in
+    let four_come : four (come 0) (come 712) (come 936) (come 1240) ≡ far q =
+    ap (λ v. four v (come 712) (come 936) (come 1240)) (shifted_by_zero (shifted_by 8 q)) ∙ far_cancels q small in
+    (λ i. four (next 0 (omega arith) i) (next 712 (omega arith) i) (next 936 (omega arith) i) (next 1240 (omega arith) i))
+    ∙ four-xor (bit_xor (was 0) (gone 0)) (bit_xor (was 712) (gone 712)) (bit_xor (was 936) (gone 936)) (bit_xor (was 1240) (gone 1240)) (come 0) (come 712) (come 936) (come 1240)
+    ∙ ap (λ v. bit_xor v (four (come 0) (come 712) (come 936) (come 1240)))
+    (four-xor (was 0) (was 712) (was 936) (was 1240) (gone 0) (gone 712) (gone 936) (gone 1240))
     ∙ (λ i. bit_xor (bit_xor (four_was i) (four_gone i)) (four_come i))
     ∙ ap (λ v. bit_xor v (far q)) (sym (far-xor r sum))
     ∙ sym (far-xor (bit_xor r sum) q)
     ∙ ap far
-    (ap (bit_xor (bit_xor r sum)) (is ∙ mixed x b (get_or old 1424 0) (get_or old 1872 0) (get_or old 2480 0))
+    (ap (bit_xor (bit_xor r sum)) (is ∙ mixed x b (get_or old 712 0) (get_or old 936 0) (get_or old 1240 0))
     ∙ exchanged r sum b sum ∙ ap (bit_xor (bit_xor r b)) (xor_self sum) ∙ xor_zero_r (bit_xor r b))
 
 -- ---- a window that turns
 
-turned_at : (w : List ℕ) (at place k : ℕ) → length w ≡ 4800 → at < 4800 → place < 4800 → k ≡ (at + place) % 4800 → get_or (turned at w) place 0 ≡ get_or w k 0
+turned_at : (w : List ℕ) (at place k : ℕ) → length w ≡ 2400 → at < 2400 → place < 2400 → k ≡ (at + place) % 2400 → get_or (turned at w) place 0 ≡ get_or w k 0
 turned_at w at place k long here within is =
-    let front : length (drop at w) ≡ 4800 - at = omega (arith, length-drop at w) in
-    elim (cases_lt place (4800 - at)) [
+    let front : length (drop at w) ≡ 2400 - at = omega (arith, length-drop at w) in
+    elim (cases_lt place (2400 - at)) [
       | inl before ↦
           let lt : place < length (drop at w) = omega arith in
           let sum : at + place ≡ k = omega arith in
           get_or_append_left (drop at w) (take at w) 0 place lt ∙ get_or-drop at w place 0 ∙ ap (λ j. get_or w j 0) sum
       | inr past ↦
-          let same : place - (4800 - at) ≡ k = omega arith in
+          let same : place - (2400 - at) ≡ k = omega arith in
           let lt : k < at = omega arith in
-          get_or-append_right (drop at w) (take at w) (4800 - at) place 0 front past
+          get_or-append_right (drop at w) (take at w) (2400 - at) place 0 front past
           ∙ ap (λ j. get_or (take at w) j 0) same
           ∙ get_or-take at w k 0 lt
     ]
 
 -- one step of the loop
-pub taken_in : (r b at near middle far q : ℕ) (w : List ℕ) → length w ≡ 4800 → at < 4800 → q < 256
-    → near ≡ (at + 1424) % 4800 → middle ≡ (at + 1872) % 4800 → far ≡ (at + 2480) % 4800
+pub taken_in : (r b at near middle far q : ℕ) (w : List ℕ) → length w ≡ 2400 → at < 2400 → q < 256
+    → near ≡ (at + 712) % 2400 → middle ≡ (at + 936) % 2400 → far ≡ (at + 1240) % 2400
     → q ≡ bit_xor (bit_xor (bit_xor (bit_xor (get_or w at 0) b) (get_or w near 0)) (get_or w middle 0)) (get_or w far 0)
     → StandsFor r (turned at w) → StandsFor (shifted_by 8 (bit_xor r b)) (turned (at + 1) (set w at q))
 taken_in r b at near middle far q w long here small near_is middle_is far_is is stands =
@@ -126,38 +126,38 @@ taken_in r b at near middle far q w long here small near_is middle_is far_is is 
     let rest : List ℕ = drop (suc at) w ++ take at w in
     let within : at < length w = omega arith in
     let past : at < at + 1 = omega arith in
-    let short : length rest ≡ 4799 = omega (arith, length-append (drop (suc at) w) (take at w), length-drop (suc at) w, length-take at w) in
+    let short : length rest ≡ 2399 = omega (arith, length-append (drop (suc at) w) (take at w), length-drop (suc at) w, length-take at w) in
     let now : turned at w ≡ x ∷ rest = ap (λ l. l ++ take at w) (drop-cons w at 0 within) in
     let next : turned (at + 1) (set w at q) ≡ rest ++ q ∷ [] =
     (λ i. drop-set-lt (at + 1) w at q past i ++ take_more_set w at q within i)
     ∙ ap (λ k. drop k w ++ (take at w ++ q ∷ [])) (add-one at)
     ∙ sym (append_assoc (drop (suc at) w) (take at w) (q ∷ [])) in
-    let place : (d k : ℕ) → d < 4800 → k ≡ (at + d) % 4800 → get_or w k 0 ≡ get_or (x ∷ rest) d 0 =
+    let place : (d k : ℕ) → d < 2400 → k ≡ (at + d) % 2400 → get_or w k 0 ≡ get_or (x ∷ rest) d 0 =
     λ d k h e. sym (turned_at w at d k long here h e) ∙ ap (λ l. get_or l d 0) now in
-    let parts : q ≡ bit_xor (bit_xor (bit_xor (bit_xor x b) (get_or (x ∷ rest) 1424 0)) (get_or (x ∷ rest) 1872 0)) (get_or (x ∷ rest) 2480 0) =
-    is ∙ (λ i. bit_xor (bit_xor (bit_xor (bit_xor x b) (place 1424 near (omega arith) near_is i)) (place 1872 middle (omega arith) middle_is i)) (place 2480 far (omega arith) far_is i)) in
+    let parts : q ≡ bit_xor (bit_xor (bit_xor (bit_xor x b) (get_or (x ∷ rest) 712 0)) (get_or (x ∷ rest) 936 0)) (get_or (x ∷ rest) 1240 0) =
+    is ∙ (λ i. bit_xor (bit_xor (bit_xor (bit_xor x b) (place 712 near (omega arith) near_is i)) (place 936 middle (omega arith) middle_is i)) (place 1240 far (omega arith) far_is i)) in
     ap pending next ∙ taken r b q x rest short small parts (ap pending (sym now) ∙ stands)
 
 pub turned_none : (w : List ℕ) → turned 0 w ≡ w
 turned_none w = append-nil w
 
-pub turned_whole : (w : List ℕ) → length w ≡ 4800 → turned 4800 w ≡ w
+pub turned_whole : (w : List ℕ) → length w ≡ 2400 → turned 2400 w ≡ w
 turned_whole w long =
-    let le : length w ≤ 4800 = omega arith in
-    (λ i. drop_of_length-le w le i ++ take_all 4800 w le i)
+    let le : length w ≤ 2400 = omega arith in
+    (λ i. drop_of_length-le w le i ++ take_all 2400 w le i)
 
 -- a block in the four pieces in which it is taken in
-pub four_pieces : (r : ℕ) (xs : List ℕ) → length xs ≡ 4800
-    → register_after (register_after (register_after (register_after r (take 2320 xs)) (take 608 (drop 2320 xs))) (take 448 (drop 2928 xs))) (take 1424 (drop 3376 xs)) ≡ register_after r xs
+pub four_pieces : (r : ℕ) (xs : List ℕ) → length xs ≡ 2400
+    → register_after (register_after (register_after (register_after r (take 1160 xs)) (take 304 (drop 1160 xs))) (take 224 (drop 1464 xs))) (take 712 (drop 1688 xs)) ≡ register_after r xs
 four_pieces r xs long =
-    let le : length (drop 3376 xs) ≤ 1424 = omega (arith, length-drop 3376 xs) in
+    let le : length (drop 1688 xs) ≤ 712 = omega (arith, length-drop 1688 xs) in
     let step : (q k n : ℕ) → register_after (register_after q (take n (drop k xs))) (drop (k + n) xs) ≡ register_after q (drop k xs) =
     λ q k n. ap (register_after (register_after q (take n (drop k xs)))) (sym (drop-drop n k xs)) ∙ register_after-cut q n (drop k xs) in
-    let r1 : ℕ = register_after r (take 2320 xs) in
-    let r2 : ℕ = register_after r1 (take 608 (drop 2320 xs)) in
-    let r3 : ℕ = register_after r2 (take 448 (drop 2928 xs)) in
-    ap (register_after r3) (take_all 1424 (drop 3376 xs) le)
-    ∙ step r2 2928 448 ∙ step r1 2320 608 ∙ register_after-cut r 2320 xs
+    let r1 : ℕ = register_after r (take 1160 xs) in
+    let r2 : ℕ = register_after r1 (take 304 (drop 1160 xs)) in
+    let r3 : ℕ = register_after r2 (take 224 (drop 1464 xs)) in
+    ap (register_after r3) (take_all 712 (drop 1688 xs) le)
+    ∙ step r2 1464 224 ∙ step r1 1160 304 ∙ register_after-cut r 1160 xs
 
 -- ---- the window before the first byte
 
@@ -185,7 +185,7 @@ first_place place n own long past =
     ∙ ap (shifted_by (8 * place)) (register_zeros 0 (n - k) ∙ shifted_by_nothing (8 * (n - k)))
     ∙ shifted_by_nothing (8 * place)
 
-first_window : (r : ℕ) (own : List ℕ) → r < 2 ^ 32 → own ≡ to_le_bytes w32 r → pending (own ++ replicate 4796 0) ≡ shifted_by 38400 r
+first_window : (r : ℕ) (own : List ℕ) → r < 2 ^ 32 → own ≡ to_le_bytes w32 r → pending (own ++ replicate 2396 0) ≡ shifted_by 19200 r
 unfolding pending
 first_window r own small is =
     let bytes : List ℕ = to_le_bytes w32 r in
@@ -194,17 +194,17 @@ first_window r own small is =
     let front : register_after 0 own ≡ shifted_by 32 r =
     ap (register_after 0) is ∙ register_number 0 bytes (bytes_low_first-lt 0 4 r)
     ∙ ap (λ x. shifted_by 32 (bit_xor 0 x)) value ∙ ap (shifted_by 32) (xor_comm 0 r ∙ xor_zero_r r) in
-    let all : from_place 0 (own ++ replicate 4796 0) ≡ shifted_by 38400 r =
-    shifted_by_zero (register_after 0 (own ++ replicate 4796 0))
-    ∙ register_after-append 0 own (replicate 4796 0)
-    ∙ ap (λ x. register_after x (replicate 4796 0)) front
-    ∙ register_zeros (shifted_by 32 r) 4796
-    ∙ sym (shifted_by-add 32 38368 r) in
-    (λ i. four (all i) (first_place 1424 4796 own long (omega arith) i) (first_place 1872 4796 own long (omega arith) i) (first_place 2480 4796 own long (omega arith) i))
-    ∙ xor_zero_r (bit_xor (shifted_by 38400 r) 0) ∙ xor_zero_r (shifted_by 38400 r)
+    let all : from_place 0 (own ++ replicate 2396 0) ≡ shifted_by 19200 r =
+    shifted_by_zero (register_after 0 (own ++ replicate 2396 0))
+    ∙ register_after-append 0 own (replicate 2396 0)
+    ∙ ap (λ x. register_after x (replicate 2396 0)) front
+    ∙ register_zeros (shifted_by 32 r) 2396
+    ∙ sym (shifted_by-add 32 19168 r) in
+    (λ i. four (all i) (first_place 712 2396 own long (omega arith) i) (first_place 936 2396 own long (omega arith) i) (first_place 1240 2396 own long (omega arith) i))
+    ∙ xor_zero_r (bit_xor (shifted_by 19200 r) 0) ∙ xor_zero_r (shifted_by 19200 r)
 
-pub first_stands : (r : ℕ) (own : List ℕ) → r < 2 ^ 32 → own ≡ to_le_bytes w32 r → StandsFor r (own ++ drop 4 (replicate 4800 0))
-first_stands r own small is = ap (λ l. pending (own ++ l)) (drop_zeros 4 4800) ∙ first_window r own small is
+pub first_stands : (r : ℕ) (own : List ℕ) → r < 2 ^ 32 → own ≡ to_le_bytes w32 r → StandsFor r (own ++ drop 4 (replicate 2400 0))
+first_stands r own small is = ap (λ l. pending (own ++ l)) (drop_zeros 4 2400) ∙ first_window r own small is
 
 -- ---- the last bytes of a message
 
@@ -241,43 +241,43 @@ register_reaching : (place : ℕ) (w : List ℕ) → register_after 0 (reaching 
 unfolding reaching
 register_reaching place w = register_after-append 0 (drop place w) (replicate place 0) ∙ register_zeros (register_after 0 (drop place w)) place
 
-pub xored_on : (r : ℕ) (w m last : List ℕ) → length w ≡ 4800 → length m ≡ 4800 → length last ≡ 4800
-    → ((k : ℕ) → k < 4800 → get_or last k 0 ≡ bit_xor (bit_xor (bit_xor (bit_xor (get_or w k 0) (get_or m k 0)) (get_or w (k + 1424) 0)) (get_or w (k + 1872) 0)) (get_or w (k + 2480) 0))
+pub xored_on : (r : ℕ) (w m last : List ℕ) → length w ≡ 2400 → length m ≡ 2400 → length last ≡ 2400
+    → ((k : ℕ) → k < 2400 → get_or last k 0 ≡ bit_xor (bit_xor (bit_xor (bit_xor (get_or w k 0) (get_or m k 0)) (get_or w (k + 712) 0)) (get_or w (k + 936) 0)) (get_or w (k + 1240) 0))
     → StandsFor r w → register_after 0 last ≡ register_after r m
 unfolding pending
 xored_on r w m last long_w long_m long_last each stands =
-    let long : (place : ℕ) → place ≤ 4800 → length (reaching place w) ≡ 4800 = λ place h. length-reaching place w (omega arith) ∙ long_w in
+    let long : (place : ℕ) → place ≤ 2400 → length (reaching place w) ≡ 2400 = λ place h. length-reaching place w (omega arith) ∙ long_w in
     let a : List ℕ = reaching 0 w in
-    let b : List ℕ = reaching 1424 w in
-    let c : List ℕ = reaching 1872 w in
-    let d : List ℕ = reaching 2480 w in
-    let la : length a ≡ 4800 = long 0 (omega arith) in
-    let lb : length b ≡ 4800 = long 1424 (omega arith) in
-    let lc : length c ≡ 4800 = long 1872 (omega arith) in
-    let ld : length d ≡ 4800 = long 2480 (omega arith) in
+    let b : List ℕ = reaching 712 w in
+    let c : List ℕ = reaching 936 w in
+    let d : List ℕ = reaching 1240 w in
+    let la : length a ≡ 2400 = long 0 (omega arith) in
+    let lb : length b ≡ 2400 = long 712 (omega arith) in
+    let lc : length c ≡ 2400 = long 936 (omega arith) in
+    let ld : length d ≡ 2400 = long 1240 (omega arith) in
     let ab : List ℕ = zip2 bit_xor a b in
     let cd : List ℕ = zip2 bit_xor c d in
-    let lab : length ab ≡ 4800 = length-zip2 bit_xor a b (la ∙ sym lb) ∙ la in
-    let lcd : length cd ≡ 4800 = length-zip2 bit_xor c d (lc ∙ sym ld) ∙ lc in
-    let lall : length (zip2 bit_xor ab cd) ≡ 4800 = length-zip2 bit_xor ab cd (lab ∙ sym lcd) ∙ lab in
+    let lab : length ab ≡ 2400 = length-zip2 bit_xor a b (la ∙ sym lb) ∙ la in
+    let lcd : length cd ≡ 2400 = length-zip2 bit_xor c d (lc ∙ sym ld) ∙ lc in
+    let lall : length (zip2 bit_xor ab cd) ≡ 2400 = length-zip2 bit_xor ab cd (lab ∙ sym lcd) ∙ lab in
     let is : last ≡ zip2 bit_xor m (zip2 bit_xor ab cd) =
     ext_get_or 0 last (zip2 bit_xor m (zip2 bit_xor ab cd)) (long_last ∙ sym (length-zip2 bit_xor m (zip2 bit_xor ab cd) (long_m ∙ sym lall) ∙ long_m)) (λ k h.
-    let lt : k < 4800 = omega arith in
-    let at : (xs ys : List ℕ) → length xs ≡ 4800 → length ys ≡ 4800 → get_or (zip2 bit_xor xs ys) k 0 ≡ bit_xor (get_or xs k 0) (get_or ys k 0) =
+    let lt : k < 2400 = omega arith in
+    let at : (xs ys : List ℕ) → length xs ≡ 2400 → length ys ≡ 2400 → get_or (zip2 bit_xor xs ys) k 0 ≡ bit_xor (get_or xs k 0) (get_or ys k 0) =
     λ xs ys lx ly. get_or-zip2 bit_xor xs ys k 0 0 0 (omega arith) (omega arith) in
     let none : k + 0 ≡ k = omega arith in
     each k lt
-    ∙ mixed (get_or w k 0) (get_or m k 0) (get_or w (k + 1424) 0) (get_or w (k + 1872) 0) (get_or w (k + 2480) 0)
+    ∙ mixed (get_or w k 0) (get_or m k 0) (get_or w (k + 712) 0) (get_or w (k + 936) 0) (get_or w (k + 1240) 0)
     ∙ sym (at m (zip2 bit_xor ab cd) long_m lall
     ∙ ap (bit_xor (get_or m k 0)) (at ab cd lab lcd ∙ (λ i. bit_xor (at a b la lb i) (at c d lc ld i))
-    ∙ (λ i. four ((reaching_at 0 k w ∙ ap (λ j. get_or w j 0) none) i) (reaching_at 1424 k w i) (reaching_at 1872 k w i) (reaching_at 2480 k w i))))) in
-    let pair : (xs ys : List ℕ) → length xs ≡ 4800 → length ys ≡ 4800 → register_after 0 (zip2 bit_xor xs ys) ≡ bit_xor (register_after 0 xs) (register_after 0 ys) =
+    ∙ (λ i. four ((reaching_at 0 k w ∙ ap (λ j. get_or w j 0) none) i) (reaching_at 712 k w i) (reaching_at 936 k w i) (reaching_at 1240 k w i))))) in
+    let pair : (xs ys : List ℕ) → length xs ≡ 2400 → length ys ≡ 2400 → register_after 0 (zip2 bit_xor xs ys) ≡ bit_xor (register_after 0 xs) (register_after 0 ys) =
     λ xs ys lx ly. register_after-xor 0 0 xs ys (lx ∙ sym ly) in
-    let bits : 8 * length m ≡ 38400 = omega arith in
+    let bits : 8 * length m ≡ 19200 = omega arith in
     ap (register_after 0) is ∙ pair m (zip2 bit_xor ab cd) long_m lall
     ∙ ap (bit_xor (register_after 0 m))
     (pair ab cd lab lcd ∙ (λ i. bit_xor (pair a b la lb i) (pair c d lc ld i))
-    ∙ (λ i. four (register_reaching 0 w i) (register_reaching 1424 w i) (register_reaching 1872 w i) (register_reaching 2480 w i))
+    ∙ (λ i. four (register_reaching 0 w i) (register_reaching 712 w i) (register_reaching 936 w i) (register_reaching 1240 w i))
     ∙ stands ∙ ap (λ k. shifted_by k r) (sym bits))
     ∙ xor_comm (register_after 0 m) (shifted_by (8 * length m) r)
     ∙ sym (register_after-start r m)

@@ -1,5 +1,5 @@
 -- A multiple of the divisor that has five terms: of 300, 155, 117, 89 and 0 shifts of a register,
--- the first are the xor of the others. So are 128 times as many, since squaring doubles each term.
+-- the first are the xor of the others. So are 64 times as many, since squaring doubles each term.
 use Rattle.std.proofs.Common.{◌≡◌, ℕ, ◌+◌, ◌<◌, Bool, true, ◌==◌, bit_xor, refl, sym, ap, ◌∙◌, arith, eqb-true}
 use lib.Bits.{xor_assoc}
 use Rattle.mcap_crc.specs.Register.{shifted, shifted_by}
@@ -77,14 +77,13 @@ byte_cancels x small =
     ∙ eqb-true _ _ (each_below byte_ok 256 x bytes_ok small)
     ∙ at 300
 
--- the register after a byte that joins an empty one, and after 4800, 2480, 1872 and 1424 bytes of 0 more
-pub far_cancels : (x : ℕ) → x < 256 → CancelsAt 38400 11392 14976 19840 (shifted_by 8 x)
+-- the register after a byte that joins an empty one, and after 2400, 1240, 936 and 712 bytes of 0 more
+pub far_cancels : (x : ℕ) → x < 256 → CancelsAt 19200 5696 7488 9920 (shifted_by 8 x)
 far_cancels x small =
     let q : ℕ = shifted_by 8 x in
-    doubled 19200 5696 7488 9920 q
-    (doubled 9600 2848 3744 4960 q
+    doubled 9600 2848 3744 4960 q
     (doubled 4800 1424 1872 2480 q
     (doubled 2400 712 936 1240 q
     (doubled 1200 356 468 620 q
     (doubled 600 178 234 310 q
-    (doubled 300 89 117 155 q (byte_cancels x small)))))))
+    (doubled 300 89 117 155 q (byte_cancels x small))))))

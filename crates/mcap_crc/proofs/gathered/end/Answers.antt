@@ -10,7 +10,7 @@ returns c register stands =
     c.after.ensures
     ∙ xored_on register w m c.loop-i.last c.told-window c.told-next c.loop-i-test.array_long
     (λ k h. c.loop-i.invariant.each k (omega arith)
-    ∙ (λ i. bit_xor (bit_xor (bit_xor (bit_xor (same k i) (get_or m k 0)) (same (k + 1424) i)) (same (k + 1872) i)) (same (k + 2480) i)))
+    ∙ (λ i. bit_xor (bit_xor (bit_xor (bit_xor (same k i) (get_or m k 0)) (same (k + 712) i)) (same (k + 936) i)) (same (k + 1240) i)))
     stands
 
 pub loop-i-preserved : goal.loop-i-preserved

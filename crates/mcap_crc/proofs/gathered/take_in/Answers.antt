@@ -10,7 +10,7 @@ use Rattle.mcap_crc.proofs.gathered.take_in.Goals as goal
 pub loop-i-init : goal.loop-i-init
 loop-i-init c register stands =
     let same : c.args.at + 0 ≡ c.args.at = omega arith in
-    ap (λ k. pending (turned k c.args.window.now)) same ∙ stands ∙ ap (shifted_by 38400) (register_of_nothing register)
+    ap (λ k. pending (turned k c.args.window.now)) same ∙ stands ∙ ap (shifted_by 19200) (register_of_nothing register)
 
 pub loop-i-preserved : goal.loop-i-preserved
 loop-i-preserved c register stands =
@@ -21,7 +21,7 @@ loop-i-preserved c register stands =
     let near : ℕ = c.args.near + i in
     let middle : ℕ = c.args.middle + i in
     let far : ℕ = c.args.far + i in
-    let long : length window ≡ 4800 = omega arith in
+    let long : length window ≡ 2400 = omega arith in
     let byte : (k : ℕ) → get_or window k 0 < 256 = λ k. search rules in
     let byte_of_block : get_or block at 0 < 256 = search rules in
     let taken : ℕ = bit_xor (bit_xor (bit_xor (bit_xor (get_or window at 0) (get_or block at 0)) (get_or window near 0)) (get_or window middle 0)) (get_or window far 0) in
@@ -34,4 +34,4 @@ loop-i-preserved c register stands =
     let place : c.args.at + (i + 1) ≡ at + 1 = omega arith in
     ap (λ k. pending (turned k (set window at taken))) place
     ∙ taken_in before (get_or block at 0) at near middle far taken window long (omega arith) small (omega arith) (omega arith) (omega arith) refl (c.loop-i.invariant register stands)
-    ∙ ap (shifted_by 38400) (sym more)
+    ∙ ap (shifted_by 19200) (sym more)

@@ -7,9 +7,9 @@ use Rattle.mcap_crc.proofs.gathered.turn.Goals as goal
 pub returns : goal.returns
 returns c register stands =
     let block = c.args.block.now in
-    let r1 : ℕ = register_after register (take 2320 block) in
-    let r2 : ℕ = register_after r1 (take 608 (drop 2320 block)) in
-    let r3 : ℕ = register_after r2 (take 448 (drop 2928 block)) in
+    let r1 : ℕ = register_after register (take 1160 block) in
+    let r2 : ℕ = register_after r1 (take 304 (drop 1160 block)) in
+    let r3 : ℕ = register_after r2 (take 224 (drop 1464 block)) in
     ap pending (sym (turned_whole c.take_in-4.new.window c.take_in-4.array_long))
     ∙ c.take_in-4.ensures r3 (c.take_in-3.ensures r2 (c.take_in-2.ensures r1 (c.take_in.ensures register (ap pending (turned_none c.args.window.now) ∙ stands))))
-    ∙ ap (shifted_by 38400) (four_pieces register block c.told-block)
+    ∙ ap (shifted_by 19200) (four_pieces register block c.told-block)
