@@ -17,8 +17,8 @@ fn begin(register: u32) -> [u8; 2400]
     window
 }
 
-/// Takes `count` bytes into the window in place of its oldest, where the four older bytes that
-/// fall on each stand side by side from `at`, `near`, `middle` and `far` on.
+/// Takes `count` bytes into the window in place of its oldest, which stand from `at` on. Four older
+/// bytes fall on each: those of the first stand at `at`, `near`, `middle` and `far`.
 #[inline(always)]
 fn take_in(
     window: &mut [u8; 2400],

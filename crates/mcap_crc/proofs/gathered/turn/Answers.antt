@@ -1,8 +1,11 @@
-use Rattle.std.proofs.Common.{ℕ, ◌∙◌, ap, sym, take, drop}
+use Rattle.std.proofs.Common.{ℕ, ◌∙◌, ap, refl, sym, take, drop}
 use Rattle.mcap_crc.specs.Register.{shifted_by, register_after}
 use Rattle.mcap_crc.specs.Gather.{pending}
 use Rattle.mcap_crc.proofs.Gathering.{turned_none, turned_whole, four_pieces}
 use Rattle.mcap_crc.proofs.gathered.turn.Goals as goal
+
+pub take_in-requires-3-clause-middle_is : goal.take_in-requires-3-clause-middle_is
+take_in-requires-3-clause-middle_is c = refl
 
 pub returns : goal.returns
 returns c register stands =
