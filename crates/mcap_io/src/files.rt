@@ -94,7 +94,7 @@ impl<F: Read + Drop> Source for FileSource<F> {
 }
 
 /// Where the bytes of one append stand in the file.
-#[derive(Clone, Copy, Debug, PartialEq, Eq)]
+#[derive(Clone, Copy, PartialEq, Eq)]
 pub struct Stretch {
     pub from: u64,
     pub len: u64,

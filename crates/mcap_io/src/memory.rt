@@ -155,7 +155,7 @@ impl Source for MemorySource {
 }
 
 /// A write or an append that is to fail: the number of the call, from 0, and how many bytes of the piece it takes.
-#[derive(Clone, Copy, Debug, PartialEq, Eq)]
+#[derive(Clone, Copy, PartialEq, Eq)]
 pub struct FailingWrite {
     pub call: u64,
     pub taken: u64,
@@ -242,7 +242,7 @@ impl Sink for MemorySink {
 }
 
 /// The bytes that one append took. They are never let go, so that they can be read on any thread for good.
-#[derive(Clone, Copy, Debug)]
+#[derive(Clone, Copy)]
 pub struct Piece {
     bytes: &'static [u8],
 }

@@ -15,7 +15,7 @@ use std::alloc::{AllocError, Global};
 use std::collections::BTreeMap;
 
 /// Which calls on a world in memory are to fail, by their numbers from 0.
-#[derive(Debug, Drop)]
+#[derive(Drop)]
 pub struct Plan {
     /// The openings, of all objects in one count.
     pub openings: Vec<u64>,

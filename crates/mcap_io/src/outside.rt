@@ -9,11 +9,11 @@ use crate::pieces::{Pieces, piece_at};
 use crate::store::Store;
 
 /// The outside failed: the count of the object has risen in that call.
-#[derive(Clone, Copy, Debug, PartialEq, Eq)]
+#[derive(Clone, Copy, PartialEq, Eq)]
 pub struct Failed;
 
 /// What a world opens.
-#[derive(Clone, Copy, Debug, PartialEq, Eq)]
+#[derive(Clone, Copy, PartialEq, Eq)]
 pub enum ObjectKind {
     Source,
     Store,
@@ -21,7 +21,7 @@ pub enum ObjectKind {
 }
 
 /// Why an opening was refused.
-#[derive(Clone, Copy, Debug, PartialEq, Eq)]
+#[derive(Clone, Copy, PartialEq, Eq)]
 pub enum OpenRefused {
     Failed,
     Memory,
@@ -29,28 +29,28 @@ pub enum OpenRefused {
 
 /// Why a piece was not appended: the store failed and took the first `taken` bytes of it, or memory lacked
 /// and it took none.
-#[derive(Clone, Copy, Debug, PartialEq, Eq)]
+#[derive(Clone, Copy, PartialEq, Eq)]
 pub enum AppendRefused {
     Failed { taken: u64 },
     Memory,
 }
 
 /// Why not all pieces were appended: those before the byte `whole` were, and the one that begins there was not.
-#[derive(Clone, Copy, Debug, PartialEq, Eq)]
+#[derive(Clone, Copy, PartialEq, Eq)]
 pub struct EachRefused {
     pub whole: u64,
     pub why: AppendRefused,
 }
 
 /// Why a stretch could not be read.
-#[derive(Clone, Copy, Debug, PartialEq, Eq)]
+#[derive(Clone, Copy, PartialEq, Eq)]
 pub enum ReadRefused {
     Failed,
     Memory,
 }
 
 /// A sink failed before it took all of a piece. At least the first `taken` bytes were taken.
-#[derive(Clone, Copy, Debug, PartialEq, Eq)]
+#[derive(Clone, Copy, PartialEq, Eq)]
 pub struct Short {
     pub taken: usize,
 }

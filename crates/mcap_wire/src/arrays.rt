@@ -11,14 +11,14 @@ use crate::room::{add_bytes, add_u32, add_u64, make_room};
 use std::marker::Model;
 
 /// An array of entries, each two numbers of eight bytes, borrowed: contracts see the list of its entries.
-#[derive(Debug, Drop)]
+#[derive(Drop)]
 pub struct EntriesRef<'a> {
     place: EntriesPlace<'a>,
     count: usize,
 }
 
 // Where the entries stand.
-#[derive(Clone, Copy, Debug)]
+#[derive(Clone, Copy)]
 enum EntriesPlace<'a> {
     Bytes(&'a [u8]),
     List(&'a [(u64, u64)]),

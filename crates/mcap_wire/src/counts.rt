@@ -14,14 +14,14 @@ use std::marker::Model;
 
 /// A map from numbers of two bytes to counts of eight, borrowed: contracts see the list of its pairs, each a key and its
 /// count. The keys differ.
-#[derive(Debug, Drop)]
+#[derive(Drop)]
 pub struct CountsRef<'a> {
     place: CountsPlace<'a>,
     count: usize,
 }
 
 // Where the counts stand.
-#[derive(Clone, Copy, Debug)]
+#[derive(Clone, Copy)]
 enum CountsPlace<'a> {
     Bytes(&'a [u8]),
     List(&'a [(u16, u64)]),

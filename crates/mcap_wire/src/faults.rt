@@ -29,14 +29,14 @@ impl<T: Drop> From<AllocFailed<T>> for Memory {
 }
 
 /// What a record begins with: its opcode and the length of its content.
-#[derive(Clone, Copy, Debug, PartialEq, Eq)]
+#[derive(Clone, Copy, PartialEq, Eq)]
 pub struct Head {
     pub op: u8,
     pub len: u64,
 }
 
 /// Why no head was read.
-#[derive(Clone, Copy, Debug, PartialEq, Eq)]
+#[derive(Clone, Copy, PartialEq, Eq)]
 pub enum HeadFault {
     /// Fewer than nine bytes stand there.
     Short,
@@ -45,7 +45,7 @@ pub enum HeadFault {
 }
 
 /// A record that was cut: its opcode, and the offsets at which its content begins and ends.
-#[derive(Clone, Copy, Debug, PartialEq, Eq)]
+#[derive(Clone, Copy, PartialEq, Eq)]
 pub struct Cut {
     pub op: u8,
     pub from: u64,
@@ -53,7 +53,7 @@ pub struct Cut {
 }
 
 /// Why no record was cut.
-#[derive(Clone, Copy, Debug, PartialEq, Eq)]
+#[derive(Clone, Copy, PartialEq, Eq)]
 pub enum CutFault {
     /// The head or the content isn't whole.
     Short,

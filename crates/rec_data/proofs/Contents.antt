@@ -93,6 +93,12 @@ message_none content r fails =
     (λ field why bad channel_id f shows. not_refused message_kinds content field why bad (message_values channel_id f) f.payload shows)
     fails
 
+-- numbers that stand one behind the other are a Message, whatever follows them
+pub message_read : (content : List ℕ) (id a b c d : ℕ) (m : MessageFields) → NumberAt 2 content 0 id a → NumberAt 4 content a m.sequence b → NumberAt 8 content b m.log_time c → NumberAt 8 content c m.publish_time d → drop d content ≡ m.payload → ShowsMessage content id m
+message_read content id a b c d m first second third fourth rest =
+    subst (λ (behind : List ℕ). RowBegins message_kinds content (message_values id m) behind) rest
+    (begins (a_number 2) _ content 0 id a _ _ first (begins (a_number 4) _ content a m.sequence b _ _ second (begins (a_number 8) _ content b m.log_time c _ _ third (begins (a_number 8) _ content c m.publish_time d _ _ fourth (begins_end (drop d content))))))
+
 -- what is framed is read back
 pub message_shown : (channel_id : ℕ) (m : MessageFields) → channel_id < 2 ^ 16 → m.sequence < 2 ^ 32 → m.log_time < 2 ^ 64 → m.publish_time < 2 ^ 64 → ShowsMessage (message_text channel_id m) channel_id m
 message_shown channel_id m id_fits sequence_fits log_fits publish_fits =

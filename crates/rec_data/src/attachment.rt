@@ -14,7 +14,7 @@ use mcap_wire::{
 
 /// A file that goes along with the messages: when it was logged and when it was created, both in nanoseconds, its name, its
 /// media type, its data, and the CRC-32 of these fields (0 where there is none).
-#[derive(Clone, Copy, Debug, PartialEq, Eq)]
+#[derive(Clone, Copy, PartialEq, Eq)]
 pub struct Attachment<'a> {
     pub log_time: u64,
     pub create_time: u64,

@@ -27,7 +27,7 @@ pub struct Channel<'a> {
 }
 
 /// A channel that is to be written, without its ids, and the schema of its messages, if they have one.
-#[derive(Debug, Drop, PartialEq, Eq, Hash)]
+#[derive(Drop, PartialEq, Eq, Hash)]
 pub struct ChannelDef {
     pub topic: Text,
     pub message_encoding: Text,

@@ -13,7 +13,7 @@ use mcap_wire::{
 
 /// The last record of a file: where its summary and the offsets of the summary start (0 where there is none), and
 /// the CRC-32 of the summary (0 where there is none).
-#[derive(Clone, Copy, Debug, PartialEq, Eq)]
+#[derive(Clone, Copy, PartialEq, Eq)]
 pub struct Footer {
     pub summary_start: u64,
     pub summary_offset_start: u64,

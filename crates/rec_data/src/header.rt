@@ -10,7 +10,7 @@ use crate::opcodes::HEADER;
 use mcap_wire::{Bad, Memory, add_head, add_text, at_field, make_room, take_text};
 
 /// The first record of a file: the profile that its messages follow and the library that wrote it.
-#[derive(Clone, Copy, Debug, PartialEq, Eq)]
+#[derive(Clone, Copy, PartialEq, Eq)]
 pub struct Header<'a> {
     pub profile: &'a str,
     pub library: &'a str,

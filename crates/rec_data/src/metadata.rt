@@ -14,7 +14,7 @@ use mcap_wire::{
 };
 
 /// A map of texts under a name.
-#[derive(Debug, Drop)]
+#[derive(Drop)]
 pub struct Metadata<'a> {
     pub name: &'a str,
     pub metadata: PairsRef<'a>,

@@ -8,7 +8,7 @@ use crate::opcodes::DATA_END;
 use mcap_wire::{Bad, Memory, add_head, add_u32, at_field, make_room, take_u32};
 
 /// The end of the data section: the CRC-32 of all bytes before this record (0 where there is none).
-#[derive(Clone, Copy, Debug, PartialEq, Eq)]
+#[derive(Clone, Copy, PartialEq, Eq)]
 pub struct DataEnd {
     pub data_section_crc: u32,
 }

@@ -2,13 +2,13 @@
 use Rattle.std.proofs.Common.{◌≡◌, ℕ, ◌+◌, List, [], ◌∷◌, ◌++◌, length, sym, ◌∙◌, append_assoc, arith}
 use Rattle.std.proofs.lemmas.List.{append-nil, length-append}
 use Rattle.std.specs.Prelude.{Result, IfErr, OnErr}
-use Rattle.mcap_wire.specs.Layout.{le, string, framed}
+use Rattle.mcap_wire.specs.Layout.{le, string, prefixed, framed}
 use Rattle.mcap_wire.proofs.Numbers.{length-le}
 use Rattle.mcap_wire.proofs.Framing.{head_and_content}
 use Rattle.mcap_wire.proofs.Contents.{not_refused, refused}
 use Rattle.mcap_wire.specs.declared.faults.Bad.{Bad}
 use Rattle.rec_index.specs.Fields.{SummaryOffsetFields, MetadataIndexFields, AttachmentIndexFields, ChunkFields}
-use Rattle.rec_index.specs.Records.{summary_offset_kinds, summary_offset_values, ShowsSummaryOffset, SummaryOffsetFails, metadata_index_kinds, metadata_index_values, ShowsMetadataIndex, MetadataIndexFails, attachment_index_kinds, attachment_index_values, attachment_index_text, ShowsAttachmentIndex, AttachmentIndexFails, chunk_kinds, chunk_values, ShowsChunk, ChunkFails, attachment_index_opcode}
+use Rattle.rec_index.specs.Records.{summary_offset_kinds, summary_offset_values, ShowsSummaryOffset, SummaryOffsetFails, metadata_index_kinds, metadata_index_values, ShowsMetadataIndex, MetadataIndexFails, attachment_index_kinds, attachment_index_values, attachment_index_text, ShowsAttachmentIndex, AttachmentIndexFails, chunk_kinds, chunk_values, chunk_text, ShowsChunk, ChunkFails, attachment_index_opcode, chunk_opcode}
 
 -- ---- Summary Offset
 
@@ -58,3 +58,19 @@ chunk_none content r fails =
     refused chunk_kinds content r
     (λ field why bad f shows. not_refused chunk_kinds content field why bad (chunk_values f) shows.0 shows.1)
     fails
+
+length-chunk_text : (f : ChunkFields) → length (chunk_text f) ≡ 40 + length f.compression + length f.records
+length-chunk_text f =
+    simp (length-append, length-le) (omega arith)
+
+-- six parts that are appended one by one
+six_appended : (old a b c d e f : List ℕ) → (((((old ++ a) ++ b) ++ c) ++ d) ++ e) ++ f ≡ old ++ (a ++ (b ++ (c ++ (d ++ (e ++ (f ++ []))))))
+six_appended old a b c d e f = simp (append_assoc, append-nil)
+
+-- a Chunk that is written field by field
+pub chunk_framed : (old : List ℕ) (len : ℕ) (f : ChunkFields) → len ≡ 40 + length f.compression + length f.records
+    → ((((((old ++ chunk_opcode ∷ le 8 len) ++ le 8 f.start) ++ le 8 f.end) ++ le 8 f.size) ++ le 4 f.crc) ++ string f.compression) ++ prefixed 8 f.records
+    ≡ old ++ framed chunk_opcode (chunk_text f)
+chunk_framed old len f is =
+    six_appended (old ++ chunk_opcode ∷ le 8 len) (le 8 f.start) (le 8 f.end) (le 8 f.size) (le 4 f.crc) (string f.compression) (prefixed 8 f.records)
+    ∙ head_and_content old (chunk_text f) chunk_opcode len (is ∙ sym (length-chunk_text f))

@@ -13,7 +13,7 @@ use mcap_wire::{
 
 /// An Attachment of the file: where it starts and how long the whole record is, both in bytes, when it was logged and when
 /// it was created, both in nanoseconds, how many bytes its data has, its name and its media type.
-#[derive(Clone, Copy, Debug, PartialEq, Eq)]
+#[derive(Clone, Copy, PartialEq, Eq)]
 pub struct AttachmentIndex<'a> {
     pub offset: u64,
     pub length: u64,

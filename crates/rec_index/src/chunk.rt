@@ -15,7 +15,7 @@ use mcap_wire::{
 /// A batch of records: the first and the last log time of its messages in nanoseconds (0 where it has none), the size in
 /// bytes and the CRC-32 of its records before compression (0 where there is none), the compression (empty where there is
 /// none), and the records as they are compressed.
-#[derive(Clone, Copy, Debug, PartialEq, Eq)]
+#[derive(Clone, Copy, PartialEq, Eq)]
 pub struct Chunk<'a> {
     pub message_start_time: u64,
     pub message_end_time: u64,

@@ -16,7 +16,7 @@ use mcap_wire::{
 /// A Chunk of the file: the first and the last log time of its messages in nanoseconds, where the whole record starts and how
 /// long it is, where the Message Index of each channel starts, how many bytes these have together, the compression, and the
 /// sizes of the chunk's records with and without it. Offsets and sizes are in bytes.
-#[derive(Debug, Drop)]
+#[derive(Drop)]
 pub struct ChunkIndex<'a> {
     pub message_start_time: u64,
     pub message_end_time: u64,

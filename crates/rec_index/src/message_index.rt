@@ -13,7 +13,7 @@ use mcap_wire::{
 
 /// The messages of a channel in the chunk before it: the channel's id, and an array of entries, each the log time of a message in
 /// nanoseconds and where it starts in the chunk's records before compression.
-#[derive(Debug, Drop)]
+#[derive(Drop)]
 pub struct MessageIndex<'a> {
     pub channel_id: u16,
     pub entries: EntriesRef<'a>,

@@ -12,7 +12,7 @@ use mcap_wire::{
 };
 
 /// A Metadata record of the file: where it starts and how long the whole record is, both in bytes, and its name.
-#[derive(Clone, Copy, Debug, PartialEq, Eq)]
+#[derive(Clone, Copy, PartialEq, Eq)]
 pub struct MetadataIndex<'a> {
     pub offset: u64,
     pub length: u64,

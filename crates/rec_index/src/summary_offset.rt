@@ -11,7 +11,7 @@ use mcap_wire::{Bad, Memory, add_head, add_u8, add_u64, at_field, make_room, tak
 
 /// A group of the summary, of records with one opcode: that opcode, and where the group starts in the file and how long it
 /// is, both in bytes.
-#[derive(Clone, Copy, Debug, PartialEq, Eq)]
+#[derive(Clone, Copy, PartialEq, Eq)]
 pub struct SummaryOffset {
     pub group_opcode: u8,
     pub group_start: u64,

@@ -15,7 +15,7 @@ use mcap_wire::{
 
 /// How many records of each kind the file has, the first and the last log time of its messages in nanoseconds, and how many
 /// messages each channel has.
-#[derive(Debug, Drop)]
+#[derive(Drop)]
 pub struct Statistics<'a> {
     pub message_count: u64,
     pub schema_count: u16,

@@ -1,6 +1,8 @@
-use Rattle.std.proofs.Common.{rules, ◌≡◌, subst, inl, inr, Err}
+use Rattle.std.proofs.Common.{rules, ◌≡◌, subst, inl, inr, Err, drop}
 use Rattle.mcap_wire.specs.Reading.{NumberAt, ReadsNumber, TextAt, TextFails, ReadsText}
-use Rattle.mcap_wire.specs.Maps.{PairsFail, ReadsPairs}
+use Rattle.mcap_wire.specs.Maps.{PairsAt, PairsFail, ReadsPairs}
+use Rattle.mcap_wire.specs.Contents.{a_number, a_text, a_text_map}
+use Rattle.mcap_wire.proofs.Contents.{begins, begins_end}
 use Rattle.rec_data.proofs.MapContents.{channel_none}
 use Rattle.rec_data.proofs.channel.Channel.parse.Goals as goal
 
@@ -41,3 +43,13 @@ returns-in_err-metadata-clause-first_fault c =
 
 pub returns-in_err-metadata-clause-none : goal.returns-in_err-metadata-clause-none
 returns-in_err-metadata-clause-none c = channel_none c.args.content.now c.from_residual-in_err-metadata.result (returns-in_err-metadata-clause-first_fault c)
+
+pub returns-clause-shown : goal.returns-clause-shown
+returns-clause-shown c =
+    let content = c.args.content.now in
+    let first : NumberAt 2 content 0 c.in_ok-id.id c.in_ok-id.at = subst (ReadsNumber 2 content 0) c.in_ok-id.ensures.ok c.take_u16.ensures in
+    let second : NumberAt 2 content c.in_ok-id.at c.in_ok-schema_id.schema_id c.in_ok-schema_id.at = subst (ReadsNumber 2 content c.in_ok-id.at) c.in_ok-schema_id.ensures.ok c.take_u16-2.ensures in
+    let third : TextAt content c.in_ok-schema_id.at c.in_ok-topic.topic.now c.in_ok-topic.at = subst (ReadsText content c.in_ok-schema_id.at) c.in_ok-topic.ensures.ok c.take_text.ensures in
+    let fourth : TextAt content c.in_ok-topic.at c.in_ok-message_encoding.message_encoding.now c.in_ok-message_encoding.at = subst (ReadsText content c.in_ok-topic.at) c.in_ok-message_encoding.ensures.ok c.take_text-2.ensures in
+    let fifth : PairsAt content c.in_ok-message_encoding.at c.in_ok-metadata.metadata c.in_ok-metadata._after = subst (ReadsPairs content c.in_ok-message_encoding.at) c.in_ok-metadata.ensures.ok c.take_pairs.ensures in
+    (drop c.in_ok-metadata._after content, begins (a_number 2) _ content _ _ _ _ _ first (begins (a_number 2) _ content _ _ _ _ _ second (begins a_text _ content _ _ _ _ _ third (begins a_text _ content _ _ _ _ _ fourth (begins a_text_map _ content _ _ _ _ _ fifth (begins_end (drop c.in_ok-metadata._after content)))))))

@@ -1,6 +1,7 @@
-use Rattle.std.proofs.Common.{rules, ◌≡◌, subst, inl, inr, Err}
+use Rattle.std.proofs.Common.{rules, ◌≡◌, ◌-◌, length, take, drop, sym, subst, inl, inr, Err, arith}
+use Rattle.std.proofs.lemmas.List.{take_all, length-drop}
 use Rattle.mcap_wire.specs.Reading.{NumberAt, NumberFails, ReadsNumber}
-use Rattle.rec_data.proofs.Contents.{message_none}
+use Rattle.rec_data.proofs.Contents.{message_none, message_read}
 use Rattle.rec_data.proofs.message.Message.parse.Goals as goal
 
 pub returns-in_err-channel_id-clause-none : goal.returns-in_err-channel_id-clause-none
@@ -25,3 +26,14 @@ returns-in_err-publish_time-clause-first_fault c =
 
 pub returns-in_err-publish_time-clause-none : goal.returns-in_err-publish_time-clause-none
 returns-in_err-publish_time-clause-none c = message_none c.args.content.now c.from_residual-in_err-publish_time.result (returns-in_err-publish_time-clause-first_fault c)
+
+pub returns-clause-shown : goal.returns-clause-shown
+returns-clause-shown c =
+    let content = c.args.content.now in
+    let first : NumberAt 2 content 0 c.in_ok-channel_id.channel_id c.in_ok-channel_id.at = subst (ReadsNumber 2 content 0) c.in_ok-channel_id.ensures.ok c.take_u16.ensures in
+    let second : NumberAt 4 content c.in_ok-channel_id.at c.in_ok-sequence.sequence c.in_ok-sequence.at = subst (ReadsNumber 4 content c.in_ok-channel_id.at) c.in_ok-sequence.ensures.ok c.take_u32.ensures in
+    let third : NumberAt 8 content c.in_ok-sequence.at c.in_ok-log_time.log_time c.in_ok-log_time.at = subst (ReadsNumber 8 content c.in_ok-sequence.at) c.in_ok-log_time.ensures.ok c.take_u64.ensures in
+    let fourth : NumberAt 8 content c.in_ok-log_time.at c.in_ok-publish_time.publish_time c.in_ok-publish_time.at = subst (ReadsNumber 8 content c.in_ok-log_time.at) c.in_ok-publish_time.ensures.ok c.take_u64-2.ensures in
+    let at = c.in_ok-publish_time.at in
+    let rest : take (length content - at) (drop at content) ≡ drop at content = take_all (length content - at) (drop at content) (omega (arith, length-drop at content)) in
+    message_read content c.in_ok-channel_id.channel_id _ _ _ _ _ first second third fourth (sym rest)
