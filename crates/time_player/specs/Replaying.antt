@@ -9,7 +9,7 @@ use Rattle.mcap_model.specs.Scan.{Seen, Scan, Replay}
 use Rattle.mcap_model.specs.Declarations.{TablesOf}
 use Rattle.mcap_model.specs.declared.replay.Shown.{Shown}
 use Rattle.mcap_model.specs.Showing.{shown_as, Shows}
-use Rattle.mcap_model.specs.Text.{cat_text}
+use Rattle.time_player.specs.Text.{cat_text}
 use Rattle.mcap_scan.specs.declared.answers.ScanRefused.{ScanRefused}
 use Rattle.mcap_io.specs.Outside.{SourceState}
 use Rattle.mcap_scan.specs.Scanning.{HaltsSo, MemoryStands, RefusalStands}

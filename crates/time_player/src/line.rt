@@ -1,7 +1,7 @@
 //! The line that is printed of a message.
 ghost use Rattle.std.specs.Prelude.{◌≡◌, ◌+◌, ◌*◌, ◌^◌, ◌<◌, ◌≤◌, ◌++◌, ◌∷◌, [], length, vec_len, vec_capacity, drop, OnOk, OnErr, MatchOption};
 ghost use Rattle.mcap_wire.specs.Writing.{HasRoom, LacksRoom};
-ghost use Rattle.mcap_model.specs.Text.{data_text};
+ghost use Rattle.time_player.specs.Text.{data_text};
 ghost use Rattle.kept_messages.specs.Lent.{shown_of};
 ghost use Rattle.time_player.specs.Lines.{number_text, numbers_of, line_of, line_room};
 

@@ -118,7 +118,7 @@ fn write_lines<K: Sink>(
 impl Printer {
     ghost use Rattle.mcap_model.specs.Scan.{Seen};
     ghost use Rattle.mcap_model.specs.Showing.{Shows};
-    ghost use Rattle.mcap_model.specs.Text.{cat_text as text_of};
+    ghost use Rattle.time_player.specs.Text.{cat_text as text_of};
 
     /// Takes messages over, and makes room for their lines; `quoted` has the topics of their channels.
     fn of(alloc: Global, messages: Messages, quoted: Table) -> Result<Printer, Memory>
