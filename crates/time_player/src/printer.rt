@@ -8,7 +8,7 @@ ghost use Rattle.time_player.specs.Messages.{messages_in};
 use crate::line::{room_of, write_line};
 use crate::lines::{quote_topics, spelled};
 use crate::messages::Messages;
-use kept_messages::KeptReplay;
+use crate::replay::KeptReplay;
 use mcap_io::{Short, Sink, write_all_of};
 use mcap_model::{Replayed, Table};
 use mcap_wire::Memory;
