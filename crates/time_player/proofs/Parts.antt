@@ -1,9 +1,11 @@
 -- Heads of messages, and the parts of the payloads that are theirs.
-use Rattle.std.proofs.Common.{◌≡◌, ℕ, Bool, true, false, cond, suc, ◌+◌, ◌-◌, ◌<◌, ◌≤◌, List, [], ◌∷◌, ◌++◌, length, get_or, take, drop, map, refl, sym, ap, subst, ◌∙◌, length-append, length-drop, inl, inr, arith}
+use Rattle.std.proofs.Common.{◌≡◌, ℕ, Bool, true, false, cond, suc, ◌+◌, ◌-◌, ◌<◌, ◌≤◌, List, [], ◌∷◌, ◌++◌, length, get_or, take, drop, map, refl, sym, ap, subst, ◌∙◌, length-append, length-drop, inl, inr, Some, arith}
 use Rattle.std.specs.Prelude.{IsPermutation, Contains}
 use Rattle.std.specs.List.{dedup, dedup_from}
+use Rattle.std.specs.Option.{option_map}
 use Rattle.std.proofs.lemmas.List.Kept.{Contains-from_dedup}
 use Rattle.std.proofs.lemmas.List.{take-append-le, drop-append-le, map-append, get_or-map, length-map}
+use Rattle.std.proofs.lemmas.Option.{slice_get-map}
 use Rattle.std.proofs.lemmas.List.Sorted.{Contains-permutation, IsPermutation-sym}
 use Rattle.std.proofs.Math.Seq.{drop-append_seam, take-length}
 use Rattle.mcap_wire.specs.Layout.{part}
@@ -11,7 +13,7 @@ use Rattle.mcap_model.specs.declared.replay.Shown.{Shown}
 use Rattle.mcap_model.specs.declared.table.Declared.{Declared}
 use Rattle.mcap_model.specs.Places.{At, Has}
 use Rattle.mcap_model.specs.Plain.{NotBehind, InOrder}
-use Rattle.mcap_model.proofs.Places.{at_none, at_kept, at_last, at_more}
+use Rattle.mcap_model.proofs.Places.{at_none, at_read, at_kept, at_last, at_more}
 use Rattle.mcap_model.proofs.NamedTopics.{contained, has_there}
 use Rattle.time_player.specs.declared.kept.Head.{Head}
 use Rattle.time_player.specs.Heads.{shown_in, same_place, AreWithin, HeadsInOrder, Represents}
@@ -49,6 +51,14 @@ one_more heads xs ys h all more within all_is more_is from_is to_is =
     ∙ ap (λ (s : Shown). map (shown_in all) heads ++ s ∷ []) (ap (with_payload h) last)
     ∙ ap (λ (l : List ℕ). map (shown_in l) heads ++ with_payload h ys ∷ []) all_is
     ∙ ap (λ (l : List Shown). l ++ with_payload h ys ∷ []) (still_shown heads xs ys within)
+
+-- the message of the head at a place, where the payload is its part
+pub shown_there : (heads : List Head) (payloads : List ℕ) (i : ℕ) (h : Head) (payload : List ℕ) → i < length heads → h ≡ get_or heads i h → payload ≡ part h.from h.to payloads → At (map (shown_in payloads) heads) i (with_payload h payload)
+shown_there heads payloads i h payload within is part_is =
+    slice_get-map (shown_in payloads) heads i
+    ∙ ap (option_map (shown_in payloads)) (at_read heads i h within)
+    ∙ ap (λ (x : Head). Some (shown_in payloads x)) (sym is)
+    ∙ ap (λ (l : List ℕ). Some (with_payload h l)) (sym part_is)
 
 -- ---- order
 
@@ -92,10 +102,13 @@ fewer_within old new len is within n h at =
 
 -- ---- one message of each channel
 
-pub none_yet : Represents [] [] []
-none_yet = record {
-  are = record { are = λ s has. absurd (at_none has.0 s has.1); each = λ r has. absurd (at_none has.0 r has.1) };
-  named = λ k d at. absurd (at_none k d at);
+pub represents_none : (known : List Declared) (few : List Shown) → known ≡ [] → few ≡ [] → Represents [] known few
+represents_none known few unknown none = record {
+  are = record {
+    are = λ s has. absurd (at_none has.0 s (subst (λ (l : List Shown). At l has.0 s) none has.1));
+    each = λ r has. absurd (at_none has.0 r has.1);
+  };
+  named = λ k d at. absurd (at_none k d (subst (λ (l : List Declared). At l k d) unknown at));
 }
 
 front : {X : Type 0} (xs : List X) (x y : X) → Has xs y → Has (xs ++ x ∷ []) y

@@ -1,4 +1,4 @@
-use Rattle.std.proofs.Common.{rules, ◌++◌, ◌∷◌, [], List, take, sym, ap, ◌∙◌}
+use Rattle.std.proofs.Common.{◌++◌, ◌∷◌, [], List, take, sym, ap, ◌∙◌}
 use Rattle.mcap_model.specs.declared.replay.Shown.{Shown}
 use Rattle.mcap_model.proofs.OneMore.{taken_more}
 use Rattle.time_player.specs.Keeping.{kept_in}
@@ -14,4 +14,4 @@ messages-preserved c =
     ∙ sym (taken_more all c.messages.i (shown_of c.get.result) c.get.ensures)
 
 pub messages-init : goal.messages-init
-messages-init c = search rules
+messages-init c = c.new-shown.ensures.items
