@@ -16,7 +16,7 @@ use Rattle.mcap_model.proofs.Lists.{pairs_at, pairs_from, pairs_cons}
 use Rattle.mcap_model.proofs.NamedTopics.{contained, has_there}
 use Rattle.mcap_model.proofs.Replays.{order_pairs}
 use Rattle.indexed_replay.specs.Steps.{led_as}
-use Rattle.kept_messages.specs.Heads.{same_place}
+use Rattle.time_player.specs.Heads.{same_place}
 use Rattle.indexed_replay.specs.Finishing.{IsOrdered}
 
 abbrev Before : Shown → Shown → Type 0

@@ -3,7 +3,7 @@ use Rattle.std.specs.Prelude.{◌≡◌, List, true, AllPairs}
 use Rattle.mcap_model.specs.declared.replay.Shown.{Shown}
 use Rattle.mcap_model.specs.Places.{Has}
 use Rattle.mcap_model.specs.Scan.{ComesBefore}
-use Rattle.kept_messages.specs.Heads.{same_place}
+use Rattle.time_player.specs.Heads.{same_place}
 use Rattle.indexed_replay.specs.Steps.{led_as}
 
 -- these messages in the order of time and place, one for each time and place

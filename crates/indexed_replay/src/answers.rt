@@ -2,7 +2,7 @@
 use mcap_wire::Text;
 
 /// Why a file isn't indexed.
-#[derive(Clone, Copy, Debug, PartialEq, Eq)]
+#[derive(Clone, Copy)]
 pub enum NotIndexed {
     /// The Footer says that there is no summary.
     NoSummary,
@@ -17,7 +17,7 @@ pub enum NotIndexed {
 }
 
 /// Why no replay by the index is given.
-#[derive(Debug, Drop)]
+#[derive(Drop)]
 pub enum ReplayRefused {
     /// The store failed: its count of faults now.
     Fault { faults: u64 },

@@ -4,17 +4,17 @@ ghost use Rattle.mcap_io.specs.Stores.{StoreStays};
 ghost use Rattle.rec_index.specs.Parsed.{chunk_index_fields};
 ghost use Rattle.indexed_replay.specs.Replaying.{ReplayCause};
 ghost use Rattle.indexed_replay.specs.Chunks.{AsksChunk, AsksFront, AsksNames, ChecksChunk, NamesPack, ShowsChunk, ShowsNames};
-ghost use Rattle.kept_messages.specs.Keeping.{kept_in};
+ghost use Rattle.time_player.specs.Keeping.{kept_in};
 
 use crate::answers::{NotIndexed, ReplayRefused};
 use crate::fronts::{Front, read_front};
 use crate::lists::show_list;
 use crate::spots::{Request, Spot};
-use kept_messages::Kept;
 use mcap_io::{Failed, ReadRefused, Store, read_part};
 use mcap_wire::{Text, take_u32};
 use rec_index::{CHUNK, ChunkIndex};
 use std::alloc::Global;
+use time_player::Kept;
 
 /// The bytes of a record in front of its content.
 const HEAD_LENGTH: u64 = 9;

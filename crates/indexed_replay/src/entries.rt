@@ -3,15 +3,15 @@ ghost use Rattle.std.specs.Prelude.{◌+◌, ◌≤◌};
 ghost use Rattle.mcap_io.specs.Stores.{StoreStays};
 ghost use Rattle.indexed_replay.specs.Replaying.{ReplayCause};
 ghost use Rattle.indexed_replay.specs.Steps.{AsksEntries, AsksMessage, TellsEntries, TellsEntry};
-ghost use Rattle.kept_messages.specs.Keeping.{kept_in};
+ghost use Rattle.time_player.specs.Keeping.{kept_in};
 
 use crate::answers::ReplayRefused;
 use crate::messages::add_message;
 use crate::spots::Spot;
-use kept_messages::Kept;
 use mcap_io::Store;
 use mcap_model::{Place, Range, is_within};
 use mcap_wire::EntriesRef;
+use time_player::Kept;
 
 // Adds the message to which an entry leads: its log time, and its offset in the chunk's records.
 fn show_entry<T: Store>(

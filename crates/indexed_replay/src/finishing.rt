@@ -1,8 +1,8 @@
 //! Messages in their order, each once.
 ghost use Rattle.indexed_replay.specs.Finishing.{IsOrdered};
-ghost use Rattle.kept_messages.specs.Keeping.{kept_in};
+ghost use Rattle.time_player.specs.Keeping.{kept_in};
 
-use kept_messages::Kept;
+use time_player::Kept;
 
 /// Puts messages in the order of log time and place. Of those with one time and place one stays.
 pub(crate) fn finish(shown: &mut Kept)

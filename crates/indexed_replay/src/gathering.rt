@@ -5,17 +5,17 @@ ghost use Rattle.rec_index.specs.Parsed.{chunk_index_fields};
 ghost use Rattle.mcap_model.specs.Led.{Meets};
 ghost use Rattle.indexed_replay.specs.Replaying.{ReplayCause};
 ghost use Rattle.indexed_replay.specs.Gathering.{AsksAll, Gathers};
-ghost use Rattle.kept_messages.specs.Keeping.{kept_in};
+ghost use Rattle.time_player.specs.Keeping.{kept_in};
 
 use crate::answers::ReplayRefused;
 use crate::chunks::show_chunk;
 use crate::spots::Request;
-use kept_messages::Kept;
 use mcap_io::Store;
 use mcap_model::{Range, is_within};
 use rec_index::ChunkIndex;
 use std::alloc::Global;
 use summary_read::Loaded;
+use time_player::Kept;
 
 // Whether the times of a chunk meet the range.
 fn meets(range: Range, index: &ChunkIndex) -> bool

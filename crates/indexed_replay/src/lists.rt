@@ -6,19 +6,19 @@ ghost use Rattle.mcap_model.specs.Plain.{asked_topic, DeclareChannels};
 ghost use Rattle.indexed_replay.specs.Replaying.{ReplayCause};
 ghost use Rattle.indexed_replay.specs.Steps.{AsksRecord, TellsIndex, TellsList};
 ghost use Rattle.indexed_replay.specs.Lists.{AsksContent, AsksList, HasTimely, Shows, ShowsContent, Undeclared, Wanted};
-ghost use Rattle.kept_messages.specs.Keeping.{kept_in};
+ghost use Rattle.time_player.specs.Keeping.{kept_in};
 
 use crate::answers::{NotIndexed, ReplayRefused};
 use crate::entries::show_entries;
 use crate::fronts::{Front, read_front};
 use crate::spots::{Request, Spot};
-use kept_messages::Kept;
 use mcap_io::{Failed, ReadRefused, Store, read_part};
 use mcap_model::{Range, Tables, is_within};
 use mcap_wire::{EntriesRef, Text};
 use rec_data::Channel;
 use rec_index::{MESSAGE_INDEX, MessageIndex};
 use std::alloc::Global;
+use time_player::Kept;
 
 // The content of the Message Index that stands at that offset, if one does.
 fn read_list<T: Store>(

@@ -3,14 +3,14 @@ ghost use Rattle.std.specs.Prelude.{◌+◌, ◌≤◌};
 ghost use Rattle.mcap_io.specs.Stores.{StoreStays};
 ghost use Rattle.indexed_replay.specs.Replaying.{ReplayCause};
 ghost use Rattle.indexed_replay.specs.Steps.{AsksMessage, TellsMessage};
-ghost use Rattle.kept_messages.specs.Keeping.{kept_in};
+ghost use Rattle.time_player.specs.Keeping.{kept_in};
 
 use crate::answers::ReplayRefused;
 use crate::fronts::{Front, read_front};
-use kept_messages::Kept;
 use mcap_io::{Failed, ReadRefused, Store};
 use mcap_model::Place;
 use rec_data::{MESSAGE, Message};
+use time_player::Kept;
 
 /// How much of a chunk without a compression stands in front of its records: the head, two times, the size, the CRC, and the
 /// lengths of the compression and of the records.

@@ -10,12 +10,12 @@ use crate::channels::take_channels;
 use crate::finishing::finish;
 use crate::gathering::gather;
 use crate::spots::Request;
-use kept_messages::{Kept, KeptReplay, topics_of_kept};
 use mcap_io::{Failed, Store};
 use mcap_model::{Range, Replayed};
 use mcap_wire::{Memory, Text};
 use std::alloc::Global;
 use summary_read::{LoadRefused, Loaded, load};
+use time_player::{Kept, KeptReplay, topics_of_kept};
 
 // Whether the summary has a Statistics that states as many chunks as there are Chunk Indexes.
 fn judge_counts(loaded: &Loaded) -> Result<(), NotIndexed>

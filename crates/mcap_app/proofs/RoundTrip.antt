@@ -7,7 +7,7 @@ use Rattle.mcap_model.specs.declared.ends.End.TheVariants as ends
 use Rattle.mcap_model.specs.Tops.{Top}
 use Rattle.mcap_model.specs.Kept.{Halts, reading_limits, at_end}
 use Rattle.mcap_model.specs.Scan.{Seen, Scan, Replay}
-use Rattle.mcap_model.specs.Text.{cat_text}
+use Rattle.time_player.specs.Text.{cat_text}
 use Rattle.mcap_model.specs.History.{is_message}
 use Rattle.mcap_model.specs.File.{file_of}
 use Rattle.mcap_model.specs.Laws.{HoldsSeen}

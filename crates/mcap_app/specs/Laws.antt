@@ -8,7 +8,7 @@ use Rattle.mcap_model.specs.declared.checked.Verdict.TheVariants as verdicts
 use Rattle.mcap_model.specs.Tops.{Top, flat}
 use Rattle.mcap_model.specs.History.{is_message, flat_history}
 use Rattle.mcap_model.specs.Scan.{Seen, Scan, Replay}
-use Rattle.mcap_model.specs.Text.{cat_text}
+use Rattle.time_player.specs.Text.{cat_text}
 use Rattle.mcap_model.specs.Laws.{HoldsSeen}
 use Rattle.recorder.specs.declared.report.Report.{Report}
 use Rattle.command_base.specs.Printing.{TellsAll}

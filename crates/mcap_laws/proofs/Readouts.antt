@@ -1,8 +1,6 @@
 -- Where the readings of some small files halt, and what their messages are.
 use Rattle.std.proofs.Common.{◌≡◌, ℕ, zero, suc, List, [], ◌∷◌, ◌++◌, length, take, drop, map, Some, None, refl, ap, inl, inr, arith}
-use Rattle.std.specs.Prelude.{AllPairs, codes, filter, IsUtf8}
-use Rattle.std.specs.Fmt.{digits}
-use Rattle.json.specs.Print.{escape_byte}
+use Rattle.std.specs.Prelude.{AllPairs, filter, IsUtf8}
 use Rattle.mcap_wire.specs.Layout.{le, number, magic}
 use Rattle.mcap_wire.proofs.Contents.{row_shown}
 use Rattle.mcap_crc.specs.Remainder.{remainder}
@@ -14,7 +12,6 @@ use Rattle.mcap_model.specs.Kept.{reading_limits, NamesCompression, Fits, Good, 
 use Rattle.mcap_model.specs.Scan.{Seen, is_message_top, ComesBefore, Replay}
 use Rattle.mcap_model.specs.Summary.{summary_text}
 use Rattle.mcap_model.specs.File.{library, front, data_end, file_of}
-use Rattle.mcap_model.specs.Text.{cat_line}
 use Rattle.mcap_model.proofs.Places.{at_none, each_more}
 use Rattle.mcap_model.proofs.Readings.{halts_are_last}
 use Rattle.mcap_model.proofs.Edges.{header_top, header_fits, ascii}
@@ -32,7 +29,7 @@ places_two : map {B = ℕ × ℕ} (λ p. (p.place.top, p.place.inner)) (filter (
 unfolding file_of front data_end le summary_text number remainder records_in chunk_records
 places_two = refl
 
--- ---- the line of a message
+-- ---- a message of it
 
 abbrev seen_at : ℕ → ℕ → ℕ → Seen
 seen_at top inner sequence = record {
@@ -41,10 +38,6 @@ seen_at top inner sequence = record {
   topic = 47 ∷ 97 ∷ [];
   message = record { sequence = sequence; log_time = 10; publish_time = 9; payload = 170 ∷ [] };
 }
-
-line_one : cat_line (seen_at 34 27 1) ≡ codes "10 9 1 1 \"/a\" aa\n"
-unfolding cat_line digits escape_byte
-line_one = refl
 
 -- ---- equal log times keep the order of the file
 

@@ -9,7 +9,6 @@ pub mod Blocks
 pub mod Summary
 pub mod File
 pub mod Pieces
-pub mod Text
 pub mod Written
 pub mod Repaired
 pub mod Whole

@@ -1,7 +1,7 @@
 //! What a check of a file comes to.
 
 /// How many records of each kind a file has.
-#[derive(Clone, Copy, Debug, PartialEq, Eq)]
+#[derive(Clone, Copy)]
 pub struct Counts {
     pub messages: u64,
     pub channels: u64,
@@ -12,7 +12,7 @@ pub struct Counts {
 }
 
 /// A file is valid and fully indexed; it is valid; or the rule of that number fails at that offset.
-#[derive(Clone, Copy, Debug, PartialEq, Eq)]
+#[derive(Clone, Copy)]
 pub enum Verdict {
     Indexed { counts: Counts },
     Plain { counts: Counts },

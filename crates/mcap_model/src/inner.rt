@@ -5,7 +5,7 @@ ghost use Rattle.mcap_model.specs.Found.{FindsRecord};
 use mcap_wire::{Cut, take_u64};
 
 /// A record inside a chunk: its opcode, its offset among the chunk's records, and its content.
-#[derive(Clone, Copy, Debug, PartialEq, Eq)]
+#[derive(Clone, Copy)]
 pub struct Inner<'a> {
     pub op: u8,
     pub offset: u64,
@@ -13,7 +13,7 @@ pub struct Inner<'a> {
 }
 
 /// A walk over the records of a chunk. It ends where no whole record begins.
-#[derive(Clone, Copy, Debug)]
+#[derive(Clone, Copy)]
 pub struct InnerWalk<'a> {
     records: &'a [u8],
     at: usize,

@@ -1,7 +1,7 @@
 //! Why a file isn't scanned to its Data End.
 
 /// Where a reading of a file halts before its Data End: the offset of the record at which it does, and why; or want of memory.
-#[derive(Clone, Copy, Debug, PartialEq, Eq)]
+#[derive(Clone, Copy)]
 pub enum PlainRefused {
     /// A rule of the format is broken there.
     Grammar { offset: u64 },

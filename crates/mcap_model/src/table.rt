@@ -9,7 +9,7 @@ use std::alloc::Global;
 use std::marker::Model;
 
 /// The content of the first record that declared an id.
-#[derive(Debug, Drop)]
+#[derive(Drop)]
 pub struct Declared {
     pub id: u16,
     pub content: Bytes,

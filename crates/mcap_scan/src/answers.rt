@@ -3,7 +3,7 @@ use mcap_wire::{Bytes, Memory, Text};
 use std::alloc::Global;
 
 /// What comes next in a file. Offsets are in bytes from the file's front; the content of a record is lent by the scanner.
-#[derive(Clone, Copy, Debug, PartialEq, Eq)]
+#[derive(Clone, Copy)]
 pub enum Step {
     /// The next record: its opcode, and where it begins.
     Record { op: u8, offset: u64 },
@@ -14,7 +14,7 @@ pub enum Step {
 }
 
 /// What comes next in a file, with a content of its own.
-#[derive(Debug, Drop)]
+#[derive(Drop)]
 pub enum Top {
     Record { op: u8, offset: u64, content: Bytes },
     /// The offset behind the Data End.

@@ -7,7 +7,7 @@ use Rattle.std.proofs.lemmas.Nat.{and_mask}
 use Rattle.std.proofs.lemmas.Simd.{zip2_splat, swz_l, length-swz_l, get_or-swz_l_below}
 use lib.Lanes.{zip2, pick_l}
 use Rattle.mcap_crc.proofs.Nibbles.{IsBlock, lane_fits, down}
-use Rattle.mcap_model.specs.Text.{hex_digit, hex_byte}
+use Rattle.time_player.specs.Text.{hex_digit, hex_byte}
 use Rattle.time_player.specs.declared.hex.TheConstants.{DIGITS}
 
 -- the digits are those of the numbers below 16

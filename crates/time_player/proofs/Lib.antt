@@ -1,6 +1,9 @@
+mod Appended
 mod Asked
 mod Chosen
 mod Digits
+mod Named
+mod Parts
 mod Played
 mod Printed
 mod Quoted

@@ -14,7 +14,7 @@ use Rattle.mcap_model.specs.declared.table.Declared.{Declared}
 use Rattle.mcap_model.specs.Places.{At, Has}
 use Rattle.mcap_model.specs.Scan.{Seen}
 use Rattle.mcap_model.specs.Showing.{shown_as, topic_as, TopicsOf, Shows}
-use Rattle.mcap_model.specs.Text.{cat_line, cat_text, data_text}
+use Rattle.time_player.specs.Text.{cat_line, cat_text, data_text}
 use Rattle.mcap_model.proofs.Places.{at_none}
 use Rattle.std.proofs.lemmas.Option.{same_Some}
 use Rattle.mcap_model.proofs.NamedTopics.{unmapped}

@@ -1,4 +1,9 @@
 pub mod Asking
+pub mod Heads
+pub mod Keeping
+pub mod Lent
 pub mod Lines
 pub mod Messages
+pub mod Reading
 pub mod Replaying
+pub mod Text

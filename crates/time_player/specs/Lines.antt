@@ -6,7 +6,7 @@ use Rattle.mcap_model.specs.declared.replay.Shown.{Shown}
 use Rattle.mcap_model.specs.declared.replay.Topic.{Topic}
 use Rattle.mcap_model.specs.declared.table.Declared.{Declared}
 use Rattle.mcap_model.specs.Places.{At, Each}
-use Rattle.mcap_model.specs.Text.{data_text}
+use Rattle.time_player.specs.Text.{data_text}
 
 abbrev pub number_text : ℕ → List ℕ
 number_text n = decimal n ++ 32 ∷ []

@@ -9,13 +9,13 @@ use Rattle.mcap_model.specs.Scan.{Seen, Scan, Replay}
 use Rattle.mcap_model.specs.Declarations.{TablesOf}
 use Rattle.mcap_model.specs.declared.replay.Shown.{Shown}
 use Rattle.mcap_model.specs.Showing.{shown_as, Shows}
-use Rattle.mcap_model.specs.Text.{cat_text}
+use Rattle.time_player.specs.Text.{cat_text}
 use Rattle.mcap_scan.specs.declared.answers.ScanRefused.{ScanRefused}
 use Rattle.mcap_io.specs.Outside.{SourceState}
 use Rattle.mcap_scan.specs.Scanning.{HaltsSo, MemoryStands, RefusalStands}
-use Rattle.kept_messages.specs.declared.kept.Kept.{Kept}
+use Rattle.time_player.specs.declared.kept.Kept.{Kept}
 use Rattle.time_player.specs.Asking.{is_asked}
-use Rattle.kept_messages.specs.Keeping.{kept_in}
+use Rattle.time_player.specs.Keeping.{kept_in}
 
 -- these are the messages of records that are good, and the tables of those records
 pub record IsTold (tops : List Top) (tables : Tables) (messages : List Seen) : Type 0 where

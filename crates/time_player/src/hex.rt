@@ -2,7 +2,7 @@
 ghost use Rattle.std.specs.Prelude.{◌≡◌, ◌+◌, ◌*◌, ◌<◌, ◌≤◌, ◌++◌, length, vec_len, vec_capacity};
 ghost use Rattle.std.specs.List.{flat_map};
 ghost use Rattle.mcap_wire.specs.Writing.{HasRoom};
-ghost use Rattle.mcap_model.specs.Text.{hex_digit, hex_byte};
+ghost use Rattle.time_player.specs.Text.{hex_digit, hex_byte};
 
 use mcap_wire::add_bytes;
 use std::simd::prelude::*;

@@ -5,10 +5,10 @@ ghost use Rattle.mcap_model.specs.Made.{top};
 ghost use Rattle.mcap_model.specs.Plain.{asked_topic};
 ghost use Rattle.mcap_scan.specs.Scanning.{content_of, tables_of};
 ghost use Rattle.time_player.specs.Asking.{Keeps, KeepsRecord};
-ghost use Rattle.kept_messages.specs.Keeping.{kept_in};
+ghost use Rattle.time_player.specs.Keeping.{kept_in};
 
 use crate::asking::is_on_topic;
-use kept_messages::Kept;
+use crate::kept::Kept;
 use mcap_model::{InnerWalk, Place, Range, Tables, is_within};
 use mcap_scan::Reader;
 use mcap_wire::{Memory, Text};

@@ -1,13 +1,13 @@
 //! The line that is printed of a message.
 ghost use Rattle.std.specs.Prelude.{◌≡◌, ◌+◌, ◌*◌, ◌^◌, ◌<◌, ◌≤◌, ◌++◌, ◌∷◌, [], length, vec_len, vec_capacity, drop, OnOk, OnErr, MatchOption};
 ghost use Rattle.mcap_wire.specs.Writing.{HasRoom, LacksRoom};
-ghost use Rattle.mcap_model.specs.Text.{data_text};
-ghost use Rattle.kept_messages.specs.Lent.{shown_of};
+ghost use Rattle.time_player.specs.Text.{data_text};
+ghost use Rattle.time_player.specs.Lent.{shown_of};
 ghost use Rattle.time_player.specs.Lines.{number_text, numbers_of, line_of, line_room};
 
 use crate::hex::add_hex;
+use crate::lent::{Lent, lend};
 use itoa::write_digits;
-use kept_messages::{Lent, lend};
 use mcap_model::Shown;
 use mcap_wire::{Memory, add_bytes, make_room};
 

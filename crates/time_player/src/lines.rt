@@ -4,7 +4,7 @@ ghost use Rattle.json.specs.Print.{quoted as json_string};
 ghost use Rattle.mcap_model.specs.declared.replay.Topic.{Topic as Entry};
 ghost use Rattle.mcap_model.specs.Scan.{Seen};
 ghost use Rattle.mcap_model.specs.Showing.{Shows};
-ghost use Rattle.mcap_model.specs.Text.{cat_text as text_of};
+ghost use Rattle.time_player.specs.Text.{cat_text as text_of};
 ghost use Rattle.time_player.specs.Lines.{Apart, Quotes, Spells, spelling};
 
 use crate::line::add_line;

@@ -2,7 +2,8 @@
 ghost use Rattle.std.specs.Prelude.{◌≡◌, ◌<◌, length};
 ghost use Rattle.mcap_model.specs.Places.{At};
 
-use kept_messages::{Kept, Lent, lend};
+use crate::kept::Kept;
+use crate::lent::{Lent, lend};
 use mcap_model::Shown;
 
 /// Messages, as a replay gave them or as they were kept.
@@ -13,7 +14,7 @@ pub(crate) enum Messages {
 }
 
 impl Messages {
-    ghost use Rattle.kept_messages.specs.Lent.{shown_of};
+    ghost use Rattle.time_player.specs.Lent.{shown_of};
     ghost use Rattle.time_player.specs.Messages.{messages_in};
 
     /// How many they are.

@@ -8,7 +8,7 @@ ghost use Rattle.time_player.specs.Messages.{messages_in};
 use crate::line::{room_of, write_line};
 use crate::lines::{quote_topics, spelled};
 use crate::messages::Messages;
-use kept_messages::KeptReplay;
+use crate::replay::KeptReplay;
 use mcap_io::{Short, Sink, write_all_of};
 use mcap_model::{Replayed, Table};
 use mcap_wire::Memory;
@@ -118,7 +118,7 @@ fn write_lines<K: Sink>(
 impl Printer {
     ghost use Rattle.mcap_model.specs.Scan.{Seen};
     ghost use Rattle.mcap_model.specs.Showing.{Shows};
-    ghost use Rattle.mcap_model.specs.Text.{cat_text as text_of};
+    ghost use Rattle.time_player.specs.Text.{cat_text as text_of};
 
     /// Takes messages over, and makes room for their lines; `quoted` has the topics of their channels.
     fn of(alloc: Global, messages: Messages, quoted: Table) -> Result<Printer, Memory>

@@ -6,12 +6,14 @@ ghost use Rattle.mcap_model.specs.Scan.{Seen, Scan};
 ghost use Rattle.mcap_model.specs.Plain.{asked_topic};
 ghost use Rattle.mcap_model.specs.Showing.{shown_as};
 ghost use Rattle.time_player.specs.Asking.{is_asked};
-ghost use Rattle.kept_messages.specs.Keeping.{kept_in};
+ghost use Rattle.time_player.specs.Keeping.{kept_in};
 ghost use Rattle.time_player.specs.Replaying.{IsTold, IsPlayed, AreLines, ReadsKept, Plays, PlaysLines};
 
 use crate::keeping::keep_messages;
+use crate::kept::Kept;
 use crate::printer::Printer;
-use kept_messages::{Kept, KeptReplay, topics_of_kept};
+use crate::replay::KeptReplay;
+use crate::topics::topics_of_kept;
 use mcap_io::Source;
 use mcap_model::{Range, Replayed, Tables, put_in_order, topics_of};
 use mcap_scan::{Reader, ScanRefused, Step};

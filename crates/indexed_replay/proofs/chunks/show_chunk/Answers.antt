@@ -1,7 +1,7 @@
 use Rattle.std.proofs.Common.{◌∙◌, arith}
 use Rattle.rec_index.specs.Parsed.{chunk_index_fields}
 use Rattle.indexed_replay.proofs.Naming.{named_empty, chunk_reason}
-use Rattle.kept_messages.specs.Keeping.{kept_in}
+use Rattle.time_player.specs.Keeping.{kept_in}
 use Rattle.indexed_replay.proofs.chunks.show_chunk.Goals as goal
 
 pub returns-then-index-eq0-2-clause-told : goal.returns-then-index-eq0-2-clause-told

@@ -6,7 +6,7 @@ use Rattle.indexed_replay.specs.Chunks.{spot_of, IsLedAmong}
 use Rattle.indexed_replay.proofs.Naming.{named_none, named_more, zip_next, zip_taken, sum_joined, sum_taken}
 use Rattle.indexed_replay.specs.Reaching.{index_elsewhere}
 use Rattle.indexed_replay.proofs.chunks.show_names.Goals.{then-list-end-via-then-list-end, then-list-end-via-else-list-end+then-list-end-2}
-use Rattle.kept_messages.specs.Keeping.{kept_in}
+use Rattle.time_player.specs.Keeping.{kept_in}
 use Rattle.indexed_replay.proofs.chunks.show_names.Goals as goal
 
 pub names-init : goal.names-init

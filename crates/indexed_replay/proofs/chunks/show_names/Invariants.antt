@@ -3,7 +3,7 @@ use Rattle.mcap_io.specs.Stores.{StoreStays}
 use Rattle.indexed_replay.specs.Steps.{Adds}
 use Rattle.indexed_replay.specs.Lists.{Knows}
 use Rattle.indexed_replay.specs.Chunks.{IsLedAmong, NamesCost}
-use Rattle.kept_messages.specs.Keeping.{kept_in}
+use Rattle.time_player.specs.Keeping.{kept_in}
 use Rattle.indexed_replay.proofs.chunks.show_names.Given as goal
 
 abbrev pub invariant-names : goal.invariant-names

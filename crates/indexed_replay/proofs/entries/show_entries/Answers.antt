@@ -1,7 +1,7 @@
 use Rattle.std.proofs.Common.{rules, ◌+◌, ◌≤◌, sym, ◌∙◌, arith}
 use Rattle.indexed_replay.specs.Steps.{entries_cost}
 use Rattle.indexed_replay.proofs.Adding.{listed_more, listed_skip, cost_next, cost_skip, cost_all}
-use Rattle.kept_messages.specs.Keeping.{kept_in}
+use Rattle.time_player.specs.Keeping.{kept_in}
 use Rattle.indexed_replay.proofs.entries.show_entries.Goals as goal
 
 pub entries-preserved-then-not-is_within : goal.entries-preserved-then-not-is_within

@@ -1,7 +1,7 @@
 use Rattle.std.proofs.Common.{◌≡◌, ℕ, ◌+◌, ◌≤◌, List, length, take, Some}
 use Rattle.mcap_io.specs.Stores.{StoreStays}
 use Rattle.indexed_replay.specs.Steps.{Adds, IsListed, entries_cost}
-use Rattle.kept_messages.specs.Keeping.{kept_in}
+use Rattle.time_player.specs.Keeping.{kept_in}
 use Rattle.indexed_replay.proofs.entries.show_entries.Given as goal
 
 abbrev pub invariant-entries : goal.invariant-entries

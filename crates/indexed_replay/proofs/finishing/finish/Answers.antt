@@ -1,4 +1,4 @@
-use Rattle.kept_messages.specs.Keeping.{kept_in}
+use Rattle.time_player.specs.Keeping.{kept_in}
 use Rattle.indexed_replay.proofs.Ordering.{ordered}
 use Rattle.indexed_replay.proofs.finishing.finish.Goals as goal
 

@@ -4,7 +4,7 @@ use Rattle.rec_index.specs.Parsed.{chunk_index_fields}
 use Rattle.indexed_replay.specs.Gathering.{CostsUpTo}
 use Rattle.indexed_replay.proofs.Gathered.{from_none, from_skip, from_more}
 use Rattle.indexed_replay.proofs.Naming.{zip_next, zip_taken, sum_joined, sum_taken}
-use Rattle.kept_messages.specs.Keeping.{kept_in}
+use Rattle.time_player.specs.Keeping.{kept_in}
 use Rattle.indexed_replay.proofs.gathering.gather.Goals as goal
 
 pub chunks-init : goal.chunks-init

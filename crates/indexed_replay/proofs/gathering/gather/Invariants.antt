@@ -4,7 +4,7 @@ use Rattle.std.specs.List.{AllZip}
 use Rattle.indexed_replay.specs.Steps.{Adds}
 use Rattle.indexed_replay.specs.Lists.{Knows}
 use Rattle.indexed_replay.specs.Gathering.{IsLedFrom, CostsUpTo}
-use Rattle.kept_messages.specs.Keeping.{kept_in}
+use Rattle.time_player.specs.Keeping.{kept_in}
 use Rattle.indexed_replay.proofs.gathering.gather.Given as goal
 
 abbrev pub invariant-chunks : goal.invariant-chunks

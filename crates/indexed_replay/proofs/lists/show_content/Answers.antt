@@ -4,7 +4,7 @@ use Rattle.indexed_replay.specs.Steps.{EntriesShown, entries_cost}
 use Rattle.indexed_replay.specs.Lists.{ContentRefused}
 use Rattle.indexed_replay.proofs.Wanting.{index_once}
 use Rattle.indexed_replay.proofs.Listing.{content_shown, content_none, content_lacks}
-use Rattle.kept_messages.specs.Keeping.{kept_in}
+use Rattle.time_player.specs.Keeping.{kept_in}
 use Rattle.indexed_replay.proofs.lists.show_content.Goals as goal
 
 pub unreachable-requires : goal.unreachable-requires

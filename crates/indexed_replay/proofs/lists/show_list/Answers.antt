@@ -7,7 +7,7 @@ use Rattle.indexed_replay.specs.declared.spots.Request.{Request}
 use Rattle.indexed_replay.specs.Steps.{IndexIs}
 use Rattle.indexed_replay.specs.Lists.{ListRefused}
 use Rattle.indexed_replay.proofs.Listing.{list_shown, lacks_reason, limit_reason, cost_front, cost_content}
-use Rattle.kept_messages.specs.Keeping.{kept_in}
+use Rattle.time_player.specs.Keeping.{kept_in}
 use Rattle.indexed_replay.proofs.lists.show_list.Goals as goal
 
 index_reason : (file : List ℕ) (request : Request) (at : ℕ) (spot : Spot) (why : ReplayRefused) → IndexIs {Y = Global} file spot (Rattle.std.proofs.Common.Err why) → ListRefused file request at spot why

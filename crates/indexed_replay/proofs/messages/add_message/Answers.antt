@@ -1,7 +1,7 @@
 use Rattle.std.proofs.Common.{◌≡◌, ℕ, ◌+◌, ◌-◌, List, [], ◌∷◌, ◌++◌, take, drop, length, ap, subst, ◌∙◌, inl, inr, refl, arith}
 use Rattle.rec_data.specs.Parsed.{message_fields}
 use Rattle.rec_data.specs.Records.{ShowsMessage}
-use Rattle.kept_messages.specs.Keeping.{kept_in, shown_with}
+use Rattle.time_player.specs.Keeping.{kept_in, shown_with}
 use Rattle.indexed_replay.specs.Steps.{LacksRecord}
 use Rattle.indexed_replay.proofs.Adding.{adds_found}
 use Rattle.indexed_replay.proofs.Messaging.{lacks_record, lacks_same, found, front_shown, on_channel}

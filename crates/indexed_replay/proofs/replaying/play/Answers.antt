@@ -2,7 +2,7 @@ use Rattle.std.proofs.Common.{List, sym, subst, ap}
 use Rattle.mcap_model.specs.declared.replay.Shown.{Shown}
 use Rattle.mcap_model.specs.declared.replay.Topic.{Topic}
 use Rattle.mcap_model.specs.Plain.{AreNamed}
-use Rattle.kept_messages.specs.Keeping.{kept_in}
+use Rattle.time_player.specs.Keeping.{kept_in}
 use Rattle.indexed_replay.specs.Finishing.{IsOrdered}
 use Rattle.indexed_replay.proofs.Summed.{knows, loaded_summary}
 use Rattle.indexed_replay.proofs.Playing.{are_indexed, added_led}

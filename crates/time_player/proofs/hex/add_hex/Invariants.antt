@@ -1,6 +1,6 @@
 use Rattle.std.proofs.Common.{◌≡◌, ◌+◌, ◌*◌, ◌≤◌, ◌++◌, length, vec_len, vec_capacity}
 use Rattle.std.specs.List.{flat_map}
-use Rattle.mcap_model.specs.Text.{hex_byte}
+use Rattle.time_player.specs.Text.{hex_byte}
 use Rattle.time_player.proofs.hex.add_hex.Given as goal
 
 abbrev pub invariant-pieces : goal.invariant-pieces

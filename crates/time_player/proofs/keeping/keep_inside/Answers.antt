@@ -1,7 +1,7 @@
 use Rattle.std.proofs.Common.{◌++◌, ◌∷◌, []}
 use Rattle.mcap_model.specs.Plain.{asked_topic}
 use Rattle.mcap_model.specs.Walk.{walk_at, walk_rest, inner_top}
-use Rattle.kept_messages.specs.Keeping.{kept_in}
+use Rattle.time_player.specs.Keeping.{kept_in}
 use Rattle.time_player.proofs.Chosen.{walk_goes_on, keeps_message, keeps_other}
 use Rattle.time_player.proofs.keeping.keep_inside.Goals as goal
 

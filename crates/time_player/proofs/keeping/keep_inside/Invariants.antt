@@ -2,7 +2,7 @@ use Rattle.std.proofs.Common.{List, length}
 use Rattle.mcap_model.specs.Tops.{Top}
 use Rattle.mcap_model.specs.Plain.{asked_topic}
 use Rattle.mcap_model.specs.Walk.{walk_at, walk_rest}
-use Rattle.kept_messages.specs.Keeping.{kept_in}
+use Rattle.time_player.specs.Keeping.{kept_in}
 use Rattle.time_player.proofs.Chosen.{WalkedSoFar, KeepsSoFar}
 use Rattle.time_player.proofs.keeping.keep_inside.Given as goal
 

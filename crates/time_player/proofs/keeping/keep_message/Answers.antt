@@ -4,7 +4,7 @@ use Rattle.mcap_model.specs.Made.{top}
 use Rattle.mcap_model.specs.Scan.{HasTopic}
 use Rattle.mcap_model.specs.Plain.{asked_topic}
 use Rattle.mcap_model.proofs.ShownMessages.{ok_then}
-use Rattle.kept_messages.specs.Keeping.{kept_in, shown_at}
+use Rattle.time_player.specs.Keeping.{kept_in, shown_at}
 use Rattle.time_player.specs.Asking.{Keeps}
 use Rattle.time_player.proofs.Chosen.{read_once, untimely, off_topic, asked_for, message_dropped, message_kept}
 use Rattle.time_player.proofs.keeping.keep_message.Goals as goal

@@ -7,7 +7,7 @@ use Rattle.mcap_model.specs.Made.{top}
 use Rattle.mcap_model.specs.Plain.{asked_topic}
 use Rattle.mcap_model.proofs.ShownMessages.{ok_then}
 use Rattle.mcap_scan.specs.Scanning.{content_of, tables_of}
-use Rattle.kept_messages.specs.Keeping.{kept_in}
+use Rattle.time_player.specs.Keeping.{kept_in}
 use Rattle.time_player.specs.Asking.{Keeps}
 use Rattle.time_player.proofs.Chosen.{chunk_opened, chunk_unread}
 use Rattle.time_player.proofs.keeping.keep_messages.Goals as goal

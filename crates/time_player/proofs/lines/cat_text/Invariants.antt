@@ -1,7 +1,7 @@
 use Rattle.std.proofs.Common.{◌≡◌, List, take}
 use Rattle.mcap_model.specs.Scan.{Seen}
 use Rattle.mcap_model.specs.Showing.{Shows}
-use Rattle.mcap_model.specs.Text.{cat_text}
+use Rattle.time_player.specs.Text.{cat_text}
 use Rattle.time_player.proofs.lines.cat_text.Given as goal
 
 abbrev pub invariant-messages : goal.invariant-messages

@@ -1,7 +1,7 @@
 -- The longest line so far stays the longest, or the next one is.
 use Rattle.std.proofs.Common.{arith}
 use Rattle.mcap_model.proofs.Places.{at_within}
-use Rattle.kept_messages.specs.Lent.{shown_of}
+use Rattle.time_player.specs.Lent.{shown_of}
 use Rattle.time_player.specs.Messages.{messages_in}
 use Rattle.time_player.proofs.Printed.{longest_more}
 use Rattle.time_player.proofs.printer.longest_line.Goals as goal

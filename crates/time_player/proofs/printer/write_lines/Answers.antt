@@ -1,6 +1,6 @@
 -- A message's line is gathered behind the others; what was gathered is written, and nothing else.
 use Rattle.std.proofs.Common.{arith}
-use Rattle.kept_messages.specs.Lent.{shown_of}
+use Rattle.time_player.specs.Lent.{shown_of}
 use Rattle.time_player.specs.Messages.{messages_in}
 use Rattle.time_player.proofs.Printed.{message_on, ready_on, room_on, none_left, same_piece, piece_on, not_silent, printed, printed_part}
 use Rattle.time_player.proofs.printer.write_lines.Goals as goal

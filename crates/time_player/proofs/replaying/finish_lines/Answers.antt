@@ -3,8 +3,8 @@ use Rattle.std.specs.Prelude.{IsPermutation}
 use Rattle.std.specs.Vec.Covariant.{in_vec}
 use Rattle.mcap_model.specs.declared.replay.Shown.{Shown}
 use Rattle.mcap_model.specs.Plain.{InOrder}
-use Rattle.kept_messages.specs.Heads.{shown_in}
-use Rattle.kept_messages.specs.Keeping.{kept_in}
+use Rattle.time_player.specs.Heads.{shown_in}
+use Rattle.time_player.specs.Keeping.{kept_in}
 use Rattle.time_player.proofs.Played.{played}
 use Rattle.time_player.proofs.replaying.finish_lines.Goals as goal
 

@@ -5,7 +5,7 @@ use Rattle.mcap_scan.specs.Scanning.{content_of}
 use Rattle.mcap_scan.proofs.Scanning.{lacks_behind}
 use Rattle.mcap_model.specs.declared.tables.Tables.{Tables}
 use Rattle.mcap_scan.specs.Scanning.{IsGoing}
-use Rattle.kept_messages.specs.Keeping.{kept_in}
+use Rattle.time_player.specs.Keeping.{kept_in}
 use Rattle.time_player.specs.Replaying.{IsTold}
 use Rattle.time_player.proofs.Played.{plays_begin, plays_on, told_at_end}
 use Rattle.time_player.proofs.replaying.read_kept.Goals as goal

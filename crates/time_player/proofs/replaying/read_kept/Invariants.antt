@@ -1,7 +1,7 @@
 use Rattle.std.proofs.Common.{◌-◌, ◌≤◌}
 use Rattle.mcap_model.specs.Plain.{asked_topic}
 use Rattle.mcap_scan.specs.Scanning.{offset_of}
-use Rattle.kept_messages.specs.Keeping.{kept_in}
+use Rattle.time_player.specs.Keeping.{kept_in}
 use Rattle.time_player.proofs.Played.{PlaysSoFar}
 use Rattle.time_player.proofs.replaying.read_kept.Given as goal
 

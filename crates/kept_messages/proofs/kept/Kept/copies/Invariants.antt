@@ -1,6 +1,0 @@
-use Rattle.std.proofs.Common.{◌≡◌, take}
-use Rattle.kept_messages.specs.Keeping.{kept_in}
-use Rattle.kept_messages.proofs.kept.Kept.copies.Given as goal
-
-abbrev pub invariant-messages : goal.invariant-messages
-invariant-messages l = l.shown.items ≡ take l.i (kept_in l.self)

@@ -1,6 +1,0 @@
-use Rattle.std.proofs.Common.{map, take}
-use Rattle.kept_messages.specs.Heads.{shown_in, Represents}
-use Rattle.kept_messages.proofs.kept.Kept.one_of_each_channel.Given as goal
-
-abbrev pub invariant-messages : goal.invariant-messages
-invariant-messages l = Represents (map (shown_in l.self.payloads.items) (take l.i l.self.heads.items)) l.known l.few.items

@@ -1,4 +1,0 @@
-pub mod Heads
-pub mod Keeping
-pub mod Lent
-pub mod Reading
