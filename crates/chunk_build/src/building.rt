@@ -25,7 +25,7 @@ const FIRST_ROOM: u64 = 1_048_576;
 
 /// The open chunk: the records' bytes behind room for the head, a vector whose room a later chunk may take, a row for each
 /// channel, the size of the Message Indexes, the least and the greatest log time, and the numbers of messages and of declarations.
-#[derive(Debug, Drop)]
+#[derive(Drop)]
 pub(crate) struct Building {
     pub(crate) bytes: Vec<u8>,
     pub(crate) spare: Vec<u8>,
@@ -38,7 +38,7 @@ pub(crate) struct Building {
 }
 
 /// The channel and the log time of a message.
-#[derive(Clone, Copy, Debug, PartialEq, Eq)]
+#[derive(Clone, Copy)]
 pub struct Mark {
     pub channel: u16,
     pub time: u64,
@@ -46,14 +46,14 @@ pub struct Mark {
 
 /// What is ready for a record, so that it is put with no refusal: the place of its channel's row, and what closes the chunk
 /// behind it, where it closes.
-#[derive(Debug, Drop)]
+#[derive(Drop)]
 pub(crate) struct Ready {
     pub(crate) row: usize,
     pub(crate) closing: Option<Closing>,
 }
 
 /// Room for a chunk's head, and for the places of its Message Indexes.
-#[derive(Debug, Drop)]
+#[derive(Drop)]
 pub(crate) struct Closing {
     pub(crate) head: Vec<u8>,
     pub(crate) parts: Vec<IndexPart>,

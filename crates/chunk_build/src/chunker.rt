@@ -21,7 +21,7 @@ use std::marker::Model;
 /// many bytes. Its Chunk isn't compressed; a Message Index stands behind it for each channel with a message, in ascending channel
 /// id. Contracts see the size and what the open chunk holds: the chunker stands for each history (`StandsFor`) of which these are
 /// the records that wait for their block.
-#[derive(Debug, Drop)]
+#[derive(Drop)]
 pub struct Chunker {
     alloc: Global,
     size: u64,

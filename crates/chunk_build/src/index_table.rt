@@ -11,14 +11,14 @@ use std::alloc::Global;
 use std::marker::Model;
 
 /// An entry of a Message Index: the log time of a message in nanoseconds, and where it starts in the chunk's records.
-#[derive(Clone, Copy, Debug, PartialEq, Eq)]
+#[derive(Clone, Copy, PartialEq, Eq)]
 pub struct TimeAt {
     pub time: u64,
     pub offset: u64,
 }
 
 /// The entries of a Message Index in ascending order of time and offset. Contracts see the list of them.
-#[derive(Debug, Drop)]
+#[derive(Drop)]
 pub struct IndexTable {
     entries: Vec<TimeAt>,
 }

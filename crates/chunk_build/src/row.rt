@@ -11,7 +11,7 @@ use rec_index::MESSAGE_INDEX;
 use std::alloc::Global;
 
 /// A channel and its entries, each a log time and an offset among the records, in eight bytes each.
-#[derive(Debug, Drop)]
+#[derive(Drop)]
 pub(crate) struct Row {
     pub(crate) channel: u16,
     pub(crate) entries: Vec<u8>,

@@ -2,7 +2,7 @@
 use mcap_model::Stop;
 
 /// Records may come; or the writer stopped; or the file was ended.
-#[derive(Clone, Copy, Debug, PartialEq, Eq)]
+#[derive(Clone, Copy)]
 pub enum Phase {
     Going,
     Stopped { stop: Stop },

@@ -17,7 +17,7 @@ use mcap_model::Stop;
 use record_cache::Cache;
 
 /// How many blocks and bytes a tape took in whole appends.
-#[derive(Clone, Copy, Debug, PartialEq, Eq)]
+#[derive(Clone, Copy)]
 pub struct Written {
     pub blocks: u64,
     pub bytes: u64,

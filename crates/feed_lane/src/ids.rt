@@ -7,7 +7,7 @@ use std::alloc::Global;
 use std::marker::Model;
 
 /// For each id that a channel of a feed may have, the id that its declaration got, or 0 while it has none.
-#[derive(Debug, Drop)]
+#[derive(Drop)]
 pub(crate) struct Ids {
     given: Vec<u16>,
 }

@@ -19,7 +19,7 @@ use std::alloc::Global;
 
 /// What a lane has done: the ids that the feed's channels got, what became of each message, and how many records were passed
 /// over.
-#[derive(Debug, Drop)]
+#[derive(Drop)]
 pub(crate) struct Lane {
     pub ids: Ids,
     pub accepted: Vec<Accepted>,
@@ -29,7 +29,7 @@ pub(crate) struct Lane {
 }
 
 /// Why a lane is over before its feed is.
-#[derive(Clone, Copy, Debug)]
+#[derive(Clone, Copy)]
 pub(crate) enum Over {
     /// There is no room in its lists.
     Memory,

@@ -3,7 +3,7 @@ use mcap_model::Stop;
 use mcap_wire::Text;
 
 /// A message that was recorded: its number in the feed, and its place among the recorded records.
-#[derive(Clone, Copy, Debug, PartialEq, Eq)]
+#[derive(Clone, Copy)]
 pub struct Accepted {
     pub index: u64,
     pub place: u64,
@@ -11,7 +11,7 @@ pub struct Accepted {
 
 /// A channel that was declared for a message: the message's number in the feed, the id that the channel got, and the
 /// places of the `count` records that the declaration added, from `first`.
-#[derive(Clone, Copy, Debug, PartialEq, Eq)]
+#[derive(Clone, Copy)]
 pub struct DeclaredAt {
     pub index: u64,
     pub channel: u16,
@@ -41,14 +41,14 @@ pub enum Cause {
 }
 
 /// A message that was not recorded: its number in the feed, and why.
-#[derive(Clone, Copy, Debug, PartialEq, Eq)]
+#[derive(Clone, Copy, PartialEq, Eq)]
 pub struct Refused {
     pub index: u64,
     pub cause: Cause,
 }
 
 /// How the reading of a feed ended. Offsets count from the feed's first byte.
-#[derive(Debug, Drop)]
+#[derive(Drop)]
 pub enum FeedEnd {
     /// The Data End was read.
     Done,
@@ -67,7 +67,7 @@ pub enum FeedEnd {
 }
 
 /// One feed's part of a recording.
-#[derive(Debug, Drop)]
+#[derive(Drop)]
 pub struct FeedReport {
     pub accepted: Vec<Accepted>,
     pub declared: Vec<DeclaredAt>,

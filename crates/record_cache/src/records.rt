@@ -7,7 +7,7 @@ use mcap_wire::Memory;
 use rec_data::{Channel, Message, Schema};
 
 /// A record of the data section, borrowed.
-#[derive(Debug, Drop)]
+#[derive(Drop)]
 pub enum RecRef<'a> {
     Schema(Schema<'a>),
     Channel(Channel<'a>),

@@ -46,7 +46,7 @@ impl Model for Desk {
 }
 
 // What is seen of a declaration before ids are given.
-#[derive(Clone, Copy, Debug)]
+#[derive(Clone, Copy)]
 enum Sight {
     Refused(DeclareRefused),
     Known(u16),

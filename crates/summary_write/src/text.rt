@@ -11,7 +11,7 @@ use rec_index::{Statistics, SummaryOffset};
 
 /// What Statistics tell of a file: counts, the least and the greatest log time in nanoseconds, and the messages of each
 /// channel.
-#[derive(Clone, Copy, Debug)]
+#[derive(Clone, Copy)]
 pub(crate) struct Numbers<'a> {
     pub(crate) messages: u64,
     pub(crate) schemas: usize,

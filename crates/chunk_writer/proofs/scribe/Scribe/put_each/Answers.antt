@@ -3,7 +3,7 @@ use Rattle.std.proofs.Common.{refl, arith}
 use Rattle.std.proofs.lemmas.Grind.{common_steps}
 use Rattle.record_cache.proofs.Walking.{next_there}
 use Rattle.chunk_writer.specs.Scribes.{seen_before}
-use Rattle.chunk_writer.proofs.Taking.{step, starts, all_grows, all_front, stopped_grows}
+use Rattle.chunk_writer.proofs.Taking.{step, starts, all_grows, all_front, stopped_grows, keeps_more}
 use Rattle.chunk_writer.proofs.scribe.Scribe.put_each.Goals as goal
 
 pub records-smaller : goal.records-smaller
@@ -46,4 +46,22 @@ pub returns-in-Err-clause-front : goal.returns-in-Err-clause-front
 returns-in-Err-clause-front g c = grind (arith, common_steps)
 
 pub returns-in-Err-clause-keeps : goal.returns-in-Err-clause-keeps
-returns-in-Err-clause-keeps g c = grind (arith, common_steps)
+returns-in-Err-clause-keeps g c = keeps_more _ _ _ c.records.invariant.0.keeps c.in-Err.ensures.keeps
+
+pub returns-in-Err-clause-stopped : goal.returns-in-Err-clause-stopped
+returns-in-Err-clause-stopped g c = c.in-Err.ensures.stopped
+
+pub returns-clause-counted : goal.returns-clause-counted
+returns-clause-counted g c = c.records.invariant.0.counted
+
+pub returns-clause-keeps : goal.returns-clause-keeps
+returns-clause-keeps g c = c.records.invariant.0.keeps
+
+pub returns-clause-goes_on : goal.returns-clause-goes_on
+returns-clause-goes_on g c = c.records.invariant.0.going
+
+pub returns-clause-within : goal.returns-clause-within
+returns-clause-within g c = c.records.invariant.0.holds
+
+pub returns-clause-cause : goal.returns-clause-cause
+returns-clause-cause g c = c.records.invariant.0.still

@@ -1,11 +1,59 @@
-use Rattle.std.proofs.Common.{sym, ap, ◌∙◌}
+use Rattle.std.proofs.Common.{[], Some, refl, sym, ap, ◌∙◌, append-nil}
 use Rattle.chunk_writer.proofs.Taking.{front_so, stopped_on}
 use Rattle.chunk_writer.proofs.scribe.Scribe.take.Goals as goal
+
+pub returns-in-Going-clause-grows : goal.returns-in-Going-clause-grows
+returns-in-Going-clause-grows g c = c.put_all-end.ensures.grows
 
 pub returns-in-Going-clause-front : goal.returns-in-Going-clause-front
 returns-in-Going-clause-front g c = λ going.
     front_so g.L.LiveStore.state _ c.args.self.now c.args.full.records _ _ _ _ _ (ap (λ v. v.items) c.taken.ensures.entries) c.taken.ensures.end c.put_all-end.ensures.front
 
+pub returns-in-Going-clause-counted : goal.returns-in-Going-clause-counted
+returns-in-Going-clause-counted g c = rw c.taken.ensures.entries c.put_all-end.ensures.counted
+
+pub returns-in-Going-clause-keeps : goal.returns-in-Going-clause-keeps
+returns-in-Going-clause-keeps g c = c.put_all-end.ensures.keeps
+
+pub returns-in-Going-clause-cleared : goal.returns-in-Going-clause-cleared
+returns-in-Going-clause-cleared g c = c.taken.ensures.cleared
+
+pub returns-in-Going-clause-within : goal.returns-in-Going-clause-within
+returns-in-Going-clause-within g c = rw c.taken.ensures.end c.put_all-end.ensures.within
+
+pub returns-in-Going-clause-stopped : goal.returns-in-Going-clause-stopped
+returns-in-Going-clause-stopped g c = rw c.taken.ensures.end c.put_all-end.ensures.stopped
+
+pub returns-in-Going-clause-kept : goal.returns-in-Going-clause-kept
+returns-in-Going-clause-kept g c = λ stop stopped. cc
+
+pub returns-in-Going-clause-cause : goal.returns-in-Going-clause-cause
+returns-in-Going-clause-cause g c = λ going. rw c.taken.ensures.end c.put_all-end.ensures.cause
+
 pub returns-in-Stopped-clause-grows : goal.returns-in-Stopped-clause-grows
 returns-in-Stopped-clause-grows g c = λ options opened history stands.
     stopped_on options opened.held _ history c.args.full.records c.args.self.now.plan c.in-Stopped.stop (sym c.phase.ensures ∙ c.in-Stopped.is) stands
+
+pub returns-in-Stopped-clause-front : goal.returns-in-Stopped-clause-front
+returns-in-Stopped-clause-front g c = λ going. cc
+
+pub returns-in-Stopped-clause-keeps : goal.returns-in-Stopped-clause-keeps
+returns-in-Stopped-clause-keeps g c = λ before told. ([], told ∙ ap Some (sym (append-nil before)))
+
+pub returns-in-Stopped-clause-cleared : goal.returns-in-Stopped-clause-cleared
+returns-in-Stopped-clause-cleared g c = c.taken-in-Stopped.ensures.cleared
+
+pub returns-in-Stopped-clause-goes_on : goal.returns-in-Stopped-clause-goes_on
+returns-in-Stopped-clause-goes_on g c = rw c.taken-in-Stopped.ensures.end tt
+
+pub returns-in-Stopped-clause-within : goal.returns-in-Stopped-clause-within
+returns-in-Stopped-clause-within g c = rw c.taken-in-Stopped.ensures.end tt
+
+pub returns-in-Stopped-clause-stopped : goal.returns-in-Stopped-clause-stopped
+returns-in-Stopped-clause-stopped g c = rw c.taken-in-Stopped.ensures.end (sym c.phase.ensures ∙ c.in-Stopped.is)
+
+pub returns-in-Stopped-clause-cause : goal.returns-in-Stopped-clause-cause
+returns-in-Stopped-clause-cause g c = λ going. cc
+
+pub returns-in-Stopped-clause-kept : goal.returns-in-Stopped-clause-kept
+returns-in-Stopped-clause-kept g c = λ other stopped. (cc, cc, refl)
