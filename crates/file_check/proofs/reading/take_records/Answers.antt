@@ -1,18 +1,13 @@
-use Rattle.std.proofs.Common.{arith, ◌≡◌, ◌∷◌, ◌++◌, [], ℕ, List, Err, sym, subst}
-use Rattle.std.proofs.lemmas.Grind.{common_steps}
-use Rattle.mcap_model.specs.Tops.{Top, flat}
-use Rattle.mcap_model.specs.Declarations.{TablesOf}
+use Rattle.std.proofs.Common.{◌≡◌, ℕ, ◌∷◌, ◌++◌, [], List, sym, subst}
+use Rattle.mcap_model.specs.Tops.{Top}
 use Rattle.mcap_model.specs.Made.{top}
 use Rattle.mcap_model.specs.Kept.{reading_limits, Fits}
 use Rattle.mcap_model.proofs.Places.{each_at}
 use Rattle.mcap_scan.specs.Scanning.{Stands}
 use Rattle.mcap_scan.proofs.Scanning.{good_stand, lacks_behind}
-use Rattle.mcap_scan.proofs.Refused.{nothing_read, refusal_stands}
 use Rattle.index_check.proofs.Spotted.{spots_below}
-use Rattle.file_check.specs.declared.reading.SectionRefused.{SectionRefused}
-use Rattle.file_check.specs.Reading.{Reads}
-use Rattle.file_check.proofs.ReadOut.{read_so_far, not_taken, lacks_at_end, read_to_end}
-use Rattle.file_check.proofs.reading.read_section.Goals as goal
+use Rattle.file_check.proofs.ReadOut.{read_so_far, not_taken}
+use Rattle.file_check.proofs.reading.take_records.Goals as goal
 
 pub take-requires-clause-chunks : goal.take-requires-clause-chunks
 take-requires-clause-chunks g c =
@@ -44,10 +39,10 @@ records-preserved g c =
     let here : Stands reader before now (tops ++ t ∷ []) = subst (λ (content : List ℕ). Stands reader before now (tops ++ top c.in-Record.op content ∷ [])) (sym c.content.ensures) s.stands in
     let fits = each_at (Fits reading_limits) tops t [] (good_stand reader before now (tops ++ t ∷ []) s.going here) in
     let m = c.in-Record.ensures.moves in
-    ((tops ++ t ∷ [], here, c.in-Ok-take.ensures tops i.0.2 fits s.place), m.1, g.S.Source.stays_on _ _ _ i.2 c.in-Record.ensures.stays)
+    ((tops ++ t ∷ [], here, c.in-Ok.ensures tops i.0.2 fits s.place), m.1, g.S.Source.stays_on _ _ _ i.2 c.in-Record.ensures.stays)
 
-pub returns-in-Err-take-clause-reads : goal.returns-in-Err-take-clause-reads
-returns-in-Err-take-clause-reads g c =
+pub returns-in-Err-clause-takes : goal.returns-in-Err-clause-takes
+returns-in-Err-clause-takes g c =
     let i = c.records.invariant in
     let before = g.S.Source.state c.args.source.now in
     let now = g.S.Source.state c.advance.new.source in
@@ -57,54 +52,28 @@ returns-in-Err-take-clause-reads g c =
     let t : Top = top c.in-Record.op c.content.result.now in
     let here : Stands reader before now (tops ++ t ∷ []) = subst (λ (content : List ℕ). Stands reader before now (tops ++ top c.in-Record.op content ∷ [])) (sym c.content.ensures) s.stands in
     let fits = each_at (Fits reading_limits) tops t [] (good_stand reader before now (tops ++ t ∷ []) s.going here) in
-    subst (λ (why : SectionRefused). Reads before now (Err why)) (sym c.refused-in-Err-take.ensures)
-    (not_taken before now (tops ++ t ∷ []) c.take.new.self c.in-Err-take.why (c.in-Err-take.ensures tops i.0.2 fits s.place)
-    (lacks_behind reader before now (tops ++ t ∷ []) s.going here) (read_so_far reader before now tops t s.going here))
+    not_taken before now (tops ++ t ∷ []) c.take.new.self c.in-Err.why (c.in-Err.ensures tops i.0.2 fits s.place)
+    (lacks_behind reader before now (tops ++ t ∷ []) s.going here) (read_so_far reader before now tops t s.going here)
 
-pub returns-in-Err-take-clause-stays : goal.returns-in-Err-take-clause-stays
-returns-in-Err-take-clause-stays g c = g.S.Source.stays_on _ _ _ c.records.invariant.2 c.in-Record.ensures.stays
+pub returns-in-Err-clause-stays : goal.returns-in-Err-clause-stays
+returns-in-Err-clause-stays g c = g.S.Source.stays_on _ _ _ c.records.invariant.2 c.in-Record.ensures.stays
 
-pub returns-in-Err-finish-clause-reads : goal.returns-in-Err-finish-clause-reads
-returns-in-Err-finish-clause-reads g c =
+pub returns-in-End-clause-takes : goal.returns-in-End-clause-takes
+returns-in-End-clause-takes g c =
     let i = c.records.invariant in
-    let before = g.S.Source.state c.args.source.now in
-    let now = g.S.Source.state c.advance.new.source in
-    let s = c.in-End.ensures.steps before i.0.0 i.0.1 in
-    subst (λ (why : SectionRefused). Reads before now (Err why)) (sym c.refused-in-Err-finish.ensures)
-    (i.0.0, lacks_at_end c.advance.new.self.tables c.in-End.offset before now i.0.0 s.is)
+    let s = c.in-End.ensures.steps (g.S.Source.state c.args.source.now) i.0.0 i.0.1 in
+    (i.0.0, record { is = s.is; gathered = i.0.2 })
 
-pub returns-in-Some-clause-stays : goal.returns-in-Some-clause-stays
-returns-in-Some-clause-stays g c = g.S.Source.stays_on _ _ _ c.records.invariant.2 c.in-Refused.ensures.stays
+pub returns-in-End-clause-stays : goal.returns-in-End-clause-stays
+returns-in-End-clause-stays g c = g.S.Source.stays_on _ _ _ c.records.invariant.2 c.in-End.ensures.stays
 
-pub returns-in-Ok-finish-clause-reads : goal.returns-in-Ok-finish-clause-reads
-returns-in-Ok-finish-clause-reads g c =
+pub returns-in-Refused-clause-takes : goal.returns-in-Refused-clause-takes
+returns-in-Refused-clause-takes g c =
     let i = c.records.invariant in
-    let before = g.S.Source.state c.args.source.now in
-    let now = g.S.Source.state c.advance.new.source in
-    let tops = i.0.0 in
-    let reader = c.advance.new.self in
-    let s = c.in-End.ensures.steps before tops i.0.1 in
-    let is = s.is in (
-      tops,
-      record {
-        are_read = read_to_end reader.tables c.in-End.offset before now tops is;
-        ended = is.ended;
-        v9 = i.0.2.v9;
-        kept = c.in-Ok-finish.ensures tops i.0.2 is.good is.ended (subst (TablesOf (flat tops)) (sym c.into_tables.ensures) is.tables_are) is.place;
-      },
-    )
+    (i.0.0, c.in-Refused.ensures.steps (g.S.Source.state c.args.source.now) i.0.0 i.0.1)
 
-pub returns-in-Some-clause-reads : goal.returns-in-Some-clause-reads
-returns-in-Some-clause-reads g c =
-    let i = c.records.invariant in
-    let before = g.S.Source.state c.args.source.now in
-    let now = g.S.Source.state c.advance.new.source in
-    (i.0.0, refusal_stands c.advance.new.self before now i.0.0 c.in-Some.why (c.in-Refused.ensures.steps before i.0.0 i.0.1) c.in-Some.ensures)
-
-pub returns-in-Err-clause-reads : goal.returns-in-Err-clause-reads
-returns-in-Err-clause-reads g c =
-    let before = g.S.Source.state c.args.source.now in
-    subst (λ (why : SectionRefused). Reads before before (Err why)) (sym c.refused.ensures) ([], nothing_read before)
+pub returns-in-Refused-clause-stays : goal.returns-in-Refused-clause-stays
+returns-in-Refused-clause-stays g c = g.S.Source.stays_on _ _ _ c.records.invariant.2 c.in-Refused.ensures.stays
 
 pub records-init : goal.records-init
-records-init g c = grind (arith, common_steps)
+records-init g c = (([], c.requires.stands, c.requires.empty), c.requires.begins, g.S.Source.stays_so _)
