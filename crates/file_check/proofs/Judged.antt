@@ -1,5 +1,6 @@
 -- What a file comes to whose records behind the data section were judged.
 use Rattle.std.proofs.Common.{◌≡◌, ℕ, ◌-◌, ◌≤◌, Bool, true, false, List, ◌∷◌, ◌++◌, Result, length, take, drop, Ok, Err, refl, sym, ap, subst, inr, ◌∙◌, append_assoc, arith}
+use Rattle.std.specs.Prelude.{IfOk, IfErr}
 use Rattle.std.proofs.lemmas.Bool.{both_ways}
 use Rattle.std.proofs.lemmas.List.{take_at}
 use Rattle.mcap_wire.specs.Layout.{magic}
@@ -10,7 +11,8 @@ use Rattle.mcap_model.proofs.Flaws.{left_size, whole_once}
 use Rattle.index_check.specs.declared.section.Section.{Section}
 use Rattle.summary_check.specs.declared.refusals.SummaryRefused.{SummaryRefused}
 use Rattle.summary_check.specs.declared.refusals.SummaryRefused.TheVariants as summaries
-use Rattle.summary_check.specs.Files.{file_of}
+use Rattle.summary_check.specs.Files.{file_of, IsRefused}
+use Rattle.summary_check.specs.Judging.{IsJudged}
 use Rattle.summary_check.specs.Sectioned.{IsSectioned}
 use Rattle.file_check.specs.Checking.{Counted, EndsAtMagic, FrontIs, Judges, told_by, Checked}
 use Rattle.file_check.proofs.Halted.{left_there, stand_whole}
@@ -49,6 +51,11 @@ module _ (file : List ℕ) (end : ℕ) (section : Section) (ended : EndsAtMagic 
       let kept = front.kept in
       let behind = kept.behind in
       omega (arith, left_size (take end file) front.tops front.rest front.stand, inner_size file end ended, behind)
+
+pub judges : (section : Section) (bytes : List ℕ) (judged : Result Bool SummaryRefused) → IfOk judged (λ indexed. (tops : List Top) → IsSectioned tops section → IsJudged tops bytes indexed)
+    → IfErr judged (λ why. (tops : List Top) → IsSectioned tops section → IsRefused (file_of tops bytes) why) → (tops : List Top) → IsSectioned tops section → Judges tops bytes judged
+judges section bytes (Ok indexed) ok err = ok
+judges section bytes (Err why) ok err = err
 
 -- the numbers of a data section are those of the file
 counted_more : (tops more : List Top) (c : Counts) → Counted tops c → Counted (tops ++ more) c

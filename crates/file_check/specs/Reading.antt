@@ -1,5 +1,5 @@
 -- What the reading of a data section comes to.
-use Rattle.std.specs.Prelude.{◌≡◌, ℕ, List, Result, Ok, Err}
+use Rattle.std.specs.Prelude.{◌≡◌, ℕ, List, Option, Some, None, Result, Ok, Err}
 use Rattle.mcap_io.specs.Outside.{SourceState}
 use Rattle.mcap_model.specs.Tops.{Top}
 use Rattle.mcap_model.specs.Rules.{HasDataEnd}
@@ -7,10 +7,14 @@ use Rattle.mcap_model.specs.Kept.{reading_limits, Good}
 use Rattle.mcap_model.specs.Whole.{V9}
 use Rattle.mcap_model.specs.Valid.{Keeps}
 use Rattle.mcap_scan.specs.Sources.{ReadTo}
-use Rattle.mcap_scan.specs.Scanning.{RefusalStands}
+use Rattle.mcap_scan.specs.Scanning.{RefusalStands, Refuses, IsEnded}
+use Rattle.mcap_scan.specs.declared.reader.Reader.{Reader}
 use Rattle.mcap_scan.specs.declared.answers.ScanRefused.TheVariants as scans
 use Rattle.index_check.specs.declared.section.Section.{Section}
 use Rattle.index_check.specs.Section.{SectionOf}
+use Rattle.file_check.specs.Gathering.{GatheredOf, IsDataEnd}
+use Rattle.file_check.specs.declared.gathering.Gathering.{Gathering}
+use Rattle.file_check.specs.declared.gathering.DataEnd.{DataEnd}
 use Rattle.file_check.specs.declared.last_chunk.TakeRefused.{TakeRefused}
 use Rattle.file_check.specs.declared.last_chunk.TakeRefused.TheVariants as takings
 use Rattle.file_check.specs.declared.reading.SectionRefused.{SectionRefused}
@@ -44,3 +48,24 @@ abbrev pub Reads : SourceState → SourceState → Result Section SectionRefused
 Reads before now (Ok section) = (tops : List Top) × SectionIsRead before now tops section
 Reads before now (Err (refusals.Scan why)) = (tops : List Top) × RefusalStands why before now tops
 Reads before now (Err (refusals.Index offset)) = (tops : List Top) × IndexIsWrong before now tops offset
+
+-- the records up to and with the Data End were taken, and nothing behind them was read
+pub record IsTaken (reader : Reader) (before now : SourceState) (g : Gathering) (tops : List Top) (behind : ℕ) : Type 0 where
+  pub is : IsEnded reader.tables behind before now tops
+  pub gathered : GatheredOf tops g
+
+abbrev pub Takes : SourceState → SourceState → Reader → Gathering → Result (Option ℕ) TakeRefused → Type 0
+Takes before now reader g (Ok (Some behind)) = (tops : List Top) × IsTaken reader before now g tops behind
+Takes before now reader g (Ok None) = (tops : List Top) × Refuses reader before now tops
+Takes before now reader g (Err why) = Reads before now (Err (refused_as why))
+
+-- the same, where they were counted
+pub record IsCounted (before now : SourceState) (g : Gathering) (tops : List Top) (end : DataEnd) : Type 0 where
+  pub are_read : AreRead before now tops
+  pub ended : HasDataEnd tops
+  pub gathered : GatheredOf tops g
+  pub known : IsDataEnd tops end
+
+abbrev pub ReadsOn : SourceState → SourceState → Gathering → Result DataEnd SectionRefused → Type 0
+ReadsOn before now g (Ok end) = (tops : List Top) × IsCounted before now g tops end
+ReadsOn before now g (Err why) = Reads before now (Err why)

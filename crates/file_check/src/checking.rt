@@ -1,11 +1,10 @@
 //! The check of a file, part by part.
-ghost use Rattle.std.specs.Prelude.{◌≡◌, ◌≤◌, ◌<◌, ◌+◌, ◌^◌, ℕ, List, Some, Err, length, take, drop, IfOk, IfErr};
+ghost use Rattle.std.specs.Prelude.{◌≡◌, ◌≤◌, ◌<◌, ◌+◌, ◌-◌, ◌^◌, ℕ, List, Some, Err, length, take, drop, IfOk, IfErr};
 ghost use Rattle.mcap_io.specs.Stores.{StoreStays};
-ghost use Rattle.summary_check.specs.Sectioned.{IsSectioned};
 ghost use Rattle.file_check.specs.declared.reading.SectionRefused.TheVariants as sections;
 ghost use Rattle.mcap_model.specs.Tops.{Top};
 ghost use Rattle.index_check.specs.Section.{SectionOf};
-ghost use Rattle.file_check.specs.Checking.{Counted, CheckCause, SectionReads, TellsRefused, RefusedCause, TellsJudged, TellsFile, IsUnchecked, told_by, Judges};
+ghost use Rattle.file_check.specs.Checking.{Counted, CheckCause, SectionReads, TellsRefused, RefusedCause, TellsJudged, TellsFile, IsUnchecked, told_by};
 
 use crate::ends::tell_flaw;
 use crate::reading::{SectionRefused, read_section};
@@ -86,21 +85,24 @@ fn counts_of(section: &Section) -> Counts
     }
 }
 
-// The bytes of a store from there on, as many.
+// The bytes of a store from there on, up to that end.
 fn read_rest<T: Store>(
     alloc: Global,
     store: &mut T,
     at: u64,
-    len: u64,
+    end: u64,
 ) -> Result<Vec<u8>, CheckRefused>
-    requires { at + len ≤ (T.state store.old).known }
-    ensures size { IfOk result (λ part. length part.items ≡ len) }
-    ensures gives { IfOk result (λ part. (file : List ℕ) → (T.state store.old).bytes ≡ Some file → part.items ≡ take len (drop at file)) }
+    requires { end ≤ (T.state store.old).known }
+    ensures size { IfOk result (λ part. at + length part.items ≡ end) }
+    ensures gives { IfOk result (λ part. (file : List ℕ) → (T.state store.old).bytes ≡ Some file → part.items ≡ take (end - at) (drop at file)) }
     ensures unchecked { IfErr result (λ why. (file : List ℕ) → IsUnchecked file why) }
     ensures cause { CheckCause (T.state store.old).faults (T.state store.new).faults result }
     ensures keeps { StoreStays (T.state store.old) (T.state store.new) }
 {
-    match read_part(alloc, store, at, len) {
+    if at > end {
+        return Err(CheckRefused::Memory);
+    }
+    match read_part(alloc, store, at, end - at) {
         Ok(part) => return Ok(part),
         Err(ReadRefused::Failed) => {
             return Err(CheckRefused::Fault {
@@ -127,17 +129,6 @@ fn tell(judged: Result<bool, SummaryRefused>, counts: Counts) -> Result<Verdict,
     }
 }
 
-// Judges the bytes between a data section and the last magic.
-fn judge(alloc: Global, section: Section, rest: &[u8]) -> Result<bool, SummaryRefused>
-    requires { section.behind + length rest.now + 8 < 2 ^ 64 }
-    ensures { (tops : List Top) → IsSectioned tops section → Judges tops rest.now result }
-{
-    match judge_summary(alloc, section, rest) {
-        Ok(indexed) => return Ok(indexed),
-        Err(why) => return Err(why),
-    }
-}
-
 // Judges what stands behind a data section, up to that end.
 fn judge_behind<T: Store>(
     alloc: Global,
@@ -151,17 +142,11 @@ fn judge_behind<T: Store>(
     ensures cause { CheckCause (T.state store.old).faults (T.state store.new).faults result }
     ensures keeps { StoreStays (T.state store.old) (T.state store.new) }
 {
-    let at = section.behind;
-    if at > end {
-        return Err(CheckRefused::Memory);
-    }
-    let rest = match read_rest(alloc, store, at, end - at) {
-        Ok(rest) => rest,
-        Err(why) => return Err(why),
-    };
     let counts = counts_of(&section);
-    let judged = judge(alloc, section, &rest);
-    tell(judged, counts)
+    match read_rest(alloc, store, section.behind, end) {
+        Ok(rest) => return tell(judge_summary(alloc, section, &rest), counts),
+        Err(why) => return Err(why),
+    }
 }
 
 /// Checks the records of a store, whose last magic begins at that end.

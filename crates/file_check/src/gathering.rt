@@ -1,15 +1,14 @@
 //! What is kept of the records of a data section so far.
 ghost use Rattle.std.specs.Prelude.{◌≡◌, ◌<◌, ◌∷◌, ◌++◌, [], List, IfOk};
 ghost use Rattle.mcap_model.specs.Places.{Each};
-ghost use Rattle.mcap_model.specs.Tops.{Top, flat, offset_behind};
+ghost use Rattle.mcap_model.specs.Tops.{Top, offset_behind};
 ghost use Rattle.mcap_model.specs.Rules.{HasDataEnd};
 ghost use Rattle.mcap_model.specs.Kept.{reading_limits, Fits, Good};
-ghost use Rattle.mcap_model.specs.Declarations.{TablesOf};
 ghost use Rattle.mcap_model.specs.Whole.{IsSection};
 ghost use Rattle.mcap_model.specs.Made.{top};
 ghost use Rattle.index_check.specs.Section.{SectionOf};
 ghost use Rattle.index_check.specs.Tally.{TallyOf};
-ghost use Rattle.file_check.specs.Gathering.{GatheredOf, RecordGathered};
+ghost use Rattle.file_check.specs.Gathering.{GatheredOf, RecordGathered, IsDataEnd};
 
 use crate::indexed_records::IndexedRecords;
 use crate::last_chunk::{LastChunk, TakeRefused};
@@ -28,6 +27,14 @@ pub(crate) struct Gathering {
     indexed: IndexedRecords,
     last: LastChunk,
     has_messages: bool,
+}
+
+/// What is known at a Data End: the declarations, what Statistics count, and the offset behind it.
+#[derive(Drop)]
+pub(crate) struct DataEnd {
+    pub tables: Tables,
+    pub tally: Tally,
+    pub behind: u64,
 }
 
 impl Gathering {
@@ -73,8 +80,8 @@ impl Gathering {
         return Ok(());
     }
 
-    // What Statistics count of the section.
-    fn tally(&self, alloc: Global) -> Result<Tally, Memory>
+    /// What Statistics count of the section.
+    pub(crate) fn tally(&self, alloc: Global) -> Result<Tally, Memory>
         ensures { IfOk result (λ tally. (tops section : List Top) → GatheredOf tops self.now → IsSection tops section → Good reading_limits tops → TallyOf tops section tally) }
     {
         let counts = match self.counts.by_channel.list(alloc) {
@@ -103,19 +110,15 @@ impl Gathering {
         });
     }
 
-    /// What is kept of the whole section, where the Data End was taken and these are the declarations and the offset behind it.
-    pub(crate) fn finish(
-        self,
-        alloc: Global,
-        tables: Tables,
-        behind: u64,
-    ) -> Result<Section, Memory>
-        ensures { IfOk result (λ section. (tops : List Top) → GatheredOf tops self → Good reading_limits tops → HasDataEnd tops → TablesOf (flat tops) tables → behind ≡ offset_behind tops → SectionOf tops section) }
+    /// What is kept of the whole section, where the Data End was taken and this is known there.
+    pub(crate) fn finish(self, end: DataEnd) -> Section
+        ensures { (tops : List Top) → GatheredOf tops self → Good reading_limits tops → HasDataEnd tops → IsDataEnd tops end → SectionOf tops result }
     {
-        let tally = match self.tally(alloc) {
-            Ok(tally) => tally,
-            Err(memory) => return Err(memory),
-        };
+        let DataEnd {
+            tables,
+            tally,
+            behind,
+        } = end;
         let Gathering {
             counts,
             indexed,
@@ -136,7 +139,7 @@ impl Gathering {
             attachments,
             metadata,
         } = indexed;
-        return Ok(Section {
+        Section {
             tables,
             chunks,
             attachments,
@@ -146,6 +149,6 @@ impl Gathering {
             channels,
             has_messages,
             behind,
-        });
+        }
     }
 }

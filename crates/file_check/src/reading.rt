@@ -1,8 +1,10 @@
 //! Reading a data section.
-ghost use Rattle.std.specs.Prelude.{◌≡◌};
-ghost use Rattle.file_check.specs.Reading.{refused_as, Reads};
+ghost use Rattle.std.specs.Prelude.{◌≡◌, ◌≤◌, []};
+ghost use Rattle.mcap_scan.specs.Scanning.{Stands, offset_of};
+ghost use Rattle.file_check.specs.Gathering.{GatheredOf};
+ghost use Rattle.file_check.specs.Reading.{refused_as, Reads, Takes, ReadsOn};
 
-use crate::gathering::Gathering;
+use crate::gathering::{DataEnd, Gathering};
 use crate::last_chunk::TakeRefused;
 use index_check::Section;
 use mcap_io::Source;
@@ -30,6 +32,67 @@ fn refused(why: TakeRefused) -> SectionRefused
     }
 }
 
+// Takes the records of a source, and gives the offset behind the Data End; or none where the reader keeps a refusal.
+fn take_records<S: Source>(
+    alloc: Global,
+    source: &mut S,
+    reader: &mut Reader,
+    gathering: &mut Gathering,
+) -> Result<Option<u64>, TakeRefused>
+    requires begins { offset_of reader.old ≤ 1099511627776 }
+    requires stands { Stands reader.old (S.state source.old) (S.state source.old) [] }
+    requires empty { GatheredOf [] gathering.old }
+    ensures takes { Takes (S.state source.old) (S.state source.new) reader.new gathering.new result }
+    ensures stays { S.stays source.old source.new }
+{
+    'records: loop {
+        match reader.advance(source) {
+            Step::Record { op, offset } => {
+                match gathering.take(alloc, op, offset, reader.content()) {
+                    Ok(()) => {}
+                    Err(why) => return Err(why),
+                }
+            }
+            Step::End { offset } => return Ok(Some(offset)),
+            Step::Refused => return Ok(None),
+        }
+    }
+}
+
+// Takes the records of a source up to and with its Data End, and counts them.
+fn read_records<S: Source>(
+    alloc: Global,
+    source: &mut S,
+    gathering: &mut Gathering,
+) -> Result<DataEnd, SectionRefused>
+    requires { GatheredOf [] gathering.old }
+    ensures reads { ReadsOn (S.state source.old) (S.state source.new) gathering.new result }
+    ensures stays { S.stays source.old source.new }
+{
+    let mut reader = match Reader::new(alloc) {
+        Ok(reader) => reader,
+        Err(_) => return Err(refused(TakeRefused::Memory)),
+    };
+    match take_records(alloc, source, &mut reader, gathering) {
+        Ok(Some(behind)) => match gathering.tally(alloc) {
+            Ok(tally) => {
+                let tables = reader.into_tables();
+                return Ok(DataEnd {
+                    tables,
+                    tally,
+                    behind,
+                });
+            }
+            Err(_) => return Err(refused(TakeRefused::Memory)),
+        },
+        Ok(None) => match reader.into_refusal() {
+            Some(why) => return Err(SectionRefused::Scan { why }),
+            None => return Err(refused(TakeRefused::Memory)),
+        },
+        Err(why) => return Err(refused(why)),
+    }
+}
+
 /// Reads a data section up to and with its Data End (MCAP specification: Data Section), and keeps of it what the rules of the
 /// whole file ask for. Each record is checked behind those before it, and V9 as soon as a record settles it. Of the contents
 /// one chunk is held beside the record at hand.
@@ -40,27 +103,9 @@ pub(crate) fn read_section<S: Source>(
     ensures reads { Reads (S.state source.old) (S.state source.new) result }
     ensures stays { S.stays source.old source.new }
 {
-    let mut reader = match Reader::new(alloc) {
-        Ok(reader) => reader,
-        Err(_) => return Err(refused(TakeRefused::Memory)),
-    };
     let mut gathering = Gathering::new(alloc);
-    'records: loop {
-        match reader.advance(source) {
-            Step::Record { op, offset } => {
-                match gathering.take(alloc, op, offset, reader.content()) {
-                    Ok(()) => {}
-                    Err(why) => return Err(refused(why)),
-                }
-            }
-            Step::End { offset } => match gathering.finish(alloc, reader.into_tables(), offset) {
-                Ok(section) => return Ok(section),
-                Err(_) => return Err(refused(TakeRefused::Memory)),
-            },
-            Step::Refused => match reader.into_refusal() {
-                Some(why) => return Err(SectionRefused::Scan { why }),
-                None => return Err(refused(TakeRefused::Memory)),
-            },
-        }
+    match read_records(alloc, source, &mut gathering) {
+        Ok(end) => return Ok(gathering.finish(end)),
+        Err(why) => return Err(why),
     }
 }

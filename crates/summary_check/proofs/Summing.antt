@@ -48,7 +48,7 @@ module _ (tops : List Top) (bytes : List ℕ) (cuts : List Cut) (foot : Cut) (s 
       each_joined (λ t. t.op ≡ k → ⊥) body (end ∷ []) (λ n t at. let one = judged n t at in none t (record { kind = one.0; v6 = one.1 }))
       (each_cons (λ t. t.op ≡ k → ⊥) end [] (foot_not k other) (λ n t at. absurd (at_none n t at)))
 
-  pub told_whole : Each (λ t. Judged t None) body → ToldOf all (length tops) (record { chunks = s.chunks; attachments = s.attachments; metadata = s.metadata })
+  pub told_whole : Each (λ t. Judged t None) body → ToldOf all (length tops) s.chunks s.attachments s.metadata
   told_whole judged =
       let kept = is.kept in
       let laid = filed.laid in

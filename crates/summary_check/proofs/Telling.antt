@@ -15,7 +15,6 @@ use Rattle.index_check.specs.declared.extras.MetadataList.{MetadataList}
 use Rattle.index_check.specs.Spots.{NamedBefore, NamedBy}
 use Rattle.index_check.specs.Chunks.{IndexesChunk, ChunksOf, ChunksNamed}
 use Rattle.index_check.specs.Extras.{IndexesAttachment, IndexesMetadata, AttachmentsOf, AttachmentsNamed, MetadataOf, MetadataNamed}
-use Rattle.summary_check.specs.declared.told.Told.{Told}
 use Rattle.summary_check.specs.Told.{ToldOf, IndexTaken}
 
 -- a record that is no index names none
@@ -55,53 +54,53 @@ module _ (all : List Top) (n : ℕ) (t : Top) (at : At all n t) where
   metadata_next : (metadata : MetadataList) → MetadataNamed all n metadata → NoMetadataIndex t → MetadataNamed all (suc n) metadata
   metadata_next metadata named none = unnamed_next IndexesMetadata all n t metadata.spots named at (λ o b. none o b.0 b.1 b.2)
 
-  pub told_other : (told : Told) → ToldOf all n told → NoChunkIndex t → NoAttachmentIndex t → NoMetadataIndex t → IndexTaken all n t told None
-  told_other told was no_chunk no_attachment no_metadata = (
+  pub told_other : (chunks : Chunks) (attachments : Attachments) (metadata : MetadataList) → ToldOf all n chunks attachments metadata → NoChunkIndex t → NoAttachmentIndex t → NoMetadataIndex t → IndexTaken all n t chunks attachments metadata None
+  told_other chunks attachments metadata was no_chunk no_attachment no_metadata = (
     λ f is. absurd (no_chunk f is),
     (λ f is. absurd (no_attachment f is), λ offset size name is. absurd (no_metadata offset size name is)),
     record {
       chunks = was.chunks;
-      chunks_named = chunks_next told.chunks was.chunks_named no_chunk;
+      chunks_named = chunks_next chunks was.chunks_named no_chunk;
       attachments = was.attachments;
-      attachments_named = attachments_next told.attachments was.attachments_named no_attachment;
+      attachments_named = attachments_next attachments was.attachments_named no_attachment;
       metadata = was.metadata;
-      metadata_named = metadata_next told.metadata was.metadata_named no_metadata;
+      metadata_named = metadata_next metadata was.metadata_named no_metadata;
     },
   )
 
-  pub told_chunk : (told : Told) (chunks : Chunks) (f : ChunkIndexFields) → ToldOf all n told → IsChunkIndex t f → ChunkIndexIsRight all n f → ChunksOf all chunks → ChunksNamed all (suc n) chunks
-      → IndexTaken all n t (record { chunks = chunks; attachments = told.attachments; metadata = told.metadata }) None
-  told_chunk told chunks f was is right kept named = (
+  pub told_chunk : (old chunks : Chunks) (attachments : Attachments) (metadata : MetadataList) (f : ChunkIndexFields) → ToldOf all n old attachments metadata → IsChunkIndex t f → ChunkIndexIsRight all n f → ChunksOf all chunks → ChunksNamed all (suc n) chunks
+      → IndexTaken all n t chunks attachments metadata None
+  told_chunk old chunks attachments metadata f was is right kept named = (
     λ g other. subst (ChunkIndexIsRight all n) (chunk_index_once t f g is other) right,
     (λ g other. absurd (omega (arith, is.kind, other.kind)), λ offset size name other. absurd (omega (arith, is.kind, other.kind))),
     record {
       chunks = kept;
       chunks_named = named;
       attachments = was.attachments;
-      attachments_named = attachments_next told.attachments was.attachments_named (λ g other. omega (arith, is.kind, other.kind));
+      attachments_named = attachments_next attachments was.attachments_named (λ g other. omega (arith, is.kind, other.kind));
       metadata = was.metadata;
-      metadata_named = metadata_next told.metadata was.metadata_named (λ offset size name other. omega (arith, is.kind, other.kind));
+      metadata_named = metadata_next metadata was.metadata_named (λ offset size name other. omega (arith, is.kind, other.kind));
     },
   )
 
-  pub told_attachment : (told : Told) (attachments : Attachments) (f : AttachmentIndexFields) → ToldOf all n told → IsAttachmentIndex t f → AttachmentIndexIsRight all n f → AttachmentsOf all attachments → AttachmentsNamed all (suc n) attachments
-      → IndexTaken all n t (record { chunks = told.chunks; attachments = attachments; metadata = told.metadata }) None
-  told_attachment told attachments f was is right kept named = (
+  pub told_attachment : (chunks : Chunks) (old attachments : Attachments) (metadata : MetadataList) (f : AttachmentIndexFields) → ToldOf all n chunks old metadata → IsAttachmentIndex t f → AttachmentIndexIsRight all n f → AttachmentsOf all attachments → AttachmentsNamed all (suc n) attachments
+      → IndexTaken all n t chunks attachments metadata None
+  told_attachment chunks old attachments metadata f was is right kept named = (
     λ g other. absurd (omega (arith, is.kind, other.kind)),
     (λ g other. subst (AttachmentIndexIsRight all n) (attachment_index_once t f g is other) right, λ offset size name other. absurd (omega (arith, is.kind, other.kind))),
     record {
       chunks = was.chunks;
-      chunks_named = chunks_next told.chunks was.chunks_named (λ g other. omega (arith, is.kind, other.kind));
+      chunks_named = chunks_next chunks was.chunks_named (λ g other. omega (arith, is.kind, other.kind));
       attachments = kept;
       attachments_named = named;
       metadata = was.metadata;
-      metadata_named = metadata_next told.metadata was.metadata_named (λ offset size name other. omega (arith, is.kind, other.kind));
+      metadata_named = metadata_next metadata was.metadata_named (λ offset size name other. omega (arith, is.kind, other.kind));
     },
   )
 
-  pub told_metadata : (told : Told) (metadata : MetadataList) (offset size : ℕ) (name : List ℕ) → ToldOf all n told → IsMetadataIndex t offset size name → MetadataIndexIsRight all n offset size name → MetadataOf all metadata → MetadataNamed all (suc n) metadata
-      → IndexTaken all n t (record { chunks = told.chunks; attachments = told.attachments; metadata = metadata }) None
-  told_metadata told metadata offset size name was is right kept named = (
+  pub told_metadata : (chunks : Chunks) (attachments : Attachments) (old metadata : MetadataList) (offset size : ℕ) (name : List ℕ) → ToldOf all n chunks attachments old → IsMetadataIndex t offset size name → MetadataIndexIsRight all n offset size name → MetadataOf all metadata → MetadataNamed all (suc n) metadata
+      → IndexTaken all n t chunks attachments metadata None
+  told_metadata chunks attachments old metadata offset size name was is right kept named = (
     λ g other. absurd (omega (arith, is.kind, other.kind)),
     (
       λ g other. absurd (omega (arith, is.kind, other.kind)),
@@ -109,9 +108,9 @@ module _ (all : List Top) (n : ℕ) (t : Top) (at : At all n t) where
     ),
     record {
       chunks = was.chunks;
-      chunks_named = chunks_next told.chunks was.chunks_named (λ g other. omega (arith, is.kind, other.kind));
+      chunks_named = chunks_next chunks was.chunks_named (λ g other. omega (arith, is.kind, other.kind));
       attachments = was.attachments;
-      attachments_named = attachments_next told.attachments was.attachments_named (λ g other. omega (arith, is.kind, other.kind));
+      attachments_named = attachments_next attachments was.attachments_named (λ g other. omega (arith, is.kind, other.kind));
       metadata = kept;
       metadata_named = named;
     },

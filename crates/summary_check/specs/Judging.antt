@@ -10,15 +10,15 @@ use Rattle.index_check.specs.Tally.{TallyOf}
 use Rattle.summary_read.specs.Parts.{tops_of}
 use Rattle.summary_read.specs.Steps.{Judged}
 use Rattle.summary_check.specs.Laid.{EndsWithDataEnd, IsFront}
-use Rattle.summary_check.specs.declared.judging.Known.{Known}
+use Rattle.index_check.specs.declared.section.Section.{Section}
 use Rattle.summary_check.specs.Files.{file_of}
 use Rattle.summary_check.specs.Filed.{records_of}
 use Rattle.summary_check.specs.Told.{ToldOf}
 
 -- the file of this data section and of these records is valid, and this is known of it
-pub record KnownOf (tops : List Top) (bytes : List ℕ) (cuts : List Cut) (foot : Cut) (known : Known) : Type 0 where
+pub record KnownOf (tops : List Top) (bytes : List ℕ) (cuts : List Cut) (foot : Cut) (known : Section) : Type 0 where
   pub valid : Valid (file_of tops bytes) (records_of tops bytes cuts foot)
-  pub told : ToldOf (records_of tops bytes cuts foot) (length tops + length (tops_of bytes cuts)) known.told
+  pub told : ToldOf (records_of tops bytes cuts foot) (length tops + length (tops_of bytes cuts)) known.chunks known.attachments known.metadata
   pub ended : EndsWithDataEnd tops
   pub kinds : Each IsFront tops
   pub judged : Each (λ t. Judged t None) (tops_of bytes cuts)

@@ -8,12 +8,10 @@ ghost use Rattle.index_check.specs.Tally.{TallyOf};
 use index_check::Tally;
 use mcap_model::Tables;
 
-/// What was counted of a data section, with the numbers of ids in the whole file.
-pub(crate) fn with_ids(tally: Tally, tables: &Tables) -> Tally
-    ensures { (tops section all : List Top) → TallyOf tops section tally → IsDataSection all section → TablesOf (flat all) tables.now → TallyOf all section result }
+/// Takes the numbers of ids in the whole file to what was counted of its data section.
+pub(crate) fn count_ids(tally: &mut Tally, tables: &Tables)
+    ensures { (tops section all : List Top) → TallyOf tops section tally.old → IsDataSection all section → TablesOf (flat all) tables.now → TallyOf all section tally.new }
 {
-    let mut counted = tally;
-    counted.schemas.in_file = tables.schemas.len() as u64;
-    counted.channels.in_file = tables.channels.len() as u64;
-    counted
+    tally.schemas.in_file = tables.schemas.len() as u64;
+    tally.channels.in_file = tables.channels.len() as u64;
 }

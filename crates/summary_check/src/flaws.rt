@@ -22,8 +22,8 @@ use crate::ordering::find_misplaced;
 use crate::records::from_at;
 use crate::refusals::SummaryRefused;
 use crate::statistics::find_miscounted;
-use crate::told::Told;
-use index_check::Tally;
+use crate::told::take_indexes;
+use index_check::{Attachments, Chunks, MetadataList, Tally};
 use mcap_model::Tables;
 use mcap_wire::Cut;
 use std::alloc::Global;
@@ -90,17 +90,19 @@ pub(crate) fn judge_order(alloc: Global, cuts: &[Cut], start: u64) -> Result<(),
 
 /// Judges indexes. What they tell of counts as named from then on.
 pub(crate) fn judge_indexes(
-    told: &mut Told,
+    chunks: &mut Chunks,
+    attachments: &mut Attachments,
+    metadata: &mut MetadataList,
     bytes: &[u8],
     cuts: &[Cut],
     start: u64,
 ) -> Result<(), SummaryRefused>
     requires { AreInside bytes.now cuts.now }
-    ensures ok { OnOk result ((all : List Top) (base : ℕ) → StandFrom all base (tops_of bytes.now cuts.now) → ToldOf all base told.old → IndexesTaken all base (tops_of bytes.now cuts.now) told.new None) }
+    ensures ok { OnOk result ((all : List Top) (base : ℕ) → StandFrom all base (tops_of bytes.now cuts.now) → ToldOf all base chunks.old attachments.old metadata.old → IndexesTaken all base (tops_of bytes.now cuts.now) chunks.new attachments.new metadata.new None) }
     ensures err { IfErr result (λ why. (tops : List Top) (foot : OneCut) → Filed tops bytes.now cuts.now foot start → Each (λ t. Judged t None) (tops_of bytes.now cuts.now)
-        → ToldOf (records_of tops bytes.now cuts.now foot) (size tops) told.old → IsRefused (file_of tops bytes.now) why) }
+        → ToldOf (records_of tops bytes.now cuts.now foot) (size tops) chunks.old attachments.old metadata.old → IsRefused (file_of tops bytes.now) why) }
 {
-    match told.take_indexes(bytes, cuts) {
+    match take_indexes(chunks, attachments, metadata, bytes, cuts) {
         None => return Ok(()),
         Some((i, rule)) => return Err(flawed(rule, cuts, i, start)),
     }

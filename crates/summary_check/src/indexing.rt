@@ -14,11 +14,10 @@ ghost use Rattle.summary_check.specs.FullIndex.{EmptyIsRight, EmptyRight, HasSta
 ghost use Rattle.summary_check.specs.Judging.{KnownOf};
 
 use crate::channels::channels_of;
-use crate::judging::Known;
 use crate::offsets::span_of;
 use crate::records::record_at;
 use crate::repeats::are_repeated;
-use index_check::Chunks;
+use index_check::{Chunks, Section};
 use mcap_wire::{Cut, Memory};
 use rec_index::{CHUNK_INDEX, ChunkIndex, STATISTICS};
 use std::alloc::Global;
@@ -76,28 +75,28 @@ fn has_statistics(cuts: &[Cut]) -> bool
 /// Whether a valid file of which this is known, with these records between its Data End and its Footer, is fully indexed.
 pub(crate) fn is_indexed(
     alloc: Global,
-    known: &Known,
+    section: &Section,
     bytes: &[u8],
     cuts: &[Cut],
 ) -> Result<bool, Memory>
     requires { AreInside bytes.now cuts.now }
-    ensures { IfOk result (λ indexed. (tops : List Top) (foot : OneCut) → KnownOf tops bytes.now cuts.now foot known.now
-        → IsTrue indexed ↔ IsFull (records_of tops bytes.now cuts.now foot) (tops_of bytes.now cuts.now) known.now.told.chunks.spots known.now.has_messages) }
+    ensures { IfOk result (λ indexed. (tops : List Top) (foot : OneCut) → KnownOf tops bytes.now cuts.now foot section.now
+        → IsTrue indexed ↔ IsFull (records_of tops bytes.now cuts.now foot) (tops_of bytes.now cuts.now) section.now.chunks.spots section.now.has_messages) }
 {
-    if known.has_messages {
+    if section.has_messages {
         return Ok(false);
     }
     if !has_statistics(cuts) {
         return Ok(false);
     }
-    if !known.told.chunks.spots.are_named() {
+    if !section.chunks.spots.are_named() {
         return Ok(false);
     }
-    if !are_right(&known.told.chunks, bytes, cuts) {
+    if !are_right(&section.chunks, bytes, cuts) {
         return Ok(false);
     }
     match channels_of(alloc, bytes, cuts) {
-        Ok(ids) => return Ok(are_repeated(&known.tally, &ids)),
+        Ok(ids) => return Ok(are_repeated(&section.tally, &ids)),
         Err(memory) => return Err(memory),
     }
 }

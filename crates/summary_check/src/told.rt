@@ -14,64 +14,66 @@ use rec_index::{
     ATTACHMENT_INDEX, AttachmentIndex, CHUNK_INDEX, ChunkIndex, METADATA_INDEX, MetadataIndex,
 };
 
-/// What indexes tell of: the chunks, the Attachments and the Metadata of a data section, and which of them have an index.
-#[derive(Drop)]
-pub(crate) struct Told {
-    pub chunks: Chunks,
-    pub attachments: Attachments,
-    pub metadata: MetadataList,
+// The rule that an index behind others breaks. What it tells of counts as named from then on.
+fn take_index(
+    chunks: &mut Chunks,
+    attachments: &mut Attachments,
+    metadata: &mut MetadataList,
+    op: u8,
+    content: &[u8],
+) -> Option<u8>
+    ensures { (all : List Top) (n : ℕ) → ToldOf all n chunks.old attachments.old metadata.old → At all n (top op content.now) → IndexTaken all n (top op content.now) chunks.new attachments.new metadata.new result }
+{
+    if op == CHUNK_INDEX {
+        let index = match ChunkIndex::parse(content) {
+            Ok(index) => index,
+            Err(_) => return None,
+        };
+        if chunks.take_index(&index) {
+            return None;
+        }
+        return Some(12);
+    }
+    if op == ATTACHMENT_INDEX {
+        let index = match AttachmentIndex::parse(content) {
+            Ok(index) => index,
+            Err(_) => return None,
+        };
+        if attachments.take_index(&index) {
+            return None;
+        }
+        return Some(13);
+    }
+    if op == METADATA_INDEX {
+        let index = match MetadataIndex::parse(content) {
+            Ok(index) => index,
+            Err(_) => return None,
+        };
+        if metadata.take_index(&index) {
+            return None;
+        }
+        return Some(13);
+    }
+    return None;
 }
 
-impl Told {
-    // The rule that an index behind others breaks. What it tells of counts as named from then on.
-    fn take_index(&mut self, op: u8, content: &[u8]) -> Option<u8>
-        ensures { (all : List Top) (n : ℕ) → ToldOf all n self.old → At all n (top op content.now) → IndexTaken all n (top op content.now) self.new result }
-    {
-        if op == CHUNK_INDEX {
-            let index = match ChunkIndex::parse(content) {
-                Ok(index) => index,
-                Err(_) => return None,
-            };
-            if self.chunks.take_index(&index) {
-                return None;
-            }
-            return Some(12);
+/// The first index among these records that isn't right, and the rule that it breaks.
+pub(crate) fn take_indexes(
+    chunks: &mut Chunks,
+    attachments: &mut Attachments,
+    metadata: &mut MetadataList,
+    bytes: &[u8],
+    cuts: &[Cut],
+) -> Option<(usize, u8)>
+    requires { AreInside bytes.now cuts.now }
+    ensures { (all : List Top) (base : ℕ) → StandFrom all base (tops_of bytes.now cuts.now) → ToldOf all base chunks.old attachments.old metadata.old → IndexesTaken all base (tops_of bytes.now cuts.now) chunks.new attachments.new metadata.new result }
+{
+    'records: for i in 0..cuts.len() {
+        let record = record_at(bytes, cuts, i);
+        match take_index(chunks, attachments, metadata, record.op, record.content) {
+            None => {}
+            Some(rule) => return Some((i, rule)),
         }
-        if op == ATTACHMENT_INDEX {
-            let index = match AttachmentIndex::parse(content) {
-                Ok(index) => index,
-                Err(_) => return None,
-            };
-            if self.attachments.take_index(&index) {
-                return None;
-            }
-            return Some(13);
-        }
-        if op == METADATA_INDEX {
-            let index = match MetadataIndex::parse(content) {
-                Ok(index) => index,
-                Err(_) => return None,
-            };
-            if self.metadata.take_index(&index) {
-                return None;
-            }
-            return Some(13);
-        }
-        return None;
     }
-
-    /// The first index among these records that isn't right, and the rule that it breaks.
-    pub(crate) fn take_indexes(&mut self, bytes: &[u8], cuts: &[Cut]) -> Option<(usize, u8)>
-        requires { AreInside bytes.now cuts.now }
-        ensures { (all : List Top) (base : ℕ) → StandFrom all base (tops_of bytes.now cuts.now) → ToldOf all base self.old → IndexesTaken all base (tops_of bytes.now cuts.now) self.new result }
-    {
-        'records: for i in 0..cuts.len() {
-            let record = record_at(bytes, cuts, i);
-            match self.take_index(record.op, record.content) {
-                None => {}
-                Some(rule) => return Some((i, rule)),
-            }
-        }
-        return None;
-    }
+    return None;
 }

@@ -1,4 +1,5 @@
-use Rattle.std.proofs.Common.{ℕ, ◌∙◌, take, drop, ap}
+use Rattle.std.proofs.lemmas.Grind.{common_steps}
+use Rattle.std.proofs.Common.{ℕ, ◌∙◌, take, drop, ap, arith}
 use Rattle.file_check.proofs.Parts.{head_there}
 use Rattle.file_check.proofs.ends.tell_flaw.Goals as goal
 
@@ -12,3 +13,6 @@ returns-in-Ok-clause-tells g c = (
         (c.in-Ok.ensures.gives file told ∙ ap (λ (n : ℕ). take n (drop c.args.offset file)) c.read_at.auto.out) room c.length_in-len.ensures.stands,
   ),
 )
+
+pub returns-then-offset-end-clause-tells : goal.returns-then-offset-end-clause-tells
+returns-then-offset-end-clause-tells g c = grind (arith, common_steps)

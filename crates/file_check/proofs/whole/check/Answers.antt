@@ -1,3 +1,4 @@
+use Rattle.std.proofs.Common.{rules}
 use Rattle.std.proofs.Common.{ℕ, subst, sym, ◌∙◌}
 use Rattle.std.proofs.lemmas.Bool.{both_ways}
 use Rattle.mcap_model.specs.Valid.{Flaw}
@@ -13,3 +14,6 @@ returns-in-Ok-false-clause-checks g c = λ file told.
     let size = measured.tells file told in
     let is = c.in-Ok-false.ensures.tells file (measured.bytes ∙ told) (sym size) in
     unended file c.in-Ok.len size (λ ends. both_ways c.in-Ok-false.field-0 c.in-Ok-false.field-0-test (is.1 ends))
+
+pub returns-clause-cause : goal.returns-clause-cause
+returns-clause-cause g c = search rules

@@ -57,3 +57,6 @@ returns-clause-err c = λ tops filed is.
     let cover = covered tops bytes cuts foot c.args.start filed c.args.footer.now is c.places_of-places.result (places.are tops bytes filed) places.behind c.requires names c.if-footer-eq0.false in
     crc_flaw tops bytes cuts foot c.args.start filed c.args.footer.now is c.places_of-places.result.footer (places.footer tops bytes filed)
     (λ v16. both_ways c.is_crc_right.result c.if-is_crc_right.false ((c.is_crc_right.ensures (file_of tops bytes) all last (cut_top bytes foot) (length-all tops (tops_of bytes cuts) (cut_top bytes foot)) is cover).1 v16))
+
+pub returns-clause-ok : goal.returns-clause-ok
+returns-clause-ok c = tt

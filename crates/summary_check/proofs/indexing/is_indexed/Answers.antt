@@ -17,7 +17,7 @@ returns-then-not-are_right c = λ tops foot is.
     let bytes = c.args.bytes.now in
     let cuts = c.args.cuts.now in
     let told = is.told in
-    let rules = rules_of tops bytes cuts foot c.args.known.now is in (
+    let rules = rules_of tops bytes cuts foot c.args.section.now is in (
       (λ e. absurd (both_ways false refl e)),
       λ full. absurd (both_ways c.are_right.result c.if-not-are_right.true ((c.are_right.ensures (records_of tops bytes cuts foot) told.chunks rules).1 full.empties)),
     )
@@ -27,10 +27,10 @@ returns-in-Ok c = λ tops foot is.
     let bytes = c.args.bytes.now in
     let cuts = c.args.cuts.now in
     let told = is.told in
-    let rules = rules_of tops bytes cuts foot c.args.known.now is in
+    let rules = rules_of tops bytes cuts foot c.args.section.now is in
     let iff = c.are_repeated.ensures tops (tops_of bytes cuts) (cut_top bytes foot) is.ended is.judged is.foot_is is.tally c.in-Ok.ensures in (
       (λ e. record {
-        no_message = c.if-known.false;
+        no_message = c.if-section.false;
         statistics = (c.has_statistics.ensures bytes).0 c.if-not-has_statistics.false;
         named = c.are_named.ensures.0 c.if-not-are_named.false;
         empties = (c.are_right.ensures (records_of tops bytes cuts foot) told.chunks rules).0 c.if-not-are_right.false;

@@ -30,7 +30,7 @@ returns-in-Err-clause-err c = λ tops is.
     let rest = c.args.rest.now in
     let cuts = c.args.cuts.now in
     let foot = c.args.foot.now in
-    let s = c.args.section in
+    let s = c.args.section.now in
     let filed = filed_of tops rest cuts foot c.requires.are s c.args.footer.now is c.requires.footer c.requires.fits in
     c.in-Err.ensures.err tops foot filed
 
@@ -40,7 +40,7 @@ returns-in-Err-judge_declarations-clause-err c = λ tops is.
     let rest = c.args.rest.now in
     let cuts = c.args.cuts.now in
     let foot = c.args.foot.now in
-    let s = c.args.section in
+    let s = c.args.section.now in
     let filed = filed_of tops rest cuts foot c.requires.are s c.args.footer.now is c.requires.footer c.requires.fits in
     c.in-Err-judge_declarations.ensures.err tops foot filed kept.tables c.in-Ok.ensures.ok
 
@@ -50,7 +50,7 @@ returns-in-Err-judge_order-clause-err c = λ tops is.
     let rest = c.args.rest.now in
     let cuts = c.args.cuts.now in
     let foot = c.args.foot.now in
-    let s = c.args.section in
+    let s = c.args.section.now in
     let filed = filed_of tops rest cuts foot c.requires.are s c.args.footer.now is c.requires.footer c.requires.fits in
     c.in-Err-judge_order.ensures.err tops rest foot filed
 
@@ -60,7 +60,7 @@ returns-in-Err-judge_indexes-clause-err c = λ tops is.
     let rest = c.args.rest.now in
     let cuts = c.args.cuts.now in
     let foot = c.args.foot.now in
-    let s = c.args.section in
+    let s = c.args.section.now in
     let filed = filed_of tops rest cuts foot c.requires.are s c.args.footer.now is c.requires.footer c.requires.fits in
     let judged = c.in-Ok.ensures.ok in
     let told = told_whole tops rest cuts foot s is filed judged in
@@ -72,11 +72,11 @@ returns-in-Err-judge_statistics-clause-err c = λ tops is.
     let rest = c.args.rest.now in
     let cuts = c.args.cuts.now in
     let foot = c.args.foot.now in
-    let s = c.args.section in
+    let s = c.args.section.now in
     let filed = filed_of tops rest cuts foot c.requires.are s c.args.footer.now is c.requires.footer c.requires.fits in
     let judged = c.in-Ok.ensures.ok in
     let declared = c.in-Ok-judge_declarations.ensures.ok tops kept.tables judged in
-    let tally = c.with_ids-tally.ensures tops kept.section (records_of tops rest cuts foot) kept.tally (section_whole tops rest cuts foot s is filed) (tables_whole tops rest cuts foot s is filed c.judge_declarations.new.tables declared.1) in
+    let tally = c.count_ids.ensures tops kept.section (records_of tops rest cuts foot) kept.tally (section_whole tops rest cuts foot s is filed) (tables_whole tops rest cuts foot s is filed c.judge_declarations.new.tables declared.1) in
     c.in-Err-judge_statistics.ensures.err tops kept.section foot filed judged tally
 
 pub returns-in-Err-judge_offsets-clause-err : goal.returns-in-Err-judge_offsets-clause-err
@@ -85,7 +85,7 @@ returns-in-Err-judge_offsets-clause-err c = λ tops is.
     let rest = c.args.rest.now in
     let cuts = c.args.cuts.now in
     let foot = c.args.foot.now in
-    let s = c.args.section in
+    let s = c.args.section.now in
     let filed = filed_of tops rest cuts foot c.requires.are s c.args.footer.now is c.requires.footer c.requires.fits in
     c.in-Err-judge_offsets.ensures.err tops foot filed
 
@@ -95,7 +95,7 @@ returns-in-Err-judge_footer-clause-err c = λ tops is.
     let rest = c.args.rest.now in
     let cuts = c.args.cuts.now in
     let foot = c.args.foot.now in
-    let s = c.args.section in
+    let s = c.args.section.now in
     let filed = filed_of tops rest cuts foot c.requires.are s c.args.footer.now is c.requires.footer c.requires.fits in
     c.in-Err-judge_footer.ensures.err tops filed c.requires.footer
 
@@ -105,12 +105,12 @@ returns-clause-ok c = λ tops is.
     let rest = c.args.rest.now in
     let cuts = c.args.cuts.now in
     let foot = c.args.foot.now in
-    let s = c.args.section in
+    let s = c.args.section.now in
     let filed = filed_of tops rest cuts foot c.requires.are s c.args.footer.now is c.requires.footer c.requires.fits in
     let judged = c.in-Ok.ensures.ok in
     let declared = c.in-Ok-judge_declarations.ensures.ok tops kept.tables judged in
     let told = told_whole tops rest cuts foot s is filed judged in
-    let tally = c.with_ids-tally.ensures tops kept.section (records_of tops rest cuts foot) kept.tally (section_whole tops rest cuts foot s is filed) (tables_whole tops rest cuts foot s is filed c.judge_declarations.new.tables declared.1) in
+    let tally = c.count_ids.ensures tops kept.section (records_of tops rest cuts foot) kept.tally (section_whole tops rest cuts foot s is filed) (tables_whole tops rest cuts foot s is filed c.judge_declarations.new.tables declared.1) in
     let all = records_of tops rest cuts foot in
     let indexes = c.in-Ok-judge_indexes.ensures.ok all (length tops) (body_there tops (tops_of rest cuts) (cut_top rest foot)) told in
     record {
@@ -123,6 +123,6 @@ returns-clause-ok c = λ tops is.
       kinds = sectioned_kinds tops s is;
       judged = judged;
       foot_is = (let footer = c.requires.footer in footer.kind);
-      tally = subst (λ (l : List Top). TallyOf all l c.with_ids-tally.result) (section_is tops s is) tally;
+      tally = subst (λ (l : List Top). TallyOf all l c.count_ids.new.tally) (section_is tops s is) tally;
       at_top = kept.at_top;
     }

@@ -1,4 +1,4 @@
-use Rattle.std.proofs.Common.{rules, ℕ, None, arith}
+use Rattle.std.proofs.Common.{ℕ, None, arith}
 use Rattle.mcap_model.specs.Tops.{Top}
 use Rattle.mcap_model.specs.Made.{top}
 use Rattle.summary_read.specs.Parts.{tops_of}
@@ -17,4 +17,6 @@ returns c = λ k t at.
     c.records.invariant k t at (omega (arith, within, c.records-test.false))
 
 pub returns-in-Some : goal.returns-in-Some
-returns-in-Some c = search rules
+returns-in-Some c =
+    let record_there = c.record_at-record.result in
+    (top record_there.op record_there.content.now, c.record_at-record.ensures, c.in-Some.ensures)

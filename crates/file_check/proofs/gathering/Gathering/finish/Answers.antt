@@ -2,11 +2,11 @@ use Rattle.file_check.proofs.Finished.{data_section, chunks_unnamed, attachments
 use Rattle.file_check.proofs.gathering.Gathering.finish.Goals as goal
 
 pub returns : goal.returns
-returns c = λ tops was good ended tables there.
+returns c = λ tops was good ended known.
     let kept = was.indexed in
     let (section, is) = data_section tops good ended in
     record {
-      tables = tables;
+      tables = known.tables;
       chunks = kept.chunks;
       chunks_unnamed = chunks_unnamed tops c.args.self.indexed.chunks.spots kept.fresh_chunks.unnamed good;
       attachments = kept.attachments;
@@ -15,9 +15,9 @@ returns c = λ tops was good ended tables there.
       metadata_unnamed = metadata_unnamed tops c.args.self.indexed.metadata.spots kept.fresh_metadata.unnamed good;
       section = section;
       is = is;
-      tally = c.in-Ok.ensures tops section was is good;
+      tally = known.tally section is;
       schemas = was.counts.schemas;
       channels = was.counts.channels;
       at_top = was.at_top;
-      behind = there;
+      behind = known.behind;
     }

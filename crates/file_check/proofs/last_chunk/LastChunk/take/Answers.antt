@@ -24,3 +24,7 @@ returns-in-Ok-begin c = λ tops last keeps v6 there.
       c.in-Ok-begin.ensures tops t f is refl there,
       c.lacks_index.ensures.keeps c.if-lacks_index.false tops t last c.if-op-eq-MESSAGE_INDEX.false keeps,
     )
+
+pub returns-then-lacks_index : goal.returns-then-lacks_index
+returns-then-lacks_index c = λ tops last keeps v6 there.
+    c.lacks_index.ensures.lacks c.if-lacks_index.true tops (top c.args.op c.args.content.now) last c.if-op-eq-MESSAGE_INDEX.false

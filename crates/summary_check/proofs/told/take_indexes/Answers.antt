@@ -5,7 +5,7 @@ use Rattle.mcap_model.specs.Whole.{V12, V13}
 use Rattle.summary_read.specs.Parts.{tops_of}
 use Rattle.summary_check.specs.Told.{ToldOf}
 use Rattle.summary_check.proofs.Onward.{tops_within, tops_end, onward}
-use Rattle.summary_check.proofs.told.Told.take_indexes.Goals as goal
+use Rattle.summary_check.proofs.told.take_indexes.Goals as goal
 
 pub records-preserved : goal.records-preserved
 records-preserved c = λ all base stand was.
@@ -17,7 +17,7 @@ records-preserved c = λ all base stand was.
     let w = c.records.invariant all base stand was in
     let taken = c.in-None.ensures all (base + i) w.0 (stand i t at) in
     let next : suc (base + i) ≡ base + (i + 1) = omega arith in (
-      subst (λ (n : ℕ). ToldOf all n c.take_index.new.self) next taken.2,
+      subst (λ (n : ℕ). ToldOf all n c.take_index.new.chunks c.take_index.new.attachments c.take_index.new.metadata) next taken.2,
       onward (λ (k : ℕ) (u : Top). V12 all (base + k) u × V13 all (base + k) u) body i t w.1 at (taken.0, taken.1),
     )
 
@@ -26,5 +26,5 @@ returns c = λ all base stand was.
     let w = c.records.invariant all base stand was in
     let end = tops_end c.args.bytes.now c.args.cuts.now c.records.i (omega (arith, c.records-test.false)) (omega (arith, c.records.auto.i-end)) in (
       (λ k t at. let within = tops_within c.args.bytes.now c.args.cuts.now k t at in w.1 k t at (omega (arith, within, c.records-test.false))),
-      subst (λ (n : ℕ). ToldOf all (base + n) c.records.self) end w.0,
+      subst (λ (n : ℕ). ToldOf all (base + n) c.records.chunks c.records.attachments c.records.metadata) end w.0,
     )

@@ -2,7 +2,7 @@ use Rattle.std.proofs.Common.{◌-◌, ◌≤◌, List}
 use Rattle.mcap_model.specs.Tops.{Top}
 use Rattle.mcap_scan.specs.Scanning.{Stands, offset_of}
 use Rattle.file_check.specs.Gathering.{GatheredOf}
-use Rattle.file_check.proofs.reading.read_section.Given as goal
+use Rattle.file_check.proofs.reading.take_records.Given as goal
 
 abbrev pub decreases-records : goal.decreases-records
 decreases-records g l = 1099511627776 - offset_of l.reader

@@ -5,12 +5,12 @@ use Rattle.summary_check.specs.Cutting.{AreCut}
 use Rattle.summary_check.specs.Judging.{KnownOf}
 use Rattle.summary_check.proofs.Filing.{body_inside, sectioned_ended, sectioned_short}
 use Rattle.summary_check.proofs.Verdicts.{judged_of}
-use Rattle.summary_check.proofs.judging.judge_summary.Goals as goal
+use Rattle.summary_check.proofs.judging.judge_rest.Goals as goal
 
 pub returns-in-Err-clause-err : goal.returns-in-Err-clause-err
 returns-in-Err-clause-err c = λ tops is.
     let kept = is.kept in
-    c.in-Err.ensures.err tops (sectioned_ended tops c.args.section is) (sectioned_short tops c.args.section is) kept.behind
+    c.in-Err.ensures.err tops (sectioned_ended tops c.args.section.now is) (sectioned_short tops c.args.section.now is) kept.behind
 
 pub is_indexed-requires : goal.is_indexed-requires
 is_indexed-requires c =
@@ -24,7 +24,7 @@ returns-in-Ok-is_indexed-clause-ok c = λ tops is.
     let rest = c.args.rest.now in
     let s = c.in-Ok.summary in
     let summary = c.in-Ok.ensures.ok in
-    let known = c.in-Ok-judge_cuts.known in
+    let known = c.judge_cuts.new.section in
     let of = subst (λ (l : List Cut). KnownOf tops rest l s.foot known) (c.deref.ensures.value ∙ sym c.deref-2.ensures.value) (c.in-Ok-judge_cuts.ensures.ok tops is) in
     let are = subst (λ (l : List Cut). AreCut rest (l ++ s.foot ∷ [])) (sym c.deref-2.ensures.value) summary.are in
     judged_of tops rest c.deref-2.result.now s.foot known of c.in-Ok-is_indexed.indexed are (c.in-Ok-is_indexed.ensures tops s.foot of)
