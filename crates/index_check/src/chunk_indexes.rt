@@ -16,7 +16,7 @@ use rec_index::{Chunk, ChunkIndex, MessageIndex};
 use std::alloc::Global;
 
 /// What is kept of a Message Index: its channel, where it stands in bytes from the file's front, and its number of entries.
-#[derive(Clone, Copy, Debug, PartialEq, Eq)]
+#[derive(Clone, Copy)]
 pub struct IndexNote {
     pub channel: u16,
     pub offset: u64,

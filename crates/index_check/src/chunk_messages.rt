@@ -16,7 +16,7 @@ use std::marker::Model;
 
 /// A Message of a chunk: its channel, its log time in nanoseconds, and where it starts, in bytes from the front of the
 /// chunk's records.
-#[derive(Clone, Copy, Debug, PartialEq, Eq)]
+#[derive(Clone, Copy)]
 pub struct ChunkMessage {
     pub channel: u16,
     pub time: u64,
@@ -25,7 +25,7 @@ pub struct ChunkMessage {
 
 /// The Messages of a chunk, in ascending order of channel and offset, so that those of a channel stand together. It takes
 /// 24 bytes for each Message. Contracts see the list of them.
-#[derive(Debug, Drop)]
+#[derive(Drop)]
 pub struct ChunkMessages {
     messages: Vec<ChunkMessage>,
 }

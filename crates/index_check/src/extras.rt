@@ -19,7 +19,7 @@ use std::alloc::Global;
 
 /// What an index repeats of an Attachment: the length of the whole record, its times in nanoseconds, the length of its
 /// data, its name and its media type. Lengths are in bytes.
-#[derive(Debug, Drop)]
+#[derive(Drop)]
 pub struct AttachmentNote {
     pub length: u64,
     pub log_time: u64,
@@ -30,7 +30,7 @@ pub struct AttachmentNote {
 }
 
 /// What an index repeats of a Metadata record: the length of the whole record in bytes, and its name.
-#[derive(Debug, Drop)]
+#[derive(Drop)]
 pub struct MetadataNote {
     pub length: u64,
     pub name: Text,

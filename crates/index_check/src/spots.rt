@@ -8,14 +8,14 @@ use std::alloc::Global;
 use std::marker::Model;
 
 /// Where a record stands, in bytes from the file's front, and whether an index named it.
-#[derive(Clone, Copy, Debug, PartialEq, Eq)]
+#[derive(Clone, Copy)]
 pub struct Spot {
     pub offset: u64,
     pub named: bool,
 }
 
 /// What a name for an offset comes to.
-#[derive(Clone, Copy, Debug, PartialEq, Eq)]
+#[derive(Clone, Copy)]
 pub enum Naming {
     /// No record stands there.
     Absent,

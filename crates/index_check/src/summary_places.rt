@@ -8,7 +8,7 @@ use rec_data::Footer;
 
 /// Where parts of a file start, in bytes from its front: what stands behind the Data End, the Footer, and the first Summary
 /// Offset of the summary, if it has one.
-#[derive(Clone, Copy, Debug, PartialEq, Eq)]
+#[derive(Clone, Copy)]
 pub struct SummaryPlaces {
     pub behind: u64,
     pub footer: u64,

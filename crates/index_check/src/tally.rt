@@ -10,7 +10,7 @@ use mcap_wire::CountsRef;
 use rec_index::Statistics;
 
 /// How many ids of one kind there are, in the data section and in the whole file.
-#[derive(Clone, Copy, Debug, PartialEq, Eq)]
+#[derive(Clone, Copy)]
 pub struct IdCounts {
     pub in_section: u64,
     pub in_file: u64,

@@ -9,7 +9,7 @@ ghost use Rattle.mcap_wire.specs.declared.faults.Cut.{Cut as OneCut};
 use mcap_wire::Cut;
 
 /// A record by its opcode and its content.
-#[derive(Clone, Copy, Debug, PartialEq, Eq)]
+#[derive(Clone, Copy)]
 pub(crate) struct Record<'a> {
     pub op: u8,
     pub content: &'a [u8],

@@ -1,7 +1,7 @@
 //! Why what stands behind a Data End is refused.
 
 /// Why what stands behind a Data End is refused. Offsets are in bytes from the file's front.
-#[derive(Clone, Copy, Debug, PartialEq, Eq)]
+#[derive(Clone, Copy)]
 pub enum SummaryRefused {
     /// The rule of that number fails at that offset.
     Flawed { rule: u8, offset: u64 },

@@ -1,7 +1,7 @@
 //! Why a file isn't loaded.
 
 /// Why a file isn't loaded.
-#[derive(Clone, Copy, Debug, PartialEq, Eq)]
+#[derive(Clone, Copy)]
 pub enum LoadRefused {
     /// The store failed: its count of faults now.
     Fault { faults: u64 },
