@@ -1,3 +1,9 @@
-mod RoundTrip
+mod Statuses
+mod Whole
+mod Held
+mod Runs
+mod Lines
+mod Answered
 mod Running
+mod RoundTrip
 mod Sound

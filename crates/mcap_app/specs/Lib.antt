@@ -1,2 +1,5 @@
-pub mod Laws
+pub mod ReportTexts
+pub mod Record
+pub mod Answer
 pub mod Runs
+pub mod Laws

@@ -7,12 +7,12 @@ ghost use Rattle.command_base.specs.Printing.{Takes};
 ghost use Rattle.command_base.specs.Ran.{scene};
 ghost use Rattle.mcap_app.specs.Runs.{IsAllowed, Runs, LacksForWords};
 
+use crate::recording::{Ended, record_file};
 use command_base::{refuse_for_memory, refuse_words};
 use command_words::{Command, WordsRefused, parse_words};
 use file_commands::{check_file, describe_file, print_file, print_indexed};
 use mcap_io::{Sink, World};
 use mcap_wire::Text;
-use record_command::{Ended, record_file};
 use recorder::RecordOptions;
 use std::alloc::Global;
 
