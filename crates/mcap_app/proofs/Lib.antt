@@ -1,3 +1,17 @@
+mod ItemLemmas
+mod CutLemmas
+mod OneCommand
+mod RowLemmas
+mod RuleLemmas
+mod TurnLemmas
+mod HoldLemmas
+mod WalkLemmas
+mod LeafLemmas
+mod AppLemmas
+mod MatchLemmas
+mod CommandLemmas
+mod LineLemmas
+mod OptionLemmas
 mod Statuses
 mod Whole
 mod Held

@@ -24,7 +24,7 @@ pub struct Outcome {
 }
 
 /// Which parts of the outside failed.
-#[derive(Clone, Copy, Debug, PartialEq, Eq)]
+#[derive(Clone, Copy)]
 pub struct Failures {
     pub feed: bool,
     pub out: bool,
