@@ -1,8 +1,8 @@
 //! What the program says on standard error, and the status that it ends with.
-ghost use Rattle.std.specs.Prelude.{◌≡◌, ◌==◌, IfOk, map, string_bytes};
+ghost use Rattle.std.specs.Prelude.{◌≡◌, ◌==◌, ◌++◌, IfOk, codes, decimal, map, string_bytes};
 ghost use Rattle.std.specs.List.{list_any};
 ghost use Rattle.json.specs.Print.{quoted};
-ghost use Rattle.command_base.specs.Texts.{trouble_of, unindexed_text, line_of, said, asked_status, status_of};
+ghost use Rattle.command_base.specs.Texts.{trouble_of, compressed, flaw, unindexed_text, line_of, said, asked_status, status_of};
 
 use mcap_wire::Memory;
 use serde_json::Value;
@@ -16,7 +16,7 @@ pub const BAD_WORDS: &str =
 pub const NO_MEMORY: &str = "mcaprec: no memory\n";
 
 /// What a file lacks that was to be read by its indexes.
-#[derive(Clone, Copy, Debug, PartialEq, Eq)]
+#[derive(Clone, Copy)]
 pub enum Unindexed {
     /// A summary (MCAP specification, "Summary Section").
     NoSummary,
@@ -31,7 +31,7 @@ pub enum Unindexed {
 }
 
 /// A trouble, with the name of the file that it is about. Offsets count from the file's first byte.
-#[derive(Clone, Copy, Debug, PartialEq, Eq)]
+#[derive(Clone, Copy)]
 pub enum Complaint<'a> {
     /// The words are no command.
     BadWords,
@@ -86,15 +86,55 @@ fn quoted_name(alloc: Global, name: &str) -> Result<String, AllocError>
 
 // The words for what a file lacks.
 fn words_for(why: Unindexed) -> &'static str
-    ensures { result.now ≡ unindexed_text why }
+    ensures { result.now ≡ codes "not indexed: " ++ unindexed_text why }
 {
     match why {
-        Unindexed::NoSummary => "no summary",
-        Unindexed::NoStatistics => "no statistics",
-        Unindexed::ChunkCount => "chunk count",
-        Unindexed::NoMessageIndex => "no message index",
-        Unindexed::NoChannel => "no channel",
+        Unindexed::NoSummary => "not indexed: no summary",
+        Unindexed::NoStatistics => "not indexed: no statistics",
+        Unindexed::ChunkCount => "not indexed: chunk count",
+        Unindexed::NoMessageIndex => "not indexed: no message index",
+        Unindexed::NoChannel => "not indexed: no channel",
     }
+}
+
+// The line of what is the matter with a file.
+fn line_about(alloc: Global, name: &str, what: &str) -> Result<String, AllocError>
+    ensures { IfOk result (λ text. string_bytes text ≡ codes "mcaprec: " ++ (quoted name.now ++ (codes ": " ++ (what.now ++ codes "\n")))) }
+{
+    let name = quoted_name(alloc, name)?;
+    format!(in alloc; "mcaprec: {name}: {what}\n")
+}
+
+// The line of what is the matter at an offset of a file.
+fn line_at(alloc: Global, name: &str, what: &str, offset: u64) -> Result<String, AllocError>
+    ensures { IfOk result (λ text. string_bytes text ≡ codes "mcaprec: " ++ (quoted name.now ++ (codes ": " ++ (what.now ++ (codes " at " ++ (decimal offset ++ codes "\n")))))) }
+{
+    let name = quoted_name(alloc, name)?;
+    format!(in alloc; "mcaprec: {name}: {what} at {offset}\n")
+}
+
+// The line of a chunk that is compressed.
+#[tactic(auto, unfolding(crate::specs::Texts::line_of))]
+fn compressed_line(
+    alloc: Global,
+    name: &str,
+    compression: &str,
+    offset: u64,
+) -> Result<String, AllocError>
+    ensures { IfOk result (λ text. string_bytes text ≡ line_of (compressed name.now compression.now offset)) }
+{
+    let name = quoted_name(alloc, name)?;
+    let compression = quoted_name(alloc, compression)?;
+    format!(in alloc; "mcaprec: {name}: compressed {compression} at {offset}\n")
+}
+
+// The line of a rule that fails.
+#[tactic(auto, unfolding(crate::specs::Texts::line_of))]
+fn flaw_line(alloc: Global, name: &str, rule: u8, offset: u64) -> Result<String, AllocError>
+    ensures { IfOk result (λ text. string_bytes text ≡ line_of (flaw name.now rule offset)) }
+{
+    let name = quoted_name(alloc, name)?;
+    format!(in alloc; "mcaprec: {name}: flaw V{rule} at {offset}\n")
 }
 
 // The line of a complaint, or the lines.
@@ -104,41 +144,18 @@ fn complaint_line(alloc: Global, complaint: &Complaint<'_>) -> Result<String, Al
 {
     match complaint {
         Complaint::BadWords => String::from_str(alloc, BAD_WORDS),
-        Complaint::Fault { name } => {
-            let name = quoted_name(alloc, name)?;
-            format!(in alloc; "mcaprec: {name}: fault\n")
-        }
+        Complaint::Fault { name } => line_about(alloc, name, "fault"),
         Complaint::OutputFault => String::from_str(alloc, "mcaprec: output: fault\n"),
-        Complaint::Grammar { name, offset } => {
-            let name = quoted_name(alloc, name)?;
-            format!(in alloc; "mcaprec: {name}: grammar at {offset}\n")
-        }
+        Complaint::Grammar { name, offset } => line_at(alloc, name, "grammar", *offset),
         Complaint::Compressed {
             name,
             compression,
             offset,
-        } => {
-            let name = quoted_name(alloc, name)?;
-            let compression = quoted_name(alloc, compression)?;
-            format!(in alloc; "mcaprec: {name}: compressed {compression} at {offset}\n")
-        }
-        Complaint::Limit { name, offset } => {
-            let name = quoted_name(alloc, name)?;
-            format!(in alloc; "mcaprec: {name}: limit at {offset}\n")
-        }
-        Complaint::OutputLimit { name } => {
-            let name = quoted_name(alloc, name)?;
-            format!(in alloc; "mcaprec: {name}: limit\n")
-        }
-        Complaint::NotIndexed { name, why } => {
-            let name = quoted_name(alloc, name)?;
-            let why = words_for(*why);
-            format!(in alloc; "mcaprec: {name}: not indexed: {why}\n")
-        }
-        Complaint::Flaw { name, rule, offset } => {
-            let name = quoted_name(alloc, name)?;
-            format!(in alloc; "mcaprec: {name}: flaw V{rule} at {offset}\n")
-        }
+        } => compressed_line(alloc, name, compression, *offset),
+        Complaint::Limit { name, offset } => line_at(alloc, name, "limit", *offset),
+        Complaint::OutputLimit { name } => line_about(alloc, name, "limit"),
+        Complaint::NotIndexed { name, why } => line_about(alloc, name, words_for(*why)),
+        Complaint::Flaw { name, rule, offset } => flaw_line(alloc, name, *rule, *offset),
         Complaint::NoMemory => String::from_str(alloc, NO_MEMORY),
     }
 }

@@ -6,7 +6,7 @@ ghost use Rattle.command_base.specs.Ran.{counts, failed_so};
 use mcap_io::{Failed, Sink, World};
 
 /// How often the world, its kept inputs and outputs, and standard output have failed.
-#[derive(Clone, Copy, Debug, PartialEq, Eq)]
+#[derive(Clone, Copy)]
 pub struct Counts {
     pub world: u64,
     pub inputs: u64,

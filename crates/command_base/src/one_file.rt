@@ -12,7 +12,7 @@ use mcap_wire::Memory;
 use std::alloc::Global;
 
 /// Which parts of the outside failed: the file, or standard output.
-#[derive(Clone, Copy, Debug, PartialEq, Eq)]
+#[derive(Clone, Copy)]
 pub struct Faults {
     pub file: bool,
     pub printing: bool,

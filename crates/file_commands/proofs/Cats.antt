@@ -22,7 +22,7 @@ use Rattle.command_base.proofs.Counting.{failed_often}
 use Rattle.command_base.proofs.Opened.{source_keeping}
 use Rattle.command_base.proofs.OneFile.{source_input, same_back, taken_back, one_not_two, halts_so, read_halts, failed_halts, lacked_halts, read_sure, halted_sure, lacked_sure}
 use Rattle.file_commands.specs.Cat.{Selection, IsRefused, ComesTo, IsReading, ending_of, NamePlayed, Cats}
-use Rattle.file_commands.proofs.Names.{CallsAre, reads_so}
+use Rattle.file_commands.proofs.OneName.{CallsAre, reads_so}
 
 -- a reading halts by a broken rule, a compression or a limit
 well : (file : List ℕ) (reading : Reading) → HaltsWell (ending_of file reading)

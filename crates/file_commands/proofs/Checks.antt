@@ -19,7 +19,7 @@ use Rattle.command_base.specs.OneFile.{was_read, failing, text_of, ending_status
 use Rattle.command_base.proofs.Counting.{failed_often}
 use Rattle.command_base.proofs.OneFile.{one_not_two, halts_so, read_halts, failed_halts, lacked_halts, read_sure, halted_sure, lacked_sure}
 use Rattle.file_commands.specs.Check.{CheckComesTo, IsJudged, counts_line, flaw_line, verdict_line, ending_of, verdict_status, judgement_status, final_status, Decides, FileChecks}
-use Rattle.file_commands.proofs.Names.{CallsAre, reads_so}
+use Rattle.file_commands.proofs.OneName.{CallsAre, reads_so}
 
 -- ---- the line
 

@@ -1,10 +1,9 @@
 -- What the endings of a printing by the indexes say of it, and of its file.
-use Rattle.std.proofs.Common.{◌≡◌, ℕ, List, [], ◌∷◌, Bool, true, Some, Ok, Err, refl, sym, ap, subst, inl, inr, ◌∙◌, arith}
+use Rattle.std.proofs.Common.{◌≡◌, ℕ, List, [], ◌∷◌, Bool, true, Some, refl, sym, ap, subst, inl, inr, ◌∙◌, arith}
 use Rattle.std.proofs.lemmas.Bool.{both_ways}
 use Rattle.mcap_io.specs.Outside.{Told, Opening, WorldState}
 use Rattle.mcap_io.specs.Stores.{StoreState}
 use Rattle.mcap_io.specs.declared.outside.ObjectKind.TheVariants as kinds
-use Rattle.mcap_model.specs.declared.replay.Replayed.{Replayed}
 use Rattle.mcap_model.specs.Tops.{Top}
 use Rattle.mcap_model.specs.Kept.{reading_limits, at_end, Halts}
 use Rattle.mcap_model.specs.Scan.{Seen, Scan}
@@ -19,8 +18,8 @@ use Rattle.command_base.specs.OneFile.{failing, HaltsWell}
 use Rattle.command_base.proofs.Counting.{failed_often}
 use Rattle.command_base.proofs.OneFile.{one_not_two, halts_so, read_halts, failed_halts, lacked_halts, read_sure, halted_sure, lacked_sure}
 use Rattle.file_commands.specs.Cat.{Selection}
-use Rattle.file_commands.specs.Indexed.{now_of, Replays, ComesTo, IsFollowed, ending_of, ShowsLed, ShowsScan, IndexedCats}
-use Rattle.file_commands.proofs.Names.{CallsAre, reads_so}
+use Rattle.file_commands.specs.Indexed.{now_of, ComesTo, IsFollowed, ending_of, ShowsLed, ShowsScan, IndexedCats}
+use Rattle.file_commands.proofs.OneName.{CallsAre, reads_so}
 
 -- a reading halts by what the file lacks, by a broken rule, a compression or a limit
 well : (file : List ℕ) (following : Following) → HaltsWell (ending_of file following)
@@ -36,18 +35,6 @@ well file (followings.Refused refusals.Memory) = lacked_halts
 -- the status is not that of bad words
 pub indexed_not_two : (asked : Selection) (file : List ℕ) (old new : Scene) (answer : ℕ) → IndexedCats asked file old new answer → answer ≡ 2 → ⊥
 indexed_not_two asked file old new answer all two = one_not_two kinds.Store file old new all.entries (ending_of file all.following) answer (well file all.following) all.ran two
-
--- a want of memory for the lines is one of the replay
-pub lacking : (asked : Selection) (store now : StoreState) (played : Replayed) → Replays asked store now (Ok played) → Replays asked store now (Err refusals.Memory)
-lacking asked store now played is = record {
-  plays = λ file here. tt;
-  counted = λ file here. tt;
-  unsummed = λ file here none. tt;
-  scanned = λ file tops end messages here full halts scan. tt;
-  asks = is.asks;
-  bounded = is.bounded;
-  cause = is.cause;
-}
 
 -- a reading that failed has a store that failed
 pub sure : (asked : Selection) (file : List ℕ) (store now : StoreState) (following : Following) (well : Bool) → store.faults ≡ 0 → ComesTo asked store now following → ending_of file following ≡ failing → failed_so well now.faults ≡ true

@@ -1,4 +1,10 @@
-mod Names
+mod Places
+mod Counted
+mod Added
+mod Shown
+mod Named
+mod Once
+mod OneName
 pub mod Tellings
 pub mod Checks
 pub mod Cats

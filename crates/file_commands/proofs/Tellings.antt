@@ -14,7 +14,7 @@ use Rattle.command_base.specs.OneFile.{was_read, failing, HaltsWell}
 use Rattle.command_base.proofs.Counting.{failed_often}
 use Rattle.command_base.proofs.OneFile.{one_not_two, halts_so, read_halts, failed_halts, lacked_halts, read_sure, halted_sure, lacked_sure}
 use Rattle.file_commands.specs.Info.{StoreUse, seen, Finds, InfoComesTo, IsDescribed, ending_of, DescribesBytes, Describes}
-use Rattle.file_commands.proofs.Names.{CallsAre, reads_so}
+use Rattle.file_commands.proofs.OneName.{CallsAre, reads_so}
 
 -- a telling halts by a broken rule, by what is missing, or by a limit
 well : (file : List ℕ) (description : Description) → HaltsWell (ending_of file description)

@@ -7,7 +7,7 @@ use Rattle.summary_read.specs.declared.refusals.LoadRefused.{LoadRefused}
 use Rattle.summary_read.specs.declared.refusals.LoadRefused.TheVariants as refusals
 use Rattle.summary_read.specs.Parts.{Parts, IsLoaded}
 use Rattle.summary_read.specs.Loading.{IsRefused, Loads, LoadCause, AskedFor}
-use Rattle.summary_info.specs.Told.{InfoText}
+use Rattle.file_commands.specs.Told.{InfoText}
 use Rattle.file_commands.specs.declared.describing.Description.{Description}
 use Rattle.file_commands.specs.declared.describing.Description.TheVariants as descriptions
 use Rattle.file_commands.specs.declared.describing.Described.{Described}

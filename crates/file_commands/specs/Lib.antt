@@ -1,3 +1,9 @@
+pub mod Firsts
+pub mod Counts
+pub mod Json
+pub mod Told
+pub mod Writing
+pub mod Laws
 pub mod Names
 pub mod Info
 pub mod Check

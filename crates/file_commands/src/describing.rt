@@ -6,11 +6,12 @@ ghost use Rattle.command_base.specs.Ran.{scene};
 ghost use Rattle.command_base.specs.OneFile.{text_of, troubles_in, is_lack, PrintsEnding};
 ghost use Rattle.file_commands.specs.Info.{seen, InfoComesTo, load_ending, ending_of, NameDescribed, Describes};
 
+use crate::info::info_text;
+use crate::refusals::InfoRefused;
 use command_base::{Complaint, Counts, Unindexed, answer_file, faults_of, has_failed};
 use mcap_io::{OpenRefused, Sink, Store, World, write_all_of};
 use mcap_wire::Bytes;
 use std::alloc::Global;
-use summary_info::{InfoRefused, info_text};
 use summary_read::{LoadRefused, load};
 
 /// What the reading of a summary came to.

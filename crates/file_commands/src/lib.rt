@@ -1,13 +1,25 @@
-//! The commands that read one file and print of it: `info`, `check`, and `cat` by a scan or by the indexes.
+//! The commands that read one file and print of it: `info`, with the line of JSON that it prints, `check`, and `cat` by a
+//! scan or by the indexes.
 #![tactic(auto)]
 
 mod cat;
+mod channels;
 mod checking;
+mod counts;
 mod describing;
+mod firsts;
 mod indexed;
+mod info;
+pub mod laws;
+mod members;
+mod names;
+mod refusals;
+mod schemas;
 mod verdict;
 
 pub use cat::print_file;
 pub use checking::check_file;
 pub use describing::describe_file;
 pub use indexed::print_indexed;
+pub use info::info_text;
+pub use refusals::InfoRefused;

@@ -18,7 +18,7 @@ use Rattle.recorder.proofs.ReadBack.{recordings_are_read_back}
 use Rattle.file_commands.specs.declared.cat.Reading.{Reading}
 use Rattle.file_commands.specs.declared.cat.Reading.TheVariants as readings
 use Rattle.command_base.specs.Ran.{Scene, counts_in, AnyRose, CountsKept, world_faults}
-use Rattle.record_command.specs.Record.{Reported, EndsWith, Records}
+use Rattle.mcap_app.specs.Record.{Reported, EndsWith, Records}
 use Rattle.mcap_scan.specs.declared.answers.ScanRefused.TheVariants as refusals
 use Rattle.command_base.specs.OneFile.{was_read}
 use Rattle.command_base.specs.Printing.{TellsAll}

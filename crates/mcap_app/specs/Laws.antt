@@ -14,7 +14,7 @@ use Rattle.recorder.specs.declared.report.Report.{Report}
 use Rattle.command_base.specs.Printing.{TellsAll}
 use Rattle.command_base.specs.Ran.{Scene, counts_in, AnyRose}
 use Rattle.recorder.specs.declared.options.RecordOptions.{RecordOptions}
-use Rattle.record_command.specs.Record.{AreAllowed, Records}
+use Rattle.mcap_app.specs.Record.{AreAllowed, Records}
 use Rattle.file_commands.specs.Cat.{Selection, Cats}
 use Rattle.file_commands.specs.Check.{verdict_line, FileChecks}
 

@@ -1,2 +1,9 @@
-pub mod Laws
+pub mod Items
+pub mod Commands
+pub mod Matches
+pub mod CommandLine
+pub mod ReportTexts
+pub mod Record
+pub mod Answer
 pub mod Runs
+pub mod Laws

@@ -1,12 +1,12 @@
 -- What the program does, command by command.
 use Rattle.std.specs.Prelude.{◌≡◌, ℕ, List, [], ◌∷◌, true, false, Option, None}
-use Rattle.command_words.specs.declared.command.Command.{Command}
-use Rattle.command_words.specs.declared.command.Command.TheVariants as commands
+use Rattle.mcap_app.specs.declared.command.Command.{Command}
+use Rattle.mcap_app.specs.declared.command.Command.TheVariants as commands
 use Rattle.recorder.specs.declared.report.Report.{Report}
 use Rattle.command_base.specs.Texts.{no_memory, said}
 use Rattle.command_base.specs.Printing.{Takes}
 use Rattle.command_base.specs.Ran.{Scene}
-use Rattle.record_command.specs.Record.{AreAllowed, Records}
+use Rattle.mcap_app.specs.Record.{AreAllowed, Records}
 use Rattle.file_commands.specs.Info.{Describes}
 use Rattle.file_commands.specs.Check.{FileChecks}
 use Rattle.file_commands.specs.Cat.{selection, Cats}

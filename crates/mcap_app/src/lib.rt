@@ -1,14 +1,27 @@
-//! The program: its words, and what each command does to the world and to both outputs.
+//! The program: its words, what each command does to the world and to both outputs, and `record` itself.
 #![tactic(auto)]
 
+mod answering;
+mod command;
+mod command_line;
+mod found;
 pub mod laws;
+mod options;
+mod parse;
+mod print;
 mod program;
+mod read;
+mod recording;
+mod verbs;
 
+pub use answering::{Failures, Outcome, answer, failed_parts};
+pub use command::{Command, WordsRefused};
 pub use command_base::{Complaint, Counts, rose, say, status};
-pub use command_words::{Command, WordsRefused, parse_words};
 pub use mcap_model::{End, Stop};
+pub use parse::parse_words;
+pub use print::print_report;
 pub use program::run;
-pub use record_command::{Ended, print_report};
 pub use recorder::{
     Accepted, Cause, DeclaredAt, FeedEnd, FeedReport, Refused, Report, WriterReport,
 };
+pub use recording::{Ended, record_file};

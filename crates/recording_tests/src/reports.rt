@@ -1,8 +1,8 @@
 //! What is said of reports that no run brings about.
 use crate::same::{holds, holds_at};
+use mcap_app::{Failures, answer, print_report};
 use mcap_io::MemorySink;
 use mcap_model::{End, Stop};
-use record_command::{Failures, answer, print_report};
 use recorder::{Cause, FeedEnd, FeedReport, Refused, Report, WriterReport};
 use std::alloc::{AllocError, Global};
 use std::test::Fail;

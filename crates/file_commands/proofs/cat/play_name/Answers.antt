@@ -8,7 +8,7 @@ use Rattle.mcap_model.specs.Plain.{asked_topic}
 use Rattle.command_base.specs.Ran.{failed_so}
 use Rattle.command_base.proofs.OneFile.{source_input}
 use Rattle.file_commands.specs.Cat.{selection, IsReading}
-use Rattle.file_commands.proofs.Names.{unopened, lacking_memory}
+use Rattle.file_commands.proofs.OneName.{unopened, lacking_memory}
 use Rattle.file_commands.proofs.Cats.{read_back}
 use Rattle.file_commands.proofs.cat.play_name.Goals as goal
 

@@ -7,7 +7,7 @@ use Rattle.file_commands.specs.declared.checking.Judgement.TheVariants as judgem
 use Rattle.command_base.specs.Ran.{failed_so}
 use Rattle.command_base.proofs.OneFile.{store_input, store_keeping}
 use Rattle.file_commands.specs.Check.{CheckComesTo, IsJudged, ending_of}
-use Rattle.file_commands.proofs.Names.{unopened, lacking_memory, store_ends}
+use Rattle.file_commands.proofs.OneName.{unopened, lacking_memory, store_ends}
 use Rattle.file_commands.proofs.Checks.{sure}
 use Rattle.file_commands.proofs.checking.judge_name.Goals as goal
 

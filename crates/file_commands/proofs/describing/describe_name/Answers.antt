@@ -7,7 +7,7 @@ use Rattle.file_commands.specs.declared.describing.Description.TheVariants as de
 use Rattle.command_base.specs.Ran.{failed_so}
 use Rattle.command_base.proofs.OneFile.{store_input, store_keeping}
 use Rattle.file_commands.specs.Info.{seen, InfoComesTo, IsDescribed, ending_of}
-use Rattle.file_commands.proofs.Names.{unopened, lacking_memory, store_ends}
+use Rattle.file_commands.proofs.OneName.{unopened, lacking_memory, store_ends}
 use Rattle.file_commands.proofs.Tellings.{sure}
 use Rattle.file_commands.proofs.describing.describe_name.Goals as goal
 

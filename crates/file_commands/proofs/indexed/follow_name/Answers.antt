@@ -9,7 +9,7 @@ use Rattle.command_base.specs.Ran.{failed_so}
 use Rattle.command_base.proofs.OneFile.{store_input, store_keeping}
 use Rattle.file_commands.specs.Cat.{selection}
 use Rattle.file_commands.specs.Indexed.{now_of, ComesTo, IsFollowed, ending_of}
-use Rattle.file_commands.proofs.Names.{unopened, lacking_memory, store_ends}
+use Rattle.file_commands.proofs.OneName.{unopened, lacking_memory, store_ends}
 use Rattle.file_commands.proofs.Followings.{sure}
 use Rattle.file_commands.proofs.indexed.follow_name.Goals as goal
 

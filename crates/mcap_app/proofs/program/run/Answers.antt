@@ -1,6 +1,7 @@
 -- The words derive the one command that ran, whose numbers are in their ranges and whose status isn't that of bad words.
 use Rattle.std.proofs.Common.{sym, ap, subst, inl, Err}
-use Rattle.command_words.specs.declared.command.Command.{Command}
+use Rattle.mcap_app.specs.declared.command.Command.{Command}
+use Rattle.mcap_app.specs.declared.recording.Ended.{Ended}
 use Rattle.command_base.specs.Ran.{scene}
 use Rattle.mcap_app.specs.Runs.{Runs}
 use Rattle.mcap_app.proofs.Running.{allowed, not_two}
@@ -21,6 +22,9 @@ returns-in-Ok-clause-runs g c = λ command derives.
 
 pub returns-in-Err-BadWords-clause-two : goal.returns-in-Err-BadWords-clause-two
 returns-in-Err-BadWords-clause-two g c = λ two. c.in-Err-BadWords.ensures.bad (ap Err c.in-Err-BadWords.field-0-is)
+
+pub returns-in-Err-BadWords-clause-err : goal.returns-in-Err-BadWords-clause-err
+returns-in-Err-BadWords-clause-err g c = λ bad. inl (ap (λ (e : Ended). e.status) c.unreported.ensures, c.refuse_words.ensures)
 
 pub returns-in-Err-BadWords-clause-runs : goal.returns-in-Err-BadWords-clause-runs
 returns-in-Err-BadWords-clause-runs g c = λ command derives. absurd (c.in-Err-BadWords.ensures.bad (ap Err c.in-Err-BadWords.field-0-is) command derives)

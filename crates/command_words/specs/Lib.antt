@@ -1,4 +1,0 @@
-pub mod Items
-pub mod Commands
-pub mod Matches
-pub mod Program

@@ -1,0 +1,8 @@
+-- The check has this answer.
+use Rattle.file_commands.proofs.checking.judge_store.Goals as goal
+
+pub returns-in-Ok : goal.returns-in-Ok
+returns-in-Ok g c = record { checks = c.in-Ok.ensures.checks; cause = c.in-Ok.ensures.cause }
+
+pub returns-in-Err : goal.returns-in-Err
+returns-in-Err g c = record { checks = c.in-Err.ensures.checks; cause = c.in-Err.ensures.cause }

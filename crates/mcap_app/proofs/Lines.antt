@@ -1,0 +1,68 @@
+-- Lines one after another, and what printing them in turn leaves.
+use Rattle.std.proofs.Common.{◌≡◌, ℕ, ◌+◌, ◌<◌, List, [], ◌∷◌, ◌++◌, length, take, drop, get_or, Option, Some, Result, Ok, Err, append_assoc, add-zero, subst, ap, sym, ◌∙◌, arith, length-append, take-append-drop}
+use Rattle.std.proofs.lemmas.List.{append-nil, take-append-le, take_more, length-take-le}
+use Rattle.mcap_io.specs.Outside.{SinkState, RisesOnce, Adds, AddsPart}
+use Rattle.mcap_io.proofs.Calls.{adds-adds, adds-part}
+use Rattle.mcap_io.specs.declared.outside.Failed.{Failed}
+use Rattle.command_base.specs.Printing.{TellsAll, Prints}
+use Rattle.feed_lane.specs.declared.report.FeedReport.{FeedReport}
+use Rattle.mcap_app.specs.ReportTexts.{feed_line, feed_lines}
+
+-- a count that stood still and then rose by one rose by one
+pub rises_on : (before middle now : ℕ) → middle ≡ before → RisesOnce middle now → RisesOnce before now
+rises_on before middle now still rises = subst (λ (n : ℕ). RisesOnce n now) still rises
+
+-- the lines of more feeds stand behind the lines of the first
+pub feed_lines-append : (j : ℕ) (xs ys : List FeedReport) → feed_lines j (xs ++ ys) ≡ feed_lines j xs ++ feed_lines (j + length xs) ys
+feed_lines-append j [] ys = ap (λ n. feed_lines n ys) (sym (add-zero j))
+feed_lines-append j (x ∷ xs) ys =
+    let moved : j + 1 + length xs ≡ j + length (x ∷ xs) = omega arith in
+    ap (λ l. feed_line j x ++ l) (feed_lines-append (j + 1) xs ys ∙ ap (λ n. feed_lines (j + 1) xs ++ feed_lines n ys) moved)
+    ∙ sym (append_assoc (feed_line j x) (feed_lines (j + 1) xs) (feed_lines (j + length (x ∷ xs)) ys))
+
+-- one feed more
+pub feed_lines-more : (fs : List FeedReport) (i : ℕ) (d : FeedReport) → i < length fs → feed_lines 1 (take (i + 1) fs) ≡ feed_lines 1 (take i fs) ++ feed_line (i + 1) (get_or fs i d)
+feed_lines-more fs i d within =
+    let number : 1 + length (take i fs) ≡ i + 1 = omega (arith, length-take-le i fs (omega arith)) in
+    ap (feed_lines 1) (take_more fs i d within)
+    ∙ feed_lines-append 1 (take i fs) (get_or fs i d ∷ [])
+    ∙ ap (λ n. feed_lines 1 (take i fs) ++ (feed_line n (get_or fs i d) ++ [])) number
+    ∙ ap (λ l. feed_lines 1 (take i fs) ++ l) (append-nil (feed_line (i + 1) (get_or fs i d)))
+
+-- a first part of a text is one of every longer text
+pub part-longer : (old new : Option (List ℕ)) (least : ℕ) (xs ys : List ℕ) → AddsPart old new least xs → AddsPart old new 0 (xs ++ ys)
+part-longer old new least xs ys part before told =
+    let p = part before told in (
+      p.0,
+      omega arith,
+      omega (arith, p.2, length-append xs ys),
+      p.3 ∙ ap (λ l. Some (before ++ l)) (sym (take-append-le p.0 xs ys p.2)),
+    )
+
+-- a line that was printed behind the lines of the feeds below an index
+pub feed_lines-adds : (old mid new : Option (List ℕ)) (fs : List FeedReport) (i : ℕ) (f : FeedReport) (line : List ℕ) → i < length fs → f ≡ get_or fs i f → line ≡ feed_line (i + 1) f → Adds old mid (feed_lines 1 (take i fs)) → Adds mid new line → Adds old new (feed_lines 1 (take (i + 1) fs))
+feed_lines-adds old mid new fs i f line within at is so_far adds =
+    let P : List ℕ → Type 0 = λ l. Adds old new l in
+    let more : feed_lines 1 (take i fs) ++ line ≡ feed_lines 1 (take (i + 1) fs) =
+    ap (λ l. feed_lines 1 (take i fs) ++ l) (is ∙ ap (feed_line (i + 1)) at) ∙ sym (feed_lines-more fs i f within) in
+    subst P more (adds-adds old mid new _ line so_far adds)
+
+-- a line that failed behind them: a first part of all lines was printed
+pub feed_lines-part : (old mid new : Option (List ℕ)) (fs : List FeedReport) (i : ℕ) (f : FeedReport) (line : List ℕ) → i < length fs → f ≡ get_or fs i f → line ≡ feed_line (i + 1) f → Adds old mid (feed_lines 1 (take i fs)) → AddsPart mid new 0 line → AddsPart old new 0 (feed_lines 1 fs)
+feed_lines-part old mid new fs i f line within at is so_far part =
+    let shown : List ℕ = feed_lines 1 (take i fs) ++ line in
+    let rest : List ℕ = feed_lines (1 + length (take (i + 1) fs)) (drop (i + 1) fs) in
+    let more : shown ≡ feed_lines 1 (take (i + 1) fs) =
+    ap (λ l. feed_lines 1 (take i fs) ++ l) (is ∙ ap (feed_line (i + 1)) at) ∙ sym (feed_lines-more fs i f within) in
+    let whole : shown ++ rest ≡ feed_lines 1 fs =
+    ap (λ l. l ++ rest) more ∙ sym (feed_lines-append 1 (take (i + 1) fs) (drop (i + 1) fs)) ∙ ap (feed_lines 1) (take-append-drop (i + 1) fs) in
+    let P : List ℕ → Type 0 = λ l. AddsPart old new 0 l in
+    subst P whole (part-longer old new _ shown rest (adds-part old mid new _ line 0 so_far part))
+
+-- a text that was printed behind one that was
+pub prints-behind : (old mid new : SinkState) (xs ys : List ℕ) (r : Result Unit Failed) → TellsAll old mid xs → Prints mid new ys r → Prints old new (xs ++ ys) r
+prints-behind old mid new xs ys (Ok it) first prints = record { still = prints.still ∙ first.still; adds = adds-adds old.took mid.took new.took xs ys first.adds prints.adds }
+prints-behind old mid new xs ys (Err why) first prints = record {
+  rises = rises_on old.faults mid.faults new.faults first.still prints.rises;
+  adds = let whole = adds-part old.took mid.took new.took xs ys 0 first.adds prints.adds in λ before told. let p = whole before told in (p.0, omega arith, p.2, p.3);
+}

@@ -1,0 +1,185 @@
+//! All the words of a command line.
+ghost use Rattle.std.specs.Prelude.{◌≡◌, ◌≢◌, ℕ, List, [], Some, Bool, Option, MatchOption, codes, IfOk, IfErr, OnErr, option_map};
+ghost use Rattle.clap.specs.Words.{subcommand_rows_of};
+ghost use Rattle.mcap_app.specs.Items.{Word};
+ghost use Rattle.mcap_app.specs.Commands.{AreBad, Behind, Derives, IsCat, IsOnly, IsRecord, verb_of};
+ghost use Rattle.mcap_app.specs.Matches.{AreRead, IsReading, rows_found, value_in};
+ghost use Rattle.mcap_app.specs.declared.command.Command.{Command as Wanted};
+ghost use Rattle.mcap_model.specs.declared.options.FileOptions.{FileOptions as Options};
+ghost use Rattle.mcap_model.specs.declared.replay.Range.{Range as Times};
+
+use crate::command::{Command, WordsRefused};
+use crate::found::{BadValue, has_flag, is_dash, name_of_file, number_of, value_of};
+use crate::options::{copy_of, file_options, range_of};
+use crate::read::{are_whole, plain_words, read_words};
+use crate::verbs::{Verb, named_verb};
+use clap::ArgMatches;
+use mcap_wire::Text;
+use std::alloc::Global;
+
+/// The most bytes that may be held in memory, and those where the words don't say it.
+const LARGEST_LIMIT: u64 = 1_073_741_824;
+
+const USUAL_LIMIT: u64 = 104_857_600;
+
+// A copy of a word that may be there.
+fn maybe_copy(alloc: Global, word: Option<&str>) -> Result<Option<Text>, WordsRefused>
+    ensures copy { IfOk result (λ copy. copy ≡ option_map (λ text. text.now) word.entry) }
+    ensures want { OnErr result (result ≡ Err WordsRefused.Memory) }
+{
+    match word {
+        Some(word) => match copy_of(alloc, word) {
+            Ok(copy) => return Ok(Some(copy)),
+            Err(refused) => return Err(refused),
+        },
+        None => return Ok(None),
+    }
+}
+
+// The names of the two files of a recording, which differ.
+fn two_names<'a>(found: &ArgMatches<'a>) -> Option<(&'a str, &'a str)>
+    ensures { MatchOption result ((out feed : Word) → out ≢ [] → feed ≢ [] → out ≢ feed → value_in found.now (codes "out") ≡ Some out → value_in found.now (codes "feed") ≢ Some feed) (λ names. (names.0.now ≢ []) × (names.1.now ≢ []) × (names.0.now ≢ names.1.now) × (value_in found.now (codes "out") ≡ Some names.0.now) × (value_in found.now (codes "feed") ≡ Some names.1.now)) }
+{
+    let Some(out) = name_of_file(found, "out") else {
+        return None;
+    };
+    let Some(feed) = name_of_file(found, "feed") else {
+        return None;
+    };
+    if out == feed {
+        return None;
+    }
+    Some((out, feed))
+}
+
+// The name of the one file of a command.
+fn one_name(alloc: Global, found: &ArgMatches) -> Result<Text, WordsRefused>
+    ensures file { IfOk result (λ file. (file ≢ []) × (value_in found.now (codes "file") ≡ Some file)) }
+    ensures bad { IfErr result (λ refused. refused ≡ WordsRefused.BadWords → (file : Word) → file ≢ [] → value_in found.now (codes "file") ≢ Some file) }
+{
+    match name_of_file(found, "file") {
+        Some(file) => match copy_of(alloc, file) {
+            Ok(file) => return Ok(file),
+            Err(refused) => return Err(refused),
+        },
+        None => return Err(WordsRefused::BadWords),
+    }
+}
+
+// What was found behind `record`.
+fn record_of(alloc: Global, found: &ArgMatches) -> Result<Command, WordsRefused>
+    ensures command { (words : List Word) → IsReading Verb.Record words (rows_found found.now) → IfOk result (λ command. Behind words command × (verb_of command ≡ Verb.Record)) }
+    ensures bad { (words : List Word) → IsReading Verb.Record words (rows_found found.now) → IfErr result (λ refused. refused ≡ WordsRefused.BadWords → (out feed : Word) (file : Options) (limit : ℕ) → IsRecord words out feed file limit → ⊥) }
+{
+    if is_dash(found, "profile") {
+        return Err(WordsRefused::BadWords);
+    }
+    let Some((out, feed)) = two_names(found) else {
+        return Err(WordsRefused::BadWords);
+    };
+    let limit = match number_of(found, "limit", 1, LARGEST_LIMIT) {
+        Ok(limit) => limit,
+        Err(BadValue) => return Err(WordsRefused::BadWords),
+    };
+    let file = match file_options(alloc, found) {
+        Ok(file) => file,
+        Err(refused) => return Err(refused),
+    };
+    match (copy_of(alloc, out), copy_of(alloc, feed)) {
+        (Ok(out), Ok(feed)) => return Ok(Command::Record {
+            out,
+            feed,
+            file,
+            limit: limit.unwrap_or(USUAL_LIMIT),
+        }),
+        _ => return Err(WordsRefused::Memory),
+    }
+}
+
+// What was found behind `cat`.
+fn cat_of(alloc: Global, found: &ArgMatches) -> Result<Command, WordsRefused>
+    ensures command { (words : List Word) → IsReading Verb.Cat words (rows_found found.now) → IfOk result (λ command. Behind words command × (verb_of command ≡ Verb.Cat)) }
+    ensures bad { (words : List Word) → IsReading Verb.Cat words (rows_found found.now) → IfErr result (λ refused. refused ≡ WordsRefused.BadWords → (file : Word) (indexed : Bool) (range : Times) (topic : Option Word) → IsCat words file indexed range topic → ⊥) }
+{
+    if is_dash(found, "topic") {
+        return Err(WordsRefused::BadWords);
+    }
+    let range = match range_of(found) {
+        Ok(range) => range,
+        Err(BadValue) => return Err(WordsRefused::BadWords),
+    };
+    let file = match one_name(alloc, found) {
+        Ok(file) => file,
+        Err(refused) => return Err(refused),
+    };
+    match maybe_copy(alloc, value_of(found, "topic")) {
+        Ok(topic) => return Ok(Command::Cat {
+            file,
+            indexed: has_flag(found, "indexed"),
+            range,
+            topic,
+        }),
+        Err(refused) => return Err(refused),
+    }
+}
+
+// What was found behind the name of a command.
+fn command_of(alloc: Global, verb: Verb, found: &ArgMatches) -> Result<Command, WordsRefused>
+    ensures command { (words : List Word) → IsReading verb words (rows_found found.now) → IfOk result (λ command. Behind words command × (verb_of command ≡ verb)) }
+    ensures bad { (words : List Word) → IsReading verb words (rows_found found.now) → IfErr result (λ refused. refused ≡ WordsRefused.BadWords → (command : Wanted) → verb_of command ≡ verb → Behind words command → ⊥) }
+{
+    match verb {
+        Verb::Record => return record_of(alloc, found),
+        Verb::Info => match one_name(alloc, found) {
+            Ok(file) => return Ok(Command::Info { file }),
+            Err(refused) => return Err(refused),
+        },
+        Verb::Check => match one_name(alloc, found) {
+            Ok(file) => return Ok(Command::Check { file }),
+            Err(refused) => return Err(refused),
+        },
+        Verb::Cat => return cat_of(alloc, found),
+    }
+}
+
+// The command that was found.
+fn found_command(alloc: Global, found: &ArgMatches) -> Result<Command, WordsRefused>
+    ensures command { (words : List Word) → AreRead words (subcommand_rows_of found.now) → IfOk result (Derives words) }
+    ensures bad { (words : List Word) → AreRead words (subcommand_rows_of found.now) → result ≡ Err WordsRefused.BadWords → AreBad words }
+{
+    let Some((name, below)) = found.subcommand() else {
+        return Err(WordsRefused::BadWords);
+    };
+    match named_verb(name) {
+        Some(verb) => return command_of(alloc, verb, below),
+        None => return Err(WordsRefused::BadWords),
+    }
+}
+
+/// Reads the words behind the program's own name: `record [--plain] [--limit N] [--chunk N] [--profile T] OUT FEED`,
+/// `info FILE`, `check FILE` or `cat [--indexed] [--start N] [--end N] [--topic T] FILE`.
+///
+/// Options and positionals stand in any order behind the command, and `--` ends the options. An option has its value
+/// behind `=` in the same word, or in the next word, which then doesn't begin with `-`; each stands at most once. A number
+/// has 1 to 20 decimal digits: N of `--limit` is a number of bytes from 1 to 1,073,741,824 (usually 104,857,600), that of
+/// `--chunk` from 1 to 67,108,864 (usually 786,432), and those of `--start` and `--end` are times below 2^64. A profile has
+/// at most 65,535 bytes. OUT, FEED and FILE aren't empty and no word is `-` alone; OUT and FEED differ; `--plain` and
+/// `--chunk` exclude each other.
+///
+/// Where the words are no command the answer is BadWords, and where there is no memory for reading them it may be Memory.
+pub fn parse_words(alloc: Global, words: &[Text]) -> Result<Command, WordsRefused>
+    ensures command { IfOk result (λ command. Derives words.now command) }
+    ensures only { IfOk result (λ command. IsOnly words.now command) }
+    ensures bad { result ≡ Err WordsRefused.BadWords → AreBad words.now }
+{
+    if !are_whole(words) {
+        return Err(WordsRefused::BadWords);
+    }
+    let Ok(plain) = plain_words(alloc, words) else {
+        return Err(WordsRefused::Memory);
+    };
+    match read_words(alloc, &plain) {
+        Ok(found) => return found_command(alloc, &found),
+        Err(refused) => return Err(refused),
+    }
+}

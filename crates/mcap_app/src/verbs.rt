@@ -1,0 +1,32 @@
+//! The commands by their names.
+ghost use Rattle.std.specs.Prelude.{◌≡◌, ◌≢◌, MatchOption};
+ghost use Rattle.mcap_app.specs.Commands.{name_of};
+ghost use Rattle.mcap_app.specs.declared.verbs.Verb.{Verb as Named};
+
+/// A command by its name.
+#[derive(Clone, Copy)]
+pub enum Verb {
+    Record,
+    Info,
+    Check,
+    Cat,
+}
+
+/// The command of this name.
+pub fn named_verb(name: &str) -> Option<Verb>
+    ensures { MatchOption result ((verb : Named) → name.now ≢ name_of verb) (λ verb. name.now ≡ name_of verb) }
+{
+    if name == "record" {
+        return Some(Verb::Record);
+    }
+    if name == "info" {
+        return Some(Verb::Info);
+    }
+    if name == "check" {
+        return Some(Verb::Check);
+    }
+    if name == "cat" {
+        return Some(Verb::Cat);
+    }
+    None
+}

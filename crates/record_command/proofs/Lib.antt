@@ -1,6 +1,0 @@
-pub mod Answered
-mod Held
-mod Runs
-mod Statuses
-mod Whole
-pub mod Lines
