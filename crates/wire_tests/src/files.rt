@@ -1,7 +1,7 @@
 //! The world of files.
 use crate::outside::{Stretch, gives};
 use crate::same::holds_at;
-use mcap_io::{Failed, FileWorld, LiveStore, OpenRefused, Store, World};
+use mcap_io::{Failed, FileWorld, LiveStore, OpenRefused, Source, Store, World};
 use std::alloc::Global;
 use std::fs;
 use std::rt::Files;
@@ -18,6 +18,12 @@ fn refuses_output<W: World>(world: &mut W, name: &str) -> bool {
     }
 }
 
+// Whether the source gives these stretches.
+fn gives_all<S: Source>(alloc: Global, source: &mut S, stretches: &[Stretch<'_>]) -> bool {
+    let mut buffer = Vec::new(alloc);
+    gives(source, &mut buffer, stretches)
+}
+
 // Whether a source of that name gives these stretches and is kept, and while it is open the output isn't opened.
 fn gives_back<W: World>(
     alloc: Global,
@@ -30,9 +36,9 @@ fn gives_back<W: World>(
         Err(why) => return Err(why),
     };
     let refused = refuses_output(world, output);
-    let mut buffer = Vec::new(alloc);
-    let given = gives(&mut source, &mut buffer, stretches);
-    Ok(world.keep_source(name, source) == Ok(()) && refused && given)
+    let given = gives_all(alloc, &mut source, stretches);
+    let kept = world.keep_source(name, source);
+    Ok(kept == Ok(()) && refused && given)
 }
 
 // Whether the file has these bytes: two are read, then all that follow.
@@ -46,18 +52,17 @@ fn has<W: World>(alloc: Global, world: &mut W, bytes: &[u8]) -> bool {
     gives_back(alloc, world, ("record", "./record"), &stretches) == Ok(true)
 }
 
-// Whether a live store takes the bytes in pieces: where each ends, whether it is passed through, and how many bytes the file
-// has then.
-fn keeps<W: World>(
+// Where a piece ends, whether it is passed through, and how many bytes the file has then.
+type Step = (usize, bool, usize);
+
+// Whether a live store takes the bytes in pieces.
+fn takes_pieces<W: World, L: LiveStore>(
     alloc: Global,
     world: &mut W,
+    live: &mut L,
     bytes: &[u8],
-    pieces: &[(usize, bool, usize)],
+    pieces: &[Step],
 ) -> bool {
-    let Ok(mut live) = world.live("record") else {
-        return false;
-    };
-    let mut taken = true;
     let mut from = 0;
     for (to, through, stored) in pieces {
         let piece = bytes.get(from..*to).unwrap_or(&[]);
@@ -65,14 +70,27 @@ fn keeps<W: World>(
             true => live.append_through(piece).is_ok(),
             false => live.append(piece).is_ok(),
         };
-        taken = taken && appended && has(alloc, world, bytes.get(..*stored).unwrap_or(&[]));
+        let is_stored = has(alloc, world, bytes.get(..*stored).unwrap_or(&[]));
+        if !appended || !is_stored {
+            return false;
+        }
         from = *to;
     }
-    world.keep_live("record", live) == Ok(()) && taken
+    true
+}
+
+// The same of one that is opened for it, and is kept.
+fn keeps<W: World>(alloc: Global, world: &mut W, bytes: &[u8], pieces: &[Step]) -> bool {
+    let Ok(mut live) = world.live("record") else {
+        return false;
+    };
+    let taken = takes_pieces(alloc, world, &mut live, bytes, pieces);
+    let kept = world.keep_live("record", live);
+    kept == Ok(()) && taken
 }
 
 // A piece of 300,000 bytes goes past the buffer, with what waits there; three bytes wait until one is passed through.
-const PIECES: [(usize, bool, usize); 4] = [
+const PIECES: [Step; 4] = [
     (2, false, 0),
     (300_002, false, 300_002),
     (300_005, false, 300_002),
@@ -114,26 +132,37 @@ fn refuses_folder<W: World>(world: &mut W) -> bool {
     }
 }
 
-// Whether a world of files goes so. What isn't there isn't opened; behind the keeping of its inputs a file is opened as an
+// Whether a world goes so. What isn't there isn't opened; behind the keeping of its inputs a file is opened as an
 // output, and is emptied. The faults are a refused output for each look at the pieces and for the store, the folder, and the
 // name that isn't there.
 fn goes<W: World>(rt: &impl Files, alloc: Global, world: &mut W, bytes: &[u8]) -> bool {
-    keeps(alloc, world, bytes, &PIECES)
-        && stores(rt, world)
-        && refuses_folder(world)
-        && gives_back(alloc, world, ("none", "none"), &[]) == Err(OpenRefused::Failed)
-        && keeps(alloc, world, &[], &[(0, true, 0)])
-        && (world.faults(), world.input_faults(), world.output_faults()) == (8, 1, 0)
+    let taken = keeps(alloc, world, bytes, &PIECES);
+    let stored = stores(rt, world);
+    let refused = refuses_folder(world);
+    let missing = gives_back(alloc, world, ("none", "none"), &[]) == Err(OpenRefused::Failed);
+    let emptied = keeps(alloc, world, &[], &[(0, true, 0)]);
+    let counted = (world.faults(), world.input_faults(), world.output_faults()) == (8, 1, 0);
+    taken && stored && refused && missing && emptied && counted
 }
 
 // Zeros up to where the second block of the file begins, then sevens, and other bytes at the end.
-#[test]
-fn a_file_gives_back_what_was_kept_at_any_place(rt: HostRuntime) -> Result<(), Fail> {
-    let mut bytes = vec![in rt.alloc(); 0; 16_384]?;
+fn content(alloc: Global) -> Result<Vec<u8>, Fail> {
+    let mut bytes = vec![in alloc; 0; 16_384]?;
     bytes.resize(300_002, 7)?;
     bytes.extend_from_slice(b"cdef")?;
-    let mut world = FileWorld::new(&rt);
-    holds_at(&rt, goes(&rt, rt.alloc(), &mut world, &bytes), &"a world");
+    Ok(bytes)
+}
+
+// Whether the world of files goes so.
+fn goes_here(rt: &HostRuntime, bytes: &[u8]) -> bool {
+    let mut world = FileWorld::new(rt);
+    goes(rt, rt.alloc(), &mut world, bytes)
+}
+
+#[test]
+fn a_file_gives_back_what_was_kept_at_any_place(rt: HostRuntime) -> Result<(), Fail> {
+    let bytes = content(rt.alloc())?;
+    holds_at(&rt, goes_here(&rt, &bytes), &"a world");
     fs::remove_file(&rt, "record")?;
     Ok(())
 }

@@ -29,26 +29,31 @@ fn read(alloc: Global, bytes: &[u8]) -> Result<bool, RecRefused> {
     )
 }
 
-#[test]
-fn a_record_is_owned_and_written_again(rt: HostRuntime) {
-    for bytes in [SCHEMA_RECORD, CHANNEL_RECORD, MESSAGE_RECORD] {
-        holds_at(&rt, read(rt.alloc(), bytes) == Ok(true), &bytes);
-    }
-}
-
-// A head that is cut, an opcode of 0, a Header, a Message with a byte behind it, and a Channel whose topic isn't UTF-8.
-const NO_RECORDS: [&[u8]; 5] = [
-    b"\x05\x17\0\0\0\0\0\0",
-    b"\0\0\0\0\0\0\0\0\0",
-    b"\x01\x08\0\0\0\0\0\0\0\0\0\0\0\0\0\0\0",
-    b"\x05\x16\0\0\0\0\0\0\0\x01\0\x01\0\0\0\x0a\0\0\0\0\0\0\0\x09\0\0\0\0\0\0\0\xaa",
-    b"\x04\x11\0\0\0\0\0\0\0\x01\0\0\0\x01\0\0\0\xff\0\0\0\0\0\0\0\0",
+// Records; and a head that is cut, an opcode of 0, a Header, a Message with a byte behind it, and a Channel whose topic isn't
+// UTF-8.
+const ROWS: [(&[u8], Result<bool, RecRefused>); 8] = [
+    (SCHEMA_RECORD, Ok(true)),
+    (CHANNEL_RECORD, Ok(true)),
+    (MESSAGE_RECORD, Ok(true)),
+    (b"\x05\x17\0\0\0\0\0\0", Err(RecRefused::Bad)),
+    (b"\0\0\0\0\0\0\0\0\0", Err(RecRefused::Bad)),
+    (
+        b"\x01\x08\0\0\0\0\0\0\0\0\0\0\0\0\0\0\0",
+        Err(RecRefused::Bad),
+    ),
+    (
+        b"\x05\x16\0\0\0\0\0\0\0\x01\0\x01\0\0\0\x0a\0\0\0\0\0\0\0\x09\0\0\0\0\0\0\0\xaa",
+        Err(RecRefused::Bad),
+    ),
+    (
+        b"\x04\x11\0\0\0\0\0\0\0\x01\0\0\0\x01\0\0\0\xff\0\0\0\0\0\0\0\0",
+        Err(RecRefused::Bad),
+    ),
 ];
 
 #[test]
-fn bytes_that_are_no_record_are_refused(rt: HostRuntime) {
-    for bytes in NO_RECORDS {
-        let refused = read(rt.alloc(), bytes) == Err(RecRefused::Bad);
-        holds_at(&rt, refused, &bytes);
+fn a_record_is_owned_and_written_again_and_other_bytes_are_refused(rt: HostRuntime) {
+    for (bytes, wanted) in &ROWS {
+        holds_at(&rt, read(rt.alloc(), bytes) == *wanted, bytes);
     }
 }

@@ -8,10 +8,11 @@ use rec_index::{
     ATTACHMENT_INDEX, CHUNK, CHUNK_INDEX, MESSAGE_INDEX, METADATA_INDEX, STATISTICS, SUMMARY_OFFSET,
 };
 use std::alloc::Global;
-use std::test::Fail;
 
 // A record of each kind, the length of a content that lacks the last byte of a field, and which field that is.
-const RECORDS: [(u8, &[u8], usize, u8); 15] = [
+type Row = (u8, &'static [u8], usize, u8);
+
+const RECORDS: [Row; 15] = [
     (HEADER, HEADER_RECORD, 15, 2),
     (FOOTER, FOOTER_RECORD, 15, 2),
     (SCHEMA, SCHEMA_RECORD, 19, 4),
@@ -64,26 +65,6 @@ fn read_front(op: u8, record: &[u8], len: usize, out: &mut Vec<u8>) -> Result<bo
     read(op, content.get(..len).unwrap_or(content), out)
 }
 
-// It is written again as it was.
-#[test]
-fn each_record_is_read_and_written(rt: HostRuntime) {
-    let mut out = Vec::new(rt.alloc());
-    for (op, record, _, _) in RECORDS {
-        let shown = read_front(op, record, record.len(), &mut out) == Ok(true);
-        holds_at(&rt, shown && out.as_slice() == record, &op);
-    }
-}
-
-#[test]
-fn a_record_that_is_cut_short_is_refused(rt: HostRuntime) {
-    let mut out = Vec::new(rt.alloc());
-    for (op, record, len, field) in RECORDS {
-        let why = Why::Short;
-        let found = read_front(op, record, len, &mut out);
-        holds_at(&rt, found == Err(Bad { field, why }), &op);
-    }
-}
-
 // What reading gives with a byte behind the content.
 fn read_with_more(alloc: Global, op: u8, record: &[u8]) -> Result<Result<bool, Bad>, Memory> {
     let mut more = Vec::from_slice(alloc, record.get(9..).unwrap_or(&[]))?;
@@ -92,23 +73,34 @@ fn read_with_more(alloc: Global, op: u8, record: &[u8]) -> Result<Result<bool, B
     Ok(read(op, &more, &mut out))
 }
 
-// Behind the data of a Message it is a byte of the data.
+// What reading gives then: behind the data of a Message the byte is one of the data.
+fn wanted_with_more(op: u8) -> Result<bool, Bad> {
+    match op {
+        MESSAGE => Ok(false),
+        FOOTER => Err(Bad {
+            field: 4,
+            why: Why::BadLength,
+        }),
+        _ => Ok(true),
+    }
+}
+
+// Whether a record is written again as it was, is refused where it is cut short, and may have a byte behind it or not.
+fn is_read(alloc: Global, row: &Row, out: &mut Vec<u8>) -> bool {
+    let (op, record, len, field) = *row;
+    let is_shown = read_front(op, record, record.len(), out) == Ok(true);
+    let is_again = out.as_slice() == record;
+    let why = Why::Short;
+    let is_refused = read_front(op, record, len, out) == Err(Bad { field, why });
+    let more = read_with_more(alloc, op, record);
+    is_shown && is_again && is_refused && more == Ok(wanted_with_more(op))
+}
+
 #[test]
-fn a_byte_may_follow_each_record_but_a_footer(rt: HostRuntime) {
-    for (op, record, _, _) in RECORDS {
-        let wanted = match op {
-            MESSAGE => Ok(false),
-            FOOTER => Err(Bad {
-                field: 4,
-                why: Why::BadLength,
-            }),
-            _ => Ok(true),
-        };
-        holds_at(
-            &rt,
-            read_with_more(rt.alloc(), op, record) == Ok(wanted),
-            &op,
-        );
+fn each_record_is_read_and_written_and_refused_where_it_is_cut(rt: HostRuntime) {
+    let mut out = Vec::new(rt.alloc());
+    for row in &RECORDS {
+        holds_at(&rt, is_read(rt.alloc(), row, &mut out), &row.0);
     }
 }
 
