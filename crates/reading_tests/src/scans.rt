@@ -143,12 +143,37 @@ fn refused(why: &ScanRefused, count: u64) -> Outcome {
     }
 }
 
-// Whether this is the record that stands there in the bytes.
-fn is_at(bytes: &[u8], offset: u64, op: u8, content: &[u8]) -> bool {
+// Whether this is the record that stands there in the bytes, and has that number.
+fn is_at(bytes: &[u8], count: u64, offset: u64, op: u8, content: &[u8]) -> bool {
     let record = bytes.get(offset as usize..).unwrap_or(&[]);
     match cut(record, 0) {
-        Ok(found) => found.op == op && record.get(9..found.to as usize) == Some(content),
+        Ok(found) => {
+            found.op == op
+                && record.get(9..found.to as usize) == Some(content)
+                && is_by_hand(bytes, count, offset, op, content)
+        }
         Err(_) => false,
+    }
+}
+
+// The records of the plain file by hand: each one's opcode, its offset, and where its content starts and ends.
+const BY_HAND: [(u8, u64, usize, usize); 4] = [
+    (1, 8, 17, 25),
+    (4, 25, 34, 52),
+    (5, 52, 61, 84),
+    (15, 84, 93, 97),
+];
+
+// Whether this is the record of that number, if the bytes are the plain file.
+fn is_by_hand(bytes: &[u8], count: u64, offset: u64, op: u8, content: &[u8]) -> bool {
+    if bytes != PLAIN {
+        return true;
+    }
+    match BY_HAND.get(count as usize) {
+        Some((wanted, at, from, to)) => {
+            *wanted == op && *at == offset && bytes.get(*from..*to) == Some(content)
+        }
+        None => false,
     }
 }
 
@@ -157,7 +182,7 @@ fn scan<S: Source>(scanner: &mut Scanner<S>, bytes: &[u8]) -> Outcome {
     for count in 0..200_000 {
         match scanner.advance() {
             Step::Record { op, offset } => {
-                if !is_at(bytes, offset, op, scanner.content()) {
+                if !is_at(bytes, count, offset, op, scanner.content()) {
                     return (count, offset, OTHER);
                 }
             }
@@ -182,7 +207,7 @@ fn scan_copies<S: Source>(scanner: &mut Scanner<S>, bytes: &[u8]) -> Outcome {
                     content,
                 },
             ) => {
-                if !is_at(bytes, offset, op, content.as_slice()) {
+                if !is_at(bytes, count, offset, op, content.as_slice()) {
                     return (count, offset, OTHER);
                 }
             }
