@@ -1,281 +1,205 @@
 //! Bytes as a script writes them: numbers, texts, framed records and pieces that have names.
-ghost use Rattle.std.specs.Prelude.{◌≤◌};
-
 use crate::halt::{Halt, unread};
-use crate::pieces::{Pieces, piece};
-use crate::tokens::{Token, next, next_number};
+use crate::tokens::{Token, number_of, parts_of, tokens_of};
 use std::alloc::Global;
-use std::mem;
-use std::slice::Iter;
+use std::collections::BTreeMap;
 
-// A frame that is open: what stands before it, and whether its length has 8 bytes, and not 4.
-#[derive(Drop)]
-struct Frame {
-    before: Vec<u8>,
-    wide: bool,
+/// Bytes under names.
+pub(crate) type Pieces = BTreeMap<String, Vec<u8>>;
+
+/// What stands under the name.
+pub(crate) fn piece<'a>(pieces: &'a Pieces, name: &str) -> Result<&'a [u8], Halt> {
+    match pieces.get(name) {
+        Some(bytes) => Ok(bytes.as_slice()),
+        None => unread("no piece has this name"),
+    }
 }
 
-/// Bytes that are being put together.
-#[derive(Drop)]
-pub(crate) struct Building {
+/// Puts the bytes under the name.
+pub(crate) fn put(
     alloc: Global,
+    pieces: &mut Pieces,
+    name: &str,
     bytes: Vec<u8>,
-    frames: Vec<Frame>,
+) -> Result<(), Halt> {
+    let key = String::from_str(alloc, name)?;
+    pieces.insert(key, bytes)?;
+    Ok(())
 }
 
-// The value of a digit in hexadecimal.
-fn digit_of(c: char) -> Result<u8, Halt> {
-    match c.to_digit(16) {
-        Some(digit) if digit < 16 => Ok(digit as u8),
-        _ => unread("no hexadecimal digit stands where one belongs"),
+/// Bytes under these names.
+pub(crate) fn pieces_of(alloc: Global, rows: &[(&str, &[u8])]) -> Result<Pieces, Halt> {
+    let mut pieces = Pieces::new(alloc);
+    for (name, bytes) in rows {
+        put(alloc, &mut pieces, name, Vec::from_slice(alloc, bytes)?)?;
+    }
+    Ok(pieces)
+}
+
+/// Adds a text, in which a backquote stands for a quote, and a bar for a line feed.
+pub(crate) fn add_text(bytes: &mut Vec<u8>, text: &str) -> Result<(), Halt> {
+    for byte in text.as_bytes() {
+        bytes.push(match *byte {
+            b'`' => b'"',
+            b'|' => b'\n',
+            other => other,
+        })?;
+    }
+    Ok(())
+}
+
+// Adds the first bytes of a number that is at most the largest of so many.
+fn add_number(bytes: &mut Vec<u8>, width: usize, most: u64, number: u64) -> Result<(), Halt> {
+    match number.to_le_bytes().get(..width) {
+        Some(low) if number <= most => Ok(bytes.extend_from_slice(low)?),
+        _ => unread("a number has too many bytes"),
     }
 }
 
-// The bytes of digits in hexadecimal, two a byte.
-fn hex_of(alloc: Global, digits: &str) -> Result<Vec<u8>, Halt> {
-    let mut bytes = Vec::new(alloc);
-    let mut high = None;
-    for c in digits.chars() {
-        let digit = digit_of(c)?;
-        match high {
-            None => high = Some(digit),
-            Some(first) => {
-                bytes.push(first << 4 | digit)?;
-                high = None;
-            }
+// Puts bytes in the place of those that stand at an offset, or behind the last.
+fn add_hex(alloc: Global, bytes: &mut Vec<u8>, from: u64, digits: &str) -> Result<(), Halt> {
+    let Ok(new) = hex::decode(alloc, digits) else {
+        return unread("no hexadecimal digits stand where they belong");
+    };
+    let mut at = from;
+    for byte in new.as_slice() {
+        match bytes.get_mut(at as usize) {
+            Some(slot) => *slot = *byte,
+            None => bytes.push(*byte)?,
         }
+        at = at.saturating_add(1);
     }
-    match high {
-        None => Ok(bytes),
-        Some(_) => unread("half a byte stands at the end of hexadecimal digits"),
+    Ok(())
+}
+
+// Puts a length of so many bytes before what stands behind the last bracket that is open.
+fn close(bytes: &mut Vec<u8>, open: &mut Vec<usize>, width: usize) -> Result<(), Halt> {
+    let Some(from) = open.pop() else {
+        return unread("a bracket closes nothing");
+    };
+    let content = bytes.split_off(from.min(bytes.len()))?;
+    add_number(bytes, width, u64::MAX, content.len() as u64)?;
+    Ok(bytes.extend_from_slice(&content)?)
+}
+
+// A piece, as often as is said.
+fn add_times(bytes: &mut Vec<u8>, pieces: &Pieces, said: &str) -> Result<(), Halt> {
+    let (count, name) = parts_of(said);
+    let piece = piece(pieces, name)?;
+    for _ in 0..number_of(count)? {
+        bytes.extend_from_slice(piece)?;
+    }
+    Ok(())
+}
+
+// What stands in a piece from an offset on, before another.
+fn add_part(bytes: &mut Vec<u8>, pieces: &Pieces, said: &str) -> Result<(), Halt> {
+    let (name, offsets) = parts_of(said);
+    let (from, to) = parts_of(offsets);
+    let piece = piece(pieces, name)?;
+    match piece.get(number_of(from)? as usize..number_of(to)? as usize) {
+        Some(part) => Ok(bytes.extend_from_slice(part)?),
+        None => unread("a piece has no such part"),
     }
 }
 
-impl Building {
-    pub fn new(alloc: Global) -> Self {
-        Building {
-            alloc,
-            bytes: Vec::new(alloc),
-            frames: Vec::new(alloc),
-        }
-    }
+// A Channel of no id without a schema, on a topic of four letters, and a Message without data on it: 29 and 31 bytes.
+const PAIR: &[u8; 60] =
+    b"\x04\x14\0\0\0\0\0\0\0\0\0\0\0\x04\0\0\0aaaa\0\0\0\0\0\0\0\0\x05\x16\0\0\0\0\0\0\0\0\0\0\0\0\0\0\0\0\0\0\0\0\0\0\0\0\0\0\0\0\0";
 
-    fn add(&mut self, bytes: &[u8]) -> Result<(), Halt> {
-        self.bytes.extend_from_slice(bytes)?;
+// So many of them, of ids from one on, on topics that are numbers from 0 on.
+fn add_pairs(bytes: &mut Vec<u8>, said: &str) -> Result<(), Halt> {
+    let (count, first) = parts_of(said);
+    let first = number_of(first)?;
+    for number in 0..number_of(count)? {
+        let [low, high, _, _, _, _, _, _] = first.saturating_add(number).to_le_bytes();
+        let mut pair = *PAIR;
+        (pair[9], pair[10], pair[38], pair[39]) = (low, high, low, high);
+        pair[17] = b'a' + (number / 4096 % 16) as u8;
+        pair[18] = b'a' + (number / 256 % 16) as u8;
+        pair[19] = b'a' + (number / 16 % 16) as u8;
+        pair[20] = b'a' + (number % 16) as u8;
+        bytes.extend_from_slice(&pair)?;
+    }
+    Ok(())
+}
+
+// Refuses what hasn't so many bytes.
+fn measure(bytes: &[u8], said: &str) -> Result<(), Halt> {
+    if bytes.len() as u64 == number_of(said)? {
         Ok(())
+    } else {
+        unread("there aren't as many bytes as is said")
     }
+}
 
-    // The first bytes of a number, which are to hold it.
-    fn add_number(&mut self, width: usize, number: u64) -> Result<(), Halt>
-        requires { width ≤ 8 }
-    {
-        let bytes = number.to_le_bytes();
-        for byte in &bytes[width..] {
-            if *byte != 0 {
-                return unread("a number has too many bytes");
-            }
+fn add_named(alloc: Global, bytes: &mut Vec<u8>, pieces: &Pieces, word: &str) -> Result<(), Halt> {
+    let (verb, said) = parts_of(word);
+    match verb {
+        "part" => add_part(bytes, pieces, said),
+        "times" => add_times(bytes, pieces, said),
+        "pairs" => add_pairs(bytes, said),
+        "size" => measure(bytes, said),
+        "at" => {
+            let (from, digits) = parts_of(said);
+            add_hex(alloc, bytes, number_of(from)?, digits)
         }
-        self.add(&bytes[..width])
+        _ => Ok(bytes.extend_from_slice(piece(pieces, word)?)?),
     }
+}
 
-    fn add_text(&mut self, text: &str) -> Result<(), Halt> {
-        self.add_number(4, text.len() as u64)?;
-        self.add(text.as_bytes())
+fn add_item(
+    alloc: Global,
+    bytes: &mut Vec<u8>,
+    open: &mut Vec<usize>,
+    pieces: &Pieces,
+    word: &str,
+) -> Result<(), Halt> {
+    let (verb, said) = parts_of(word);
+    match verb {
+        "u8" => add_number(bytes, 1, 0xff, number_of(said)?),
+        "u16" => add_number(bytes, 2, 0xffff, number_of(said)?),
+        "u32" => add_number(bytes, 4, 0xffff_ffff, number_of(said)?),
+        "u64" => add_number(bytes, 8, u64::MAX, number_of(said)?),
+        "hex" | "record" => add_hex(alloc, bytes, bytes.len() as u64, said),
+        "(" | "[" => Ok(open.push(bytes.len())?),
+        ")" => close(bytes, open, 4),
+        "]" => close(bytes, open, 8),
+        _ => add_named(alloc, bytes, pieces, word),
     }
+}
 
-    fn open(&mut self, tokens: &mut Iter<'_, Token>, wide: bool) -> Result<(), Halt> {
-        if !next(tokens)?.is("{") {
-            return unread("no brace stands where one belongs");
-        }
-        let before = mem::replace(&mut self.bytes, Vec::new(self.alloc));
-        self.frames.push(Frame { before, wide })?;
-        Ok(())
-    }
-
-    fn close(&mut self) -> Result<(), Halt> {
-        let Some(Frame { before, wide }) = self.frames.pop() else {
-            return unread("a brace closes nothing");
-        };
-        let content = mem::replace(&mut self.bytes, before);
-        let width = if wide { 8 } else { 4 };
-        self.add_number(width, content.len() as u64)?;
-        self.add(&content)
-    }
-
-    fn add_piece(&mut self, pieces: &Pieces, name: &str) -> Result<(), Halt> {
-        self.add(piece(pieces, name)?)
-    }
-
-    // A piece, as often as is said.
-    fn add_times(&mut self, pieces: &Pieces, tokens: &mut Iter<'_, Token>) -> Result<(), Halt> {
-        let count = next_number(tokens)?;
-        let bytes = piece(pieces, next(tokens)?.text.as_str())?;
-        for _ in 0..count {
-            self.bytes.extend_from_slice(bytes)?;
-        }
-        Ok(())
-    }
-
-    // What stands in a piece from an offset on, before another.
-    fn add_part(&mut self, pieces: &Pieces, tokens: &mut Iter<'_, Token>) -> Result<(), Halt> {
-        let bytes = piece(pieces, next(tokens)?.text.as_str())?;
-        let from = next_number(tokens)? as usize;
-        let to = next_number(tokens)? as usize;
-        match bytes.get(from..to) {
-            Some(part) => self.add(part),
-            None => unread("a piece has no such part"),
-        }
-    }
-
-    fn put(&mut self, at: u64, byte: u8) -> Result<(), Halt> {
-        match self.bytes.get_mut(at as usize) {
-            Some(slot) => {
-                *slot = byte;
-                Ok(())
-            }
-            None => unread("there is no such offset"),
-        }
-    }
-
-    // Bytes in the place of those that stand at an offset.
-    fn change(&mut self, tokens: &mut Iter<'_, Token>) -> Result<(), Halt> {
-        let mut at = next_number(tokens)?;
-        for byte in hex_of(self.alloc, next(tokens)?.text.as_str())? {
-            self.put(at, byte)?;
-            at = at.saturating_add(1);
-        }
-        Ok(())
-    }
-
-    // Refuses what hasn't so many bytes.
-    fn measure(&mut self, tokens: &mut Iter<'_, Token>) -> Result<(), Halt> {
-        if self.bytes.len() as u64 == next_number(tokens)? {
-            Ok(())
-        } else {
-            unread("there aren't as many bytes as is said")
-        }
-    }
-
-    fn add_hex(&mut self, tokens: &mut Iter<'_, Token>) -> Result<(), Halt> {
-        let bytes = hex_of(self.alloc, next(tokens)?.text.as_str())?;
-        self.add(&bytes)
-    }
-
-    fn open_record(&mut self, tokens: &mut Iter<'_, Token>) -> Result<(), Halt> {
-        self.add_hex(tokens)?;
-        self.open(tokens, true)
-    }
-
-    fn add_next_number(&mut self, width: usize, tokens: &mut Iter<'_, Token>) -> Result<(), Halt>
-        requires { width ≤ 8 }
-    {
-        let number = next_number(tokens)?;
-        self.add_number(width, number)
-    }
-
-    // A Channel of that id without a schema, on a topic of four letters for a number, and a Message without data on it: 29 and
-    // 31 bytes.
-    fn add_pair(&mut self, id: u64, number: u64) -> Result<(), Halt> {
-        self.add(b"\x04\x14\0\0\0\0\0\0\0")?;
-        self.add_number(2, id)?;
-        self.add(b"\0\0\x04\0\0\0")?;
-        for weight in [4096u64, 256, 16, 1] {
-            self.add(&[b'a' + (number / weight % 16) as u8])?;
-        }
-        self.add(b"\0\0\0\0\0\0\0\0\x05\x16\0\0\0\0\0\0\0")?;
-        self.add_number(2, id)?;
-        self.add_number(4, 0)?;
-        self.add_number(8, 0)?;
-        self.add_number(8, 0)
-    }
-
-    fn add_pairs(&mut self, tokens: &mut Iter<'_, Token>) -> Result<(), Halt> {
-        let count = next_number(tokens)?;
-        let mut id = next_number(tokens)?;
-        for number in 0..count {
-            self.add_pair(id, number)?;
-            id = id.saturating_add(1);
-        }
-        Ok(())
-    }
-
-    // An item of a width, a length or a place.
-    fn add_field(&mut self, word: &str, tokens: &mut Iter<'_, Token>) -> Result<bool, Halt> {
-        match word {
-            "u8" => self.add_next_number(1, tokens)?,
-            "u16" => self.add_next_number(2, tokens)?,
-            "u32" => self.add_next_number(4, tokens)?,
-            "u64" => self.add_next_number(8, tokens)?,
-            "hex" => self.add_hex(tokens)?,
-            "text" => self.add_text(next(tokens)?.text.as_str())?,
-            "record" => self.open_record(tokens)?,
-            "sized32" => self.open(tokens, false)?,
-            "sized64" => self.open(tokens, true)?,
-            "}" => self.close()?,
-            _ => return Ok(false),
-        }
-        Ok(true)
-    }
-
-    fn add_item(
-        &mut self,
-        pieces: &Pieces,
-        word: &str,
-        tokens: &mut Iter<'_, Token>,
-    ) -> Result<(), Halt> {
-        match word {
-            "part" => self.add_part(pieces, tokens),
-            "times" => self.add_times(pieces, tokens),
-            "pairs" => self.add_pairs(tokens),
-            "at" => self.change(tokens),
-            "size" => self.measure(tokens),
-            _ => self.add_piece(pieces, word),
-        }
-    }
-
-    // A token that begins an item, and those that it takes.
-    fn take(
-        &mut self,
-        pieces: &Pieces,
-        token: &Token,
-        tokens: &mut Iter<'_, Token>,
-    ) -> Result<(), Halt> {
-        let word = token.text.as_str();
+/// Adds what a line says. Each bracket that it opens it closes.
+pub(crate) fn add_line(
+    alloc: Global,
+    bytes: &mut Vec<u8>,
+    pieces: &Pieces,
+    line: &[Token<'_>],
+) -> Result<(), Halt> {
+    let mut open = Vec::new(alloc);
+    for token in line {
         if token.quoted {
-            return self.add(word.as_bytes());
-        }
-        if self.add_field(word, tokens)? {
-            return Ok(());
-        }
-        self.add_item(pieces, word, tokens)
-    }
-
-    /// Adds what a line says.
-    pub fn add_line(&mut self, pieces: &Pieces, line: &[Token]) -> Result<(), Halt> {
-        let mut tokens = line.iter();
-        for _ in 0..line.len() {
-            match tokens.next() {
-                Some(token) => self.take(pieces, token, &mut tokens)?,
-                None => return Ok(()),
-            }
-        }
-        Ok(())
-    }
-
-    /// The bytes, where no frame is open.
-    pub fn into_bytes(self) -> Result<Vec<u8>, Halt> {
-        if self.frames.is_empty() {
-            let Building { bytes, .. } = self;
-            Ok(bytes)
+            add_text(bytes, token.text)?;
         } else {
-            unread("a brace is left open")
+            add_item(alloc, bytes, &mut open, pieces, token.text)?;
         }
+    }
+    if open.is_empty() {
+        Ok(())
+    } else {
+        unread("a bracket is left open")
     }
 }
 
-/// The bytes of one line.
-pub(crate) fn built(alloc: Global, pieces: &Pieces, line: &[Token]) -> Result<Vec<u8>, Halt> {
-    let mut building = Building::new(alloc);
-    building.add_line(pieces, line)?;
-    building.into_bytes()
+/// The bytes that a line says.
+pub(crate) fn built(alloc: Global, pieces: &Pieces, line: &[Token<'_>]) -> Result<Vec<u8>, Halt> {
+    let mut bytes = Vec::new(alloc);
+    add_line(alloc, &mut bytes, pieces, line)?;
+    Ok(bytes)
+}
+
+/// The bytes that a line without tokens yet says.
+pub(crate) fn built_in(alloc: Global, pieces: &Pieces, line: &str) -> Result<Vec<u8>, Halt> {
+    let tokens = tokens_of(alloc, line)?;
+    built(alloc, pieces, &tokens)
 }

@@ -3,9 +3,7 @@
 
 mod building;
 mod cases;
-mod comparing;
 mod halt;
-mod pieces;
 mod running;
 mod session;
 mod telling;
@@ -14,26 +12,28 @@ mod words;
 
 use halt::Halt;
 use session::Session;
-use std::io::{self, BufRead, BufReader};
+use std::io;
 use std::process::ExitCode;
 
-// Takes the lines of standard input.
-fn take_all<R: AllocGlobal + Input>(rt: &R, session: &mut Session) -> Result<(), Halt> {
-    let reader = BufReader::new(rt.alloc(), rt.reader())?;
-    for line in reader.lines(rt.alloc()) {
-        session.take(rt, line?.as_str())?;
+// Takes the lines of a script.
+fn take_all(rt: &impl AllocGlobal, session: &mut Session, script: &str) -> Result<(), Halt> {
+    for line in script.lines() {
+        session.take(rt, line)?;
     }
     session.end()
 }
 
 fn main(rt: HostRuntime) -> io::Result<ExitCode> {
-    let mut session = Session::new(rt.alloc());
-    let taken = take_all(&rt, &mut session);
-    let told = session.told.as_str();
+    let script = io::read_to_string(rt.alloc(), rt.reader())?;
+    let Ok(mut session) = Session::new(rt.alloc()) else {
+        return Ok(ExitCode::from(2));
+    };
+    let taken = take_all(&rt, &mut session, script.as_str());
+    let told = session.telling.text.as_str();
     print!(rt; "{told}")?;
-    if let Err(why) = taken {
-        let line = session.line;
-        println!(rt; "line {line}: {why:?}")?;
+    if let Err(Halt { why }) = taken {
+        let line = session.telling.line;
+        println!(rt; "line {line}: {why}")?;
         return Ok(ExitCode::from(2));
     }
     Ok(ExitCode::from(if session.wrong == 0 { 0 } else { 1 }))

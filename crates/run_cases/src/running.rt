@@ -1,10 +1,11 @@
 //! One run over a world in memory.
-use crate::cases::{Case, no_plan};
+use crate::building::Pieces;
+use crate::cases::{Case, Failing};
 use crate::halt::Halt;
 use mcap_app::{Ended, Report, run};
 use mcap_io::{MemorySink, MemoryWorld};
 use mcap_wire::Text;
-use std::alloc::{AllocGlobal, Global};
+use std::alloc::AllocGlobal;
 use std::mem;
 
 /// What a run left.
@@ -17,26 +18,26 @@ pub(crate) struct Ran {
     pub err: MemorySink,
 }
 
-// The world of the next run, with copies of what is given.
-fn world_of(alloc: Global, case: &mut Case) -> Result<MemoryWorld, Halt> {
-    let plan = mem::replace(&mut case.plan, no_plan(alloc));
-    let mut world = MemoryWorld::new(alloc, plan);
-    for (name, bytes) in case.given.iter() {
+// Puts copies of what is given into the world.
+fn fill(world: &mut MemoryWorld, given: &Pieces) -> Result<(), Halt> {
+    for (name, bytes) in given.iter() {
         world.put(name.as_str(), bytes)?;
     }
-    Ok(world)
+    Ok(())
 }
 
-/// Runs the words. What was planned to fail fails in this run, and in no later one.
+/// Runs the words over copies of what is given. What was planned to fail fails in this run, and in no later one.
 pub(crate) fn run_once(
     rt: &impl AllocGlobal,
     case: &mut Case,
     words: &[Text],
 ) -> Result<Ran, Halt> {
     let alloc = rt.alloc();
-    let mut world = world_of(alloc, case)?;
-    let mut out = MemorySink::new(alloc, mem::replace(&mut case.out, Vec::new(alloc)));
-    let mut err = MemorySink::new(alloc, mem::replace(&mut case.err, Vec::new(alloc)));
+    let Failing { plan, out, err } = mem::replace(&mut case.failing, Failing::nothing(alloc));
+    let mut world = MemoryWorld::new(alloc, plan);
+    fill(&mut world, &case.given)?;
+    let mut out = MemorySink::new(alloc, out);
+    let mut err = MemorySink::new(alloc, err);
     let Ended { status, report } = run(rt, words, &mut world, &mut out, &mut err);
     Ok(Ran {
         status,

@@ -1,7 +1,11 @@
-//! What a run left, in words that a script can say.
+//! What a run left beside what is wanted of it.
+use crate::building::Pieces;
+use crate::halt::{Halt, unread};
+use crate::running::Ran;
 use mcap_app::{FeedReport, Report};
 use mcap_io::{Kept, MemoryWorld, ObjectKind, Opened};
 use std::alloc::{AllocError, Global};
+use std::str;
 
 // How an object was taken back.
 fn kept_text(kept: &Option<Kept>) -> &'static str {
@@ -20,25 +24,16 @@ fn kind_text(kind: ObjectKind) -> &'static str {
     }
 }
 
-fn line_of(alloc: Global, opened: &Opened) -> Result<String, AllocError> {
-    let kind = kind_text(opened.kind);
+fn add_opened(alloc: Global, text: &mut String, opened: &Opened) -> Result<(), AllocError> {
+    let (kind, kept) = (kind_text(opened.kind), kept_text(&opened.kept));
     let given = if opened.given { "given" } else { "refused" };
     let name = opened.name.as_str();
-    let kept = kept_text(&opened.kept);
-    format!(in alloc; "{kind} {name} {given}, {kept}\n")
+    let line = format!(in alloc; "{kind} {name} {given}, {kept}\n")?;
+    text.push_str(line.as_str())
 }
 
-/// A line for each opening.
-pub(crate) fn openings_of(alloc: Global, world: &MemoryWorld) -> Result<String, AllocError> {
-    let mut text = String::new(alloc);
-    for opened in world.log() {
-        text.push_str(line_of(alloc, opened)?.as_str())?;
-    }
-    Ok(text)
-}
-
-/// How many bytes the last object that was taken back was asked for.
-pub(crate) fn asked_of(world: &MemoryWorld) -> u128 {
+// How many bytes the last object that was taken back was asked for.
+fn asked_of(world: &MemoryWorld) -> u128 {
     let mut asked = 0;
     for opened in world.log() {
         if let Some(kept) = &opened.kept {
@@ -48,25 +43,18 @@ pub(crate) fn asked_of(world: &MemoryWorld) -> u128 {
     asked
 }
 
-fn add_accepted(alloc: Global, text: &mut String, feed: &FeedReport) -> Result<(), AllocError> {
+// A line for each message and each declaration of a feed.
+fn add_feed(alloc: Global, text: &mut String, feed: &FeedReport) -> Result<(), AllocError> {
     for accepted in &feed.accepted {
         let (index, place) = (accepted.index, accepted.place);
         text.push_str(format!(in alloc; "{index} stands at {place}\n")?.as_str())?;
     }
-    Ok(())
-}
-
-fn add_declared(alloc: Global, text: &mut String, feed: &FeedReport) -> Result<(), AllocError> {
     for declared in &feed.declared {
         let (index, channel) = (declared.index, declared.channel);
         let (first, count) = (declared.first, declared.count);
         let line = format!(in alloc; "{index} declares {channel}: {count} from {first}\n")?;
         text.push_str(line.as_str())?;
     }
-    Ok(())
-}
-
-fn add_refused(alloc: Global, text: &mut String, feed: &FeedReport) -> Result<(), AllocError> {
     for refused in &feed.refused {
         let (index, cause) = (refused.index, refused.cause);
         text.push_str(format!(in alloc; "{index} is refused: {cause:?}\n")?.as_str())?;
@@ -74,15 +62,126 @@ fn add_refused(alloc: Global, text: &mut String, feed: &FeedReport) -> Result<()
     Ok(())
 }
 
-/// What is said of the messages and declarations of a report's feeds, a line each.
-pub(crate) fn lists_of(alloc: Global, report: &Option<Report>) -> Result<String, AllocError> {
-    let mut text = String::new(alloc);
-    if let Some(report) = report {
-        for feed in &report.feeds {
-            add_accepted(alloc, &mut text, feed)?;
-            add_declared(alloc, &mut text, feed)?;
-            add_refused(alloc, &mut text, feed)?;
+// What a run left of a kind of which there is a number.
+fn count_of(what: &str, ran: &Ran) -> Result<u128, Halt> {
+    match what {
+        "status" => Ok(ran.status as u128),
+        "reports" => Ok(if ran.report.is_some() { 1 } else { 0 }),
+        "openings" => Ok(ran.world.openings() as u128),
+        "keepings" => Ok(ran.world.keepings() as u128),
+        "asked" => Ok(asked_of(&ran.world)),
+        _ => unread("nothing of this name can be wanted"),
+    }
+}
+
+// Adds what a run left of a kind: its log has a line for each opening.
+fn add_found(alloc: Global, text: &mut String, what: &str, ran: &Ran) -> Result<(), Halt> {
+    match what {
+        "log" => {
+            for opened in ran.world.log() {
+                add_opened(alloc, text, opened)?;
+            }
+        }
+        "lists" => {
+            if let Some(report) = &ran.report {
+                for feed in &report.feeds {
+                    add_feed(alloc, text, feed)?;
+                }
+            }
+        }
+        _ => {
+            let count = count_of(what, ran)?;
+            text.push_str(format!(in alloc; "{count}")?.as_str())?;
         }
     }
-    Ok(text)
+    Ok(())
+}
+
+// The most bytes that are shown.
+const SHOWN: usize = 2000;
+
+// The bytes as a text in quotes, or how many there are.
+fn shown(alloc: Global, bytes: &[u8]) -> Result<String, AllocError> {
+    let len = bytes.len();
+    match str::from_utf8(bytes) {
+        Ok(text) if len <= SHOWN => format!(in alloc; "{text:?}"),
+        _ => format!(in alloc; "{len} bytes"),
+    }
+}
+
+// How many bytes are the same at the front.
+fn common(one: &[u8], other: &[u8]) -> usize {
+    let mut same = 0usize;
+    for (left, right) in one.iter().zip(other.iter()) {
+        if left != right {
+            return same;
+        }
+        same = same.saturating_add(1);
+    }
+    same
+}
+
+/// What is to be printed.
+#[derive(Drop)]
+pub(crate) struct Telling {
+    pub alloc: Global,
+    pub text: String,
+    /// How many lines were taken.
+    pub line: u64,
+    /// Whether something of the case at hand differs.
+    pub differs: bool,
+}
+
+impl Telling {
+    /// Notes that something differs.
+    pub fn note(&mut self, told: &str) -> Result<(), Halt> {
+        self.differs = true;
+        let line = self.line;
+        let note = format!(in self.alloc; "  line {line}: {told}\n")?;
+        Ok(self.text.push_str(note.as_str())?)
+    }
+
+    /// Notes it where what there is isn't what is wanted.
+    pub fn compare(&mut self, what: &str, want: &[u8], got: &[u8]) -> Result<(), Halt> {
+        if want == got {
+            return Ok(());
+        }
+        let at = common(want, got);
+        let (want, got) = (shown(self.alloc, want)?, shown(self.alloc, got)?);
+        let (want, got) = (want.as_str(), got.as_str());
+        let told = format!(in self.alloc; "{what}: wanted {want}, got {got}, from byte {at} on")?;
+        self.note(told.as_str())
+    }
+
+    fn see(&mut self, what: &str, want: &[u8], ran: &Ran) -> Result<(), Halt> {
+        match what {
+            "out" => self.compare(what, want, ran.out.bytes()),
+            "err" => self.compare(what, want, ran.err.bytes()),
+            _ => {
+                let mut text = String::new(self.alloc);
+                add_found(self.alloc, &mut text, what, ran)?;
+                self.compare(what, want, text.as_bytes())
+            }
+        }
+    }
+
+    /// Notes each thing that isn't as it is wanted, and each name under which neither stands what is to be left there nor,
+    /// where this isn't said, what was given.
+    pub fn see_all(
+        &mut self,
+        given: &Pieces,
+        left: &Pieces,
+        wanted: &Pieces,
+        ran: &Ran,
+    ) -> Result<(), Halt> {
+        for (what, want) in wanted.iter() {
+            self.see(what.as_str(), want, ran)?;
+        }
+        for (name, bytes) in given.iter() {
+            let want = left.get(name.as_str()).unwrap_or(bytes);
+            let got = ran.world.bytes(name.as_str()).unwrap_or(b"nothing");
+            self.compare(name.as_str(), want, got)?;
+        }
+        Ok(())
+    }
 }
