@@ -148,7 +148,10 @@ fn messages_come_by_log_time_and_place(rt: HostRuntime) -> Result<(), Fail> {
 
 #[test]
 fn the_plain_scan_gives_messages_in_file_order(rt: HostRuntime) -> Result<(), Fail> {
-    let all = scan_plain(rt.alloc(), MIXED)?;
+    let Ok(all) = scan_plain(rt.alloc(), MIXED) else {
+        holds_at(&rt, false, &"the file");
+        return Ok(());
+    };
     let wanted = Wanted {
         lines: IN_FILE_ORDER,
         places: &[(84, 0), (116, 27), (116, 59), (257, 0), (288, 0)],
