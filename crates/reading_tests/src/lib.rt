@@ -1,8 +1,23 @@
-//! What the readers of files do on small files, where no whole run shows it.
+//! What the lowest crates and the readers of files do on small cases, where no whole run shows it: the outside, numbers and texts as
+//! bytes, checksums, records, scans, replays and indexes.
 #![tactic(auto)]
 
 #[cfg(test)]
+mod checksums;
+#[cfg(test)]
+mod data_records;
+#[cfg(test)]
+mod files;
+#[cfg(test)]
+mod index_records;
+#[cfg(test)]
 mod indexes;
+#[cfg(test)]
+mod outside;
+#[cfg(test)]
+mod owned_records;
+#[cfg(test)]
+mod records;
 #[cfg(test)]
 mod replays;
 #[cfg(test)]
@@ -11,3 +26,5 @@ mod same;
 mod scans;
 #[cfg(test)]
 mod sources;
+#[cfg(test)]
+mod wire;
