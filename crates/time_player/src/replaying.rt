@@ -5,6 +5,8 @@ ghost use Rattle.mcap_model.specs.Tops.{Top};
 ghost use Rattle.mcap_model.specs.Scan.{Seen, Scan};
 ghost use Rattle.mcap_model.specs.Plain.{asked_topic};
 ghost use Rattle.mcap_model.specs.Showing.{shown_as};
+ghost use Rattle.mcap_scan.specs.declared.answers.ScanRefused.{ScanRefused as Refusal};
+ghost use Rattle.mcap_scan.specs.declared.reader.Stage.TheVariants as stages;
 ghost use Rattle.time_player.specs.Asking.{is_asked};
 ghost use Rattle.time_player.specs.Keeping.{kept_in};
 ghost use Rattle.time_player.specs.Replaying.{IsTold, IsPlayed, AreLines, ReadsKept, Plays, PlaysLines};
@@ -54,6 +56,16 @@ fn finish_lines(alloc: Global, tables: &Tables, kept: Kept) -> Result<Printer, M
     }
 }
 
+// Why a reading was refused. It is apart, so that the messages that were kept are dropped in one place for all reasons.
+fn refusal_of(reader: Reader) -> ScanRefused
+    ensures { (why : Refusal) → reader.stage ≡ stages.Stopped why → result ≡ why }
+{
+    match reader.into_refusal() {
+        Some(why) => return why,
+        None => return ScanRefused::Memory,
+    }
+}
+
 // Reads a source to its Data End, and keeps those messages that are asked for.
 fn read_kept<S: Source>(
     alloc: Global,
@@ -78,10 +90,7 @@ fn read_kept<S: Source>(
                 }
             }
             Step::End { offset: _ } => return Ok((reader.into_tables(), kept)),
-            Step::Refused => match reader.into_refusal() {
-                Some(why) => return Err(why),
-                None => return Err(ScanRefused::Memory),
-            },
+            Step::Refused => return Err(refusal_of(reader)),
         }
     }
 }
@@ -98,13 +107,12 @@ pub fn replay_scan<S: Source>(
     ensures plays { Plays range (asked_topic topic.entry) (S.state source.old) (S.state source.new) result }
     ensures stays { S.stays source.old source.new }
 {
-    let (tables, kept) = match read_kept(alloc, source, range, topic) {
-        Ok(read) => read,
+    match read_kept(alloc, source, range, topic) {
+        Ok((tables, kept)) => match finish(alloc, &tables, &kept) {
+            Ok(played) => return Ok(played),
+            Err(_) => return Err(ScanRefused::Memory),
+        },
         Err(why) => return Err(why),
-    };
-    match finish(alloc, &tables, &kept) {
-        Ok(played) => return Ok(played),
-        Err(_) => return Err(ScanRefused::Memory),
     }
 }
 
@@ -119,12 +127,11 @@ pub fn replay_lines<S: Source>(
     ensures plays { PlaysLines range (asked_topic topic.entry) (S.state source.old) (S.state source.new) result }
     ensures stays { S.stays source.old source.new }
 {
-    let (tables, kept) = match read_kept(alloc, source, range, topic) {
-        Ok(read) => read,
+    match read_kept(alloc, source, range, topic) {
+        Ok((tables, kept)) => match finish_lines(alloc, &tables, kept) {
+            Ok(text) => return Ok(text),
+            Err(_) => return Err(ScanRefused::Memory),
+        },
         Err(why) => return Err(why),
-    };
-    match finish_lines(alloc, &tables, kept) {
-        Ok(text) => return Ok(text),
-        Err(_) => return Err(ScanRefused::Memory),
     }
 }
