@@ -81,15 +81,30 @@ fn bare_program<'a>(alloc: Global) -> Command<'a>
         .subcommand_required(true)
 }
 
-// Adds a command.
+// Adds a command that was made.
+fn with_made<'a>(
+    made: Result<Command<'a>, AllocError>,
+    verb: Command<'a>,
+) -> Result<Command<'a>, AllocError>
+    ensures { (app below : App) → IfOk made.entry (IsMade app) → IsMade below verb.entry → IfOk result (IsMade (with_subcommand app below.top)) }
+{
+    match made {
+        Ok(made) => return made.subcommand(verb),
+        Err(error) => return Err(error),
+    }
+}
+
+// Adds a command, if there is memory for it. Each of the two commands is owned by itself at the one way out.
 fn with_verb<'a>(
     made: Result<Command<'a>, AllocError>,
     verb: Result<Command<'a>, AllocError>,
 ) -> Result<Command<'a>, AllocError>
     ensures { (app below : App) → IfOk made.entry (IsMade app) → IfOk verb.entry (IsMade below) → IfOk result (IsMade (with_subcommand app below.top)) }
 {
-    let verb = verb?;
-    made?.subcommand(verb)
+    match verb {
+        Ok(verb) => return with_made(made, verb),
+        Err(error) => return Err(error),
+    }
 }
 
 /// The program with its four commands, without help or a version. That a positional is there is looked at where it is

@@ -1,6 +1,7 @@
--- The command is added.
-use Rattle.mcap_app.proofs.LineLemmas.{more_subs}
+-- The command is added, where there is one.
+use Rattle.std.proofs.lemmas.Result.{IfOk-at_ok}
+use Rattle.mcap_app.specs.CommandLine.{IsMade}
 use Rattle.mcap_app.proofs.command_line.with_verb.Goals as goal
 
-pub returns : goal.returns
-returns c = λ app below made is. more_subs app below c.in_ok-made.field-0 c.in_ok-verb.verb c.args.made c.args.verb c.subcommand.result c.in_ok-made.was c.in_ok-verb.was c.subcommand.ensures made is
+pub returns-in-Ok : goal.returns-in-Ok
+returns-in-Ok c = λ app below made is. c.with_made.ensures app below made (IfOk-at_ok (IsMade below) c.in-Ok.is is)
