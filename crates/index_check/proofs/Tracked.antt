@@ -256,6 +256,13 @@ index_added tops t u e old new note entries size was adds seven is counted there
         let parts = ap length (flat_map-append top_bytes e.others (e.chunk ∷ e.earlier)) in
         omega (arith, all, parts, length-append (spelled e.others) (top_bytes e.chunk ++ spelled e.earlier), length-append (top_bytes e.chunk) (spelled e.earlier))
 
+-- there is a note, where records end with a chunk
+pub none_kept : (tops : List Top) (kept : Chunks) → ChunksOf tops kept → EndsWithChunk tops → length kept.notes.items ≡ 0 → ⊥
+none_kept tops kept are e none =
+    let cover = are.spots.covers (length e.others) e.chunk (subst (λ (l : List Top). At l (length e.others) e.chunk) (sym e.joined) (at_last e.others e.chunk e.earlier)) e.kind in
+    let within = at_within kept.spots cover.0 cover.1 cover.2 in
+    omega (arith, within, are.notes.paired, none)
+
 pub index_more : (tops : List Top) (t : Top) (place : ℕ) (old new_note : ChunkNote) (note : IndexNote) (entries : List (ℕ × ℕ)) (size : ℕ) (kept new : Chunks) → ChunksOf tops kept → EndsWithChunk tops → At kept.notes.items place old → suc place ≡ length kept.notes.items
     → AddsIndex old new_note note size → IsMessageIndex t note.channel entries → note.entries ≡ length entries → note.offset ≡ offset_behind tops → size ≡ length (top_bytes t) → note.offset + size < 2 ^ 64
     → new.spots ≡ kept.spots → new.notes.items ≡ set kept.notes.items place new_note → ChunksOf (tops ++ t ∷ []) new
