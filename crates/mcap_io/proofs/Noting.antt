@@ -1,13 +1,15 @@
 -- Noting in a log how an object was taken back.
-use Rattle.std.proofs.Common.{◌≡◌, ℕ, List, ◌∷◌, ◌++◌, map, get_or, set, length, Some, None, Result, Ok, Err, ap, ◌∙◌, refl, subst, inl}
-use Rattle.std.specs.Prelude.{is_ok}
+use Rattle.std.proofs.Common.{◌≡◌, ℕ, List, [], ◌∷◌, ◌++◌, map, get_or, set, length, Option, Some, None, Result, Ok, Err, ap, ap₂, ◌∙◌, refl, subst, inl, rules}
+use Rattle.std.specs.Prelude.{is_ok, IsSome}
+use Rattle.std.specs.Option.{option_map}
+use Rattle.std.proofs.lemmas.Option.{same_Some}
 use Rattle.std.proofs.lemmas.List.{map-append, get_or_at, set_at}
 use Rattle.mcap_io.specs.declared.outside.Failed.{Failed}
 use Rattle.mcap_io.specs.declared.outside.ObjectKind.{ObjectKind}
 use Rattle.mcap_io.specs.declared.outside.ObjectKind.TheVariants as kinds
 use Rattle.mcap_io.specs.declared.openings.Kept.{Kept}
 use Rattle.mcap_io.specs.declared.openings.Opened.{Opened}
-use Rattle.mcap_io.specs.Outside.{Names, Told, Opening, SourceState, LiveState, WorldState, IsOut, NoneIsOut, Notes, KeepsName, KeepsSource, KeepsLive, went_well}
+use Rattle.mcap_io.specs.Outside.{Names, Told, Opening, SourceState, LiveState, WorldState, IsOut, NoneIsOut, Notes, KeepsName, KeepsSource, KeepsLive, went_well, with_opening}
 use Rattle.mcap_io.specs.Standing.{shown, shown_keeping}
 use Rattle.mcap_io.specs.Stores.{StoreState, KeepsStore}
 
@@ -73,3 +75,23 @@ keeps-live names names' log log' name it result keeps notes told told_is =
       subst (λ t. KeepsName t.names names' name it.held result) is keeps,
       subst (λ t. Notes t.log log' kinds.Live name (record { well = went_well result; faults = it.faults; left = None; asked = 0 })) is noted,
     )
+
+-- ---- openings
+
+abbrev told_of : Names → List Opening → Told
+told_of names log = record { names = names; log = log }
+
+-- one opening more is listed, and the names stand
+pub lists_one : (names names' : Names) (log before after : List Opened) (entry : Opened) (line : Opening) → names' ≡ names → before ≡ log → after ≡ before ++ entry ∷ [] → shown entry ≡ line
+    → Some (told_of names' (map shown after)) ≡ Some (with_opening (told_of names (map shown log)) line)
+lists_one names names' log before after entry line same still more is =
+    ap₂ (λ (n : Names) (l : List Opening). Some (told_of n l)) same
+    (ap (map shown) more ∙ map-append shown before (entry ∷ []) ∙ ap₂ (λ (l : List Opened) (e : Opening). map shown l ++ e ∷ []) still is)
+
+tells_there : (bytes : List ℕ) (stands : Option (List ℕ)) → Some (Some bytes) ≡ option_map Some stands → (Some bytes ≡ stands) × IsSome stands
+tells_there bytes None is = absurd (cc is)
+tells_there bytes (Some there) is = (let same : bytes ≡ there = cc is in ap Some same, search rules)
+
+-- a copy of what stands under a name tells just that
+pub tells_name : (names : Names) (log : List Opening) (name bytes : List ℕ) (told : Told) → Some (told_of names log) ≡ Some told → Some (Some bytes) ≡ option_map Some (names name) → (Some bytes ≡ told.names name) × IsSome (told.names name)
+tells_name names log name bytes told is there = subst (λ (t : Told). (Some bytes ≡ t.names name) × IsSome (t.names name)) (same_Some (told_of names log) told is) (tells_there bytes (names name) there)
