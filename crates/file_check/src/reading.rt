@@ -12,7 +12,7 @@ use mcap_scan::{Reader, ScanRefused, Step};
 use std::alloc::Global;
 
 /// Why a data section isn't read to its end.
-#[derive(Debug, Drop)]
+#[derive(Drop)]
 pub(crate) enum SectionRefused {
     /// The reading of its records was refused, or memory lacked.
     Scan { why: ScanRefused },

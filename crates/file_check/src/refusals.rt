@@ -2,7 +2,7 @@
 use mcap_wire::Text;
 
 /// Why a file isn't checked. Offsets are in bytes from the file's front.
-#[derive(Debug, Drop)]
+#[derive(Drop)]
 pub enum CheckRefused {
     /// The store failed: its count of faults now.
     Fault { faults: u64 },

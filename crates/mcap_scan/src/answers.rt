@@ -22,7 +22,7 @@ pub enum Top {
 }
 
 /// Why a file isn't read on.
-#[derive(Debug, Drop)]
+#[derive(Drop)]
 pub enum ScanRefused {
     /// The source failed, and this is its count of faults.
     Fault { faults: u64 },
