@@ -36,6 +36,7 @@ impl Reader {
     ghost use Rattle.mcap_model.specs.Tops.{Top};
     ghost use Rattle.mcap_io.specs.Outside.{SourceState};
     ghost use Rattle.mcap_io.specs.Rooms.{held_in};
+    ghost use Rattle.mcap_scan.specs.declared.reader.Reader.{Reader as Whole};
     ghost use Rattle.mcap_scan.specs.Scanning.{content_of, tables_of, offset_of, KeptBy, HandsOut, Moves, Stands, IsFresh, IsInside, Advanced, Given, IsDone, IsLast};
 
     /// A reader of which nothing was asked yet.
@@ -109,6 +110,13 @@ impl Reader {
             offset: _,
             stage,
         } = self;
+        Reader::refusal_in(stage)
+    }
+
+    // The refusal in a stage. A reader has more to let go, which is done at one place so.
+    fn refusal_in(stage: Stage) -> Option<ScanRefused>
+        ensures { (reader : Whole) → reader.stage ≡ stage → HandsOut reader result }
+    {
         match stage {
             Stage::Stopped { why } => return Some(why),
             _ => return None,

@@ -1,7 +1,9 @@
 //! A scanner: a reader with its source.
 ghost use Rattle.std.specs.Prelude.{◌≡◌, ◌⊎◌, ℕ, List, [], Option, IfOk, IfErr};
 ghost use Rattle.mcap_model.specs.Tops.{Top as Record};
-ghost use Rattle.mcap_scan.specs.Scanning.{IsLast, Moves};
+ghost use Rattle.mcap_scan.specs.declared.answers.ScanRefused.{ScanRefused as Refusal};
+ghost use Rattle.mcap_scan.specs.declared.reader.Stage.TheVariants as stages;
+ghost use Rattle.mcap_scan.specs.Scanning.{IsLast, Moves, content_of};
 ghost use Rattle.mcap_io.specs.Outside.{SourceState};
 ghost use Rattle.mcap_scan.specs.Scanners.{Scans, Steps, Copies, step_of, IsScanned, KeptIn, source_of, scanned_content, scanned_offset};
 
@@ -42,6 +44,32 @@ fn again(alloc: Global, why: &ScanRefused) -> ScanRefused
         },
         ScanRefused::Limit { offset } => return ScanRefused::Limit { offset: *offset },
         ScanRefused::Memory => return ScanRefused::Memory,
+    }
+}
+
+// The refusal that a reader keeps, once more.
+fn refusal_of(alloc: Global, reader: &Reader) -> ScanRefused
+    ensures { (kept : Refusal) → reader.now.stage ≡ stages.Stopped kept → (result ≡ kept) ⊎ (result ≡ ScanRefused.Memory) }
+{
+    match reader.refusal() {
+        Some(why) => return again(alloc, why),
+        None => return ScanRefused::Memory,
+    }
+}
+
+// The record that a reader gave, with a copy of its content.
+fn copied(alloc: Global, reader: &Reader, op: u8, offset: u64) -> Result<Top, Memory>
+    ensures { IfOk result (λ it. it ≡ Top.Record op offset (content_of reader.now)) }
+{
+    match Bytes::copied(alloc, reader.content()) {
+        Ok(content) => {
+            return Ok(Top::Record {
+                op,
+                offset,
+                content,
+            });
+        }
+        Err(memory) => return Err(memory),
     }
 }
 
@@ -99,24 +127,15 @@ impl<S: Source> Scanner<S> {
         ensures stays { S.stays (source_of self.old) (source_of self.new) }
     {
         match self.advance() {
-            Step::Record { op, offset } => match Bytes::copied(self.alloc, self.content()) {
-                Ok(content) => {
-                    return Ok(Top::Record {
-                        op,
-                        offset,
-                        content,
-                    });
-                }
+            Step::Record { op, offset } => match copied(self.alloc, &self.reader, op, offset) {
+                Ok(record) => return Ok(record),
                 Err(_) => {
                     let _ = self.reader.stop(ScanRefused::Memory);
                     return Err(ScanRefused::Memory);
                 }
             },
             Step::End { offset } => return Ok(Top::End { offset }),
-            Step::Refused => match self.refusal() {
-                Some(why) => return Err(again(self.alloc, why)),
-                None => return Err(ScanRefused::Memory),
-            },
+            Step::Refused => return Err(refusal_of(self.alloc, &self.reader)),
         }
     }
 

@@ -18,3 +18,8 @@ returns-in-Err-clause-steps g c = λ before tops was.
 
 pub returns-in-Err-clause-over : goal.returns-in-Err-clause-over
 returns-in-Err-clause-over g c = λ scanned. absurd (c.in-Record.ensures.over scanned).1
+
+pub returns-in-Refused-clause-steps : goal.returns-in-Refused-clause-steps
+returns-in-Refused-clause-steps g c = λ before tops was.
+    let gives = c.in-Refused.ensures.steps before tops was in
+    (gives, (gives.why, gives.stage, c.refusal_of.ensures gives.why gives.stage))
