@@ -3,7 +3,7 @@ ghost use Rattle.std.specs.Prelude.{◌≡◌};
 ghost use Rattle.file_check.specs.Halting.{told_flaw};
 
 /// A rule, by its number, and the offset at which it fails.
-#[derive(Clone, Copy, Debug, PartialEq, Eq)]
+#[derive(Clone, Copy)]
 pub(crate) struct FailedRule {
     pub rule: u8,
     pub offset: u64,

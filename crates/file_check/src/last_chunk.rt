@@ -14,7 +14,7 @@ use rec_index::{CHUNK, Chunk, MESSAGE_INDEX, MessageIndex};
 use std::alloc::Global;
 
 /// Why a record isn't taken.
-#[derive(Clone, Copy, Debug, PartialEq, Eq)]
+#[derive(Clone, Copy)]
 pub(crate) enum TakeRefused {
     /// The Message Index at that offset is wrong, or the chunk there lacks one.
     Index { offset: u64 },
