@@ -1,5 +1,4 @@
-use Rattle.std.proofs.Common.{rules}
-use Rattle.std.proofs.Common.{ℕ, subst, sym, ◌∙◌}
+use Rattle.std.proofs.Common.{ℕ, subst, sym, ◌∙◌, arith, rules}
 use Rattle.std.proofs.lemmas.Bool.{both_ways}
 use Rattle.mcap_model.specs.Valid.{Flaw}
 use Rattle.file_check.proofs.Refusing.{too_short, unended}
@@ -17,3 +16,12 @@ returns-in-Ok-false-clause-checks g c = λ file told.
 
 pub returns-clause-cause : goal.returns-clause-cause
 returns-clause-cause g c = search rules
+
+pub returns-clause-leaves : goal.returns-clause-leaves
+returns-clause-leaves g c = record {
+  bytes = c.check_records.ensures.keeps.bytes ∙ c.in-Ok-true.ensures.keeps.bytes ∙ c.in-Ok.ensures.bytes;
+  known = omega (arith, c.check_records.ensures.keeps.known, c.in-Ok-true.ensures.keeps.known, c.in-Ok.ensures.known);
+}
+
+pub returns-in-Ok-false-clause-cause : goal.returns-in-Ok-false-clause-cause
+returns-in-Ok-false-clause-cause g c = c.in-Ok-false.ensures.cause ∙ c.in-Ok.ensures.cause.still
