@@ -7,7 +7,7 @@ use Rattle.mcap_io.proofs.Noting.{lists_one}
 use Rattle.mcap_io.proofs.memory_world.MemoryWorldWorld.live.Goals as goal
 
 pub returns-in-Ok-open_live-clause-opens : goal.returns-in-Ok-open_live-clause-opens
-returns-in-Ok-open_live-clause-opens c = 
+returns-in-Ok-open_live-clause-opens c =
     lists_one (standing c.args.self.now.entries) (standing c.open_live.new.self.entries) c.args.self.now.log.items c.open_live.new.self.log.items c.list.new.log.items _ (opened kinds.Live c.args.name.now true)
     (ap (λ (w : MemoryWorld). standing w.entries) c.in-Ok-open_live.ensures.rest) (ap (λ (w : MemoryWorld). w.log.items) c.in-Ok-open_live.ensures.rest ∙ c.in-Ok.ensures.items) c.list.ensures
     (ap (λ (n : List ℕ). opened kinds.Live n true) c.in-Ok.ensures.name)
@@ -19,12 +19,12 @@ pub returns-in-Ok-open_live-clause-cause : goal.returns-in-Ok-open_live-clause-c
 returns-in-Ok-open_live-clause-cause c = c.in-Ok-open_live.ensures.cause
 
 pub returns-in-Ok-open_live-clause-rest : goal.returns-in-Ok-open_live-clause-rest
-returns-in-Ok-open_live-clause-rest c = 
+returns-in-Ok-open_live-clause-rest c =
     ap (λ (w : MemoryWorld). record w { log = c.list.new.log }) c.in-Ok-open_live.ensures.rest
     ∙ ap₂ (λ (failing : Vec ℕ _) (made : ℕ). record c.args.self.now { log = c.list.new.log; faults = c.open_live.new.self.faults; openings = record { failing = failing; made = made } }) c.next_fails-fails.ensures.plan c.next_fails-fails.ensures.counted
 
 pub returns-in-Err-Failed-clause-opens : goal.returns-in-Err-Failed-clause-opens
-returns-in-Err-Failed-clause-opens c = 
+returns-in-Err-Failed-clause-opens c =
     lists_one (standing c.args.self.now.entries) (standing c.open_live.new.self.entries) c.args.self.now.log.items c.open_live.new.self.log.items c.list-in-Err-Failed.new.log.items _ (opened kinds.Live c.args.name.now false)
     (ap (λ (w : MemoryWorld). standing w.entries) c.in-Err-Failed.ensures.rest) (ap (λ (w : MemoryWorld). w.log.items) c.in-Err-Failed.ensures.rest ∙ c.in-Ok.ensures.items) c.list-in-Err-Failed.ensures
     (ap (λ (n : List ℕ). opened kinds.Live n false) c.in-Ok.ensures.name)
@@ -36,7 +36,7 @@ pub returns-in-Err-Failed-clause-cause : goal.returns-in-Err-Failed-clause-cause
 returns-in-Err-Failed-clause-cause c = rw c.in-Err-Failed.field-0-is at c.in-Err-Failed.ensures.cause
 
 pub returns-in-Err-Failed-clause-rest : goal.returns-in-Err-Failed-clause-rest
-returns-in-Err-Failed-clause-rest c = 
+returns-in-Err-Failed-clause-rest c =
     ap (λ (w : MemoryWorld). record w { log = c.list-in-Err-Failed.new.log }) c.in-Err-Failed.ensures.rest
     ∙ ap₂ (λ (failing : Vec ℕ _) (made : ℕ). record c.args.self.now { log = c.list-in-Err-Failed.new.log; faults = c.open_live.new.self.faults; openings = record { failing = failing; made = made } }) c.next_fails-fails.ensures.plan c.next_fails-fails.ensures.counted
 
