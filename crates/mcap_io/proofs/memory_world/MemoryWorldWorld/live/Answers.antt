@@ -1,8 +1,8 @@
-use Rattle.std.proofs.Common.{◌≡◌, ℕ, List, map, Vec, true, false, ap, ap₂, ◌∙◌, inl, inr}
+use Rattle.std.proofs.Common.{ℕ, List, Vec, true, false, ap, ap₂, ◌∙◌, inl, inr}
 use Rattle.mcap_io.specs.declared.memory_world.MemoryWorld.{MemoryWorld}
 use Rattle.mcap_io.specs.declared.outside.ObjectKind.TheVariants as kinds
 use Rattle.mcap_io.specs.Outside.{LiveState, opened}
-use Rattle.mcap_io.specs.Standing.{standing, shown}
+use Rattle.mcap_io.specs.Standing.{standing}
 use Rattle.mcap_io.proofs.Noting.{lists_one}
 use Rattle.mcap_io.proofs.memory_world.MemoryWorldWorld.live.Goals as goal
 

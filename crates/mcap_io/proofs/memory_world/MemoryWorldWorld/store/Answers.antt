@@ -1,4 +1,4 @@
-use Rattle.std.proofs.Common.{◌≡◌, ℕ, List, map, Vec, true, false, ap, ap₂, ◌∙◌, inl, inr}
+use Rattle.std.proofs.Common.{ℕ, List, map, Vec, true, false, ap, ap₂, ◌∙◌, inl, inr}
 use Rattle.mcap_io.specs.declared.memory_world.MemoryWorld.{MemoryWorld}
 use Rattle.mcap_io.specs.declared.outside.ObjectKind.TheVariants as kinds
 use Rattle.mcap_io.specs.Outside.{opened}
