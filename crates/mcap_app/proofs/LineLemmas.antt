@@ -39,10 +39,6 @@ with_subcommand_required f = record f { subcommand_required = true }
 pub more_args : {E : Type 0} (app : App) (rule : Rule) (old : Command) (was new : Result Command E) (a : Arg) → was ≡ Ok old → IfOk new (AddsArg old a) → rule_of a ≡ rule → a.global ≡ false → IfOk was (IsMade app) → IfOk new (IsMade (with_rule app rule))
 more_args app rule old was new a there adds is alone made = IfOk-weaker new _ _ (λ more adding. made_arg app rule old more a (IfOk-at_ok (IsMade app) there made) adding is alone) adds
 
--- the same of a subcommand
-pub more_subs : {E : Type 0} (app below : App) (old sub : Command) (was other new : Result Command E) → was ≡ Ok old → other ≡ Ok sub → IfOk new (AddsSubcommand old sub) → IfOk was (IsMade app) → IfOk other (IsMade below) → IfOk new (IsMade (with_subcommand app below.top))
-more_subs app below old sub was other new there here adds made is = IfOk-weaker new _ _ (λ more adding. made_sub app below old sub more (IfOk-at_ok (IsMade app) there made) (IfOk-at_ok (IsMade below) here is) adding) adds
-
 -- the program without its subcommands
 pub made_top : (new one two three four : Command) → app_of new ≡ new_app (codes "mcaprec") → (out-Command new).has_globals ≡ false → out-Command one ≡ without_name (out-Command new) → out-Command two ≡ without_help_flag (out-Command one)
     → out-Command three ≡ without_help_command (out-Command two) → out-Command four ≡ with_subcommand_required (out-Command three) → IsMade bare_top four
