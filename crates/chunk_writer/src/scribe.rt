@@ -16,7 +16,7 @@ ghost use Rattle.chunk_writer.specs.declared.phase.Phase.TheVariants as phases;
 ghost use Rattle.chunk_writer.specs.Limits.{Holds};
 ghost use Rattle.chunk_writer.specs.Plans.{Plans, StoppedBefore};
 ghost use Rattle.chunk_writer.specs.Stops.{StopsAt, Cause, StopCause, Appends, Added, refusal};
-ghost use Rattle.chunk_writer.specs.Scribes.{Writes, Grows, OfEach, KeepsOn, store_of, phase_of, blocks_of, bytes_of, seen_before, GivesEntry, GivesLast, ListsEntry, PutsFront, Ends, EndsFile, CountsLast, CountsBytes, IsEntryWith, AddsLast};
+ghost use Rattle.chunk_writer.specs.Scribes.{ScribeStands, Writes, Grows, OfEach, KeepsOn, store_of, phase_of, blocks_of, bytes_of, seen_before, GivesEntry, GivesLast, ListsEntry, PutsFront, Ends, EndsFile, CountsLast, CountsBytes, IsEntryWith, AddsLast};
 
 use crate::buffered::Buffered;
 use crate::entry::Entry;
@@ -111,6 +111,29 @@ fn opening(alloc: Global, options: &FileOptions) -> Result<(Plan, Vec<u8>), Memo
     }
 }
 
+// Appends the front of a file, and gives the plan of what follows it.
+fn begin_file<L: LiveStore>(
+    alloc: Global,
+    store: &mut L,
+    options: &FileOptions,
+) -> Result<Plan, Stop>
+    requires size { (n : ℕ) → options.now.chunk ≡ Some n → (1 ≤ n) × (n ≤ chunk_size_limit) }
+    requires profile { length options.now.profile ≤ content_limit }
+    ensures stands { IfOk result (λ plan. ScribeStands options.now (L.state store.old).held (L.state store.new).held [] plan) }
+    ensures goes_on { IfOk result (λ plan. plan.phase ≡ phases.Going) }
+    ensures refused { IfErr result (λ stop. (history : List Rec) → StopsAt options.now history (L.state store.old).held (L.state store.new).held stop 0 0) }
+    ensures cause { Cause (L.state store.old).faults (L.state store.new).faults result }
+{
+    let (plan, piece) = match opening(alloc, options) {
+        Ok(opened) => opened,
+        Err(_) => return Err(Stop::Memory),
+    };
+    match append_through(store, piece.as_slice()) {
+        Ok(_) => return Ok(plan),
+        Err(stop) => return Err(stop),
+    }
+}
+
 // The entry of a block at that offset.
 fn entry_of<X>(extent: X, offset: u64, block: &Block) -> Entry<X>
     ensures { IsEntryWith result extent offset block.now }
@@ -140,12 +163,8 @@ impl<L: LiveStore> Scribe<L> {
         ensures cause { IfErr result (λ e. StopCause (L.state store).faults (L.state e.0).faults e.1) }
     {
         let mut store = store;
-        let (plan, piece) = match opening(alloc, options) {
-            Ok(opened) => opened,
-            Err(_) => return Err((store, Stop::Memory)),
-        };
-        match append_through(&mut store, piece.as_slice()) {
-            Ok(_) => return Ok(Scribe { store, plan }),
+        match begin_file(alloc, &mut store, options) {
+            Ok(plan) => return Ok(Scribe { store, plan }),
             Err(stop) => return Err((store, stop)),
         }
     }
@@ -176,10 +195,7 @@ impl<L: LiveStore> Scribe<L> {
             Ok(framed) => framed,
             Err(_) => return Err(self.stop_for_memory()),
         };
-        match self.put_framed(framed.as_slice()) {
-            Ok(entry) => return Ok(entry),
-            Err(stop) => return Err(stop),
-        }
+        self.put_framed(framed.as_slice())
     }
 
     /// Puts the buffer's records, in their order, each once, and gives the entries of the blocks that are appended. Where that is

@@ -1,5 +1,6 @@
-use Rattle.std.proofs.Common.{[], Some, refl, sym, ap, ◌∙◌, append-nil}
-use Rattle.chunk_writer.proofs.Taking.{front_so, stopped_on}
+use Rattle.std.proofs.Common.{[], length, Some, refl, sym, ap, ◌∙◌, append-nil, arith}
+use Rattle.chunk_writer.proofs.Writing.{going_apart}
+use Rattle.chunk_writer.proofs.Taking.{front_so, stopped_on, going_on}
 use Rattle.chunk_writer.proofs.scribe.Scribe.take.Goals as goal
 
 pub returns-in-Going-clause-grows : goal.returns-in-Going-clause-grows
@@ -25,7 +26,7 @@ pub returns-in-Going-clause-stopped : goal.returns-in-Going-clause-stopped
 returns-in-Going-clause-stopped g c = rw c.taken.ensures.end c.put_all-end.ensures.stopped
 
 pub returns-in-Going-clause-kept : goal.returns-in-Going-clause-kept
-returns-in-Going-clause-kept g c = λ stop stopped. cc
+returns-in-Going-clause-kept g c = λ stop stopped. absurd (going_apart c.args.self.now.plan.phase stop stopped (sym c.phase.ensures ∙ c.in-Going.is))
 
 pub returns-in-Going-clause-cause : goal.returns-in-Going-clause-cause
 returns-in-Going-clause-cause g c = λ going. rw c.taken.ensures.end c.put_all-end.ensures.cause
@@ -35,7 +36,7 @@ returns-in-Stopped-clause-grows g c = λ options opened history stands.
     stopped_on options opened.held _ history c.args.full.records c.args.self.now.plan c.in-Stopped.stop (sym c.phase.ensures ∙ c.in-Stopped.is) stands
 
 pub returns-in-Stopped-clause-front : goal.returns-in-Stopped-clause-front
-returns-in-Stopped-clause-front g c = λ going. cc
+returns-in-Stopped-clause-front g c = λ going. absurd (going_apart c.args.self.now.plan.phase c.in-Stopped.stop (sym c.phase.ensures ∙ c.in-Stopped.is) going)
 
 pub returns-in-Stopped-clause-keeps : goal.returns-in-Stopped-clause-keeps
 returns-in-Stopped-clause-keeps g c = λ before told. ([], told ∙ ap Some (sym (append-nil before)))
@@ -53,7 +54,24 @@ pub returns-in-Stopped-clause-stopped : goal.returns-in-Stopped-clause-stopped
 returns-in-Stopped-clause-stopped g c = rw c.taken-in-Stopped.ensures.end (sym c.phase.ensures ∙ c.in-Stopped.is)
 
 pub returns-in-Stopped-clause-cause : goal.returns-in-Stopped-clause-cause
-returns-in-Stopped-clause-cause g c = λ going. cc
+returns-in-Stopped-clause-cause g c = λ going. absurd (going_apart c.args.self.now.plan.phase c.in-Stopped.stop (sym c.phase.ensures ∙ c.in-Stopped.is) going)
 
 pub returns-in-Stopped-clause-kept : goal.returns-in-Stopped-clause-kept
 returns-in-Stopped-clause-kept g c = λ other stopped. (cc, cc, refl)
+
+pub put_all-end-requires-clause-going : goal.put_all-end-requires-clause-going
+put_all-end-requires-clause-going g c = sym c.phase.ensures ∙ c.in-Going.is
+
+pub put_all-end-requires-clause-none : goal.put_all-end-requires-clause-none
+put_all-end-requires-clause-none g c = c.new-entries.ensures.items
+
+pub returns-in-Going-clause-goes_on : goal.returns-in-Going-clause-goes_on
+returns-in-Going-clause-goes_on g c = rw c.taken.ensures.end (going_on _ _ c.put_all-end.result (sym c.phase.ensures ∙ c.in-Going.is) c.put_all-end.ensures.goes_on)
+
+pub returns-in-Stopped-clause-counted : goal.returns-in-Stopped-clause-counted
+returns-in-Stopped-clause-counted g c =
+    let none = ap (λ l. length l) (ap (λ v. v.items) c.taken-in-Stopped.ensures.entries ∙ c.new-entries.ensures.items) in
+    omega (arith, none)
+
+pub unreachable-requires : goal.unreachable-requires
+unreachable-requires g c = c.requires.unended (sym c.phase.ensures ∙ c.in-Ended.is)
