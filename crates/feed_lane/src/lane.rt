@@ -4,7 +4,8 @@ ghost use Rattle.mcap_model.specs.Places.{At};
 ghost use Rattle.mcap_model.specs.Tops.{Top};
 ghost use Rattle.mcap_model.specs.Fields.{IsMessage};
 ghost use Rattle.feed_lane.specs.Pass.{PassState, no_calls};
-ghost use Rattle.feed_lane.specs.Lanes.{messages, IsOn};
+ghost use Rattle.feed_lane.specs.Lanes.{messages, IsOn, Describes};
+ghost use Rattle.record_core.specs.Sights.{DefFits};
 ghost use Rattle.feed_lane.specs.Steps.{lists_of, LaneStands, ListsStand, Roomy, AreKnown, AtHand, IsDue, HasId, ThenShows, ChannelFound, MessageTaken, goes_on as goes_on_behind, publish_cause as cause_of_publishing, declare_cause as cause_of_declaring, full_cause as cause_of_full, fields_of};
 
 use crate::definition::definition;
@@ -13,7 +14,7 @@ use crate::pass::Pass;
 use crate::report::{Accepted, Cause, DeclaredAt, Refused};
 use mcap_model::Tables;
 use mcap_wire::Memory;
-use rec_data::Message;
+use rec_data::{ChannelDef, Message};
 use record_core::{DeclareRefused, Found, NewMessage, PublishRefused};
 use std::alloc::Global;
 
@@ -211,11 +212,29 @@ impl Lane {
         ensures accepted { self.new.accepted ≡ self.old.accepted }
         ensures refused { self.new.refused ≡ self.old.refused }
     {
-        let channel = match definition(alloc, tables, source) {
-            Ok(channel) => channel,
+        match definition(alloc, tables, source) {
+            Ok(channel) => return self.declare_as(source, &channel, pass),
             Err(_) => return Err(Cause::Memory),
-        };
-        match pass.declare(&channel) {
+        }
+    }
+
+    // Declares this channel, which has that id in the feed, for the message at hand, and says which id it got.
+    fn declare_as<P: Pass>(
+        &mut self,
+        source: u16,
+        channel: &ChannelDef,
+        pass: &mut P,
+    ) -> Result<u16, Cause>
+        requires room { vec_len self.old.declared + 1 ≤ vec_capacity self.old.declared }
+        requires fits { DefFits channel.now }
+        ensures found { (begun : P) (before : PassState) → P.since begun pass.old before → ThenShows (P.since begun pass.new) before (λ after.
+            (records : List Top) (handled : ℕ) → LaneStands self.old records handled before → Describes records source channel.now
+            → IsOn records handled source → At self.old.ids source 0 → ChannelFound self.new records handled source after result) }
+        ensures passed { self.new.passed ≡ self.old.passed }
+        ensures accepted { self.new.accepted ≡ self.old.accepted }
+        ensures refused { self.new.refused ≡ self.old.refused }
+    {
+        match pass.declare(channel) {
             Ok(given) => {
                 let declared = DeclaredAt {
                     index: self.handled(),

@@ -20,7 +20,7 @@ pub struct DeclaredAt {
 }
 
 /// Why a message was not recorded.
-#[derive(Clone, Copy, Debug, PartialEq, Eq)]
+#[derive(Clone, Copy)]
 pub enum Cause {
     /// The buffer was full: it held these bytes, the records at the places from `from` to before `to`.
     Full { held: u64, from: u64, to: u64 },
@@ -41,7 +41,7 @@ pub enum Cause {
 }
 
 /// A message that was not recorded: its number in the feed, and why.
-#[derive(Clone, Copy, PartialEq, Eq)]
+#[derive(Clone, Copy)]
 pub struct Refused {
     pub index: u64,
     pub cause: Cause,

@@ -78,23 +78,23 @@ impl Pass for Lacking {
     }
 }
 
-// Both messages, refused for want of memory.
-const BOTH: &[Refused] = &[
-    Refused {
-        index: 0,
-        cause: Cause::Memory,
-    },
-    Refused {
-        index: 1,
-        cause: Cause::Memory,
-    },
-];
-
 // Whether the report lists both messages as refused for want of memory, and no more.
 fn is_refused(report: &FeedReport) -> bool {
     report.accepted.is_empty()
         && report.declared.is_empty()
-        && report.refused.as_slice() == BOTH
+        && matches!(
+            report.refused.as_slice(),
+            [
+                Refused {
+                    index: 0,
+                    cause: Cause::Memory,
+                },
+                Refused {
+                    index: 1,
+                    cause: Cause::Memory,
+                },
+            ]
+        )
         && report.passed == 1
         && matches!(report.end, FeedEnd::Done)
 }

@@ -1,5 +1,4 @@
 use Rattle.std.proofs.Common.{◌∷◌, ◌++◌, [], ℕ, List, length, sym, ap, subst, ◌∙◌, arith, refl}
-use Rattle.std.proofs.lemmas.Grind.{common_steps}
 use Rattle.mcap_model.specs.Tops.{Top, flat}
 use Rattle.mcap_model.specs.Made.{top}
 use Rattle.mcap_scan.specs.Scanning.{Stands, offset_of}
@@ -112,7 +111,7 @@ returns-in-Some-clause-reports g c = λ limit since.
     )
 
 pub returns-in-Err-take-clause-stays : goal.returns-in-Err-take-clause-stays
-returns-in-Err-take-clause-stays g c = grind (arith, common_steps)
+returns-in-Err-take-clause-stays g c = g.S.Source.stays_on _ _ _ c.records.invariant.2 c.in-Record.ensures.stays
 
 pub returns-in-Some-clause-stays : goal.returns-in-Some-clause-stays
-returns-in-Some-clause-stays g c = grind (arith, common_steps)
+returns-in-Some-clause-stays g c = g.S.Source.stays_on _ _ _ c.records.invariant.2 c.in-Refused.ensures.stays

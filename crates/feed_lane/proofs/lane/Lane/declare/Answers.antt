@@ -1,13 +1,9 @@
-use Rattle.std.proofs.Common.{◌≡◌, ◌+◌, ◌∷◌, ◌++◌, [], ℕ, List, refl, sym, ap, subst, ◌∙◌, Ok, Err}
+use Rattle.std.proofs.Common.{refl}
 use Rattle.mcap_model.proofs.Places.{at_within}
-use Rattle.feed_lane.specs.declared.report.DeclaredAt.{DeclaredAt}
-use Rattle.feed_lane.specs.declared.report.Cause.{Cause}
-use Rattle.feed_lane.specs.declared.report.Cause.TheVariants as causes
-use Rattle.feed_lane.specs.Lanes.{messages, IsTried}
-use Rattle.feed_lane.specs.Steps.{lists_of, HasId, ListsStand, IsRefusal, declare_cause}
+use Rattle.feed_lane.specs.Lanes.{messages}
+use Rattle.feed_lane.specs.Steps.{lists_of}
 use Rattle.feed_lane.proofs.Growing.{may_declare}
-use Rattle.feed_lane.proofs.Declaring.{IsNew, declared_stands, new_has_id}
-use Rattle.feed_lane.proofs.Calls.{some_id, unchanged, declare_refused, declare_tried, memory_tried, declared_limit}
+use Rattle.feed_lane.proofs.Calls.{unchanged, memory_tried}
 use Rattle.feed_lane.proofs.lane.Lane.declare.Goals as goal
 
 -- no definition was made, for want of memory
@@ -25,54 +21,7 @@ returns-in-Err-clause-found g c = λ begun before since. (
   },
 )
 
-pub returns-in-Ok-declare-clause-found : goal.returns-in-Ok-declare-clause-found
-returns-in-Ok-declare-clause-found g c = λ begun before since.
-    let l = c.args.self.now in
-    let shown = c.in-Ok-declare.ensures begun before since in
-    let after = shown.0 in
-    let call = shown.2 in
-    let given = c.in-Ok-declare.given in
-    let content = c.in-Ok.channel in (
-      after,
-      shown.1,
-      declared_limit before after content (Ok given) call,
-      λ records handled stands known on none.
-          let d : DeclaredAt = record { index = c.handled.result; channel = given.channel; first = given.first; count = given.count } in
-          let is : IsNew records handled l.ids c.args.source call.0 content d = record {
-            none = none;
-            on = on;
-            describes = c.in-Ok.ensures.describes records known.tables_are;
-            index = c.handled.ensures ∙ sym stands.fits.count;
-            first = call.5;
-            some = some_id before call.0 given.channel call.1 call.8;
-            added = call.1;
-            are = call.7;
-            many = call.6;
-          } in
-          let now = declared_stands records handled l.ids (lists_of l) c.args.source before call.0 content d stands call.3 call.4 is in (
-            subst (λ (declared : List DeclaredAt). HasId records declared c.args.source given.channel) (sym c.add.ensures) (new_has_id records handled l.ids (lists_of l) c.args.source call.0 content d is),
-            subst (λ (declared : List DeclaredAt). ListsStand records handled (handled + 1) c.set.new.self (record { accepted = l.accepted.items; declared = declared; refused = l.refused.items }) after) (sym c.add.ensures)
-                (subst (λ (ids : List ℕ). ListsStand records handled (handled + 1) ids (record { accepted = l.accepted.items; declared = l.declared.items ++ d ∷ []; refused = l.refused.items }) after) (sym c.set.ensures)
-                (subst (ListsStand records handled (handled + 1) _ (record { accepted = l.accepted.items; declared = l.declared.items ++ d ∷ []; refused = l.refused.items })) (sym call.9) now)),
-          ),
-    )
-
-pub returns-in-Err-declare-clause-found : goal.returns-in-Err-declare-clause-found
-returns-in-Err-declare-clause-found g c = λ begun before since.
-    let shown = c.in-Err-declare.ensures begun before since in
-    let after = shown.0 in
-    let content = c.in-Ok.channel in
-    let cause : c.declare_cause.result ≡ declare_cause c.in-Err-declare.refusal after.found = c.declare_cause.ensures ∙ ap (declare_cause c.in-Err-declare.refusal) (c.found.ensures begun after shown.1) in (
-      after,
-      shown.1,
-      declared_limit before after content (Err c.in-Err-declare.refusal) shown.2,
-      λ records handled stands known on none. record {
-        before = before;
-        stands = may_declare records handled c.args.self.now.ids (lists_of c.args.self.now) before stands;
-        refusal = subst (IsRefusal records handled before after) (sym cause)
-            (declare_refused records handled before after content c.in-Err-declare.refusal (record { source = c.args.source; on = on; describes = c.in-Ok.ensures.describes records known.tables_are }) shown.2);
-        some = at_within (messages records) handled on.top on.at;
-        tried = subst (λ (k : Cause). IsTried records c.args.self.now.declared.items (record { index = handled; cause = k })) (sym cause)
-            (declare_tried records handled c.args.self.now.declared.items before after content c.in-Err-declare.refusal (record { source = c.args.source; on = on; describes = c.in-Ok.ensures.describes records known.tables_are }) shown.2);
-      },
-    )
+pub returns-in-Ok-clause-found : goal.returns-in-Ok-clause-found
+returns-in-Ok-clause-found g c = λ begun before since.
+    let shown = c.declare_as.ensures.found begun before since in
+    (shown.0, shown.1, shown.2, λ records handled stands known on none. shown.3 records handled stands (c.in-Ok.ensures.describes records known.tables_are) on none)
