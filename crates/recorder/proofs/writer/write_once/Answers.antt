@@ -1,9 +1,14 @@
-use Rattle.std.proofs.Common.{refl, ap, subst, ◌∙◌, arith}
+use Rattle.std.proofs.Common.{◌≡◌, true, false, refl, sym, ap, subst, ◌∙◌}
 use Rattle.std.specs.Prelude.{All}
-use Rattle.std.proofs.lemmas.Grind.{common_steps}
+use Rattle.mcap_model.specs.declared.ends.End.TheVariants as ends
+use Rattle.record_core.specs.Desk.{DeskView, ended}
 use Rattle.record_cache.specs.Buffers.{Buffer, IsKept}
 use Rattle.recorder.specs.Writing.{empty_buffer}
+use Rattle.recorder.proofs.Draining.{may_later}
 use Rattle.recorder.proofs.writer.write_once.Goals as goal
+
+not_taken : false ≡ true → ⊥
+not_taken is = cc
 
 pub returns-in-Err-clause-spare : goal.returns-in-Err-clause-spare
 returns-in-Err-clause-spare g c = c.in-Err.ensures.answer.1
@@ -12,10 +17,10 @@ pub returns-in-Err-clause-none : goal.returns-in-Err-clause-none
 returns-in-Err-clause-none g c = λ is. (c.in-Err.ensures.answer.0, c.in-Err.ensures.answer.4, refl)
 
 pub returns-in-Err-clause-some : goal.returns-in-Err-clause-some
-returns-in-Err-clause-some g c = λ is none. cc
+returns-in-Err-clause-some g c = λ is none. not_taken is
 
 pub returns-in-Err-clause-wrote : goal.returns-in-Err-clause-wrote
-returns-in-Err-clause-wrote g c = λ is. cc
+returns-in-Err-clause-wrote g c = λ is. absurd (not_taken is)
 
 pub returns-in-Err-clause-goes : goal.returns-in-Err-clause-goes
 returns-in-Err-clause-goes g c = λ going. rw going refl
@@ -27,7 +32,7 @@ pub returns-in-Ok-end-clause-spare : goal.returns-in-Ok-end-clause-spare
 returns-in-Ok-end-clause-spare g c = c.take-taken.ensures.cleared ∙ ap (λ (full : Buffer). empty_buffer full.limit) c.in-Ok.ensures.answer.0
 
 pub returns-in-Ok-end-clause-none : goal.returns-in-Ok-end-clause-none
-returns-in-Ok-end-clause-none g c = λ is. cc
+returns-in-Ok-end-clause-none g c = λ is. absurd (not_taken (sym is))
 
 pub returns-in-Ok-end-clause-some : goal.returns-in-Ok-end-clause-some
 returns-in-Ok-end-clause-some g c = λ is. c.in-Ok.ensures.answer.1
@@ -50,19 +55,29 @@ pub returns-in-Ok-end-clause-kept : goal.returns-in-Ok-end-clause-kept
 returns-in-Ok-end-clause-kept g c = λ stop stopped. (c.take-taken.ensures.kept stop stopped).1
 
 pub stop-requires : goal.stop-requires
-stop-requires g c = grind (arith, common_steps)
+stop-requires g c =
+    let stopped = rw c.in-Err-end.is at c.take-taken.ensures.stopped in
+    let may = may_later g.T.Tape.phase g.T.Tape.failures c.args.tape.now c.take-taken.new.self (g.T.Tape.phase c.args.tape.now) refl c.requires.may (λ going. rw stopped (rw c.in-Err-end.is at (c.take-taken.ensures.cause going)))
+    (λ stop was. (c.take-taken.ensures.kept stop was).1) in
+    may.cause c.in-Err-end.stop stopped
 
 pub returns-in-Err-end-clause-spare : goal.returns-in-Err-end-clause-spare
 returns-in-Err-end-clause-spare g c = c.take-taken.ensures.cleared ∙ ap (λ (full : Buffer). empty_buffer full.limit) c.in-Ok.ensures.answer.0
 
 pub returns-in-Err-end-clause-none : goal.returns-in-Err-end-clause-none
-returns-in-Err-end-clause-none g c = λ is. cc
+returns-in-Err-end-clause-none g c = λ is. absurd (not_taken (sym is))
 
 pub returns-in-Err-end-clause-some : goal.returns-in-Err-end-clause-some
 returns-in-Err-end-clause-some g c = λ is. c.in-Ok.ensures.answer.1
 
 pub returns-in-Err-end-clause-wrote : goal.returns-in-Err-end-clause-wrote
-returns-in-Err-end-clause-wrote g c = grind (arith, common_steps)
+returns-in-Err-end-clause-wrote g c = λ is.
+    let stopped = rw c.in-Err-end.is at c.take-taken.ensures.stopped in
+    let full = c.in-Ok.ensures.answer.0 in (
+      rw stopped (c.stop.ensures.answer ∙ ap (λ (d : DeskView). ended d (ends.Stopped c.in-Err-end.stop)) c.in-Ok.ensures.answer.2),
+      subst (λ (b : Buffer). g.T.Tape.grows c.args.tape.now c.take-taken.new.self b.records) full c.take-taken.ensures.grows,
+      subst (λ (b : Buffer). All IsKept b.records) full c.held-held.ensures.kept,
+    )
 
 pub returns-in-Err-end-clause-goes : goal.returns-in-Err-end-clause-goes
 returns-in-Err-end-clause-goes g c = λ going.
