@@ -85,10 +85,7 @@ impl Summary {
                 channel_id,
                 log_time,
                 ..
-            } => match self.note_message(*channel_id, *log_time) {
-                Ok(()) => return Ok(()),
-                Err(memory) => return Err(memory),
-            },
+            } => return self.note_message(*channel_id, *log_time),
             _ => match framed_of(self.alloc, r) {
                 Ok(bytes) => return self.note_framed(bytes.as_slice()),
                 Err(memory) => return Err(memory),
@@ -106,10 +103,7 @@ impl Summary {
         ensures blocks { self.new.blocks ≡ self.old.blocks }
     {
         match mark_of_bytes(bytes) {
-            Some(mark) => match self.note_message(mark.channel, mark.time) {
-                Ok(()) => return Ok(()),
-                Err(memory) => return Err(memory),
-            },
+            Some(mark) => return self.note_message(mark.channel, mark.time),
             None => {}
         }
         let id = id_of_bytes(bytes);
