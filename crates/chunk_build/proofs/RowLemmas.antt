@@ -3,7 +3,7 @@ use Rattle.std.proofs.Common.{◌≡◌, ◌⊎◌, ℕ, zero, suc, ◌+◌, ◌
 use Rattle.std.specs.Prelude.{Err, filter, All, if◌then◌else◌}
 use Rattle.std.specs.List.{insert}
 use Rattle.std.proofs.lemmas.Bool.{cases_eq, cases_order, lt-ltb, le-ltb, eq-eqb, ne_eqb}
-use Rattle.std.proofs.lemmas.List.{map-append, length-append, get_or-set_same, get_or-set_other, get_or_read, take_more, take-append-drop}
+use Rattle.std.proofs.lemmas.List.{map-append, length-append, length-set, get_or-set_same, get_or-set_other, get_or_read, take_more, take-append-drop}
 use Rattle.std.proofs.lemmas.Grind.{flat_map-append}
 use Rattle.std.proofs.lemmas.List.Elements.{filter-append, All-filter, All-map, All-head}
 use Rattle.std.proofs.lemmas.List.Edits.{length-insert, get_or-insert_below, get_or-insert_at, get_or-insert_above}
@@ -315,6 +315,11 @@ all_empty (x ∷ xs) empty = no_row x xs (ap has_some (empty 0 x (omega arith)))
 pub rise_same : (xs ys : List Row) → length xs ≡ length ys → ((k : ℕ) (d : Row) → k < length xs → (get_or xs k d).channel ≡ (get_or ys k d).channel) → RowsRise ys → RowsRise xs
 rise_same xs ys size same rises i j d less within =
     omega (arith, same i d (omega (arith, less, within)), same j d within, rises i j d less (omega (arith, size, within)))
+
+-- a row is put in another's place, and keeps its channel
+pub rise_set : (xs : List Row) (i : ℕ) (v old : Row) → i < length xs → old ≡ get_or xs i old → v.channel ≡ old.channel → RowsRise xs → RowsRise (set xs i v)
+rise_set xs i v old within is same rises =
+    rise_same (set xs i v) xs (length-set xs i v) (λ k d less. channel_set xs i v k d (λ e in_it. same ∙ ap (λ (l : Row). l.channel) (get_or_read xs i old within is e)) (omega (arith, less, length-set xs i v))) rises
 
 -- room in a row
 
