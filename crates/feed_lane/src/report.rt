@@ -20,7 +20,7 @@ pub struct DeclaredAt {
 }
 
 /// Why a message was not recorded.
-#[derive(Clone, Copy)]
+#[derive(Clone, Copy, Debug)]
 pub enum Cause {
     /// The buffer was full: it held these bytes, the records at the places from `from` to before `to`.
     Full { held: u64, from: u64, to: u64 },
