@@ -16,8 +16,6 @@ mod index_tables;
 #[cfg(test)]
 mod lanes;
 #[cfg(test)]
-mod reports;
-#[cfg(test)]
 mod same;
 #[cfg(test)]
 mod scribes;

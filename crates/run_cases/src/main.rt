@@ -4,6 +4,7 @@
 mod building;
 mod cases;
 mod halt;
+mod reports;
 mod running;
 mod session;
 mod telling;

@@ -2,6 +2,7 @@
 use crate::building::{Pieces, add_line, built_in, piece, pieces_of, put};
 use crate::cases::Case;
 use crate::halt::{Halt, unread};
+use crate::reports::are_told;
 use crate::running::{Ran, run_once};
 use crate::telling::Telling;
 use crate::tokens::{Token, number_of, parts_of, tokens_of};
@@ -272,9 +273,17 @@ impl Session {
         Ok(())
     }
 
+    // The case of reports that no run brings about. No script has it.
+    fn end_reports(&mut self) -> Result<(), Halt> {
+        self.name = String::from_str(self.alloc, "reports that no run makes are told")?;
+        self.telling.differs = !are_told(self.alloc)?;
+        self.end_case()
+    }
+
     /// Ends the script, and says how much it had.
     pub fn end(&mut self) -> Result<(), Halt> {
         self.end_block()?;
+        self.end_reports()?;
         let (cases, runs, wrong) = (self.cases, self.runs, self.wrong);
         let line = format!(in self.alloc;
             "{cases} cases, {wrong} of which differ, in {runs} runs and lists of words\n"

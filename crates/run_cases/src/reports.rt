@@ -1,11 +1,10 @@
 //! What is said of reports that no run brings about.
-use crate::same::{holds, holds_at};
-use mcap_app::{Failures, answer, print_report};
+use mcap_app::{
+    Cause, End, Failures, FeedEnd, FeedReport, Refused, Report, Stop, WriterReport, answer,
+    print_report,
+};
 use mcap_io::MemorySink;
-use mcap_model::{End, Stop};
-use recorder::{Cause, FeedEnd, FeedReport, Refused, Report, WriterReport};
 use std::alloc::{AllocError, Global};
-use std::test::Fail;
 
 const NO_FAILURE: Failures = Failures {
     feed: false,
@@ -207,15 +206,9 @@ const ROWS: &[Row] = &[
     ),
 ];
 
-// A limit is told once, however often it was met, and a want of memory last.
-#[test]
-fn what_messages_were_refused_for_is_told(rt: HostRuntime) -> Result<(), Fail> {
-    let count = told_rows(rt.alloc())?;
-    holds_at(&rt, count == ROWS.len() as u64, &count);
-    // a report that is missing though nothing failed
-    holds(
-        &rt,
-        is_answered(rt.alloc(), &None, NO_FAILURE, 5, NO_MEMORY),
-    );
-    Ok(())
+/// Whether a limit is told once, however often it was met, and a want of memory last; and a report that is missing though
+/// nothing failed as a want of memory.
+pub(crate) fn are_told(alloc: Global) -> Result<bool, AllocError> {
+    let count = told_rows(alloc)?;
+    Ok(count == ROWS.len() as u64 && is_answered(alloc, &None, NO_FAILURE, 5, NO_MEMORY))
 }
