@@ -78,23 +78,24 @@ impl Pass for Lacking {
     }
 }
 
+// Whether that message was refused for want of memory.
+fn is_lacking(refused: &Refused, index: u64) -> bool {
+    refused.index == index && matches!(refused.cause, Cause::Memory)
+}
+
+// Whether these are both messages, refused for want of memory.
+fn are_both(refused: &[Refused]) -> bool {
+    match refused {
+        [first, second] => is_lacking(first, 0) && is_lacking(second, 1),
+        _ => false,
+    }
+}
+
 // Whether the report lists both messages as refused for want of memory, and no more.
 fn is_refused(report: &FeedReport) -> bool {
     report.accepted.is_empty()
         && report.declared.is_empty()
-        && matches!(
-            report.refused.as_slice(),
-            [
-                Refused {
-                    index: 0,
-                    cause: Cause::Memory,
-                },
-                Refused {
-                    index: 1,
-                    cause: Cause::Memory,
-                },
-            ]
-        )
+        && are_both(report.refused.as_slice())
         && report.passed == 1
         && matches!(report.end, FeedEnd::Done)
 }
