@@ -1,6 +1,6 @@
 -- A buffer's records are put one by one.
 use Rattle.std.proofs.Common.{◌≡◌, ◌⊎◌, ℕ, suc, ◌+◌, ◌<◌, ◌≤◌, List, [], ◌∷◌, ◌++◌, length, take, drop, Option, Some, Result, Ok, Err, inl, inr, refl, sym, ap, subst, ◌∙◌, append_assoc, append-nil, arith}
-use Rattle.std.specs.Prelude.{All, OnOk, IfOk}
+use Rattle.std.specs.Prelude.{All}
 use Rattle.std.proofs.Math.Seq.{take-suc}
 use Rattle.std.proofs.lemmas.List.{take_all, take-append-drop, length-append, length-drop}
 use Rattle.mcap_wire.proofs.Framing.{length-framed}
@@ -125,15 +125,6 @@ keeps_more old mid new first second = λ held is.
     let one = first held is in
     let other = second (held ++ one.0) one.1 in
     (one.0 ++ other.0, other.1 ∙ ap Some (append_assoc held one.0 other.0))
-
--- where an end was good, a fact from before it holds too
-pub going_on : {X : Type 0} (A B : Type 0) (end : Result X Stop) → A → OnOk end B → OnOk end (A × B)
-going_on A B (Ok it) before after = (before, after)
-going_on A B (Err stop) before after = tt
-
-pub ok_so : {X : Type 0} (P Q : X → Type 0) (end : Result X Stop) → ((x : X) → P x → Q x) → IfOk end P → IfOk end Q
-ok_so P Q (Ok x) so holds = so x holds
-ok_so P Q (Err stop) so holds = tt
 
 -- one record more was put
 pub step : {L X : Type 0} (state : L → LiveState) (seen : SeenExtents X) (before now after : Scribe L) (records : List Rec) (at next : ℕ) (framed : List ℕ) (entries more : List (Entry X)) → seen.held ≡ (state before.store).held → All IsKept records

@@ -2,7 +2,7 @@
 use Rattle.std.proofs.Common.{◌≡◌, ℕ, suc, ◌+◌, ◌<◌, ◌≤◌, Bool, true, false, eqb, List, [], ◌∷◌, length, get_or, refl, sym, ap, subst, inl, inr, ◌∙◌, arith}
 use Rattle.std.specs.Prelude.{AllPairs, IsPermutation, ◌≢◌, ◌&&◌, slice_get}
 use Rattle.std.specs.List.{IsDistinct}
-use Rattle.std.proofs.lemmas.Bool.{both_ways, cases_lt, ne_eqb, eqb-false, eqb-true, eq-eqb}
+use Rattle.std.proofs.lemmas.Bool.{and_parts, cases_lt, ne_eqb, eqb-false, eqb-true, eq-eqb}
 use Rattle.std.proofs.lemmas.List.Elements.{recursion_from_All, All-from_recursion}
 use Rattle.std.proofs.lemmas.Map.Keys.{IsDistinct-IsPermutation}
 use Rattle.std.proofs.lemmas.Option.{same_Some}
@@ -71,19 +71,11 @@ at_index {X} xs i x within is = subst (λ (y : X). At xs i y) (sym is) (at_read 
 pub pair_is : (p : ℕ × ℕ) (a b : ℕ) → p.0 ≡ a → p.1 ≡ b → p ≡ (a, b)
 pair_is p a b one other = ap (λ (x : ℕ). (x, p.1)) one ∙ ap (λ (y : ℕ). (a, y)) other
 
-both_hold : (s t : Bool) → (s && t) ≡ true → (s ≡ true) × (t ≡ true)
-both_hold true t e = (refl, e)
-both_hold false t e = absurd (both_ways false refl e)
-
 pub pair_tested : (p : ℕ × ℕ) (a b : ℕ) → (eqb p.0 a && eqb p.1 b) ≡ true → p ≡ (a, b)
-pair_tested p a b e = let both = both_hold (eqb p.0 a) (eqb p.1 b) e in pair_is p a b (eqb-true p.0 a both.0) (eqb-true p.1 b both.1)
+pair_tested p a b e = let both = and_parts (eqb p.0 a) (eqb p.1 b) e in pair_is p a b (eqb-true p.0 a both.0) (eqb-true p.1 b both.1)
 
 pub inside : (k i n size : ℕ) → k < size → n ≤ i → n ≡ size → k < i
 inside k i n size within end same = omega (arith, within, end, same)
-
-pub no_elements : {X : Type 0} (xs : List X) → length xs ≡ 0 → xs ≡ []
-no_elements [] size = refl
-no_elements (x ∷ xs) size = absurd (omega (arith, size))
 
 pub past_end : {X : Type 0} (xs : List X) (k : ℕ) → length xs ≤ k → (x : X) → At xs k x → ⊥
 past_end xs k end x at = let within = at_within xs k x at in omega (arith, within, end)

@@ -1,12 +1,12 @@
 use Rattle.std.proofs.Common.{ap, length, false, refl, sym, subst, inl, inr, ◌∙◌}
 use Rattle.std.proofs.lemmas.Bool.{both_ways}
+use Rattle.std.proofs.lemmas.List.{nil_from_length}
 use Rattle.index_check.specs.Chunks.{AreNoted, AreNamed}
-use Rattle.index_check.proofs.Apart.{no_elements}
 use Rattle.index_check.proofs.chunk_indexes.names_indexes.Goals as goal
 
 pub returns-then-count-eq0 : goal.returns-then-count-eq0
 returns-then-count-eq0 c =
-    (λ e. inl (no_elements c.args.index.now.message_index_offsets (sym c.count.ensures.count ∙ c.if-count-eq0.true)), λ names. refl)
+    (λ e. inl (nil_from_length c.args.index.now.message_index_offsets (sym c.count.ensures.count ∙ c.if-count-eq0.true)), λ names. refl)
 
 pub returns-then-index-note : goal.returns-then-index-note
 returns-then-index-note c = (

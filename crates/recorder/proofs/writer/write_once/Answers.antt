@@ -1,14 +1,12 @@
-use Rattle.std.proofs.Common.{◌≡◌, true, false, refl, sym, ap, subst, ◌∙◌}
+use Rattle.std.proofs.Common.{◌≡◌, refl, sym, ap, subst, ◌∙◌}
 use Rattle.std.specs.Prelude.{All}
+use Rattle.std.proofs.lemmas.Bool.{false≢true}
 use Rattle.mcap_model.specs.declared.ends.End.TheVariants as ends
 use Rattle.record_core.specs.Desk.{DeskView, ended}
 use Rattle.record_cache.specs.Buffers.{Buffer, IsKept}
 use Rattle.recorder.specs.Writing.{empty_buffer}
 use Rattle.recorder.proofs.Draining.{may_later}
 use Rattle.recorder.proofs.writer.write_once.Goals as goal
-
-not_taken : false ≡ true → ⊥
-not_taken is = cc
 
 pub returns-in-Err-clause-spare : goal.returns-in-Err-clause-spare
 returns-in-Err-clause-spare g c = c.in-Err.ensures.answer.1
@@ -17,10 +15,10 @@ pub returns-in-Err-clause-none : goal.returns-in-Err-clause-none
 returns-in-Err-clause-none g c = λ is. (c.in-Err.ensures.answer.0, c.in-Err.ensures.answer.4, refl)
 
 pub returns-in-Err-clause-some : goal.returns-in-Err-clause-some
-returns-in-Err-clause-some g c = λ is none. not_taken is
+returns-in-Err-clause-some g c = λ is none. false≢true is
 
 pub returns-in-Err-clause-wrote : goal.returns-in-Err-clause-wrote
-returns-in-Err-clause-wrote g c = λ is. absurd (not_taken is)
+returns-in-Err-clause-wrote g c = λ is. absurd (false≢true is)
 
 pub returns-in-Err-clause-goes : goal.returns-in-Err-clause-goes
 returns-in-Err-clause-goes g c = λ going. rw going refl
@@ -32,7 +30,7 @@ pub returns-in-Ok-end-clause-spare : goal.returns-in-Ok-end-clause-spare
 returns-in-Ok-end-clause-spare g c = c.take-taken.ensures.cleared ∙ ap (λ (full : Buffer). empty_buffer full.limit) c.in-Ok.ensures.answer.0
 
 pub returns-in-Ok-end-clause-none : goal.returns-in-Ok-end-clause-none
-returns-in-Ok-end-clause-none g c = λ is. absurd (not_taken (sym is))
+returns-in-Ok-end-clause-none g c = λ is. absurd (false≢true (sym is))
 
 pub returns-in-Ok-end-clause-some : goal.returns-in-Ok-end-clause-some
 returns-in-Ok-end-clause-some g c = λ is. c.in-Ok.ensures.answer.1
@@ -65,7 +63,7 @@ pub returns-in-Err-end-clause-spare : goal.returns-in-Err-end-clause-spare
 returns-in-Err-end-clause-spare g c = c.take-taken.ensures.cleared ∙ ap (λ (full : Buffer). empty_buffer full.limit) c.in-Ok.ensures.answer.0
 
 pub returns-in-Err-end-clause-none : goal.returns-in-Err-end-clause-none
-returns-in-Err-end-clause-none g c = λ is. absurd (not_taken (sym is))
+returns-in-Err-end-clause-none g c = λ is. absurd (false≢true (sym is))
 
 pub returns-in-Err-end-clause-some : goal.returns-in-Err-end-clause-some
 returns-in-Err-end-clause-some g c = λ is. c.in-Ok.ensures.answer.1

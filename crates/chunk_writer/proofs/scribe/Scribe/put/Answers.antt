@@ -1,6 +1,7 @@
 use Rattle.std.proofs.Common.{ℕ, List, ◌∷◌, [], sym, subst, ◌∙◌}
+use Rattle.std.proofs.lemmas.Result.{IfOk-weaker, on_ok_weaker}
 use Rattle.chunk_build.specs.Chunker.{AreFramed}
-use Rattle.chunk_writer.proofs.Taking.{stopped_on, going_on, ok_so}
+use Rattle.chunk_writer.proofs.Taking.{stopped_on}
 use Rattle.chunk_writer.proofs.Writing.{going_apart}
 use Rattle.chunk_writer.proofs.scribe.Scribe.put.Goals as goal
 
@@ -12,10 +13,10 @@ pub returns-clause-stands : goal.returns-clause-stands
 returns-clause-stands g c = c.put_framed.ensures.grows c.args.r.now (subst (λ (l : List ℕ). AreFramed l c.args.r.now) (sym c.as_slice.ensures) c.in-Ok.ensures)
 
 pub returns-clause-entry : goal.returns-clause-entry
-returns-clause-entry g c = ok_so _ _ c.put_framed.result (λ entry gives. gives c.args.r.now (subst (λ (l : List ℕ). AreFramed l c.args.r.now) (sym c.as_slice.ensures) c.in-Ok.ensures)) c.put_framed.ensures.entry
+returns-clause-entry g c = IfOk-weaker c.put_framed.result _ _ (λ entry gives. gives c.args.r.now (subst (λ (l : List ℕ). AreFramed l c.args.r.now) (sym c.as_slice.ensures) c.in-Ok.ensures)) c.put_framed.ensures.entry
 
 pub returns-clause-goes_on : goal.returns-clause-goes_on
-returns-clause-goes_on g c = going_on _ _ c.put_framed.result (sym c.phase.ensures ∙ c.in-Going.is) c.put_framed.ensures.goes_on
+returns-clause-goes_on g c = on_ok_weaker c.put_framed.result (λ after. (sym c.phase.ensures ∙ c.in-Going.is, after)) c.put_framed.ensures.goes_on
 
 pub returns-clause-kept : goal.returns-clause-kept
 returns-clause-kept g c = λ stop stopped. absurd (going_apart c.args.self.now.plan.phase stop stopped (sym c.phase.ensures ∙ c.in-Going.is))

@@ -1,6 +1,7 @@
 use Rattle.std.proofs.Common.{[], length, Some, refl, sym, ap, ◌∙◌, append-nil, arith}
+use Rattle.std.proofs.lemmas.Result.{on_ok_weaker}
 use Rattle.chunk_writer.proofs.Writing.{going_apart}
-use Rattle.chunk_writer.proofs.Taking.{front_so, stopped_on, going_on}
+use Rattle.chunk_writer.proofs.Taking.{front_so, stopped_on}
 use Rattle.chunk_writer.proofs.scribe.Scribe.take.Goals as goal
 
 pub returns-in-Going-clause-grows : goal.returns-in-Going-clause-grows
@@ -66,7 +67,7 @@ pub put_all-end-requires-clause-none : goal.put_all-end-requires-clause-none
 put_all-end-requires-clause-none g c = c.new-entries.ensures.items
 
 pub returns-in-Going-clause-goes_on : goal.returns-in-Going-clause-goes_on
-returns-in-Going-clause-goes_on g c = rw c.taken.ensures.end (going_on _ _ c.put_all-end.result (sym c.phase.ensures ∙ c.in-Going.is) c.put_all-end.ensures.goes_on)
+returns-in-Going-clause-goes_on g c = rw c.taken.ensures.end (on_ok_weaker c.put_all-end.result (λ after. (sym c.phase.ensures ∙ c.in-Going.is, after)) c.put_all-end.ensures.goes_on)
 
 pub returns-in-Stopped-clause-counted : goal.returns-in-Stopped-clause-counted
 returns-in-Stopped-clause-counted g c =

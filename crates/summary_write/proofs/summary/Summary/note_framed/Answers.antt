@@ -1,13 +1,14 @@
 -- A framed record is noted by what its bytes say.
 use Rattle.std.proofs.Common.{refl, sym, ◌∙◌}
+use Rattle.std.proofs.lemmas.Result.{on_ok_weaker}
 use Rattle.summary_write.specs.Fields.{tally_of}
-use Rattle.summary_write.proofs.Tallying.{on_ok_so, stands_by}
+use Rattle.summary_write.proofs.Tallying.{stands_by}
 use Rattle.summary_write.proofs.Framed.{schema_noted, channel_noted}
 use Rattle.summary_write.proofs.summary.Summary.note_framed.Goals as goal
 
 pub returns-in-Some-clause-ok : goal.returns-in-Some-clause-ok
 returns-in-Some-clause-ok c =
-    on_ok_so _ _ c.note_message.result
+    on_ok_weaker c.note_message.result
     (λ noted r is n stands. stands_by c.args.self.now c.args.self.now c.note_message.new.self n r refl (noted r (sym (c.mark_of_bytes.ensures.mark r is) ∙ c.in-Some.is)) stands) c.note_message.ensures.ok
 
 pub returns-in-Ok-clause-ok : goal.returns-in-Ok-clause-ok
