@@ -10,7 +10,6 @@ use Rattle.mcap_model.specs.Tops.{Top}
 use Rattle.mcap_model.proofs.Places.{at_kept, at_last, at_more, pairs_more}
 use Rattle.mcap_model.proofs.Lists.{at_either}
 use Rattle.record_core.specs.declared.answers.DeclareRefused.{DeclareRefused}
-use Rattle.feed_lane.specs.declared.report.DeclaredAt.{DeclaredAt}
 use Rattle.feed_lane.specs.declared.report.Refused.{Refused}
 use Rattle.feed_lane.specs.declared.report.Cause.{Cause}
 use Rattle.feed_lane.specs.Pass.{FullAt, Reason, PassState}

@@ -1,11 +1,11 @@
 -- What is recorded is printed.
-use Rattle.std.proofs.Common.{◌≡◌, ◌⊎◌, ℕ, ◌+◌, ◌-◌, ◌^◌, ◌<◌, ◌≤◌, Bool, true, false, if◌then◌else◌, List, [], ◌∷◌, filter, Option, Some, None, refl, sym, ap, subst, inl, inr, ◌∙◌, arith}
+use Rattle.std.proofs.Common.{◌≡◌, ℕ, ◌+◌, Bool, true, false, if◌then◌else◌, List, [], ◌∷◌, filter, Option, Some, refl, sym, ap, subst, inl, inr, ◌∙◌, arith}
 use Rattle.std.specs.List.{AllZip}
 use Rattle.rec_data.specs.declared.owned.Rec.{Rec}
-use Rattle.mcap_io.specs.Outside.{Rose, added, Names, SourceState, WorldState, Told, Opening}
+use Rattle.mcap_io.specs.Outside.{Rose, added, SourceState, WorldState, Told, Opening}
 use Rattle.mcap_model.specs.declared.ends.End.TheVariants as ends
 use Rattle.mcap_model.specs.Tops.{Top}
-use Rattle.mcap_model.specs.Kept.{Halts, reading_limits, at_end}
+use Rattle.mcap_model.specs.Kept.{at_end}
 use Rattle.mcap_model.specs.Scan.{Seen, Scan, Replay}
 use Rattle.time_player.specs.Text.{cat_text}
 use Rattle.mcap_model.specs.History.{is_message}
@@ -17,13 +17,13 @@ use Rattle.recorder.specs.Laws.{AreReadable, ReadsAs}
 use Rattle.recorder.proofs.ReadBack.{recordings_are_read_back}
 use Rattle.file_commands.specs.declared.cat.Reading.{Reading}
 use Rattle.file_commands.specs.declared.cat.Reading.TheVariants as readings
-use Rattle.command_base.specs.Ran.{Scene, counts_in, AnyRose, CountsKept, world_faults}
-use Rattle.mcap_app.specs.Record.{Reported, EndsWith, Records}
+use Rattle.command_base.specs.Ran.{Scene, counts_in, AnyRose, world_faults}
+use Rattle.mcap_app.specs.Record.{EndsWith}
 use Rattle.mcap_scan.specs.declared.answers.ScanRefused.TheVariants as refusals
 use Rattle.command_base.specs.OneFile.{was_read}
 use Rattle.command_base.specs.Printing.{TellsAll}
 use Rattle.file_commands.specs.Cat.{ComesTo, IsReading, IsPrinted, ending_of}
-use Rattle.mcap_app.specs.Laws.{everything, PrintsHistory, RecordingsArePrinted}
+use Rattle.mcap_app.specs.Laws.{everything, RecordingsArePrinted}
 
 -- ---- the recording
 

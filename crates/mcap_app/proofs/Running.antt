@@ -1,11 +1,9 @@
 -- What the words of a command make of its run.
-use Rattle.std.proofs.Common.{◌≡◌, ◌⊎◌, ℕ, ◌≤◌, Bool, true, false, List, length, Option, Some, None, refl, sym, ap, subst, inl, inr, ◌∙◌, arith, unwrap_or}
-use Rattle.mcap_model.specs.declared.options.FileOptions.{FileOptions}
+use Rattle.std.proofs.Common.{◌≡◌, ℕ, ◌≤◌, Bool, true, false, List, Option, Some, None, sym, subst, ◌∙◌, arith, unwrap_or}
 use Rattle.mcap_app.specs.declared.command.Command.{Command}
 use Rattle.mcap_app.specs.declared.command.Command.TheVariants as commands
 use Rattle.mcap_app.specs.Commands.{GivesNumber, SizesChunks, Derives}
 use Rattle.recorder.specs.declared.report.Report.{Report}
-use Rattle.recorder.specs.declared.options.RecordOptions.{RecordOptions}
 use Rattle.command_base.specs.Ran.{Scene}
 use Rattle.mcap_app.proofs.Answered.{not_two as record_not_two}
 use Rattle.file_commands.proofs.Tellings.{not_two as info_not_two}

@@ -1,16 +1,15 @@
 -- When a valid file is fully indexed.
-use Rattle.std.proofs.Common.{◌≡◌, ◌⊎◌, ℕ, zero, suc, ◌+◌, ◌-◌, ◌<◌, ◌≤◌, Bool, true, false, List, [], ◌∷◌, ◌++◌, length, take, drop, None, refl, sym, ap, subst, inl, inr, ◌∙◌, arith}
+use Rattle.std.proofs.Common.{◌≡◌, ℕ, zero, suc, ◌+◌, ◌-◌, ◌<◌, ◌≤◌, Bool, true, false, List, [], ◌∷◌, ◌++◌, length, take, drop, None, refl, sym, ap, subst, inl, inr, ◌∙◌, arith}
 use Rattle.std.specs.Prelude.{◌↔◌, ◌≢◌, IsTrue, take_while}
 use Rattle.std.proofs.Math.Bool.{cond}
 use Rattle.std.proofs.lemmas.Bool.{both_ways, cases_lt, eqb-true}
-use Rattle.std.proofs.lemmas.List.{length-append, length-drop}
 use Rattle.std.proofs.lemmas.List.Sums.{take_while-cons}
 use Rattle.mcap_model.specs.Places.{At, Has, Each}
-use Rattle.mcap_model.specs.Tops.{Top, inner_tops, records_in, chunk_records}
+use Rattle.mcap_model.specs.Tops.{Top, inner_tops, records_in}
 use Rattle.mcap_model.specs.Fields.{MessageFields, IsMessage, ChunkFields, IsChunk, IsMessageIndex, ChunkIndexFields, IsChunkIndex}
 use Rattle.mcap_model.specs.Rules.{V6}
-use Rattle.mcap_model.specs.Whole.{offset_of, offset_among, is_index, indexes_behind, IsEntryOf, IsFollowed, IsIndexOf, IsNamed, NamesIndexes, InSummary, V12}
-use Rattle.mcap_model.specs.Valid.{Valid, IsPlain, HasIndex, FullyIndexed}
+use Rattle.mcap_model.specs.Whole.{offset_of, offset_among, is_index, indexes_behind, IsFollowed, IsIndexOf, IsNamed, NamesIndexes, InSummary, V12}
+use Rattle.mcap_model.specs.Valid.{Valid, HasIndex, FullyIndexed}
 use Rattle.mcap_model.proofs.Front.{IsTail, tail_not}
 use Rattle.mcap_model.proofs.Lists.{at_either, each_cons, each_joined}
 use Rattle.mcap_model.proofs.Places.{at_none, at_within, at_one, at_kept}

@@ -2,7 +2,7 @@
 use Rattle.std.specs.Prelude.{◌≡◌, ◌⊎◌, ℕ, ◌+◌, ◌-◌, ◌≤◌, List, [], ◌∷◌, ◌++◌, length, take, drop, true, false, Option, Some, None, Result, Ok, Err, Vec, vec_len}
 use Rattle.mcap_io.specs.Stores.{StoreState}
 use Rattle.mcap_wire.specs.declared.faults.Cut.{Cut}
-use Rattle.mcap_wire.specs.Layout.{le, magic, content_limit}
+use Rattle.mcap_wire.specs.Layout.{le, content_limit}
 use Rattle.mcap_wire.specs.Reading.{IsCut}
 use Rattle.rec_data.specs.declared.footer.Footer.{Footer}
 use Rattle.mcap_model.specs.Places.{Each}

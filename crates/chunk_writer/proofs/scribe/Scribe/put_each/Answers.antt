@@ -1,5 +1,5 @@
 -- A buffer was put, whole or up to the record that was refused.
-use Rattle.std.proofs.Common.{ℕ, length, refl, ap, sym, subst, arith}
+use Rattle.std.proofs.Common.{ℕ, refl, subst, arith}
 use Rattle.record_cache.proofs.Walking.{next_there}
 use Rattle.chunk_writer.specs.Stops.{StopCause}
 use Rattle.chunk_writer.specs.Scribes.{seen_before}

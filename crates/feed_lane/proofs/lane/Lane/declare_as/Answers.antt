@@ -1,13 +1,12 @@
-use Rattle.std.proofs.Common.{◌≡◌, ◌+◌, ◌∷◌, ◌++◌, [], ℕ, List, refl, sym, ap, subst, ◌∙◌, Ok, Err}
+use Rattle.std.proofs.Common.{◌≡◌, ◌+◌, ◌∷◌, ◌++◌, [], ℕ, List, sym, ap, subst, ◌∙◌, Ok, Err}
 use Rattle.mcap_model.proofs.Places.{at_within}
 use Rattle.feed_lane.specs.declared.report.DeclaredAt.{DeclaredAt}
 use Rattle.feed_lane.specs.declared.report.Cause.{Cause}
-use Rattle.feed_lane.specs.declared.report.Cause.TheVariants as causes
 use Rattle.feed_lane.specs.Lanes.{messages, IsTried}
 use Rattle.feed_lane.specs.Steps.{lists_of, HasId, ListsStand, IsRefusal, declare_cause}
 use Rattle.feed_lane.proofs.Growing.{may_declare}
 use Rattle.feed_lane.proofs.Declaring.{IsNew, declared_stands, new_has_id}
-use Rattle.feed_lane.proofs.Calls.{some_id, unchanged, declare_refused, declare_tried, declared_limit}
+use Rattle.feed_lane.proofs.Calls.{some_id, declare_refused, declare_tried, declared_limit}
 use Rattle.feed_lane.proofs.lane.Lane.declare_as.Goals as goal
 
 pub returns-in-Ok-clause-found : goal.returns-in-Ok-clause-found
