@@ -1,7 +1,8 @@
 #!/usr/bin/env bash
 # Times `mcaprec record OUT FEED`, plain and in chunks, and `check` and `cat` of the result beside `cp FEED OUT` on feeds of
 # so many MiB (64), best of five each, in one run: messages of 1,000 and of 64 bytes of data, on one channel and on forty.
-# The kind `chunks` is a plain feed recorded in chunks, `again` is the file of that recorded once more, from its chunks.
+# The kind `chunks` is a plain feed recorded in chunks; of the file that this writes, `again` is its messages recorded in
+# chunks, and `flat` the same recorded plain.
 # MCAPREC names another program to time in place of the launcher.
 set -e
 export LC_ALL=C
@@ -102,6 +103,7 @@ for size in 1000 64; do
         row chunks "$all" "$program" record "$out" "$feed"
         "$program" record "$chunked" "$feed" >/dev/null
         row again "$all" "$program" record "$out" "$chunked"
+        row flat "$all" "$program" record --plain "$out" "$chunked"
         if [ "$channels" -eq 1 ]; then
             row check "ok indexed messages=$count .*" "$program" check "$chunked"
             sink=/dev/null
