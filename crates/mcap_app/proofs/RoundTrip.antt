@@ -1,6 +1,8 @@
 -- What is recorded is printed.
 use Rattle.std.proofs.Common.{◌≡◌, ℕ, ◌+◌, Bool, true, false, if◌then◌else◌, List, [], ◌∷◌, filter, Option, Some, refl, sym, ap, subst, inl, inr, ◌∙◌, arith}
+use Rattle.std.specs.Prelude.{IsUtf8}
 use Rattle.std.specs.List.{AllZip}
+use Rattle.std.proofs.lemmas.Option.{same_Some}
 use Rattle.rec_data.specs.declared.owned.Rec.{Rec}
 use Rattle.mcap_io.specs.Outside.{Rose, added, SourceState, WorldState, Told, Opening}
 use Rattle.mcap_model.specs.declared.ends.End.TheVariants as ends
@@ -18,7 +20,8 @@ use Rattle.recorder.proofs.ReadBack.{recordings_are_read_back}
 use Rattle.file_commands.specs.declared.cat.Reading.{Reading}
 use Rattle.file_commands.specs.declared.cat.Reading.TheVariants as readings
 use Rattle.command_base.specs.Ran.{Scene, counts_in, AnyRose, world_faults}
-use Rattle.mcap_app.specs.Record.{EndsWith}
+use Rattle.recorder.specs.declared.options.RecordOptions.{RecordOptions}
+use Rattle.mcap_app.specs.Record.{AreAllowed, EndsWith, Records}
 use Rattle.mcap_scan.specs.declared.answers.ScanRefused.TheVariants as refusals
 use Rattle.command_base.specs.OneFile.{was_read}
 use Rattle.command_base.specs.Printing.{TellsAll}
@@ -28,11 +31,11 @@ use Rattle.mcap_app.specs.Laws.{everything, RecordingsArePrinted}
 -- ---- the recording
 
 -- with the status 0 no count rose
-pub calm : (old new : Scene) (report : Option Report) → EndsWith (counts_in old) (counts_in new) report 0 → AnyRose (counts_in old) (counts_in new) → ⊥
+calm : (old new : Scene) (report : Option Report) → EndsWith (counts_in old) (counts_in new) report 0 → AnyRose (counts_in old) (counts_in new) → ⊥
 calm old new report came risen = elim (came.rose risen) [ inl three ↦ omega (arith, three) | inr five ↦ omega (arith, five) ]
 
 -- a keeping went well where the world's count stood still
-pub kept_well : (before now : ℕ) (source live : Bool) → now ≡ added before ((if source then 0 else 1) + (if live then 0 else 1)) → (Rose before now → ⊥) → live ≡ true
+kept_well : (before now : ℕ) (source live : Bool) → now ≡ added before ((if source then 0 else 1) + (if live then 0 else 1)) → (Rose before now → ⊥) → live ≡ true
 kept_well before now source true is quiet = refl
 kept_well before now true false is quiet = absurd (quiet (omega (arith, is)))
 kept_well before now false false is quiet = absurd (quiet (omega (arith, is)))
@@ -69,19 +72,36 @@ read_of name file world told (entry ∷ more) reading text here there (inr (keep
     let now : SourceState = record { left = keeping.left; faults = keeping.faults } in
     (under.source, now, (under.tells told here).0 ∙ there, subst (λ (x : Reading). ComesTo everything under.source now x) lines under.comes)
 
-pub recordings_are_printed : RecordingsArePrinted
-recordings_are_printed options out feed old new later last r answer told allowed text it here same cats quiet =
+-- what a recording with the status 0 left in a world that tells: it is closed, and the file of its history stands under the
+-- output's name and is read back
+pub closed_left : (options : RecordOptions) (out feed : List ℕ) (old new : Scene) (r : Report) (told : Told) → AreAllowed options → IsUtf8 options.file.profile
+    → (it : Records options out feed old new (Some r) 0) → (here : old.world.told ≡ Some told)
+    → (r.writer.end ≡ ends.Closed) × AreReadable options.file
+    × ((it.ran.leaves told here).0.names out ≡ Some (file_of options.file [] (it.reported r refl).recorded.history))
+    × ReadsAs (file_of options.file [] (it.reported r refl).recorded.history) (it.reported r refl).recorded.history
+closed_left options out feed old new r told allowed text it here =
     let is = it.reported r refl in
     let all = it.whole refl in
-    let closed : r.writer.end ≡ ends.Closed = subst (λ (x : Report). x.writer.end ≡ ends.Closed) (same_report all.0 r (sym all.1)) all.2.closed in
+    let closed : r.writer.end ≡ ends.Closed = subst (λ (x : Report). x.writer.end ≡ ends.Closed) (same_Some all.0 r (sym all.1)) all.2.closed in
     let risen = calm old new (Some r) it.ended in
     let counts = it.ran.counts.world ∙ ap (λ (es : List Opening). added old.world.faults (world_faults es)) is.kept_are in
     let well : is.live_kept ≡ true = kept_well old.world.faults new.world.faults is.source_kept is.live_kept (omega (arith, counts)) (λ rose. risen (inl rose)) in
     let left = it.ran.leaves told here in
+    let readable : AreReadable options.file = record { profile = text; short = omega (arith, allowed.short); size = allowed.size } in (
+      closed,
+      readable,
+      (is.file told left.0 here left.1).whole closed well,
+      (recordings_are_read_back options is.given is.back r readable is.recorded closed).0,
+    )
+
+pub recordings_are_printed : RecordingsArePrinted
+recordings_are_printed options out feed old new later last r answer told allowed text it here same cats quiet =
+    let is = it.reported r refl in
+    let left = it.ran.leaves told here in
+    let stands = closed_left options out feed old new r told allowed text it here in
     let file = file_of options.file [] is.recorded.history in
-    let held : left.0.names out ≡ Some file = (is.file told left.0 here left.1).whole closed well in
-    let readable : AreReadable options.file = record { profile = text; short = omega (arith, allowed.short); size = allowed.size } in
-    let reads : ReadsAs file is.recorded.history = (recordings_are_read_back options is.given is.back r readable is.recorded closed).0 in
+    let held : left.0.names out ≡ Some file = stands.2 in
+    let reads : ReadsAs file is.recorded.history = stands.3 in
     let tells : later.world.told ≡ Some left.0 = ap (λ (w : WorldState). w.told) same ∙ left.1 in
     elim (cats.decided left.0 file reads.tops (at_end reads.end) tells held reads.halts quiet) [
       | inr five ↦ inr five
@@ -103,6 +123,3 @@ recordings_are_printed options out feed old new later last r answer told allowed
             },
           )
     ]
-  where
-    same_report : (a b : Report) → Some a ≡ Some b → a ≡ b
-    same_report a b e = cc

@@ -1,5 +1,6 @@
 -- What the words of a command make of its run.
 use Rattle.std.proofs.Common.{◌≡◌, ℕ, ◌≤◌, Bool, true, false, List, Option, Some, None, sym, subst, ◌∙◌, arith, unwrap_or}
+use Rattle.std.proofs.lemmas.Option.{same_Some}
 use Rattle.mcap_app.specs.declared.command.Command.{Command}
 use Rattle.mcap_app.specs.declared.command.Command.TheVariants as commands
 use Rattle.mcap_app.specs.Commands.{GivesNumber, SizesChunks, Derives}
@@ -35,11 +36,8 @@ chunk_in_range true values None chunk sizes gives n is = absurd (apart (sym is �
 chunk_in_range true values (Some size) chunk sizes gives n is = absurd sizes
 chunk_in_range false values size chunk sizes gives n is =
     let usual = in_range 1 67108864 786432 values size gives (omega arith) (omega arith) in
-    let same : unwrap_or size 786432 ≡ n = one (sym sizes ∙ is) in
+    let same : unwrap_or size 786432 ≡ n = same_Some (unwrap_or size 786432) n (sym sizes ∙ is) in
     (subst (λ (k : ℕ). 1 ≤ k) same usual.0, subst (λ (k : ℕ). k ≤ 67108864) same usual.1)
-  where
-    one : {a b : ℕ} → Some a ≡ Some b → a ≡ b
-    one e = cc
 
 -- words give numbers in their ranges
 pub allowed : (words : List (List ℕ)) (command : Command) → Derives words command → IsAllowed command

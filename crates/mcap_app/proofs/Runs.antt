@@ -2,6 +2,7 @@
 use Rattle.std.proofs.Common.{◌≡◌, ℕ, ◌^◌, ◌<◌, Bool, List, [], ◌∷◌, ◌++◌, append_assoc, Option, Some, None, Result, Err, refl, sym, ap, subst, inl, inr, ◌∙◌, arith}
 use Rattle.std.specs.Prelude.{true, false}
 use Rattle.std.specs.Option.{option_map}
+use Rattle.std.proofs.lemmas.Option.{same_Some}
 use Rattle.std.proofs.lemmas.List.{append-nil}
 use Rattle.mcap_io.specs.Outside.{RisesOnce, HasCause, Opens, OpenCause, CountsStand, added, Opening, Keeping, Told, opened, with_opening, went_well, SourceState, LiveState, WorldState, TellsName, TellsNothingYet, KeepsSource, KeepsLive, KeepsName, Notes}
 use Rattle.mcap_io.specs.declared.outside.Failed.{Failed}
@@ -22,9 +23,6 @@ use Rattle.mcap_app.proofs.Held.{Holds, holds, placed_holds, placed_nothing}
 
 none_some : (r : Report) → None ≡ Some r → ⊥
 none_some r e = cc
-
-same_report : (a b : Report) → Some a ≡ Some b → a ≡ b
-same_report a b e = cc
 
 abbrev pub unmade : Bool → Bool → Outcome
 unmade feed_failed out_failed = record { report = None; feed_failed = feed_failed; out_failed = out_failed }
@@ -336,4 +334,4 @@ module _ (options : RecordOptions) (out feed : List ℕ) (w0 w1 w2 w3 w4 : World
   pub both : (report : Option Report) → (report ≡ None → (source_now ≡ source) × (live_now ≡ live)) → ((r : Report) → report ≡ Some r → Recorded options (sides source live) (sides source_now live_now) r) → NamesRecorded options out feed w0 w4 (both_outcome report)
   both None same made = let s = same refl in both_recorded None (λ r here. absurd (none_some r here)) (λ none. both_unreported s.0 s.1)
   both (Some r) same made =
-      both_recorded (Some r) (λ s here. subst (λ (x : Report). Reported options out feed w0 w4 both_entries x) (same_report r s here) (both_reported r (made r refl))) (λ none. absurd (none_some r (sym none)))
+      both_recorded (Some r) (λ s here. subst (λ (x : Report). Reported options out feed w0 w4 both_entries x) (same_Some r s here) (both_reported r (made r refl))) (λ none. absurd (none_some r (sym none)))

@@ -1,8 +1,7 @@
 -- What is recorded keeps all rules.
-use Rattle.std.proofs.Common.{◌≡◌, ◌⊎◌, ℕ, ◌≤◌, true, List, [], ◌++◌, length, Option, Some, None, refl, sym, ap, subst, inl, inr, ◌∙◌, arith, length-append}
+use Rattle.std.proofs.Common.{◌≡◌, ◌⊎◌, ℕ, ◌≤◌, List, [], ◌++◌, length, Option, Some, None, refl, ap, subst, inl, inr, ◌∙◌, arith, length-append}
 use Rattle.mcap_wire.specs.Layout.{magic}
-use Rattle.mcap_io.specs.Outside.{added, WorldState, Opening}
-use Rattle.mcap_model.specs.declared.ends.End.TheVariants as ends
+use Rattle.mcap_io.specs.Outside.{WorldState}
 use Rattle.mcap_model.specs.declared.checked.Verdict.{Verdict}
 use Rattle.mcap_model.specs.declared.checked.Verdict.TheVariants as verdicts
 use Rattle.mcap_model.specs.declared.options.FileOptions.{FileOptions}
@@ -26,18 +25,15 @@ use Rattle.mcap_model.proofs.Halting.{readings_halt_once}
 use Rattle.mcap_model.proofs.Prefixes.{ends_there}
 use Rattle.mcap_model.proofs.Fronts.{fronts_keep_whole}
 use Rattle.mcap_model.proofs.Flaws.{flaws_exclude_validity}
-use Rattle.recorder.specs.declared.report.Report.{Report}
-use Rattle.recorder.specs.Laws.{AreReadable, ReadsAs, IsSound}
-use Rattle.recorder.proofs.ReadBack.{recordings_are_read_back}
+use Rattle.recorder.specs.Laws.{ReadsAs, IsSound}
 use Rattle.recorder.proofs.Validity.{recordings_are_valid}
 use Rattle.file_check.specs.declared.refusals.CheckRefused.TheVariants as refusals
 use Rattle.file_check.specs.Checking.{IsSo, HaltsBefore}
 use Rattle.file_commands.specs.declared.checking.Judgement.{Judgement}
 use Rattle.file_commands.specs.declared.checking.Judgement.TheVariants as judgements
-use Rattle.command_base.specs.Ran.{world_faults}
 use Rattle.file_commands.specs.Check.{verdict_status, Decides}
 use Rattle.mcap_app.specs.Laws.{IsSaid, RecordingsAreSound}
-use Rattle.mcap_app.proofs.RoundTrip.{calm, kept_well}
+use Rattle.mcap_app.proofs.RoundTrip.{closed_left}
 
 -- ---- no compression, and no limit
 
@@ -145,17 +141,12 @@ ends_well options file tops end (judgements.Refused refusals.Memory) answer exac
 pub recordings_are_sound : RecordingsAreSound
 recordings_are_sound options out feed old new later last r answer told allowed text it here same checks quiet =
     let is = it.reported r refl in
-    let all = it.whole refl in
-    let closed : r.writer.end ≡ ends.Closed = subst (λ (x : Report). x.writer.end ≡ ends.Closed) (same_report all.0 r (sym all.1)) all.2.closed in
-    let risen = calm old new (Some r) it.ended in
-    let counts = it.ran.counts.world ∙ ap (λ (es : List Opening). added old.world.faults (world_faults es)) is.kept_are in
-    let well : is.live_kept ≡ true = kept_well old.world.faults new.world.faults is.source_kept is.live_kept (omega (arith, counts)) (λ rose. risen (inl rose)) in
     let left = it.ran.leaves told here in
+    let stands = closed_left options out feed old new r told allowed text it here in
     let file = file_of options.file [] is.recorded.history in
-    let held : left.0.names out ≡ Some file = (is.file told left.0 here left.1).whole closed well in
-    let readable : AreReadable options.file = record { profile = text; short = omega (arith, allowed.short); size = allowed.size } in
-    let reads : ReadsAs file is.recorded.history = (recordings_are_read_back options is.given is.back r readable is.recorded closed).0 in
-    let valid = recordings_are_valid options is.given is.back r readable is.recorded closed in
+    let held : left.0.names out ≡ Some file = stands.2 in
+    let reads : ReadsAs file is.recorded.history = stands.3 in
+    let valid = recordings_are_valid options is.given is.back r stands.1 is.recorded stands.0 in
     let exact : IsExact options.file file = record { sound = valid.1; plain = unindexed options.file is.recorded.history valid.0 } in
     let tells : later.world.told ≡ Some left.0 = ap (λ (w : WorldState). w.told) same ∙ left.1 in
     let decided = checks.decided left.0 file tells held quiet in
@@ -166,6 +157,3 @@ recordings_are_sound options out feed old new later last r answer told allowed t
           let so : IsSo file given.0 = (subst (λ (j : Judgement). Decides file j answer) given.1 decided).0 in
           inl (zero_is, record { verdict = given.0; said = said_of options.file file given.0 exact so; line = given.3 })
     ]
-  where
-    same_report : (a b : Report) → Some a ≡ Some b → a ≡ b
-    same_report a b e = cc
