@@ -77,15 +77,18 @@ pub zero_refused : (bytes : List ℕ) (at offset : ℕ) (tops : List Top) → Cu
 zero_refused bytes at offset tops fails short there =
     zero_fails tops (drop at bytes) offset short there (omega (arith, length-drop at bytes, fails.0)) (opcode_there bytes at ∙ fails.1)
 
-pub long_refused : (bytes : List ℕ) (at len offset : ℕ) (tops : List Top) → CutFails bytes at (cut_faults.TooLong len) → offset ≡ offset_behind tops → IsRefused (file_of tops (drop at bytes)) (refusals.Limit offset)
-long_refused bytes at len offset tops fails there =
+pub long_refused : (bytes : List ℕ) (at len offset : ℕ) (tops : List Top) → CutFails bytes at (cut_faults.TooLong len) → AreShort tops → offset ≡ offset_behind tops → IsRefused (file_of tops (drop at bytes)) (refusals.Limit offset)
+long_refused bytes at len offset tops fails short there =
     let rest = drop at bytes in
     let head : 9 ≤ length rest = omega (arith, length-drop at bytes, fails.0.0) in
     record {
       tops = tops;
       rest = rest ++ magic;
       stand = record { split = refl };
+      short = short;
       there = there;
+      inside = omega (arith, size_of tops rest, there, head);
+      valid = λ none. fails.0.1 (sym (opcode_there bytes at) ∙ (sym (front_opcode rest head) ∙ none));
       past = omega (arith, front_length rest head, declared_there bytes at, fails.1, fails.2);
     }
 

@@ -17,3 +17,4 @@ pub mod Summing
 pub mod Repeated
 pub mod FullyIndexing
 pub mod Verdicts
+pub mod RealLimits

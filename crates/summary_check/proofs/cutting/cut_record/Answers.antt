@@ -10,4 +10,4 @@ pub returns-in-Err-ZeroOp : goal.returns-in-Err-ZeroOp
 returns-in-Err-ZeroOp c = λ tops short there. zero_refused c.args.bytes.now c.args.at (c.args.start + c.args.at) tops (subst (CutFails c.args.bytes.now c.args.at) c.in-Err-ZeroOp.field-0-is c.in-Err-ZeroOp.ensures) short there
 
 pub returns-in-Err-TooLong : goal.returns-in-Err-TooLong
-returns-in-Err-TooLong c = λ tops short there. long_refused c.args.bytes.now c.args.at c.in-Err-TooLong.field-0-0 (c.args.start + c.args.at) tops (subst (CutFails c.args.bytes.now c.args.at) c.in-Err-TooLong.field-0-is c.in-Err-TooLong.ensures) there
+returns-in-Err-TooLong c = λ tops short there. long_refused c.args.bytes.now c.args.at c.in-Err-TooLong.field-0-0 (c.args.start + c.args.at) tops (subst (CutFails c.args.bytes.now c.args.at) c.in-Err-TooLong.field-0-is c.in-Err-TooLong.ensures) short there
