@@ -269,6 +269,15 @@ module _ (kind : ObjectKind) (file : List ℕ) (old new : Scene) (entries : List
       let well : broke ≡ false = false_from_ne_true broke (λ is. both_ways faults.printing all.3 (parts.shows.printing_told (inl is))) in
       (unblamed all.2, (all.0, all.1, all_taken old.out new.out ending broke all.0 parts.prints all.1 well))
 
+  -- of a file that was read, where nothing failed, there is nothing to say
+  read : (text : List ℕ) → ending ≡ was_read text → (AnyRose (counts_in old) (counts_in new) → ⊥) → answer ≡ 0
+  read text is quiet =
+      let none : one_troubles file ending faults.file faults.printing ≡ [] =
+      ap (λ (e : Ending). one_troubles file e faults.file faults.printing) is
+      ∙ ap (λ (b : Bool). one_troubles file (was_read text) b faults.printing) (file_calm quiet)
+      ∙ ap (λ (b : Bool). one_troubles file (was_read text) false b) (printing_calm quiet) in
+      sym parts.told.status_is ∙ ap status_of (parts.told.calm none)
+
   blames : Blames (files_of kind file) old.world new.world entries (named_when faults.file file ++ [])
   blames = record {
     exact = λ on.
@@ -314,6 +323,7 @@ module _ (kind : ObjectKind) (file : List ℕ) (old new : Scene) (entries : List
     rose = rose;
     three = three;
     calm = calm;
+    read = read;
     whole = whole;
   }
 

@@ -193,6 +193,8 @@ troubles_of found names printing = found.halts ++ (map fault names ++ (found.lim
 pub record Complains (due : List Trouble) (before now : SinkState) (status : ℕ) : Type 0 where
   pub troubles : List Trouble
   pub are : (troubles ≡ due) ⊎ (troubles ≡ no_memory ∷ [])
+  -- nothing lacks for saying nothing
+  pub calm : due ≡ [] → troubles ≡ []
   pub status_is : status_of troubles ≡ status
   pub text : Takes before now (said troubles)
 

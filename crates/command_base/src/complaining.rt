@@ -1,5 +1,5 @@
 //! Telling standard error of the troubles of a command, and the status that they give.
-ghost use Rattle.std.specs.Prelude.{◌≡◌, ◌++◌, [], ◌∷◌, List, map, IfOk, OnOk};
+ghost use Rattle.std.specs.Prelude.{◌≡◌, ◌++◌, [], ◌∷◌, List, map, true, IfOk, OnOk, OnErr};
 ghost use Rattle.command_base.specs.Texts.{Trouble, trouble_of, complained, bad_words, no_memory, said};
 ghost use Rattle.command_base.specs.Printing.{Takes};
 ghost use Rattle.command_base.specs.Ran.{when, Complains};
@@ -15,7 +15,8 @@ pub fn push_when<'a>(
     due: bool,
     complaint: Complaint<'a>,
 ) -> Result<(), Memory>
-    ensures { OnOk result (map trouble_of all.new.items ≡ map trouble_of all.old.items ++ when due (trouble_of complaint.entry)) }
+    ensures added { OnOk result (map trouble_of all.new.items ≡ map trouble_of all.old.items ++ when due (trouble_of complaint.entry)) }
+    ensures due { OnErr result (due ≡ true) }
 {
     if due {
         match all.push(complaint) {
@@ -31,7 +32,8 @@ pub fn push_some<'a>(
     all: &mut Vec<Complaint<'a>>,
     complaint: Option<Complaint<'a>>,
 ) -> Result<(), Memory>
-    ensures { OnOk result (map trouble_of all.new.items ≡ map trouble_of all.old.items ++ complained complaint.entry) }
+    ensures added { OnOk result (map trouble_of all.new.items ≡ map trouble_of all.old.items ++ complained complaint.entry) }
+    ensures due { OnErr result (complained complaint.entry ≡ [] → ⊥) }
 {
     match complaint {
         Some(complaint) => return push_when(all, true, complaint),
@@ -54,7 +56,7 @@ fn tell<E: Sink>(err: &mut E, text: &[u8])
 
 // Tells standard error that memory lacked, and answers the status.
 fn lack_memory<E: Sink>(err: &mut E) -> u8
-    ensures { (due : List Trouble) → Complains due (E.state err.old) (E.state err.new) result }
+    ensures { (due : List Trouble) → (due ≡ [] → ⊥) → Complains due (E.state err.old) (E.state err.new) result }
 {
     tell(err, NO_MEMORY.as_bytes());
     5
@@ -64,6 +66,9 @@ fn lack_memory<E: Sink>(err: &mut E) -> u8
 fn complain<E: Sink>(alloc: Global, err: &mut E, complaints: &[Complaint<'_>]) -> u8
     ensures { Complains (map trouble_of complaints.now) (E.state err.old) (E.state err.new) result }
 {
+    if complaints.is_empty() {
+        return 0;
+    }
     match say(alloc, complaints) {
         Ok(text) => {
             tell(err, &text);
@@ -80,7 +85,7 @@ pub fn complain_of<E: Sink>(
     err: &mut E,
     made: Result<Vec<Complaint<'_>>, Memory>,
 ) -> u8
-    ensures { (due : List Trouble) → IfOk made.entry (λ all. map trouble_of all.items ≡ due) → Complains due (E.state err.old) (E.state err.new) result }
+    ensures { (due : List Trouble) → IfOk made.entry (λ all. map trouble_of all.items ≡ due) → OnErr made.entry (due ≡ [] → ⊥) → Complains due (E.state err.old) (E.state err.new) result }
 {
     match made {
         Ok(complaints) => return complain(alloc, err, &complaints),

@@ -1,5 +1,5 @@
 //! What the commands share that read one file and print of it.
-ghost use Rattle.std.specs.Prelude.{◌≡◌, ◌++◌, [], map, IfOk};
+ghost use Rattle.std.specs.Prelude.{◌≡◌, ◌++◌, [], map, IfOk, OnErr};
 ghost use Rattle.command_base.specs.Texts.{trouble_of, complained};
 ghost use Rattle.command_base.specs.Ran.{named_when, troubles_of, Complains};
 ghost use Rattle.command_base.specs.OneFile.{Ending, troubles_in, is_lack, findings_of, ShowsFaults};
@@ -37,8 +37,10 @@ fn complaints_of<'a>(
     lacked: bool,
     faults: Faults,
 ) -> Result<Vec<Complaint<'a>>, Memory>
-    ensures { (ending : Ending) → complained halt.entry ≡ troubles_in ending → lacked ≡ is_lack ending
+    ensures are { (ending : Ending) → complained halt.entry ≡ troubles_in ending → lacked ≡ is_lack ending
         → IfOk result (λ all. map trouble_of all.items ≡ troubles_of (findings_of ending) (named_when faults.file file.now ++ []) faults.printing) }
+    ensures some { (ending : Ending) → complained halt.entry ≡ troubles_in ending → lacked ≡ is_lack ending
+        → OnErr result (troubles_of (findings_of ending) (named_when faults.file file.now ++ []) faults.printing ≡ [] → ⊥) }
 {
     let mut all = Vec::new(alloc);
     push_some(&mut all, halt)?;

@@ -1,19 +1,22 @@
 -- From the parts of a recording to what the program promises of it.
-use Rattle.std.proofs.Common.{◌≡◌, ◌⊎◌, ℕ, ◌^◌, ◌<◌, Bool, false, cond, List, [], ◌∷◌, ◌++◌, Option, Some, None, refl, sym, ap, subst, inl, inr, ◌∙◌, arith}
+use Rattle.std.proofs.Common.{◌≡◌, ◌⊎◌, ℕ, ◌^◌, ◌<◌, Bool, true, false, cond, map, List, [], ◌∷◌, ◌++◌, Option, Some, None, refl, sym, ap, subst, inl, inr, ◌∙◌, arith}
+use Rattle.std.proofs.lemmas.Bool.{false_from_ne_true}
 use Rattle.mcap_io.specs.Outside.{SinkState}
 use Rattle.recorder.specs.declared.report.Report.{Report}
 use Rattle.feed_lane.specs.declared.report.FeedReport.{FeedReport}
+use Rattle.feed_lane.specs.declared.report.FeedEnd.{FeedEnd}
+use Rattle.feed_lane.specs.declared.report.FeedEnd.TheVariants as feed_ends
 use Rattle.recorder.specs.declared.options.RecordOptions.{RecordOptions}
 use Rattle.recorder.specs.Recorded.{IsOnlyFeed}
 use Rattle.command_base.specs.declared.faults.Counts.{Counts}
 use Rattle.mcap_app.specs.declared.answering.Failures.{Failures}
 use Rattle.mcap_app.specs.declared.answering.Outcome.{Outcome}
 use Rattle.command_base.specs.Printing.{Tells, Takes}
-use Rattle.command_base.specs.Texts.{no_memory}
+use Rattle.command_base.specs.Texts.{Trouble, fault, output_fault, output_limit, no_memory, status_of}
 use Rattle.mcap_app.specs.ReportTexts.{file_line, printed, feed_lines}
 use Rattle.mcap_app.specs.Answer.{PartFailed, LacksMemory, FaultsShow, Answers}
-use Rattle.command_base.specs.Ran.{Scene, counts_in, AnyRose, IsCaused, Blames, named_when, troubles_of}
-use Rattle.mcap_app.specs.Record.{files_of, report_text, findings_of, names_of, end_status, LackIsTold, Causes, EndsWith, limit_passed, Records, NamesRecorded}
+use Rattle.command_base.specs.Ran.{Scene, counts_in, AnyRose, IsCaused, Blames, named_when, when, troubles_of}
+use Rattle.mcap_app.specs.Record.{files_of, report_text, end_troubles, first_end, findings_of, names_of, end_status, passes_limit, lacks_memory, LackIsTold, Causes, EndsWith, limit_passed, Records, NamesRecorded}
 use Rattle.mcap_app.proofs.Statuses.{any, first_number, number_of, five_or, some_failed, none_failed, five_where_lacked, two_is_none}
 use Rattle.command_base.proofs.Blamed.{each_two, some_two}
 use Rattle.mcap_app.proofs.Whole.{decided, whole}
@@ -78,6 +81,31 @@ blames options out feed old new outcome failed made shows = record {
 only_number : (report : Option Report) (r : Report) (f : FeedReport) → report ≡ Some r → IsOnlyFeed r f → number_of report ≡ end_status f.end
 only_number report r f here one = ap number_of here ∙ ap first_number one
 
+-- a feed's end of the status 0 is no trouble
+no_trouble : (feed : List ℕ) (e : FeedEnd) → end_status e ≡ 0 → end_troubles feed e ≡ []
+no_trouble feed feed_ends.Done is = refl
+no_trouble feed (feed_ends.Grammar n) is = absurd (omega (arith, is))
+no_trouble feed (feed_ends.Compressed n name) is = absurd (omega (arith, is))
+no_trouble feed (feed_ends.Limit n) is = absurd (omega (arith, is))
+no_trouble feed (feed_ends.Fault faults) is = refl
+no_trouble feed feed_ends.Memory is = refl
+no_trouble feed feed_ends.Ended is = refl
+
+-- what is due, by what it follows from
+abbrev due_of : List ℕ → List ℕ → List Trouble → Bool → Bool → Bool → Bool → Bool → List Trouble
+due_of out feed halts over lacked first second printing =
+    halts ++ (map fault (named_when first feed ++ (named_when second out ++ [])) ++ (when over (output_limit out) ++ (when printing output_fault ++ when lacked no_memory)))
+
+nothing_due : (out feed : List ℕ) (halts : List Trouble) (over lacked first second printing : Bool) → halts ≡ [] → over ≡ false → lacked ≡ false → first ≡ false → second ≡ false → printing ≡ false
+    → due_of out feed halts over lacked first second printing ≡ []
+nothing_due out feed halts over lacked first second printing a b c d e f =
+    ap (λ (x : List Trouble). due_of out feed x over lacked first second printing) a
+    ∙ ap (λ (x : Bool). due_of out feed [] x lacked first second printing) b
+    ∙ ap (λ (x : Bool). due_of out feed [] false x first second printing) c
+    ∙ ap (λ (x : Bool). due_of out feed [] false false x second printing) d
+    ∙ ap (λ (x : Bool). due_of out feed [] false false false x printing) e
+    ∙ ap (λ (x : Bool). due_of out feed [] false false false false x) f
+
 ended : (out feed : List ℕ) (before now : Counts) (outcome : Outcome) (report : Option Report) (failed : Failures) (err err_now : SinkState) (answer : ℕ)
     → Answers out feed report failed err err_now answer → FaultsShow before now outcome failed → EndsWith before now report answer
 ended out feed before now outcome report failed err err_now answer a shows =
@@ -99,6 +127,18 @@ ended out feed before now outcome report failed err err_now answer a shows =
       ];
       no_report = λ quiet none. five_where_lacked answer _ a.lacked status ((subst (λ (x : Option Report). LackIsTold before now x a.lacked) none lacking).0 quiet);
       memory = λ r here names. five_where_lacked answer _ a.lacked status (subst (λ (x : Option Report). LackIsTold before now x a.lacked) here lacking ∙ names);
+      sure = λ quiet r f here one enough within good.
+          let none : PartFailed failed → ⊥ = nothing_failed before now failed shows.causes quiet in
+          let due : troubles_of (findings_of out feed report a.lacked) (names_of out feed failed) failed.printing ≡ [] =
+          ap (λ (x : Option Report). troubles_of (findings_of out feed x a.lacked) (names_of out feed failed) failed.printing) here
+          ∙ nothing_due out feed (first_end feed r.feeds.items) (passes_limit r) a.lacked failed.feed failed.out failed.printing
+          (ap (first_end feed) one ∙ no_trouble feed f.end good)
+          within
+          (subst (λ (x : Option Report). LackIsTold before now x a.lacked) here lacking ∙ enough)
+          (false_from_ne_true failed.feed (λ is. none (inl is)))
+          (false_from_ne_true failed.out (λ is. none (inr (inl is))))
+          (false_from_ne_true failed.printing (λ is. none (inr (inr is)))) in
+          sym a.told.status_is ∙ ap status_of (a.told.calm due);
     }
 
 -- all that the program promises of a recording

@@ -204,13 +204,15 @@ names_of out feed failed = named_when failed.feed feed ++ (named_when failed.out
 -- ---- the status
 
 -- 5 for want of memory; else 3 exactly where a count rose; else 4 where a limit would be passed; else that of the feed's end.
--- A want of memory that the report names is answered as one.
+-- A want of memory that the report names is answered as one; and where there is nothing to tell, none is.
 pub record EndsWith (before now : Counts) (report : Option Report) (status : ℕ) : Type 0 where
   pub rose : AnyRose before now → (status ≡ 3) ⊎ (status ≡ 5)
   pub calm : (AnyRose before now → ⊥) → (r : Report) (f : FeedReport) → report ≡ Some r → IsOnlyFeed r f
       → (status ≡ (if passes_limit r then 4 else end_status f.end)) ⊎ (status ≡ 5)
   pub no_report : (AnyRose before now → ⊥) → report ≡ None → status ≡ 5
   pub memory : (r : Report) → report ≡ Some r → lacks_memory r ≡ true → status ≡ 5
+  pub sure : (AnyRose before now → ⊥) → (r : Report) (f : FeedReport) → report ≡ Some r → IsOnlyFeed r f
+      → lacks_memory r ≡ false → passes_limit r ≡ false → end_status f.end ≡ 0 → status ≡ 0
 
 -- the whole feed was recorded: its Data End was read, none of its messages was refused, and the file was closed
 pub record RecordsAll (r : Report) : Type 0 where

@@ -1,6 +1,6 @@
 //! The answer to a recording: what standard error is told, and the status.
 ghost use Rattle.std.specs.List.{list_any};
-ghost use Rattle.std.specs.Prelude.{◌≡◌, ◌⊎◌, ◌↔◌, ◌||◌, [], ◌∷◌, ◌++◌, List, true, map, IfOk, OnOk};
+ghost use Rattle.std.specs.Prelude.{◌≡◌, ◌⊎◌, ◌↔◌, ◌||◌, [], ◌∷◌, ◌++◌, List, true, map, IfOk, OnOk, OnErr};
 ghost use Rattle.mcap_io.specs.Outside.{Rose};
 ghost use Rattle.command_base.specs.Texts.{Trouble, trouble_of, complained, bad_words, said};
 ghost use Rattle.command_base.specs.Printing.{Takes};
@@ -231,7 +231,8 @@ fn complaints_of<'a>(
     failed: Failures,
     lacked: bool,
 ) -> Result<Vec<Complaint<'a>>, Memory>
-    ensures { IfOk result (λ all. map trouble_of all.items ≡ troubles_of (findings_of out.now feed.now report.now lacked) (names_of out.now feed.now failed) failed.printing) }
+    ensures are { IfOk result (λ all. map trouble_of all.items ≡ troubles_of (findings_of out.now feed.now report.now lacked) (names_of out.now feed.now failed) failed.printing) }
+    ensures some { OnErr result (troubles_of (findings_of out.now feed.now report.now lacked) (names_of out.now feed.now failed) failed.printing ≡ [] → ⊥) }
 {
     let mut all = Vec::new(alloc);
     push_some(&mut all, end_complaint(feed, report))?;

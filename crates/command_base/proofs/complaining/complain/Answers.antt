@@ -6,6 +6,7 @@ pub returns-in-Ok : goal.returns-in-Ok
 returns-in-Ok g c = record {
   troubles = _;
   are = inl refl;
+  calm = λ none. none;
   status_is = sym c.status.ensures;
   text = takes_same _ _ _ _ (c.deref.ensures.value ∙ c.in-Ok.ensures) c.tell.ensures;
 }

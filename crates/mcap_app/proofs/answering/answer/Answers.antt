@@ -7,5 +7,5 @@ pub returns : goal.returns
 returns g c = record {
   lacked = c.lacks_memory-lacked.result;
   lacks = c.lacks_memory-lacked.ensures;
-  told = c.complain_of.ensures (troubles_of (findings_of c.args.out.now c.args.feed.now c.args.report.now c.lacks_memory-lacked.result) (names_of c.args.out.now c.args.feed.now c.args.failed) c.args.failed.printing) c.complaints_of.ensures;
+  told = c.complain_of.ensures (troubles_of (findings_of c.args.out.now c.args.feed.now c.args.report.now c.lacks_memory-lacked.result) (names_of c.args.out.now c.args.feed.now c.args.failed) c.args.failed.printing) c.complaints_of.ensures.are c.complaints_of.ensures.some;
 }
