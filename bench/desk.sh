@@ -11,7 +11,7 @@ if [ ! -f "$kit/c/liblibc_c.a" ]; then
 fi
 work="$(mktemp -d)"
 trap 'rm -rf "$work"' EXIT
-crates="mcap_wire mcap_crc rec_data rec_index mcap_model id_table record_cache record_core"
+crates="mcap_wire mcap_crc rec_data rec_index mcap_model byte_region id_table record_cache record_core"
 for crate in $crates; do
     mkdir -p "$work/crates/$crate"
     cp -r "$here/../crates/$crate/src" "$work/crates/$crate/"

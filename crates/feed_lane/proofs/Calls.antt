@@ -21,7 +21,7 @@ use Rattle.feed_lane.specs.declared.report.DeclaredAt.{DeclaredAt}
 use Rattle.feed_lane.specs.declared.report.Cause.{Cause}
 use Rattle.feed_lane.specs.declared.report.Cause.TheVariants as causes
 use Rattle.feed_lane.specs.Pass.{FullAt, Reason, for_size, for_room, for_id, PassState, Finds, full_at, with_found, with_reason, with_full, with_lack, GetsId, PublishedBy, DeclaredInto, FoundAtLeast}
-use Rattle.feed_lane.specs.Lanes.{Lists, messages, IsLong, IsChannelOf, IsWide, EndsWith, CauseFits, IsTried, full_in, lack_in, reason_in, IsLacking, InStep, ListsFit}
+use Rattle.feed_lane.specs.Lanes.{Lists, messages, IsLong, IsChannelOf, IsWide, EndsWith, CauseFits, IsDeclared, IsUndeclared, IsTried, full_in, lack_in, reason_in, IsLacking, InStep, ListsFit}
 use Rattle.feed_lane.specs.Steps.{Above, goes_on, HasId, IsRefusal, publish_cause, declare_cause, full_cause}
 use Rattle.feed_lane.proofs.Members.{false_true, open_by, finds_above, seen_later, in_step_none, in_step_one}
 
@@ -176,8 +176,32 @@ publish_refused records handled source t before after m (publishing.TooManyRecor
     subst (λ (p : PassState). IsRefusal records handled before p (causes.TooManyRecords count)) (sym same) (found_only records handled before found (causes.TooManyRecords count) finds (λ on. end) (refl, refl) (many, record { found = found; shown = refl; within = omega (arith, here) }))
 publish_refused records handled source t before after m (publishing.Full held) at is known (found, short, finds, end, there, few, here, le, same) =
     subst (λ (p : PassState). IsRefusal records handled before p (full_cause held p.found)) (sym same) (was_full records handled before found held finds end here le)
-publish_refused records handled source t before after m publishing.Memory at is known (found, short, may, same) =
-    subst (λ (p : PassState). IsRefusal records handled before p causes.Memory) (sym same) (lacked_memory records handled before found may.finds may.unended)
+
+-- memory lacks for no message whose channel got an id
+full_unlacking : (held : ℕ) (found : Found) → causes.Full held found.taken found.count ≡ causes.Memory → ⊥
+full_unlacking held found e = cc
+
+pub publish_lacks : (before after : PassState) (m : NewMessage) (refusal : PublishRefused) → ((found : Found) → Finds before found → (1 ≤ m.channel) × (m.channel ≤ found.channels)) → PublishedBy before after m (Err refusal) → publish_cause refusal after.found ≡ causes.Memory → ⊥
+publish_lacks before after m (publishing.TooLarge len) known call e = unlacking e
+  where
+    unlacking : causes.TooLarge len ≡ causes.Memory → ⊥
+    unlacking e = cc
+publish_lacks before after m (publishing.Closed at) known call e = unlacking e
+  where
+    unlacking : causes.Closed at ≡ causes.Memory → ⊥
+    unlacking e = cc
+publish_lacks before after m (publishing.Stopped at stop) known call e = unlacking e
+  where
+    unlacking : causes.Stopped at stop ≡ causes.Memory → ⊥
+    unlacking e = cc
+publish_lacks before after m publishing.UnknownChannel known (found, short, finds, end, unknown, same) e =
+    absurd (elim unknown [ inl none ↦ omega (arith, (known found finds).0, none) | inr above ↦ omega (arith, (known found finds).1, above) ])
+publish_lacks before after m (publishing.TooManyRecords count) known call e = unlacking e
+  where
+    unlacking : causes.TooManyRecords count ≡ causes.Memory → ⊥
+    unlacking e = cc
+publish_lacks before after m (publishing.Full held) known (found, short, finds, end, there, few, here, le, same) e =
+    full_unlacking held found (subst (λ (p : PassState). full_cause held p.found ≡ causes.Memory) same e)
 
 -- the refusal of a declaration of the channel of the message at hand
 pub declare_refused : (records : List Top) (handled : ℕ) (before after : PassState) (d : ChannelDef) (refusal : DeclareRefused) → IsChannelOf records handled d → DeclaredInto before after d (Err refusal) → IsRefusal records handled before after (declare_cause refusal after.found)
@@ -218,37 +242,43 @@ full_unlarge held (Some found) len e = unlarge e
     unlarge e = cc
 
 -- a declaration that is refused as too large is so
-pub declare_tried : (records : List Top) (handled : ℕ) (declared : List DeclaredAt) (before after : PassState) (d : ChannelDef) (refusal : DeclareRefused) → IsChannelOf records handled d → DeclaredInto before after d (Err refusal) → IsTried records declared (record { index = handled; cause = declare_cause refusal after.found })
-declare_tried records handled declared before after d (declaring.TooLarge n) is (size, over, same) = λ len e. inl (subst (IsWide records handled) (large_same e) (d, is, size, over))
-declare_tried records handled declared before after d (declaring.Closed at) is call = λ len e. absurd (unlarge len e)
+declare_large : (records : List Top) (handled : ℕ) (declared : List DeclaredAt) (before after : PassState) (d : ChannelDef) (refusal : DeclareRefused) → IsChannelOf records handled d → DeclaredInto before after d (Err refusal) → (len : ℕ) → declare_cause refusal after.found ≡ causes.TooLarge len → IsWide records handled len ⊎ IsDeclared records declared handled
+declare_large records handled declared before after d (declaring.TooLarge n) is (size, over, same) = λ len e. inl (subst (IsWide records handled) (large_same e) (d, is, size, over))
+declare_large records handled declared before after d (declaring.Closed at) is call = λ len e. absurd (unlarge len e)
   where
     unlarge : (len : ℕ) → causes.Closed at ≡ causes.TooLarge len → ⊥
     unlarge len e = cc
-declare_tried records handled declared before after d (declaring.Stopped at stop) is call = λ len e. absurd (unlarge len e)
+declare_large records handled declared before after d (declaring.Stopped at stop) is call = λ len e. absurd (unlarge len e)
   where
     unlarge : (len : ℕ) → causes.Stopped at stop ≡ causes.TooLarge len → ⊥
     unlarge len e = cc
-declare_tried records handled declared before after d (declaring.TooManyRecords count) is call = λ len e. absurd (unlarge len e)
+declare_large records handled declared before after d (declaring.TooManyRecords count) is call = λ len e. absurd (unlarge len e)
   where
     unlarge : (len : ℕ) → causes.TooManyRecords count ≡ causes.TooLarge len → ⊥
     unlarge len e = cc
-declare_tried records handled declared before after d (declaring.Full held) is call = λ len e. absurd (full_unlarge held after.found len e)
-declare_tried records handled declared before after d declaring.TooManySchemas is call = λ len e. absurd (unlarge len e)
+declare_large records handled declared before after d (declaring.Full held) is call = λ len e. absurd (full_unlarge held after.found len e)
+declare_large records handled declared before after d declaring.TooManySchemas is call = λ len e. absurd (unlarge len e)
   where
     unlarge : (len : ℕ) → causes.TooManySchemas ≡ causes.TooLarge len → ⊥
     unlarge len e = cc
-declare_tried records handled declared before after d declaring.TooManyChannels is call = λ len e. absurd (unlarge len e)
+declare_large records handled declared before after d declaring.TooManyChannels is call = λ len e. absurd (unlarge len e)
   where
     unlarge : (len : ℕ) → causes.TooManyChannels ≡ causes.TooLarge len → ⊥
     unlarge len e = cc
-declare_tried records handled declared before after d declaring.Memory is call = λ len e. absurd (unlarge len e)
+declare_large records handled declared before after d declaring.Memory is call = λ len e. absurd (unlarge len e)
   where
     unlarge : (len : ℕ) → causes.Memory ≡ causes.TooLarge len → ⊥
     unlarge len e = cc
 
+pub declare_tried : (records : List Top) (handled : ℕ) (declared : List DeclaredAt) (before after : PassState) (d : ChannelDef) (refusal : DeclareRefused) → IsUndeclared records declared handled → IsChannelOf records handled d → DeclaredInto before after d (Err refusal) → IsTried records declared (record { index = handled; cause = declare_cause refusal after.found })
+declare_tried records handled declared before after d refusal undeclared is call = record {
+  large = declare_large records handled declared before after d refusal is call;
+  lacking = λ e. undeclared;
+}
+
 -- want of memory is no such cause
-pub memory_tried : (records : List Top) (declared : List DeclaredAt) (handled : ℕ) → IsTried records declared (record { index = handled; cause = causes.Memory })
-memory_tried records declared handled = λ len e. absurd (unlarge len e)
+pub memory_tried : (records : List Top) (declared : List DeclaredAt) (handled : ℕ) → IsUndeclared records declared handled → IsTried records declared (record { index = handled; cause = causes.Memory })
+memory_tried records declared handled undeclared = record { large = λ len e. absurd (unlarge len e); lacking = λ e. undeclared }
   where
     unlarge : (len : ℕ) → causes.Memory ≡ causes.TooLarge len → ⊥
     unlarge len e = cc
@@ -269,7 +299,6 @@ published_limit before after m (Err (publishing.Stopped at stop)) call = ap (λ 
 published_limit before after m (Err publishing.UnknownChannel) call = ap (λ (p : PassState). p.limit) call.5
 published_limit before after m (Err (publishing.TooManyRecords count)) call = ap (λ (p : PassState). p.limit) call.7
 published_limit before after m (Err (publishing.Full held)) call = ap (λ (p : PassState). p.limit) call.8
-published_limit before after m (Err publishing.Memory) call = ap (λ (p : PassState). p.limit) call.3
 
 pub declared_limit : (before after : PassState) (d : ChannelDef) (result : Result Declared DeclareRefused) → DeclaredInto before after d result → after.limit ≡ before.limit
 declared_limit before after d (Ok given) call = ap (λ (p : PassState). p.limit) call.9

@@ -175,11 +175,17 @@ new_has_id records handled ids lists source found content d is = record {
   is = refl;
 }
 
-tried_kept : (records : List Top) (declared : List DeclaredAt) (d : DeclaredAt) (r : Refused) → IsTried records declared r → IsTried records (declared ++ d ∷ []) r
-tried_kept records declared d r was = λ len is. elim (was len is) [
-  | inl wide ↦ inl wide
-  | inr one ↦ inr (record { source = one.source; on = one.on; by = one.by; listed = has_kept declared (d ∷ []) one.by one.listed; before = one.before; is_on = one.is_on })
-]
+tried_kept : (records : List Top) (declared : List DeclaredAt) (d : DeclaredAt) (r : Refused) → r.index < d.index → IsTried records declared r → IsTried records (declared ++ d ∷ []) r
+tried_kept records declared d r later was = record {
+  large = λ len is. elim (was.large len is) [
+    | inl wide ↦ inl wide
+    | inr one ↦ inr (record { source = one.source; on = one.on; by = one.by; listed = has_kept declared (d ∷ []) one.by one.listed; before = one.before; is_on = one.is_on })
+  ];
+  lacking = λ is source e on has on_e. elim (at_more declared d has.0 e has.1) [
+    | inl old ↦ was.lacking is source e on (has.0, old) on_e
+    | inr last ↦ subst (λ (x : DeclaredAt). r.index < x.index) (sym last.1) later
+  ];
+}
 
 pub declared_stands : (records : List Top) (handled : ℕ) (ids : List ℕ) (lists : Lists) (source : ℕ) (before : PassState) (found : Found) (content : ChannelDef) (d : DeclaredAt) → ListsStand records handled handled ids lists before → Finds before found → found.end ≡ None → (is : IsNew records handled ids source found content d) → ListsStand records handled (handled + 1) (set ids source d.channel) (with_declaration lists d) (with_declared before found content d.channel is.added)
 declared_stands records handled ids lists source before found content d stands finds end is =
@@ -195,5 +201,6 @@ declared_stands records handled ids lists source before found content d stands f
       ];
       tos = λ k full at. extends.seen full.to (stands.tos k full at);
       is_open = open_by after found refl end;
-      tried = λ k r at. tried_kept records lists.declared d r (stands.tried k r at);
+      tried = λ k r at.
+          tried_kept records lists.declared d r (let below = stands.fits.refused_below k r at in omega (arith, below, is.index)) (stands.tried k r at);
     }

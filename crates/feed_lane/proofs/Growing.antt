@@ -4,7 +4,7 @@ use Rattle.std.proofs.lemmas.List.{length-append}
 use Rattle.std.proofs.lemmas.List.Elements.{filter-append}
 use Rattle.rec_data.specs.declared.channel.ChannelDef.{ChannelDef}
 use Rattle.rec_data.specs.declared.schema.SchemaDef.{SchemaDef}
-use Rattle.mcap_model.specs.Places.{At}
+use Rattle.mcap_model.specs.Places.{At, Each}
 use Rattle.mcap_model.specs.Tops.{Top}
 use Rattle.mcap_model.specs.Fields.{ChannelFields, IsMessage}
 use Rattle.mcap_model.specs.Written.{SourceShows}
@@ -19,8 +19,8 @@ use Rattle.feed_lane.specs.declared.report.Refused.{Refused}
 use Rattle.feed_lane.specs.declared.report.Cause.{Cause}
 use Rattle.feed_lane.specs.declared.report.Cause.TheVariants as causes
 use Rattle.feed_lane.specs.Pass.{PassState}
-use Rattle.feed_lane.specs.Lanes.{Lists, messages, IsOn, SchemaShown, Describes, Declares, Accepts, IsLong, IsChannelOf, IsWide, LacksId, CauseFits, IsTried, lacks_of, IsNamed, IsLacking, InStep, ListsFit}
-use Rattle.feed_lane.specs.Steps.{HasId, ListsStand}
+use Rattle.feed_lane.specs.Lanes.{Lists, messages, IsOn, SchemaShown, Describes, Declares, Accepts, IsLong, IsChannelOf, IsWide, LacksId, CauseFits, IsUndeclared, IsTried, lacks_of, IsNamed, IsLacking, InStep, ListsFit}
+use Rattle.feed_lane.specs.Steps.{HasId, IdsStand, ListsStand}
 use Rattle.feed_lane.proofs.Members.{in_step_on}
 
 -- ---- what the records show
@@ -129,18 +129,28 @@ channel_more records more index content was = record {
 wide_more : (records more : List Top) (index len : ℕ) → IsWide records index len → IsWide (records ++ more) index len
 wide_more records more index len wide = (wide.0, channel_more records more index wide.0 wide.1, wide.2, wide.3)
 
-tried_more : (records more : List Top) (declared : List DeclaredAt) (r : Refused) → IsTried records declared r → IsTried (records ++ more) declared r
-tried_more records more declared r was = λ len is. elim (was len is) [
-  | inl wide ↦ inl (wide_more records more r.index len wide)
-  | inr d ↦ inr (record {
-    source = d.source;
-    on = on_more records more r.index d.source d.on;
-    by = d.by;
-    listed = d.listed;
-    before = d.before;
-    is_on = on_more records more d.by.index d.source d.is_on;
-  })
-]
+tried_more : (records more : List Top) (declared : List DeclaredAt) (pass : PassState) (r : Refused) → r.index < length (messages records) → Each (Declares records pass) declared → IsTried records declared r → IsTried (records ++ more) declared r
+tried_more records more declared pass r below declares was = record {
+  large = λ len is. elim (was.large len is) [
+    | inl wide ↦ inl (wide_more records more r.index len wide)
+    | inr d ↦ inr (record {
+      source = d.source;
+      on = on_more records more r.index d.source d.on;
+      by = d.by;
+      listed = d.listed;
+      before = d.before;
+      is_on = on_more records more d.by.index d.source d.is_on;
+    })
+  ];
+  lacking = λ is source d on has on_d.
+      was.lacking is source d (on_less records more r.index source on below) has
+      (on_less records more d.index source on_d (on_within records d.index (declares has.0 d has.1).source (declares has.0 d has.1).on));
+}
+
+-- a channel that got no id was declared for no message
+pub undeclared_yet : (records : List Top) (handled source : ℕ) (declared : List DeclaredAt) (ids : List ℕ) → IdsStand records declared ids → At ids source 0 → IsOn records handled source → IsUndeclared records declared handled
+undeclared_yet records handled source declared ids stand none on other d on_other has on_d =
+    absurd (stand.fresh source d none has (subst (IsOn records d.index) (on_one records handled other source on_other on) on_d))
 
 lacks_more : (records more : List Top) (pass : PassState) (index : ℕ) (refusal : DeclareRefused) → LacksId records pass index refusal → LacksId (records ++ more) pass index refusal
 lacks_more records more pass index refusal was = (was.0, channel_more records more index was.0 was.1, was.2)
@@ -233,7 +243,9 @@ stands_more records more handled bound ids lists pass was = record {
   firsts = was.firsts;
   tos = was.tos;
   is_open = was.is_open;
-  tried = λ k r at. tried_more records more lists.declared r (was.tried k r at);
+  tried = λ k r at.
+      tried_more records more lists.declared pass r
+      (let below = was.fits.refused_below k r at in let some = was.fits.handled_some in omega (arith, below, some)) was.fits.declares (was.tried k r at);
 }
 
 -- ---- between the steps

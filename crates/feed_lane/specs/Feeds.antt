@@ -82,5 +82,5 @@ pub record Reports (before now : SourceState) (pass : PassState) (report : FeedR
   pub found_ends : (found : Found) (end : End) → pass.found ≡ Some found → found.end ≡ Some end → report.end ≡ feed_ends.Ended
   -- no declaration stands behind the records that the pass found
   pub firsts : Each (λ d. FoundAtLeast pass d.first) report.declared.items
-  -- the channel of a message that is too large is declared all the same
+  -- the channel of a message that is too large is declared all the same, and that of one for which memory lacked isn't
   pub tried : Each (IsTried (flat tops) report.declared.items) report.refused.items

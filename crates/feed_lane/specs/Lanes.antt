@@ -146,9 +146,15 @@ pub record IsDeclared (records : List Top) (declared : List DeclaredAt) (index :
   pub before : by.index ≤ index
   pub is_on : IsOn records by.index source
 
--- A message that was refused as too large was declared a channel for, unless that is too large itself.
-abbrev pub IsTried : List Top → List DeclaredAt → Refused → Type 0
-IsTried records declared r = (len : ℕ) → r.cause ≡ causes.TooLarge len → IsWide records r.index len ⊎ IsDeclared records declared r.index
+-- no declaration for that message's channel was made at the message or an earlier one
+abbrev pub IsUndeclared : List Top → List DeclaredAt → ℕ → Type 0
+IsUndeclared records declared index = (source : ℕ) (d : DeclaredAt) → IsOn records index source → Has declared d → IsOn records d.index source → index < d.index
+
+-- A message that was refused as too large was declared a channel for, unless that is too large itself. Memory lacks only for
+-- declaring a channel.
+pub record IsTried (records : List Top) (declared : List DeclaredAt) (r : Refused) : Type 0 where
+  pub large : (len : ℕ) → r.cause ≡ causes.TooLarge len → IsWide records r.index len ⊎ IsDeclared records declared r.index
+  pub lacking : r.cause ≡ causes.Memory → IsUndeclared records declared r.index
 
 -- where the buffer was full, if that is the cause
 abbrev pub full_in : Cause → List FullAt
@@ -245,7 +251,7 @@ pub record ListsFit (records : List Top) (handled bound : ℕ) (lists : Lists) (
   -- so are the declarations that no id was left for those of the refusals for that
   pub lacks : InStep (IsLacking records) (lacks_of lists.refused) pass.lacks
   -- The refusals but for want of memory are those of the pass, in their order, one each: what it refused for another reason is
-  -- told so, and where memory is told the pass lacked it, or the lane itself.
+  -- told so, and where memory is told the pass lacked it for a declaration, or the lane itself.
   pub reasons : reasons_of lists.refused ≡ pass.reasons
   -- the refusals for a full buffer are those that the pass shows, in their order, one each, and between the places
   pub fulls : fulls_of lists.refused ≡ pass.fulls

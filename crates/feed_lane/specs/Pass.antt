@@ -24,7 +24,7 @@ pub record FullAt : Type 0 where
   pub to : ℕ
   pub held : ℕ
 
--- why a call was refused, but for want of memory
+-- why a call was refused, but for want of memory in a declaration
 pub data Reason : Type 0 where
   for_size : ℕ → Reason
   for_close : ℕ → Reason
@@ -125,7 +125,7 @@ abbrev pub IsShort : NewMessage → Type 0
 IsShort m = length m.payload.now ≤ data_limit
 
 -- A message was accepted at a place, or refused for the first reason that held of how the intake was found. A message of too
--- much data is refused without a look at the intake; memory may lack only where there is no other reason.
+-- much data is refused without a look at the intake.
 abbrev pub PublishedBy : PassState → PassState → NewMessage → Result ℕ PublishRefused → Type 0
 PublishedBy before after m (Ok place) = (found : Found) × IsShort m × MayTake before found m.channel × (place ≡ found.count) × (after ≡ with_message before found m)
 PublishedBy before after m (Err (publishing.TooLarge len)) = (len ≡ length m.payload.now) × (data_limit < len) × (after ≡ with_reason before (for_size len))
@@ -139,7 +139,6 @@ PublishedBy before after m (Err (publishing.TooManyRecords count)) = (found : Fo
     × (count ≡ found.count) × (record_count_limit ≤ count) × (after ≡ with_refused before found (for_count count))
 PublishedBy before after m (Err (publishing.Full held)) = (found : Found) × IsShort m × Finds before found × (found.end ≡ None) × IsChannel found m.channel × (found.count < record_count_limit)
     × (held ≡ found.held) × (before.limit ≤ held) × (after ≡ with_full before found)
-PublishedBy before after m (Err publishing.Memory) = (found : Found) × IsShort m × MayTake before found m.channel × (after ≡ with_found before found)
 
 -- ---- declaring
 

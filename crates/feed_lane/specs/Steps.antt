@@ -180,7 +180,6 @@ publish_cause (publishing.Stopped at stop) found = causes.Stopped at stop
 publish_cause publishing.UnknownChannel found = causes.Memory
 publish_cause (publishing.TooManyRecords count) found = causes.TooManyRecords count
 publish_cause (publishing.Full held) found = full_cause held found
-publish_cause publishing.Memory found = causes.Memory
 
 abbrev pub declare_cause : DeclareRefused → Option Found → Cause
 declare_cause (declaring.TooLarge len) found = causes.TooLarge len

@@ -73,7 +73,6 @@ fn publish_cause(refusal: PublishRefused, found: Option<Found>) -> Cause
         PublishRefused::UnknownChannel => return Cause::Memory,
         PublishRefused::TooManyRecords { count } => return Cause::TooManyRecords { count },
         PublishRefused::Full { held } => return full_cause(held, found),
-        PublishRefused::Memory => return Cause::Memory,
     }
 }
 

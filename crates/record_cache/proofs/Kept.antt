@@ -16,7 +16,8 @@ use Rattle.rec_data.specs.declared.owned.Rec.TheVariants.{Schema, Channel, Messa
 use Rattle.rec_data.specs.Owned.{rec_opcode, rec_text, rec_bytes}
 use Rattle.mcap_model.specs.History.{history_bytes}
 use Rattle.record_cache.specs.Reading.{records_shown}
-use Rattle.record_cache.specs.Buffers.{IsKept, Buffer, buffer_of, IsBuffer}
+use Rattle.byte_region.specs.Regions.{RegionView, empty_region}
+use Rattle.record_cache.specs.Buffers.{IsKept, Buffer, buffer_of, IsBuffer, IsHeld}
 use Rattle.record_cache.specs.Offers.{Offered, StartsAt, StandsThere}
 use Rattle.record_cache.proofs.Readback.{records_read}
 
@@ -46,6 +47,12 @@ empty_buffer limit items small none = subst (IsBuffer limit 0) (sym none) (recor
   few = omega arith;
   room = omega arith;
 })
+
+pub empty_held : (limit : ℕ) (region : RegionView) → limit ≤ 1073741824 → region ≡ empty_region (limit + 33554463) → IsHeld limit 0 region
+empty_held limit region small none = record {
+  buffer = empty_buffer limit region.bytes small (ap (λ (r : RegionView). r.bytes) none);
+  reserved = ap (λ (r : RegionView). r.room) none;
+}
 
 pub empty_view : (limit : ℕ) (items : List ℕ) → items ≡ [] → buffer_of limit items ≡ record { limit = limit; records = [] }
 empty_view limit items none = ap (λ (l : List Rec). made limit l) (ap records_shown none ∙ read_none)

@@ -1,5 +1,6 @@
 -- What a buffer of records is to its callers.
 use Rattle.std.specs.Prelude.{◌≡◌, ℕ, ◌+◌, ◌≤◌, List, ◌++◌, length, All}
+use Rattle.byte_region.specs.Regions.{RegionView}
 use Rattle.mcap_wire.specs.Limits.{buffer_limit, record_limit}
 use Rattle.rec_data.specs.declared.owned.Rec.{Rec}
 use Rattle.rec_data.specs.Owned.{rec_bytes, RecFits}
@@ -34,3 +35,8 @@ pub record IsBuffer (limit count : ℕ) (framed : List ℕ) : Type 0 where
   pub counted : count ≡ length (records_shown framed)
   pub few : count ≤ length framed
   pub room : length framed ≤ limit + record_limit
+
+-- Its region has the room for a record that begins below the limit.
+pub record IsHeld (limit count : ℕ) (region : RegionView) : Type 0 where
+  pub buffer : IsBuffer limit count region.bytes
+  pub reserved : region.room ≡ limit + record_limit

@@ -6,8 +6,7 @@ use Rattle.rec_data.specs.Owned.{rec_bytes}
 use Rattle.mcap_model.specs.History.{history_bytes}
 use Rattle.record_cache.specs.declared.records.RecRef.{RecRef}
 use Rattle.record_cache.specs.declared.records.RecRef.TheVariants as refs
-use Rattle.record_cache.specs.declared.cache.OfferRefused.{OfferRefused}
-use Rattle.record_cache.specs.declared.cache.OfferRefused.TheVariants.{Full, Memory}
+use Rattle.record_cache.specs.declared.cache.Full.{Full}
 use Rattle.record_cache.specs.Buffers.{Buffer, held, with_records}
 
 -- the record that is borrowed
@@ -16,12 +15,10 @@ rec_of (refs.Schema s) = Schema s.id (record { name = s.name.now; encoding = s.e
 rec_of (refs.Channel c) = Channel c.id c.schema_id c.topic.now c.message_encoding.now c.metadata
 rec_of (refs.Message m) = Message m.channel_id m.sequence m.log_time m.publish_time m.payload.now
 
--- Records are added where the buffer isn't full; else nothing changes. Memory may lack where it isn't full, and then too
--- nothing changes.
-abbrev pub Offered : Buffer → List Rec → Result (Unit {0}) OfferRefused → Buffer → Type 0
+-- Records are added where the buffer isn't full; else nothing changes.
+abbrev pub Offered : Buffer → List Rec → Result (Unit {0}) Full → Buffer → Type 0
 Offered b records (Ok done) after = (held b < b.limit) × (after ≡ with_records b records)
-Offered b records (Err (Full h)) after = (b.limit ≤ held b) × (h ≡ held b) × (after ≡ b)
-Offered b records (Err Memory) after = (held b < b.limit) × (after ≡ b)
+Offered b records (Err full) after = (b.limit ≤ held b) × (full.held ≡ held b) × (after ≡ b)
 
 -- a record begins there
 abbrev pub StartsAt : List Rec → ℕ → Type 0

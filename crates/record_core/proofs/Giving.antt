@@ -11,7 +11,7 @@ use Rattle.mcap_model.specs.Fields.{SchemaFields, ChannelFields}
 use Rattle.mcap_model.specs.History.{schema_of, channel_of}
 use Rattle.mcap_model.proofs.Places.{at_kept, at_last, at_more}
 use Rattle.id_table.specs.Ids as tables
-use Rattle.id_table.specs.Given.{Lacks, EachOnce, Offers, OffersTo, IsFull, IsFullTo, Declares, Refuses, with_given, with_given_to, IsLast, IsLastTo}
+use Rattle.id_table.specs.Given.{Lacks, EachOnce, Offers, OffersTo, IsFull, IsFullTo, Declares, Refuses, with_given, with_given_to}
 use Rattle.id_table.specs.declared.given.Given.{Given}
 use Rattle.id_table.specs.declared.given.Given.TheVariants.{Known, New}
 use Rattle.id_table.specs.declared.given.GivenIds.{GivenIds}
@@ -20,7 +20,7 @@ use Rattle.id_table.specs.declared.given.IdRefused.TheVariants.{TooManySchemas, 
 use Rattle.record_core.specs.declared.answers.DeclareRefused.{DeclareRefused}
 use Rattle.record_core.specs.declared.answers.DeclareRefused.TheVariants as declaring
 use Rattle.record_core.specs.Ids.{Ids, schemas_in, channels_in, with_ids, same_schema, fields_of_schema, fields_with, fields_of_channel, schema_place, id_at, schema_id, channel_place, channel_id, new_schema_at, new_schema, new_at, new_records}
-use Rattle.record_core.specs.Tables.{content_in, ids_in, HasSchema, HasSchemas, GivesAt, GivesSchema, GivesIds, schemas_lack, ids_lack, IdsDeclared, AreLast, number_of, id_of, schema_with}
+use Rattle.record_core.specs.Tables.{content_in, ids_in, HasSchema, HasSchemas, GivesAt, GivesSchema, GivesIds, schemas_lack, ids_lack, IdsDeclared, number_of, id_of, schema_with}
 use Rattle.record_core.proofs.Places.{map_same, found_more, found_last}
 use Rattle.record_core.proofs.Searches.{schema_own, schemas_more, channels_more}
 use Rattle.record_core.proofs.TableIds.{schema_stands, schema_missed, schema_lacking, schema_found, channel_missed, some_none}
@@ -292,23 +292,3 @@ answers_by t after c (Err Memory) has once none few_schemas few_channels ok why 
   declared = (enough_ids t c none why.1 why.2, ap ids_in same);
   schemas = subst HasSchemas (sym same) has;
 }
-
--- ---- what is taken back
-
-last_is : {X : Type 0} (xs ys : List X) (x : X) (g : Given) → Offers xs x g → ys ≡ with_given xs x g → IsLast ys g
-last_is xs ys x (Known id) is same = tt
-last_is xs ys x (New id) is same =
-    let size : length ys ≡ length xs + 1 = ap length same ∙ length-append xs (x ∷ []) in
-    (omega (arith, is.1), omega (arith, is.1, size))
-
-last_to : {X : Type 0} (xs ys : List X) (x : Option X) (g : Option Given) → OffersTo xs x g → ys ≡ with_given_to xs x g → IsLastTo ys g
-last_to xs ys None None is same = tt
-last_to xs ys None (Some g) is same = absurd is
-last_to xs ys (Some x) None is same = absurd is
-last_to xs ys (Some x) (Some g) is same = last_is xs ys x g is same
-
-pub last_schema : (t : tables.Ids) (given : GivenIds) → AreLast t given → IsLastTo t.schemas given.schema
-last_schema t given (before, c, is) = last_to before.schemas t.schemas c.schema given.schema is.schema is.schemas
-
-pub last_channel : (t : tables.Ids) (given : GivenIds) → AreLast t given → IsLast t.channels given.channel
-last_channel t given (before, c, is) = last_is before.channels t.channels c given.channel is.channel is.channels

@@ -113,14 +113,13 @@ declare_refusal d c = if nat_lt declaration_limit (declared_size c) then Some (d
 abbrev pub fields_of_message : NewMessage → MessageFields
 fields_of_message m = record { sequence = m.sequence; log_time = m.log_time; publish_time = m.publish_time; payload = m.payload.now }
 
--- A message is refused for the first reason that there is, or it is added and its place answered; memory may lack only
--- where there is no reason. Nothing changes where it is refused.
+-- A message is refused for the first reason that there is, and then nothing changes, or it is added and its place answered.
 abbrev pub Published : DeskView → ℕ → MessageFields → Result ℕ PublishRefused → DeskView → Type 0
 Published d channel m (Ok place) after = (publish_refusal d channel (length m.payload) ≡ None) × (place ≡ accepted d) × (after ≡ added d (message_of channel m ∷ []))
-Published d channel m (Err publishing.Memory) after = (publish_refusal d channel (length m.payload) ≡ None) × (after ≡ d)
 Published d channel m (Err refusal) after = (publish_refusal d channel (length m.payload) ≡ Some refusal) × (after ≡ d)
 
--- the same of a declaration, which answers the channel's id and the places of the records that are added
+-- The same of a declaration, which answers the channel's id and the places of the records that are added. Memory for ids may
+-- lack, only where there is no other reason, and then too nothing changes.
 abbrev pub DeclaredBy : DeskView → ChannelDef → Result Declared DeclareRefused → DeskView → Type 0
 DeclaredBy d c (Ok given) after = (declare_refusal d c ≡ None) × (given.channel ≡ channel_id d.ids c) × (given.first ≡ accepted d)
     × (given.count ≡ length (new_records d.ids c)) × (after ≡ added d (new_records d.ids c))

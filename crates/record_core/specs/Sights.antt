@@ -10,7 +10,7 @@ use Rattle.record_core.specs.Ids.{channel_place}
 use Rattle.record_core.specs.Tables.{IsIdAt, ids_lack}
 use Rattle.record_core.specs.Desk.{DeskView, held, accepted, declare_refusal, declared_size}
 use Rattle.rec_data.specs.declared.owned.Rec.{Rec}
-use Rattle.record_cache.specs.declared.cache.OfferRefused.{OfferRefused}
+use Rattle.record_cache.specs.declared.cache.Full.{Full}
 use Rattle.rec_data.specs.Owned.{rec_bytes, RecFits}
 use Rattle.record_cache.specs.declared.records.RecRef.{RecRef}
 use Rattle.record_cache.specs.Buffers.{IsKept, Buffer}
@@ -43,9 +43,9 @@ SightOf d c (Known id) = (declare_refusal d c ≡ None) × IsIdAt (channel_place
 SightOf d c New = IsOpen d c
 
 -- what is counted and added to a buffer, or why nothing is
-abbrev pub CountedOffer : Buffer → List Rec → Result ℕ OfferRefused → Buffer → Type 0
+abbrev pub CountedOffer : Buffer → List Rec → Result ℕ Full → Buffer → Type 0
 CountedOffer b records (Ok n) after = (n ≡ length records) × Offered b records (Ok tt) after
-CountedOffer b records (Err refusal) after = Offered b records (Err refusal) after
+CountedOffer b records (Err full) after = Offered b records (Err full) after
 
 -- the record that is borrowed, if there is one
 abbrev pub recs_of : Option RecRef → List Rec

@@ -11,7 +11,6 @@ use Rattle.record_core.specs.Ids.{Ids, with_ids, fields_of_schema, fields_of_cha
 use Rattle.record_core.specs.declared.answers.DeclareRefused.{DeclareRefused}
 use Rattle.record_core.specs.declared.answers.DeclareRefused.TheVariants as declaring
 use Rattle.id_table.specs.Ids as tables
-use Rattle.id_table.specs.Given.{Declares}
 use Rattle.id_table.specs.declared.given.Given.{Given}
 use Rattle.id_table.specs.declared.given.Given.TheVariants.{Known, New}
 use Rattle.id_table.specs.declared.given.GivenIds.{GivenIds}
@@ -79,14 +78,6 @@ IdsDeclared ids c (Ok given) after = (ids_lack ids c ≡ None) × GivesIds ids c
 IdsDeclared ids c (Err Memory) after = (ids_lack ids c ≡ None) × (after ≡ ids)
 IdsDeclared ids c (Err TooManySchemas) after = (ids_lack ids c ≡ Some declaring.TooManySchemas) × (after ≡ ids)
 IdsDeclared ids c (Err TooManyChannels) after = (ids_lack ids c ≡ Some declaring.TooManyChannels) × (after ≡ ids)
-
--- these are the ids that were given last
-abbrev pub AreLast : tables.Ids → GivenIds → Type 0
-AreLast t given = (before : tables.Ids) × (c : ChannelDef) × Declares before c given t
-
--- the table is as it was before they were given
-abbrev pub TakenBack : tables.Ids → GivenIds → tables.Ids → Type 0
-TakenBack t given after = (before : tables.Ids) (c : ChannelDef) → Declares before c given t → after ≡ before
 
 -- how many ids there are at most
 pub record IsTable (ids : Ids) : Type 0 where

@@ -13,12 +13,12 @@ ghost use Rattle.record_core.specs.Stands.{DeskStandsFor, Steps, Stays, PublishS
 
 use crate::answers::{DeclareRefused, Declared, Empty, Found, NewMessage, PublishRefused};
 use crate::framing::{declared_size, offer_declared};
-use crate::ids::{give_ids, id_of_channel, number_of, take_ids_back};
+use crate::ids::{give_ids, id_of_channel, number_of};
 use id_table::{IdRefused, IdTable};
 use mcap_model::{End, Stop};
 use mcap_wire::Memory;
 use rec_data::{ChannelDef, Message};
-use record_cache::{Cache, OfferRefused, RecRef};
+use record_cache::{Cache, Full, RecRef};
 use std::alloc::Global;
 use std::marker::Model;
 use std::mem;
@@ -139,16 +139,14 @@ impl Desk {
         let at = self.count();
         match offer_message(&mut self.primary, m) {
             Ok(()) => return Ok(at),
-            Err(OfferRefused::Full { .. }) => unreachable!(),
-            Err(OfferRefused::Memory) => return Err(PublishRefused::Memory),
+            Err(_) => unreachable!(),
         }
     }
 
-    /// Adds a message, and answers its place. Where it is refused nothing changes; memory may lack only where there is no
-    /// other reason.
+    /// Adds a message, and answers its place. Where it is refused nothing changes.
     pub fn publish(&mut self, m: &NewMessage<'_>) -> Result<u64, PublishRefused>
         ensures answer { Published self.old m.now.channel (fields_of_message m.now) result self.new }
-        ensures steps { PublishSteps self.old m.now.channel (fields_of_message m.now) result self.new }
+        ensures steps { PublishSteps self.old m.now.channel (fields_of_message m.now) self.new }
         ensures unended { OnOk result (self.old.end ≡ None) }
         ensures known { OnOk result (is_known self.old.ids m.now.channel ≡ true) }
         ensures last { EndIsLast self.old }
@@ -209,11 +207,7 @@ impl Desk {
                     count,
                 });
             }
-            Err(OfferRefused::Full { .. }) => unreachable!(),
-            Err(OfferRefused::Memory) => {
-                take_ids_back(&mut self.ids, &given);
-                return Err(DeclareRefused::Memory);
-            }
+            Err(_) => unreachable!(),
         }
     }
 
@@ -236,8 +230,8 @@ impl Desk {
     }
 
     /// Gives ids to a channel and its schema by content, adds the records of those that are new, and answers the channel's
-    /// id and the places of the records. Where it is refused nothing changes; memory may lack only where there is no other
-    /// reason.
+    /// id and the places of the records. Where it is refused nothing changes; memory may lack for the ids alone, and only
+    /// where there is no other reason.
     pub fn declare(&mut self, channel: &ChannelDef) -> Result<Declared, DeclareRefused>
         requires { DefFits channel.now }
         ensures answer { DeclaredBy self.old channel.now result self.new }
@@ -332,7 +326,7 @@ impl Desk {
 
 // Offers a message to a buffer.
 #[inline(always)]
-fn offer_message(buffer: &mut Cache, m: &NewMessage<'_>) -> Result<(), OfferRefused>
+fn offer_message(buffer: &mut Cache, m: &NewMessage<'_>) -> Result<(), Full>
     requires { length m.now.payload.now ≤ data_limit }
     ensures { Offered buffer.old (message_of m.now.channel (fields_of_message m.now) ∷ []) result buffer.new }
 {

@@ -14,7 +14,7 @@ use crate::ids::id_of;
 use id_table::Given;
 use mcap_wire::PairsRef;
 use rec_data::{Channel, ChannelDef, Schema, SchemaDef};
-use record_cache::{Cache, OfferRefused, RecRef};
+use record_cache::{Cache, Full, RecRef};
 
 // How many bytes the Schema of a declaration has.
 fn schema_size(schema: &Option<SchemaDef>) -> u64
@@ -75,7 +75,7 @@ fn offer_them(
     buffer: &mut Cache,
     schema: Option<RecRef<'_>>,
     channel: RecRef<'_>,
-) -> Result<u8, OfferRefused>
+) -> Result<u8, Full>
     requires schema { SchemaKept (recs_of schema) (rec_of channel) }
     requires channel { IsKept (rec_of channel) }
     ensures { CountedOffer buffer.old (recs_of schema.entry ++ rec_of channel.entry ∷ []) result buffer.new }
@@ -83,11 +83,11 @@ fn offer_them(
     match schema {
         None => match buffer.offer(channel) {
             Ok(()) => return Ok(1),
-            Err(refused) => return Err(refused),
+            Err(full) => return Err(full),
         },
         Some(schema) => match buffer.offer_two(schema, channel) {
             Ok(()) => return Ok(2),
-            Err(refused) => return Err(refused),
+            Err(full) => return Err(full),
         },
     }
 }
@@ -114,7 +114,7 @@ pub(crate) fn offer_declared(
     channel: &ChannelDef,
     schema: &Option<Given>,
     id: u16,
-) -> Result<u8, OfferRefused>
+) -> Result<u8, Full>
     requires fits { DefFits channel.now }
     requires small { declared_size channel.now ≤ declaration_limit }
     ensures { CountedOffer buffer.old (schema_with channel.now.schema schema.now ++ channel_of id (fields_with channel.now (id_of schema.now)) ∷ []) result buffer.new }

@@ -1,8 +1,7 @@
 //! The ids of a desk: a table of contents, seen as the ids of a history.
-ghost use Rattle.std.specs.Prelude.{◌≡◌, None, Ok, IfOk, OnErr};
-ghost use Rattle.id_table.specs.Given.{Declares};
+ghost use Rattle.std.specs.Prelude.{◌≡◌, None, OnErr};
 ghost use Rattle.record_core.specs.Ids.{channel_place};
-ghost use Rattle.record_core.specs.Tables.{ids_in, HasSchemas, IsIdAt, IdsDeclared, AreLast, TakenBack, number_of, id_of};
+ghost use Rattle.record_core.specs.Tables.{ids_in, HasSchemas, IsIdAt, IdsDeclared, number_of, id_of};
 
 use id_table::{Given, GivenIds, IdRefused, IdTable};
 use rec_data::ChannelDef;
@@ -21,7 +20,6 @@ pub(crate) fn give_ids(table: &mut IdTable, channel: &ChannelDef) -> Result<Give
     requires is_new { channel_place (ids_in table.old) channel.now ≡ None }
     ensures given { IdsDeclared (ids_in table.old) channel.now result (ids_in table.new) }
     ensures schemas { HasSchemas table.new }
-    ensures last { IfOk result (λ given. Declares table.old channel.now given table.new) }
     ensures err { OnErr result (table.new ≡ table.old) }
 {
     let _before = table.schemas();
@@ -29,14 +27,6 @@ pub(crate) fn give_ids(table: &mut IdTable, channel: &ChannelDef) -> Result<Give
     let _schemas = table.schemas();
     let _channels = table.channels();
     given
-}
-
-/// Takes the new ones back of the ids that were given last.
-pub(crate) fn take_ids_back(table: &mut IdTable, given: &GivenIds)
-    requires { AreLast table.old given.now }
-    ensures { TakenBack table.old given.now table.new }
-{
-    table.take_back(given);
 }
 
 /// The id of a schema, or 0 where there is none.

@@ -271,7 +271,7 @@ may_take lone s before channel alone (open_end, known, few, room, small) = recor
 }
 
 pub published : (old new : LoneDesk) (m : NewMessage) (result : Result ℕ PublishRefused) → EndIsLast old.desk
-    → Published old.desk m.channel (fields_of_message m) result new.desk → PublishSteps old.desk m.channel (fields_of_message m) result new.desk
+    → Published old.desk m.channel (fields_of_message m) result new.desk → PublishSteps old.desk m.channel (fields_of_message m) new.desk
     → new.found ≡ looked (found_of old.desk) old.found result → PublishesAlone old new m result
 published old new m (Ok place) last is steps looked s before alone =
     let (open_end, known, few, room, small) = publish_reason old.desk m.channel (length m.payload.now) None is.0 in
@@ -338,15 +338,6 @@ published old new m (Err (publishing.Full h)) last is steps looked s before alon
       refused old new s before (before.fulls ++ full_at found ∷ []) before.lacks (before.reasons ++ for_room (full_at found) ∷ []) alone is.1 looked (with_a_full old s before alone),
       goes_on_same s,
       (found, why.5, finds old s before alone, ap first_of why.0, known_id old.desk.ids m.channel why.3, why.4, why.1, omega (arith, why.2, alone.shows.limit), refl),
-    )
-published old new m (Err publishing.Memory) last is steps looked s before alone =
-    let why = publish_reason old.desk m.channel (length m.payload.now) None is.0 in
-    let found = found_of old.desk in (
-      s,
-      with_found before found,
-      refused old new s before before.fulls before.lacks before.reasons alone is.1 looked (same_shown old s before alone),
-      goes_on_same s,
-      (found, why.4, may_take old s before m.channel alone why, refl),
     )
 
 -- ---- declarations

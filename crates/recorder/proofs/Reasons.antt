@@ -31,7 +31,6 @@ PublishReason d channel len (Some (publishing.Stopped at stop)) = (d.end ≡ Som
 PublishReason d channel len (Some publishing.UnknownChannel) = (d.end ≡ None) × (is_known d.ids channel ≡ false) × (len ≤ 33554432)
 PublishReason d channel len (Some (publishing.TooManyRecords count)) = (d.end ≡ None) × (count ≡ accepted d) × (2 ^ 48 ≤ count) × (is_known d.ids channel ≡ true) × (len ≤ 33554432)
 PublishReason d channel len (Some (publishing.Full h)) = (d.end ≡ None) × (h ≡ held d) × (d.limit ≤ h) × (is_known d.ids channel ≡ true) × (accepted d < 2 ^ 48) × (len ≤ 33554432)
-PublishReason d channel len (Some publishing.Memory) = ⊥
 
 open_full : (d : DeskView) (channel len : ℕ) (b : Bool) → nat_le d.limit (held d) ≡ b → d.end ≡ None → is_known d.ids channel ≡ true → accepted d < 2 ^ 48 → len ≤ 33554432
     → PublishReason d channel len (if b then Some (publishing.Full (held d)) else None)

@@ -47,7 +47,6 @@ published_unfull before after m (Err (publishing.Stopped at stop)) is unfull = f
 published_unfull before after m (Err publishing.UnknownChannel) is unfull = fulls_there is.5
 published_unfull before after m (Err (publishing.TooManyRecords count)) is unfull = fulls_there is.7
 published_unfull before after m (Err (publishing.Full h)) is unfull = absurd (unfull h refl)
-published_unfull before after m (Err publishing.Memory) is unfull = fulls_there is.3
 
 pub declared_unfull : (before after : PassState) (c : ChannelDef) (result : Result Declared DeclareRefused) → DeclaredInto before after c result
     → ((h : ℕ) → result ≡ Err (declaring.Full h) → ⊥) → after.fulls ≡ before.fulls

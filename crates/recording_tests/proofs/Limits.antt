@@ -5,14 +5,12 @@ use Rattle.rec_data.specs.declared.channel.ChannelDef.{ChannelDef}
 use Rattle.mcap_model.specs.Fields.{MessageFields}
 use Rattle.record_core.specs.declared.answers.Declared.{Declared}
 use Rattle.record_core.specs.declared.answers.PublishRefused.{PublishRefused}
-use Rattle.record_core.specs.declared.answers.PublishRefused.TheVariants as publishing
 use Rattle.record_core.specs.declared.answers.DeclareRefused.{DeclareRefused}
 use Rattle.record_core.specs.declared.answers.DeclareRefused.TheVariants as declaring
 use Rattle.record_core.specs.Desk.{DeskView, Published, DeclaredBy}
 
 pub published_limit : (d : DeskView) (channel : ℕ) (m : MessageFields) (result : Result ℕ PublishRefused) (after : DeskView) → Published d channel m result after → after.limit ≡ d.limit
 published_limit d channel m (Ok place) after is = ap (λ (x : DeskView). x.limit) is.2
-published_limit d channel m (Err publishing.Memory) after is = ap (λ (x : DeskView). x.limit) is.1
 published_limit d channel m (Err refusal) after is = ap (λ (x : DeskView). x.limit) is.1
 
 pub declared_limit : (d : DeskView) (c : ChannelDef) (result : Result Declared DeclareRefused) (after : DeskView) → DeclaredBy d c result after → after.limit ≡ d.limit

@@ -1,4 +1,4 @@
-//! Walks over the records of a buffer.
+//! Walks over the records of a buffer, and one that is full.
 ghost use Rattle.std.specs.Prelude.{◌≤◌, length};
 ghost use Rattle.rec_data.specs.Owned.{rec_bytes};
 ghost use Rattle.record_cache.specs.Buffers.{IsKept};
@@ -89,6 +89,20 @@ fn takes_three(alloc: Global, cache: &mut Cache) -> Result<bool, Fail> {
     let are_taken = cache.offer_two(schema(), channel()) == Ok(())
         && cache.offer(message()) == Ok(());
     Ok(are_taken && are_walked(alloc, cache)?)
+}
+
+// Whether an empty buffer with a limit of one byte takes a record, and no second one.
+fn takes_one(cache: &mut Cache) -> bool {
+    let is_taken = cache.offer(channel()) == Ok(());
+    is_taken && cache.offer(message()) == Err(Full { held: 27 }) && cache.count() == 1
+}
+
+#[test]
+fn a_buffer_that_holds_its_limit_is_full(rt: HostRuntime) -> Result<(), Fail> {
+    let mut cache = Cache::new(rt.alloc(), 1)?;
+    let is_so = takes_one(&mut cache);
+    holds(&rt, is_so);
+    Ok(())
 }
 
 #[test]

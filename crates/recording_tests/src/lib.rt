@@ -1,4 +1,4 @@
-//! What a recording is made of, where no whole run shows it: ids, buffers, desks, blocks, summaries, files, lanes and reports.
+//! What a recording is made of, where no whole run shows it: ids, regions, buffers, desks, blocks, summaries, files, lanes and reports.
 #![tactic(auto)]
 
 #[cfg(test)]
@@ -15,6 +15,8 @@ mod ids;
 mod index_tables;
 #[cfg(test)]
 mod lanes;
+#[cfg(test)]
+mod regions;
 #[cfg(test)]
 mod same;
 #[cfg(test)]

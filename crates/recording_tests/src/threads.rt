@@ -1,4 +1,5 @@
 //! What may cross threads.
+use byte_region::Region;
 use chunk_build::Chunker;
 use id_table::IdTable;
 use record_cache::Cache;
@@ -12,6 +13,7 @@ fn parts_of_a_recording_cross_threads() {
     crosses::<IdTable>();
     crosses::<Chunker>();
     crosses::<Summary>();
+    crosses::<Region>();
     crosses::<Cache>();
     crosses::<Desk>();
 }

@@ -2,7 +2,7 @@ use Rattle.std.proofs.Common.{refl}
 use Rattle.mcap_model.proofs.Places.{at_within}
 use Rattle.feed_lane.specs.Lanes.{messages}
 use Rattle.feed_lane.specs.Steps.{lists_of}
-use Rattle.feed_lane.proofs.Growing.{may_declare}
+use Rattle.feed_lane.proofs.Growing.{may_declare, undeclared_yet}
 use Rattle.feed_lane.proofs.Calls.{unchanged, memory_tried}
 use Rattle.feed_lane.proofs.lane.Lane.declare.Goals as goal
 
@@ -17,7 +17,7 @@ returns-in-Err-clause-found g c = λ begun before since. (
     stands = may_declare records handled c.args.self.now.ids (lists_of c.args.self.now) before stands;
     refusal = unchanged records handled before;
     some = at_within (messages records) handled on.top on.at;
-    tried = memory_tried records c.args.self.now.declared.items handled;
+    tried = memory_tried records c.args.self.now.declared.items handled (undeclared_yet records handled c.args.source c.args.self.now.declared.items c.args.self.now.ids stands.ids_stand none on);
   },
 )
 

@@ -4,7 +4,7 @@ use Rattle.feed_lane.specs.declared.report.DeclaredAt.{DeclaredAt}
 use Rattle.feed_lane.specs.declared.report.Cause.{Cause}
 use Rattle.feed_lane.specs.Lanes.{messages, IsTried}
 use Rattle.feed_lane.specs.Steps.{lists_of, HasId, ListsStand, IsRefusal, declare_cause}
-use Rattle.feed_lane.proofs.Growing.{may_declare}
+use Rattle.feed_lane.proofs.Growing.{may_declare, undeclared_yet}
 use Rattle.feed_lane.proofs.Declaring.{IsNew, declared_stands, new_has_id}
 use Rattle.feed_lane.proofs.Calls.{some_id, declare_refused, declare_tried, declared_limit}
 use Rattle.feed_lane.proofs.lane.Lane.declare_as.Goals as goal
@@ -57,6 +57,6 @@ returns-in-Err-clause-found g c = λ begun before since.
             (declare_refused records handled before after content c.in-Err.refusal (record { source = c.args.source; on = on; describes = describes }) shown.2);
         some = at_within (messages records) handled on.top on.at;
         tried = subst (λ (k : Cause). IsTried records c.args.self.now.declared.items (record { index = handled; cause = k })) (sym cause)
-            (declare_tried records handled c.args.self.now.declared.items before after content c.in-Err.refusal (record { source = c.args.source; on = on; describes = describes }) shown.2);
+            (declare_tried records handled c.args.self.now.declared.items before after content c.in-Err.refusal (undeclared_yet records handled c.args.source c.args.self.now.declared.items c.args.self.now.ids stands.ids_stand none on) (record { source = c.args.source; on = on; describes = describes }) shown.2);
       },
     )

@@ -2,9 +2,6 @@ use Rattle.std.proofs.Common.{◌<◌, subst, sym, rules, arith}
 use Rattle.record_core.specs.Desk.{DeskView, held}
 use Rattle.record_core.proofs.desk.Desk.give.Goals as goal
 
-pub returns-in-Err-Memory-offer_declared : goal.returns-in-Err-Memory-offer_declared
-returns-in-Err-Memory-offer_declared c = search rules
-
 pub returns-in-Err-TooManySchemas : goal.returns-in-Err-TooManySchemas
 returns-in-Err-TooManySchemas c = search rules
 
@@ -31,6 +28,5 @@ offer_declared-requires-clause-small c = search rules
 
 pub unreachable-requires : goal.unreachable-requires
 unreachable-requires c =
-    let full = rw c.in-Err-Full.field-0-is at c.in-Err-Full.ensures in
     let room = subst (λ (d : DeskView). held d < d.limit) (sym c.self.view_is) c.requires.is_open.room in
-    omega (arith, full.0, room)
+    omega (arith, c.in-Err.ensures.0, room)
