@@ -25,7 +25,7 @@ use Rattle.feed_lane.specs.Lanes.{EndsWith as IntakeEnds, CauseFits}
 use Rattle.feed_lane.specs.Feeds.{FeedEnds, TakesMessages}
 use Rattle.recorder.specs.declared.options.RecordOptions.{RecordOptions}
 use Rattle.recorder.specs.declared.report.Report.{Report}
-use Rattle.recorder.specs.Shown.{ShownBy}
+use Rattle.buffer_swap.specs.Shown.{ShownBy}
 use Rattle.recorder.specs.Recorded.{IsOnlyFeed, answer_of}
 use Rattle.command_base.specs.declared.faults.Counts.{Counts}
 use Rattle.command_base.specs.Texts.{halt_status}

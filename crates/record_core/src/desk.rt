@@ -77,8 +77,8 @@ impl Desk {
         }
     }
 
-    // From how many bytes on the buffer is full.
-    pub(crate) fn limit(&self) -> u64
+    /// From how many bytes on the buffer is full.
+    pub fn limit(&self) -> u64
         ensures limit { result ≡ self.now.limit }
         ensures small { result ≤ buffer_limit }
     {

@@ -27,14 +27,14 @@ use Rattle.feed_lane.specs.Feeds.{reported, Reports}
 use Rattle.recorder.specs.declared.lone.LoneDesk.{LoneDesk}
 use Rattle.recorder.specs.declared.report.Report.{Report}
 use Rattle.recorder.specs.declared.report.WriterReport.{WriterReport}
-use Rattle.recorder.specs.Shown.{ShownBy}
+use Rattle.buffer_swap.specs.Shown.{ShownBy}
 use Rattle.recorder.specs.Assembled.{LanePart, LanePartStands}
 use Rattle.recorder.specs.Recorded.{lane_of, answer_of}
 use Rattle.recorder.specs.Lone.{FoundBefore, IsAlone}
 use Rattle.recorder.specs.Writing.{Continues}
 use Rattle.recorder.specs.Intakes.{beside, taken_of, EndsAs, IsIntake}
 use Rattle.recorder.specs.Onto.{IsWritten, IsReported}
-use Rattle.recorder.proofs.Growing.{placed_at, placed_there}
+use Rattle.buffer_swap.proofs.Growing.{placed_at, placed_there}
 use Rattle.recorder.proofs.Publishing.{parts}
 use Rattle.recorder.proofs.Draining.{continues_on, continues_same}
 use Rattle.recorder.proofs.Handing.{ended_stands}

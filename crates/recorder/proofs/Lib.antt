@@ -1,6 +1,4 @@
 mod Growing
-mod Reasons
-mod Numbers
 mod Publishing
 mod Draining
 mod Rooms
@@ -9,7 +7,6 @@ mod Ending
 mod Filing
 pub mod ReadBack
 pub mod Validity
-mod NumberedOnce
 mod AgreedFields
 pub mod OneHistory
 mod OneFeed

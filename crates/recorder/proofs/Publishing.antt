@@ -28,11 +28,12 @@ use Rattle.record_core.proofs.Numbering.{HasContents}
 use Rattle.record_core.proofs.Searches.{schemas_counted, channels_counted, channels_more}
 use Rattle.feed_lane.specs.Pass.{FullAt, Reason, for_size, for_close, for_stop, for_channel, for_count, for_room, for_id, PassState, placed_from, Finds, full_at, with_found, with_refused, with_reason, with_full, with_lack, with_declared, message_record, MayTake, HasPlace, IsUnnamed, AreAdded, GetsId}
 use Rattle.recorder.specs.declared.lone.LoneDesk.{LoneDesk}
-use Rattle.recorder.specs.Shown.{ChannelStands, IdsLack, HeldThere, FoundThere}
+use Rattle.buffer_swap.specs.Shown.{ChannelStands, IdsLack, HeldThere, FoundThere}
 use Rattle.recorder.specs.Lone.{FoundBefore, Showing, IsAlone, GoesOn, looked, looked_in, PublishesAlone, DeclaresAlone}
-use Rattle.recorder.proofs.Growing.{placed_at, placed_more, Spares, channel_stands_on, lacks_on, held_there_on, found_there_on}
-use Rattle.recorder.proofs.Reasons.{PublishReason, HasRecords, publish_reason, declare_reason, narrow}
-use Rattle.recorder.proofs.Numbers.{message_spares, declared_spares, declared_stands, declared_id, are_added, lacking_schemas, lacks_schema, lacks_channel, stands_nowhere, gets_id}
+use Rattle.buffer_swap.proofs.Growing.{placed_at, placed_more, channel_stands_on, lacks_on, held_there_on, found_there_on}
+use Rattle.buffer_swap.specs.Shown.{Spares}
+use Rattle.buffer_swap.proofs.Reasons.{PublishReason, HasRecords, publish_reason, declare_reason, narrow}
+use Rattle.buffer_swap.proofs.Numbers.{message_spares, declared_spares, declared_stands, declared_id, are_added, lacking_schemas, lacks_schema, lacks_channel, stands_nowhere, gets_id}
 
 -- ---- a desk and its state
 

@@ -12,7 +12,7 @@ use Rattle.record_core.specs.declared.answers.PublishRefused.{PublishRefused}
 use Rattle.record_core.specs.declared.answers.PublishRefused.TheVariants as publishing
 use Rattle.feed_lane.specs.Pass.{PassState, PublishedBy, DeclaredInto}
 use Rattle.recorder.specs.Lone.{HasRoom}
-use Rattle.recorder.proofs.Reasons.{publish_reason, declare_reason}
+use Rattle.buffer_swap.proofs.Reasons.{publish_reason, declare_reason}
 
 -- ---- calls
 

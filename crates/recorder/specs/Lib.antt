@@ -1,4 +1,3 @@
-pub mod Shown
 pub mod Assembled
 pub mod Recorded
 pub mod Lone

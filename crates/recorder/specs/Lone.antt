@@ -17,7 +17,7 @@ use Rattle.record_core.specs.declared.answers.NewMessage.{NewMessage}
 use Rattle.record_core.specs.declared.answers.PublishRefused.{PublishRefused}
 use Rattle.record_core.specs.declared.answers.PublishRefused.TheVariants as publishing
 use Rattle.feed_lane.specs.Pass.{PassState, placed_from, IsLater, PublishedBy, DeclaredInto}
-use Rattle.recorder.specs.Shown.{ChannelStands, IdsLack, HeldThere, FoundThere}
+use Rattle.buffer_swap.specs.Shown.{ChannelStands, IdsLack, HeldThere, FoundThere}
 use Rattle.recorder.specs.declared.lone.LoneDesk.{LoneDesk}
 
 -- The desk was found so, and has but grown since. Where an end stood, which isn't that it was closed, nothing was accepted

@@ -25,3 +25,5 @@ mod scribes;
 mod summaries;
 #[cfg(test)]
 mod threads;
+#[cfg(test)]
+mod turns;

@@ -17,10 +17,9 @@ use Rattle.record_core.proofs.Numbering.{HasContents, schema_at, channel_at}
 use Rattle.record_core.proofs.Searches.{found, not_found, schema_own, schema_same, channel_own, channel_same, schemas_counted, channels_counted, schemas_more, channels_more, schema_content, channel_content}
 use Rattle.record_core.specs.Desk.{DeskView, found_of}
 use Rattle.feed_lane.specs.Pass.{PassState, AreAdded, GetsId}
-use Rattle.recorder.specs.Shown.{SchemaStands, ChannelStands, LacksSchema, LacksChannel}
-use Rattle.recorder.proofs.Growing.{Spares}
-use Rattle.recorder.proofs.Reasons.{MayHave}
-use Rattle.recorder.proofs.NumberedOnce.{schema_id_one}
+use Rattle.buffer_swap.specs.Shown.{SchemaStands, ChannelStands, LacksSchema, LacksChannel, Spares}
+use Rattle.buffer_swap.proofs.Reasons.{MayHave}
+use Rattle.buffer_swap.proofs.NumberedOnce.{schema_id_one}
 
 -- ---- numbers
 

@@ -1,0 +1,765 @@
+-- Each step keeps the rule.
+use Rattle.std.proofs.Common.{◌≡◌, ◌≢◌, ℕ, zero, suc, ◌+◌, ◌%◌, ◌^◌, ◌≤◌, eqb, Bool, true, false, List, [], ◌∷◌, ◌++◌, length, get_or, set, take, Option, Some, None, sym, refl, ap, ◌∙◌, subst, ⊎_elim, arith, length-set, get_or-set_other, get_or-set_same, true≢false}
+use mathlib.Core.Option.{some, none, some-injective, some-ne-none}
+use mathlib.Core.Logic.{dite}
+use native.Mathlib.Decide.{ℕ_discrete}
+use lib.ListN.{get_elem?}
+use lib.Seq.{set-get_or}
+use prog.Atomic.{either}
+use Rattle.std.proofs.lemmas.List.{take_all, take-append-drop}
+use Rattle.std.proofs.lemmas.Option.{same_Some, none-some}
+use Rattle.std.proofs.Math.Seq.{drop-append_seam}
+use Rattle.atomic_table.specs.Table.{State as TableState, step, keeps, takes, gives, carried_after, stepped, Act, Valid, Allows, Splits, Joins, opening}
+use Rattle.atomic_table.proofs.Lists.{at_set, at_snoc, at_longer, set_here, set_else, exchanged}
+use Rattle.rec_data.specs.declared.owned.Rec.{Rec}
+use Rattle.rec_data.specs.declared.channel.ChannelDef.{ChannelDef}
+use Rattle.mcap_model.specs.declared.ends.End.{End}
+use Rattle.mcap_model.specs.declared.ends.End.TheVariants.{Closed, Stopped}
+use Rattle.mcap_model.specs.declared.ends.Stop.{Stop}
+use Rattle.mcap_model.specs.Places.{At, Each}
+use Rattle.mcap_model.specs.History.{Numbered}
+use Rattle.mcap_model.proofs.Places.{at_none}
+use Rattle.mcap_model.proofs.Lists.{at_second, each_joined}
+use Rattle.mcap_model.proofs.OneMore.{each_last}
+use Rattle.record_core.specs.Ids.{channels_in}
+use Rattle.record_core.specs.Desk.{DeskView, new_desk, accepted, added, swapped, ended, end_or, first_of, end_of, found_of, EndIsLast}
+use Rattle.record_core.specs.Machine.{State, start, accept, end_with}
+use Rattle.record_core.specs.Stands.{DeskStandsFor}
+use Rattle.record_core.specs.declared.answers.DeclareRefused.{DeclareRefused}
+use Rattle.record_core.proofs.Searches.{schemas_counted, channels_counted}
+use Rattle.feed_lane.specs.Pass.{PassState, placed_from, with_found, full_at}
+use Rattle.buffer_swap.specs.Weights.{total, one_if}
+use Rattle.buffer_swap.specs.Shown.{ChannelStands, IdsLack, HeldThere, FoundThere, ShownTo}
+use Rattle.buffer_swap.specs.Posts.{Post, no_post, first_post, drain_post, publisher_post, note_post}
+use Rattle.buffer_swap.specs.Turns.{view, newcomer, nobody, has_turn, is_drain, ids, weigh, FoundFits, PassFits, IsFront, NoteFits, Fits, World, Wired, Kept}
+use Rattle.buffer_swap.specs.Plays.{Sat, HasDesk, IsIdle, missing, took, fresh, MayCount, counts, counted, hands_over, handed_over, shuts, closes, closed, stop_in, stops, stopped, frees as frees_view, freed, same_pass, with_full_hand, with_name, with_lacking, NamedAt, LacksAt, starts, drainer, hires, hired, gathers, noted, reads, settled, met}
+use Rattle.buffer_swap.specs.declared.view.View.{View}
+use Rattle.buffer_swap.proofs.Sums.{total-append, total-set, term_le, terms_le, total-alone, set_at}
+use Rattle.buffer_swap.proofs.Growing.{placed_at, placed_more}
+use Rattle.buffer_swap.proofs.Desks.{parts, full_there, found_there, all_taken, swapped_stands, ended_stands}
+use Rattle.buffer_swap.proofs.Fitting.{no, later_swapped, later_ended, found_self, pass_later, fits_none, note_later, note_none, view_grown, view_later}
+
+abbrev St : Type 0
+St = TableState DeskView View
+
+abbrev board : List ℕ → List (mathlib.Core.Option.Option DeskView) → List View → St
+board ws hs vs = record { words = ws; homes = hs; views = vs }
+
+has : (v : View) → v.holds ≡ true → has_turn v ≡ 1
+has v e = ap one_if e
+
+has_not : (v : View) → v.holds ≡ false → has_turn v ≡ 0
+has_not v e = ap one_if e
+
+-- the first seat's post is the head
+heads : (t : St) (k : Kept t) (id : ℕ) (v : View) → get_elem? t.views id ≡ some v → id ≡ 0 → v.post ≡ k.head
+heads t k id v me z = let c = k.first in ap (λ (x : View). x.post) (some-injective v c.0 (sym me ∙ (ap (λ (i : ℕ). get_elem? t.views i) z ∙ c.1))) ∙ c.2
+
+-- a step of the seat id
+moved : (t : St) (k : Kept t) (id : ℕ) (v w : View) (ws : List ℕ) (hs : List (mathlib.Core.Option.Option DeskView)) (s : State) (d : DeskView) (head : Post) (halt : Option Stop) → get_elem? t.views id ≡ some v
+    → World s d head halt → Wired ws hs d → has_turn w + get_or t.words 0 0 ≡ has_turn v + get_or ws 0 0
+    → Fits s.history d halt w → ((j : ℕ) (u : View) → j ≢ id → get_elem? t.views j ≡ some u → Fits s.history d halt u)
+    → (id ≡ 0 → w.post ≡ head) → (id ≢ 0 → k.head ≡ head) → (w.post.controls ≡ true → id ≡ 0)
+    → ids w + k.head.made ≡ ids v + head.made → is_drain w + one_if k.head.started ≡ is_drain v + one_if head.started
+    → ((h : ℕ × Rec → ℕ) → weigh h w + total h (placed_from 0 k.s.history) ≡ weigh h v + total h (placed_from 0 s.history))
+    → Kept (board ws hs (set t.views id w))
+moved t k id v w ws hs s d head halt me world wired holds mine others here there controls made drains pairs = record {
+  s = s;
+  d = d;
+  head = head;
+  halt = halt;
+  world = world;
+  wired = wired;
+  holders = omega (arith, total-set has_turn t.views id v w me, k.holders, holds);
+  each = λ j u e. ⊎_elim (λ x. subst (Fits s.history d halt) x.1 mine) (λ x. others j u x.0 x.1) (at_set t.views id j w u e);
+  first = dite (ℕ_discrete 0 id)
+      (λ z. (w, ap (λ (i : ℕ). get_elem? (set t.views id w) i) z ∙ set_at t.views id v w me, here (sym z)))
+      (λ nz. (k.first.0, set_else t.views id 0 w nz ∙ k.first.1, k.first.2 ∙ there (λ z. nz (sym z))));
+  controls = λ j u e c. ⊎_elim (λ (x : (j ≡ id) × (w ≡ u)). x.0 ∙ controls (ap (λ (y : View). y.post.controls) x.1 ∙ c)) (λ x. k.controls j u x.1 c) (at_set t.views id j w u e);
+  made = omega (arith, total-set ids t.views id v w me, k.made, made);
+  drains = omega (arith, total-set is_drain t.views id v w me, k.drains, drains);
+  pairs = λ h. omega (arith, total-set (weigh h) t.views id v w me, k.pairs h, pairs h);
+}
+
+abbrev Goes : St → ℕ → ℕ → Sat → (ℕ → Sat → Type 0) → ℕ → Type 0
+Goes t i id m then n = (w : View) × (a : Act DeskView) × Valid t.homes m.1 a × Kept (stepped t i n id m.1 w a) × then (get_or t.words i 0) (w, carried_after m.1 a)
+
+-- what is so of a pass that looks at the desk
+looked : (s : State) (d : DeskView) (p : PassState) → DeskStandsFor d s → PassFits s.history d p → PassFits s.history d (with_found p (found_of d))
+looked s d p stands fits = record {
+  own = fits.own;
+  named = fits.named;
+  named_ids = fits.named_ids;
+  fulls = fits.fulls;
+  lacks = fits.lacks;
+  found = λ f is. subst (FoundFits d) (same_Some _ _ is) (found_self d);
+  there = λ f is. subst (FoundThere s.history) (same_Some _ _ is) (found_there d s stands);
+  limit = fits.limit;
+}
+
+-- 1 and 2
+pub takes_turn : (n id : ℕ) (m : Sat) → IsIdle m → Allows Kept n id m 0 (λ y. either (eqb y 0) 1 y) (took (step n 0 0 1 none) m)
+takes_turn n id m idle t k wide me _ = let x : ℕ = get_or t.words 0 0 in let long = k.wired.wide in let near = k.wired.homes_one in let off = has_not m.0 idle.holds in let most = k.wired.turn in let f = k.each id m.0 me in
+    exchanged x 0 1 (Goes t 0 id m (took (step n 0 0 1 none) m))
+    (λ hit. let d = k.d in let w : View = view true d m.0.missed (with_found m.0.pass (found_of d)) m.0.post in let same = get_or-set_same t.words 0 1 0 (omega arith) in (
+      w,
+      takes 0 d,
+      k.wired.free hit,
+      moved t k id m.0 w (set t.words 0 1) (set t.homes 0 none) k.s d k.head k.halt me k.world
+          record {
+            wide = length-set t.words 0 1 ∙ long;
+            homes_one = length-set t.homes 0 none ∙ near;
+            turn = omega arith;
+            free = λ e. absurd (omega arith);
+            out = λ _. set_here t.homes 0 none (omega arith);
+          }
+          (omega arith)
+          record { hand = λ _. refl; pass = λ e. looked k.s d m.0.pass k.world.stands (f.pass e); known = f.known; note = f.note; drains = f.drains; idle = f.idle } (λ j u _ e. k.each j u e)
+          (heads t k id m.0 me) (λ _. refl) (k.controls id m.0 me) (omega arith) (omega arith) (λ h. refl),
+      (
+        (λ _. (
+          record {
+            d = d;
+            missed = m.0.missed;
+            is = ap (λ (l : List (ℕ × DeskView)). (w, (0, d) ∷ l)) idle.out;
+            stood = λ e. record { s = k.s; stands = k.world.stands; last = k.world.last; fits = f.pass e };
+            drained = λ e. (f.drains e).0;
+          },
+          refl,
+        )),
+        λ miss. absurd (miss hit),
+      ),
+    ))
+    (λ miss. let w : View = missing m.0 in let same = set-get_or t.words 0 0 in let at = ap (λ (ws : List ℕ). get_or ws 0 0) same in (
+      w,
+      keeps,
+      tt,
+      moved t k id m.0 w (set t.words 0 x) t.homes k.s k.d k.head k.halt me k.world
+          record { wide = length-set t.words 0 x ∙ long; homes_one = near; turn = omega arith; free = λ e. absurd (miss (sym at ∙ e)); out = λ e. k.wired.out (sym at ∙ e) }
+          (omega arith)
+          record { hand = λ e. no e; pass = f.pass; known = f.known; note = f.note; drains = f.drains; idle = f.idle } (λ j u _ e. k.each j u e)
+          (heads t k id m.0 me) (λ _. refl) (k.controls id m.0 me) (omega arith) (omega arith) (λ h. refl),
+      ((λ hit. absurd (miss hit)), λ _. refl),
+    ))
+
+-- 8, with what the pass shows then
+frees : (n id : ℕ) (v : View) (d : DeskView) (c : View → PassState) → v.holds ≡ true → d ≡ v.hand
+    → ((s : State) → DeskStandsFor v.hand s → PassFits s.history v.hand v.pass → PassFits s.history v.hand (c v)) → (c v).own ≡ v.pass.own
+    → Allows Kept n id (v, (0, d) ∷ []) 0 (λ _. 0) (λ _. freed c (step n 0 0 0 none) (v, (0, d) ∷ []) 0)
+frees n id v d c holds is learns own t k wide me _ = let x : ℕ = get_or t.words 0 0 in let long = k.wired.wide in let near = k.wired.homes_one in let most = k.wired.turn in
+    let busy = has v holds in let part = term_le has_turn t.views id v me in let all = k.holders in let f = k.each id v me in
+    let w : View = frees_view v (c v) in let same = get_or-set_same t.words 0 0 0 (omega arith) in let hand : v.hand ≡ k.d = f.hand holds in let desk : d ≡ k.d = is ∙ hand in
+    let told : PassFits k.s.history v.hand v.pass → PassFits k.s.history v.hand (c v) = learns k.s (subst (λ (z : DeskView). DeskStandsFor z k.s) (sym hand) k.world.stands) in (
+      w,
+      gives,
+      tt,
+      moved t k id v w (set t.words 0 0) (set t.homes 0 (some d)) k.s k.d k.head k.halt me k.world
+          record {
+            wide = length-set t.words 0 0 ∙ long;
+            homes_one = length-set t.homes 0 (some d) ∙ near;
+            turn = omega arith;
+            free = λ _. set_here t.homes 0 (some d) (omega arith) ∙ ap (λ (y : DeskView). some (some y)) desk;
+            out = λ e. absurd (omega arith);
+          }
+          (omega arith)
+          record {
+            hand = λ e. no e;
+            pass = λ e. subst (λ (z : DeskView). PassFits k.s.history z (c v)) hand (told (subst (λ (z : DeskView). PassFits k.s.history z v.pass) (sym hand) (f.pass e)));
+            known = f.known;
+            note = f.note;
+            drains = f.drains;
+            idle = λ z. (own ∙ (f.idle z).0, (f.idle z).1);
+          }
+          (λ j u _ e. k.each j u e)
+          (heads t k id v me) (λ _. refl) (k.controls id v me) (omega arith) (omega arith) (λ h. omega (arith, ap (total h) own)),
+      refl,
+    )
+
+frees_as : (n id : ℕ) (m : Sat) (c : View → PassState) → HasDesk m
+    → ((s : State) → DeskStandsFor m.0.hand s → PassFits s.history m.0.hand m.0.pass → PassFits s.history m.0.hand (c m.0)) → (c m.0).own ≡ m.0.pass.own
+    → Allows Kept n id m 0 (λ _. 0) (λ _. freed c (step n 0 0 0 none) m 0)
+frees_as n id m c desk learns own = subst (λ (l : List (ℕ × DeskView)). Allows Kept n id (m.0, l) 0 (λ _. 0) (λ _. freed c (step n 0 0 0 none) (m.0, l) 0)) (sym desk.out) (frees n id m.0 m.0.hand c desk.holds refl learns own)
+
+pub frees_turn : (n id : ℕ) (m : Sat) → HasDesk m → Allows Kept n id m 0 (λ _. 0) (λ _. freed same_pass (step n 0 0 0 none) m 0)
+frees_turn n id m desk = frees_as n id m same_pass desk (λ s stands fits. fits) refl
+
+pub frees_full : (n id : ℕ) (m : Sat) → HasDesk m → Allows Kept n id m 0 (λ _. 0) (λ _. freed with_full_hand (step n 0 0 0 none) m 0)
+frees_full n id m desk = let d = m.0.hand in frees_as n id m with_full_hand desk
+    (λ s stands fits. record {
+      own = fits.own;
+      named = fits.named;
+      named_ids = fits.named_ids;
+      fulls = each_last (HeldThere s.history) m.0.pass.fulls (full_at (found_of d)) fits.fulls (full_there d s stands);
+      lacks = fits.lacks;
+      found = fits.found;
+      there = fits.there;
+      limit = fits.limit;
+    }) refl
+
+pub frees_named : (n id : ℕ) (m : Sat) (pair : ℕ × ChannelDef) → HasDesk m → NamedAt m.0.hand pair → Allows Kept n id m 0 (λ _. 0) (λ _. freed (with_name pair) (step n 0 0 0 none) m 0)
+frees_named n id m pair desk named = let d = m.0.hand in frees_as n id m (with_name pair) desk
+    (λ s stands fits. let there = named s stands in let p = parts d s stands in record {
+      own = fits.own;
+      named = each_last (λ (x : ℕ × ChannelDef). ChannelStands s.history x.0 x.1) m.0.pass.named pair fits.named there.0;
+      named_ids = each_last (λ (x : ℕ × ChannelDef). (1 ≤ x.0) × (x.0 ≤ length (channels_in s.history))) m.0.pass.named pair fits.named_ids (there.1, omega (arith, there.2, ap length p.contents.channels));
+      fulls = fits.fulls;
+      lacks = fits.lacks;
+      found = fits.found;
+      there = fits.there;
+      limit = fits.limit;
+    }) refl
+
+pub frees_lacking : (n id : ℕ) (m : Sat) (pair : ChannelDef × DeclareRefused) → HasDesk m → LacksAt m.0.hand pair → Allows Kept n id m 0 (λ _. 0) (λ _. freed (with_lacking pair) (step n 0 0 0 none) m 0)
+frees_lacking n id m pair desk lacks = frees_as n id m (with_lacking pair) desk
+    (λ s stands fits. record {
+      own = fits.own;
+      named = fits.named;
+      named_ids = fits.named_ids;
+      fulls = fits.fulls;
+      lacks = each_last (λ (x : ChannelDef × DeclareRefused). IdsLack s.history x.0 x.1) m.0.pass.lacks pair fits.lacks (lacks s stands);
+      found = fits.found;
+      there = fits.there;
+      limit = fits.limit;
+    }) refl
+
+by_bool : (X : Type 0) (b : Bool) → (b ≡ true → X) → (b ≡ false → X) → X
+by_bool X true f g = f refl
+by_bool X false f g = g refl
+
+-- an event of the seat that holds the turn: word 1 rises, and the desk, the history and its view change
+event : (t : St) (k : Kept t) (id : ℕ) (v w : View) (y : ℕ) (s : State) (d : DeskView) (head : Post) (halt : Option Stop) → get_elem? t.views id ≡ some v → v.holds ≡ true → w.holds ≡ true
+    → World s d head halt → Fits s.history d halt w → ((u : View) (j : ℕ) → j ≢ id → get_elem? t.views j ≡ some u → u.holds ≡ false → Fits k.s.history k.d k.halt u → Fits s.history d halt u)
+    → (id ≡ 0 → w.post ≡ head) → (id ≢ 0 → k.head ≡ head) → (w.post.controls ≡ true → id ≡ 0)
+    → ids w + k.head.made ≡ ids v + head.made → is_drain w + one_if k.head.started ≡ is_drain v + one_if head.started
+    → ((h : ℕ × Rec → ℕ) → weigh h w + total h (placed_from 0 k.s.history) ≡ weigh h v + total h (placed_from 0 s.history))
+    → Kept (board (set t.words 1 y) t.homes (set t.views id w))
+event t k id v w y s d head halt me holds still world mine others here there controls made drains pairs =
+    let other = get_or-set_other t.words 1 0 y 0 (λ e. omega arith) in let busy = has v holds in let now = has w still in let part = term_le has_turn t.views id v me in let all = k.holders in let most = k.wired.turn in
+    moved t k id v w (set t.words 1 y) t.homes s d head halt me world
+    record { wide = length-set t.words 1 y ∙ k.wired.wide; homes_one = k.wired.homes_one; turn = omega arith; free = λ e. absurd (omega arith); out = λ e. k.wired.out (sym other ∙ e) }
+    (omega arith) mine
+    (λ j u apart e. others u j apart e (by_bool _ u.holds (λ yes_turn. absurd (omega (arith, has u yes_turn, terms_le has_turn t.views id j v u apart me e))) (λ no_turn. no_turn)) (k.each j u e))
+    here there controls made drains pairs
+
+-- pairs of records that stand behind a history
+placed_behind : (history records : List Rec) (n : ℕ) → n ≡ length history → Each (λ (pair : ℕ × Rec). At (history ++ records) pair.0 pair.1) (placed_from n records)
+placed_behind history records n same j pair at =
+    let there = placed_at n records j pair at in
+    let place : length history + j ≡ pair.0 = omega (arith, there.0, same) in
+    subst (λ (i : ℕ). At (history ++ records) i pair.1) place (at_second history records j pair.1 there.1)
+
+none_unended : (d : DeskView) → d.end ≡ None → (e : End) → end_of d ≡ Some e → ⊥
+none_unended d unended e is = none-some e (sym (ap first_of unended) ∙ is)
+
+-- 4
+counts_records : (n id : ℕ) (v : View) (records : List Rec) → v.holds ≡ true → MayCount v.hand records (added v.hand records) → ids v ≢ 0 → let d = added v.hand records in
+    Allows Kept n id (v, (0, d) ∷ []) 1 (λ y. (y + 1) % 2 ^ 64) (counted (step n 1 1 0 none) (v, (0, d) ∷ []))
+counts_records n id v records holds may named t k wide me _ = let hand = v.hand in let d = added hand records in let f = k.each id v me in let is : hand ≡ k.d = f.hand holds in
+    let history = k.s.history ++ records in let s : State = accept 0 records k.s in let w : View = counts v d in
+    let stands : DeskStandsFor hand k.s = subst (λ (z : DeskView). DeskStandsFor z k.s) (sym is) k.world.stands in let p = parts hand k.s stands in
+    let new : fresh hand d ≡ records = drop-append_seam hand.primary records in
+    let spares = may.spares k.s stands in
+    let unended = may.unended in
+    let pass : v.post.seated ≡ true → PassFits k.s.history hand v.pass = λ e. subst (λ (z : DeskView). PassFits k.s.history z v.pass) (sym is) (f.pass e) in
+    let idle_view : View = view false v.hand v.missed v.pass v.post in
+    let was : Fits k.s.history hand k.halt idle_view = subst (λ (z : DeskView). Fits k.s.history z k.halt idle_view) (sym is)
+    record { hand = λ e. no e; pass = f.pass; known = f.known; note = f.note; drains = f.drains; idle = f.idle } in
+    let g : Fits history d k.halt idle_view = view_grown k.s.history records hand k.halt idle_view unended spares refl was in
+    let more = subst (λ (l : List Rec). Each (λ (pair : ℕ × Rec). At history pair.0 pair.1) (placed_from (accepted hand) l)) (sym new) (placed_behind k.s.history records (accepted hand) p.count) in (
+      w,
+      keeps,
+      tt,
+      event t k id v w ((get_or t.words 1 0 + 1) % 2 ^ 64) s d k.head k.halt me holds refl
+          record {
+            stands = may.stands k.s stands;
+            last = λ e at end. absurd (none-some _ (sym unended ∙ end));
+            controls = k.world.controls;
+            unstarted = λ e. (ap (λ (z : DeskView). z.taken) is ∙ (k.world.unstarted e).0, (k.world.unstarted e).1);
+            closed = λ e. absurd (none_unended hand unended Closed e);
+            halted = λ stop e. absurd (none_unended hand unended (Stopped stop) e);
+          }
+          record {
+            hand = λ _. refl;
+            pass = λ e. let there = g.pass e in record {
+              own = each_joined (λ (pair : ℕ × Rec). At history pair.0 pair.1) v.pass.own (placed_from (accepted hand) (fresh hand d)) there.own more;
+              named = there.named;
+              named_ids = there.named_ids;
+              fulls = there.fulls;
+              lacks = there.lacks;
+              found = there.found;
+              there = there.there;
+              limit = there.limit;
+            };
+            known = g.known;
+            note = g.note;
+            drains = g.drains;
+            idle = λ z. absurd (named z);
+          }
+          (λ u j _ _ idle h. view_grown k.s.history records hand k.halt u unended spares idle (subst (λ (z : DeskView). Fits k.s.history z k.halt u) (sym is) h))
+          (heads t k id v me) (λ _. refl) (k.controls id v me) (omega arith) (omega arith)
+          (λ h.
+          let a : total h (v.pass.own ++ placed_from (accepted hand) (fresh hand d)) ≡ total h v.pass.own + total h (placed_from (length k.s.history) records) =
+          total-append h v.pass.own (placed_from (accepted hand) (fresh hand d)) ∙ ap (λ (z : ℕ × List Rec). total h v.pass.own + total h (placed_from z.0 z.1)) (λ i. (p.count i, new i)) in
+          let size : 0 + length k.s.history ≡ length k.s.history = omega arith in
+          let b : total h (placed_from 0 history) ≡ total h (placed_from 0 k.s.history) + total h (placed_from (length k.s.history) records) =
+          ap (total h) (placed_more 0 k.s.history records ∙ ap (λ (z : ℕ). placed_from 0 k.s.history ++ placed_from z records) size) ∙ total-append h (placed_from 0 k.s.history) (placed_from (length k.s.history) records) in
+          omega (arith, a, b)),
+      refl,
+    )
+
+pub counts_as : (n id : ℕ) (m : Sat) (d : DeskView) (records : List Rec) → m.1 ≡ (0, d) ∷ [] → m.0.holds ≡ true → MayCount m.0.hand records d → ids m.0 ≢ 0
+    → Allows Kept n id m 1 (λ y. (y + 1) % 2 ^ 64) (counted (step n 1 1 0 none) m)
+counts_as n id m d records out holds may named = subst (λ (c : List (ℕ × DeskView)). Allows Kept n id (m.0, c) 1 (λ y. (y + 1) % 2 ^ 64) (counted (step n 1 1 0 none) (m.0, c)))
+    (ap (λ (z : DeskView). (0, z) ∷ []) (sym may.is) ∙ sym out) (counts_records n id m.0 records holds (subst (MayCount m.0.hand records) may.is may) named)
+
+one_most : (b : Bool) → one_if b ≤ 1
+one_most true = omega arith
+one_most false = omega arith
+
+-- 5
+hands_primary : (n id : ℕ) (v : View) → v.holds ≡ true → v.post ≡ drain_post v.post.stop v.post.taken → let d = swapped v.hand in
+    Allows Kept n id (v, (0, d) ∷ []) 1 (λ y. (y + 1) % 2 ^ 64) (handed_over (step n 1 1 0 none) (v, (0, d) ∷ []))
+hands_primary n id v holds shape t k wide me _ = let hand = v.hand in let d = swapped hand in let f = k.each id v me in let is : hand ≡ k.d = f.hand holds in
+    let history = k.s.history in let s : State = all_taken k.s in let w : View = hands_over v d in
+    let stands : DeskStandsFor hand k.s = subst (λ (z : DeskView). DeskStandsFor z k.s) (sym is) k.world.stands in let p = parts hand k.s stands in
+    let drains : v.post.drains ≡ true = ap (λ (x : Post). x.drains) shape in
+    let seated : v.post.seated ≡ true = ap (λ (x : Post). x.seated) shape in
+    let kind : v.post.controls ≡ false = ap (λ (x : Post). x.controls) shape in
+    let none_made : ids v ≡ 0 = ap (λ (x : Post). x.ids) shape in
+    let none_known : v.post.known ≡ [] = ap (λ (x : Post). x.known) shape in
+    let had : length v.post.taken ≡ k.s.taken = (f.drains drains).0 ∙ ap (λ (z : DeskView). z.taken) (sym is) ∙ p.taken in
+    let whole : v.post.taken ++ hand.primary ≡ history =
+    ap (λ (l : List Rec). l ++ hand.primary) (f.note.taken.same ∙ ap (λ (i : ℕ). take i history) had) ∙ ap (λ (l : List Rec). take k.s.taken history ++ l) p.primary ∙ take-append-drop k.s.taken history in
+    let mine : is_drain v ≡ 1 = ap one_if drains in
+    let not_first : id ≢ 0 = λ z. true≢false (sym (k.world.controls) ∙ ap (λ (x : Post). x.controls) (sym (heads t k id v me z)) ∙ kind) in (
+      w,
+      keeps,
+      tt,
+      event t k id v w ((get_or t.words 1 0 + 1) % 2 ^ 64) s d k.head k.halt me holds refl
+          record {
+            stands = swapped_stands hand k.s stands;
+            last = λ e at end. let same = k.world.last e at (ap (λ (z : DeskView). z.end) (sym is) ∙ end) in omega (arith, same, ap accepted is);
+            controls = k.world.controls;
+            unstarted = λ e. absurd (omega (arith, ap one_if e, mine, term_le is_drain t.views id v me, k.drains));
+            closed = λ e. k.world.closed (ap end_of (sym is) ∙ e);
+            halted = λ stop e. k.world.halted stop (ap end_of (sym is) ∙ e);
+          }
+          record {
+            hand = λ _. refl;
+            pass = λ _. pass_later history hand d v.pass (later_swapped hand) (subst (λ (z : DeskView). PassFits history z v.pass) (sym is) (f.pass seated));
+            known = λ j x at. absurd (at_none j x at);
+            note = record {
+              taken = record { within = omega (arith, ap length whole); same = whole ∙ sym (take_all (length (v.post.taken ++ hand.primary)) history (omega (arith, ap length whole))) };
+              told = λ g e. absurd (none-some _ e);
+              cause = λ g stop e. absurd (none-some _ e);
+            };
+            drains = λ _. (ap length whole ∙ sym p.count, (f.drains drains).1);
+            idle = λ z. ((f.idle none_made).0, refl);
+          }
+          (λ u j apart e idle h. view_later history hand d k.halt k.halt u (later_swapped hand) idle
+          (λ theirs. let both : is_drain u ≡ 1 = ap one_if theirs in let most = one_most k.head.started in absurd (omega (arith, terms_le is_drain t.views id j v u apart me e, k.drains)))
+          (subst (λ (z : DeskView). Fits history z k.halt u) (sym is) h))
+          (λ z. absurd (not_first z)) (λ _. refl) (λ e. no e) (omega arith) (omega arith) (λ h. omega (arith, ap (total (λ (x : PassState). total h x.own)) none_known)),
+      (refl, subst Numbered (sym whole) k.world.stands.numbered),
+    )
+
+pub hands_as : (n id : ℕ) (m : Sat) → m.1 ≡ (0, swapped m.0.hand) ∷ [] → m.0.holds ≡ true → m.0.post ≡ drain_post m.0.post.stop m.0.post.taken
+    → Allows Kept n id m 1 (λ y. (y + 1) % 2 ^ 64) (handed_over (step n 1 1 0 none) m)
+hands_as n id m out holds shape = subst (λ (c : List (ℕ × DeskView)). Allows Kept n id (m.0, c) 1 (λ y. (y + 1) % 2 ^ 64) (handed_over (step n 1 1 0 none) (m.0, c)))
+    (sym out) (hands_primary n id m.0 holds shape)
+
+abbrev placed_end : End → ℕ → End × ℕ
+placed_end end at = (end, at)
+
+-- the end of a desk that had none
+end_is : (d : DeskView) (end : End) → d.end ≡ None → (ended d end).end ≡ Some (placed_end end (accepted d))
+end_is d end unended = ap (λ (x : Option (End × ℕ)). end_or x end (accepted d)) unended
+
+same_place : (end e : End) (count at : ℕ) → Some (placed_end end count) ≡ Some (placed_end e at) → at ≡ count
+same_place end e count at is = ap (λ (x : End × ℕ). x.1) (same_Some (placed_end e at) (placed_end end count) (sym is))
+
+ended_last : (d : DeskView) (end : End) → d.end ≡ None → EndIsLast (ended d end)
+ended_last d end unended e at is = same_place end e (accepted d) at (sym (end_is d end unended) ∙ is)
+
+end_of_is : (d : DeskView) (end e : End) → d.end ≡ None → end_of (ended d end) ≡ Some e → end ≡ e
+end_of_is d end e unended is = same_Some end e (ap first_of (sym (end_is d end unended)) ∙ is)
+
+closed_stopped : {X : Type 0} (stop : Stop) → Closed ≡ Stopped stop → X
+closed_stopped stop e = absurd cc
+
+stopped_same : (a b : Stop) → Stopped a ≡ Stopped b → a ≡ b
+stopped_same a b e = cc
+
+-- 6, by the control
+closes_log : (n id : ℕ) (v : View) → v.holds ≡ true → v.hand.end ≡ None → v.post.controls ≡ true → v.post.drains ≡ false → let d = ended v.hand Closed in
+    Allows Kept n id (v, (0, d) ∷ []) 1 (λ y. (y + 1) % 2 ^ 64) (closed (step n 1 1 0 none) (v, (0, d) ∷ []))
+closes_log n id v holds unended controls quiet t k wide me _ = let hand = v.hand in let d = ended hand Closed in let f = k.each id v me in let is : hand ≡ k.d = f.hand holds in
+    let history = k.s.history in let s : State = end_with Closed k.s in let w : View = closes v d in
+    let stands : DeskStandsFor hand k.s = subst (λ (z : DeskView). DeskStandsFor z k.s) (sym is) k.world.stands in
+    let zero_id = k.controls id v me controls in let mine = heads t k id v me zero_id in
+    let go = later_ended hand Closed unended in (
+      w,
+      keeps,
+      tt,
+      event t k id v w ((get_or t.words 1 0 + 1) % 2 ^ 64) s d (shuts k.head) k.halt me holds refl
+          record {
+            stands = ended_stands hand k.s Closed stands;
+            last = ended_last hand Closed unended;
+            controls = k.world.controls;
+            unstarted = λ e. (ap (λ (z : DeskView). z.taken) is ∙ (k.world.unstarted e).0, (k.world.unstarted e).1);
+            closed = λ _. refl;
+            halted = λ stop e. closed_stopped stop (end_of_is hand Closed (Stopped stop) unended e);
+          }
+          record {
+            hand = λ _. refl;
+            pass = λ e. pass_later history hand d v.pass go (subst (λ (z : DeskView). PassFits history z v.pass) (sym is) (f.pass e));
+            known = λ j x at. pass_later history hand d x go (subst (λ (z : DeskView). PassFits history z x) (sym is) (f.known j x at));
+            note = note_later history hand d (shuts v.post) go (subst (λ (z : DeskView). NoteFits history z (shuts v.post)) (sym is) (record { taken = f.note.taken; told = f.note.told; cause = f.note.cause }));
+            drains = λ e. no (sym quiet ∙ e);
+            idle = f.idle;
+          }
+          (λ u j apart e idle h. view_later history hand d k.halt k.halt u go idle (λ theirs. let there = h.drains theirs in (there.0 ∙ ap (λ (z : DeskView). z.taken) (sym is), there.1))
+          (subst (λ (z : DeskView). Fits history z k.halt u) (sym is) h))
+          (λ _. ap shuts mine) (λ nz. absurd (nz zero_id)) (λ _. zero_id) (omega (arith, ap (λ (x : Post). x.made) mine)) (omega (arith, ap (λ (x : Post). one_if x.started) mine)) (λ h. refl),
+      refl,
+    )
+
+pub closes_as : (n id : ℕ) (m : Sat) → m.1 ≡ (0, ended m.0.hand Closed) ∷ [] → m.0.holds ≡ true → m.0.hand.end ≡ None → m.0.post.controls ≡ true → m.0.post.drains ≡ false
+    → Allows Kept n id m 1 (λ y. (y + 1) % 2 ^ 64) (closed (step n 1 1 0 none) m)
+closes_as n id m out holds unended controls quiet = subst (λ (c : List (ℕ × DeskView)). Allows Kept n id (m.0, c) 1 (λ y. (y + 1) % 2 ^ 64) (closed (step n 1 1 0 none) (m.0, c)))
+    (sym out) (closes_log n id m.0 holds unended controls quiet)
+
+-- 6, by the drain
+stops_log : (n id : ℕ) (v : View) (stop : Stop) → v.holds ≡ true → v.hand.end ≡ None → v.post ≡ drain_post v.post.stop v.post.taken → let d = ended v.hand (Stopped stop) in
+    Allows Kept n id (v, (0, d) ∷ []) 1 (λ y. (y + 1) % 2 ^ 64) (stopped (step n 1 1 0 none) (v, (0, d) ∷ []))
+stops_log n id v stop holds unended shape t k wide me _ = let hand = v.hand in let d = ended hand (Stopped stop) in let f = k.each id v me in let is : hand ≡ k.d = f.hand holds in
+    let history = k.s.history in let s : State = end_with (Stopped stop) k.s in let w : View = stops v d in
+    let stands : DeskStandsFor hand k.s = subst (λ (z : DeskView). DeskStandsFor z k.s) (sym is) k.world.stands in
+    let drains : v.post.drains ≡ true = ap (λ (x : Post). x.drains) shape in
+    let seated : v.post.seated ≡ true = ap (λ (x : Post). x.seated) shape in
+    let kind : v.post.controls ≡ false = ap (λ (x : Post). x.controls) shape in
+    let none_made : ids v ≡ 0 = ap (λ (x : Post). x.ids) shape in
+    let none_known : v.post.known ≡ [] = ap (λ (x : Post). x.known) shape in
+    let mine : is_drain v ≡ 1 = ap one_if drains in
+    let not_first : id ≢ 0 = λ z. true≢false (sym (k.world.controls) ∙ ap (λ (x : Post). x.controls) (sym (heads t k id v me z)) ∙ kind) in
+    let go = later_ended hand (Stopped stop) unended in
+    let set_to : stop_in d.end ≡ Some stop = ap stop_in (end_is hand (Stopped stop) unended) in (
+      w,
+      keeps,
+      tt,
+      event t k id v w ((get_or t.words 1 0 + 1) % 2 ^ 64) s d k.head (Some stop) me holds refl
+          record {
+            stands = ended_stands hand k.s (Stopped stop) stands;
+            last = ended_last hand (Stopped stop) unended;
+            controls = k.world.controls;
+            unstarted = λ e. absurd (omega (arith, ap one_if e, mine, term_le is_drain t.views id v me, k.drains));
+            closed = λ e. closed_stopped stop (sym (end_of_is hand (Stopped stop) Closed unended e));
+            halted = λ other e. ap Some (stopped_same stop other (end_of_is hand (Stopped stop) (Stopped other) unended e));
+          }
+          record {
+            hand = λ _. refl;
+            pass = λ _. pass_later history hand d v.pass go (subst (λ (z : DeskView). PassFits history z v.pass) (sym is) (f.pass seated));
+            known = λ j x at. absurd (at_none j x at);
+            note = record { taken = f.note.taken; told = λ g e. absurd (none-some _ e); cause = λ g other e. absurd (none-some _ e) };
+            drains = λ _. ((f.drains drains).0 ∙ ap (λ (z : DeskView). z.taken) (sym is), set_to);
+            idle = λ z. ((f.idle none_made).0, refl);
+          }
+          (λ u j apart e idle h. view_later history hand d k.halt (Some stop) u go idle
+          (λ theirs. let both : is_drain u ≡ 1 = ap one_if theirs in let most = one_most k.head.started in absurd (omega (arith, terms_le is_drain t.views id j v u apart me e, k.drains)))
+          (subst (λ (z : DeskView). Fits history z k.halt u) (sym is) h))
+          (λ z. absurd (not_first z)) (λ _. refl) (λ e. no e) (omega arith) (omega arith) (λ h. omega (arith, ap (total (λ (x : PassState). total h x.own)) none_known)),
+      refl,
+    )
+
+pub stops_as : (n id : ℕ) (m : Sat) (stop : Stop) → m.1 ≡ (0, ended m.0.hand (Stopped stop)) ∷ [] → m.0.holds ≡ true → m.0.hand.end ≡ None → m.0.post ≡ drain_post m.0.post.stop m.0.post.taken
+    → Allows Kept n id m 1 (λ y. (y + 1) % 2 ^ 64) (stopped (step n 1 1 0 none) m)
+stops_as n id m stop out holds unended shape = subst (λ (c : List (ℕ × DeskView)). Allows Kept n id (m.0, c) 1 (λ y. (y + 1) % 2 ^ 64) (stopped (step n 1 1 0 none) (m.0, c)))
+    (sym out) (stops_log n id m.0 stop holds unended shape)
+
+-- ---- seats that are made and spent
+
+-- a seat is cut in two
+split : (t : St) (k : Kept t) (id : ℕ) (v w r : View) (head : Post) → get_elem? t.views id ≡ some v → w.holds ≡ v.holds → r.holds ≡ false
+    → World k.s k.d head k.halt → Fits k.s.history k.d k.halt w → Fits k.s.history k.d k.halt r → (id ≡ 0 → w.post ≡ head) → (id ≢ 0 → k.head ≡ head) → (w.post.controls ≡ true → id ≡ 0) → r.post.controls ≡ false
+    → ids w + ids r + k.head.made ≡ ids v + head.made → is_drain w + is_drain r + one_if k.head.started ≡ is_drain v + one_if head.started
+    → ((h : ℕ × Rec → ℕ) → weigh h w ≡ weigh h v) → ((h : ℕ × Rec → ℕ) → weigh h r ≡ 0) → Kept (board t.words t.homes (set t.views id w ++ r ∷ []))
+split t k id v w r head me holds idle world mine new here there controls not_control made drains same none_yet = let vs : List View = set t.views id w in record {
+  s = k.s;
+  d = k.d;
+  head = head;
+  halt = k.halt;
+  world = world;
+  wired = k.wired;
+  holders = omega (arith, total-append has_turn vs (r ∷ []), total-set has_turn t.views id v w me, ap one_if holds, has_not r idle, k.holders);
+  each = λ j u e. ⊎_elim (λ old. ⊎_elim (λ x. subst (Fits k.s.history k.d k.halt) x.1 mine) (λ x. k.each j u x.1) (at_set t.views id j w u old)) (λ (x : r ≡ u). subst (Fits k.s.history k.d k.halt) x new) (at_snoc vs r u j e);
+  first = dite (ℕ_discrete 0 id)
+      (λ z. (w, at_longer vs (r ∷ []) 0 w (ap (λ (i : ℕ). get_elem? vs i) z ∙ set_at t.views id v w me), here (sym z)))
+      (λ nz. (k.first.0, at_longer vs (r ∷ []) 0 k.first.0 (set_else t.views id 0 w nz ∙ k.first.1), k.first.2 ∙ there (λ z. nz (sym z))));
+  controls = λ j u e c. ⊎_elim (λ old. ⊎_elim (λ (x : (j ≡ id) × (w ≡ u)). x.0 ∙ controls (ap (λ (y : View). y.post.controls) x.1 ∙ c)) (λ x. k.controls j u x.1 c) (at_set t.views id j w u old))
+      (λ (x : r ≡ u). no (sym not_control ∙ (ap (λ (y : View). y.post.controls) x ∙ c))) (at_snoc vs r u j e);
+  made = omega (arith, total-append ids vs (r ∷ []), total-set ids t.views id v w me, k.made, made);
+  drains = omega (arith, total-append is_drain vs (r ∷ []), total-set is_drain t.views id v w me, k.drains, drains);
+  pairs = λ h. omega (arith, total-append (weigh h) vs (r ∷ []), total-set (weigh h) t.views id v w me, same h, none_yet h, k.pairs h);
+}
+
+-- what a seat says that has done nothing
+fits_new : (history : List Rec) (d : DeskView) (halt : Option Stop) (limit : ℕ) (p : Post) → (p.seated ≡ true → limit ≡ d.limit) → p.known ≡ [] → p.taken ≡ [] → p.told ≡ None
+    → (p.drains ≡ true → (d.taken ≡ 0) × (p.stop ≡ halt)) → Fits history d halt (newcomer limit p)
+fits_new history d halt limit p limited unknown untaken untold drains = record {
+  hand = λ e. no e;
+  pass = λ e. fits_none history d limit (limited e);
+  known = subst (Each (PassFits history d)) (sym unknown) (λ n x at. absurd (at_none n x at));
+  note = note_none history d p untaken untold;
+  drains = λ e. (omega (arith, ap length untaken, (drains e).0), (drains e).1);
+  idle = λ z. (refl, unknown);
+}
+
+-- the same view with another post, which tells as much
+fits_post : (history : List Rec) (d : DeskView) (halt : Option Stop) (v : View) (p : Post) → v.post.seated ≡ true → p.known ≡ v.post.known → p.drains ≡ false → p.ids ≡ v.post.ids
+    → p.taken ≡ v.post.taken → p.told ≡ v.post.told → p.stop ≡ v.post.stop → Fits history d halt v → Fits history d halt (view v.holds v.hand v.missed v.pass p)
+fits_post history d halt v p seated known quiet numbers taken told stop f = record {
+  hand = f.hand;
+  pass = λ e. f.pass seated;
+  known = subst (Each (PassFits history d)) (sym known) f.known;
+  note = record {
+    taken = subst (λ (l : List Rec). IsFront l history) (sym taken) f.note.taken;
+    told = λ g is. f.note.told g (sym told ∙ is);
+    cause = λ g other is end. stop ∙ f.note.cause g other (sym told ∙ is) end;
+  };
+  drains = λ e. no (sym quiet ∙ e);
+  idle = λ z. ((f.idle (sym numbers ∙ z)).0, known ∙ (f.idle (sym numbers ∙ z)).1);
+}
+
+-- 9, a publisher
+pub hires_seat : (id : ℕ) (v : View) → v.post.controls ≡ true → v.post.drains ≡ false → v.post.seated ≡ true → Splits Kept id v (hires v) (hired v)
+hires_seat id v controls quiet seated t k me = let z = k.controls id v me controls in let mine = heads t k id v me z in let f = k.each id v me in let w = hires v in
+    let head : Post = record k.head { made = k.head.made + 1 } in
+    split t k id v w (hired v) head me refl refl
+    record { stands = k.world.stands; last = k.world.last; controls = k.world.controls; unstarted = k.world.unstarted; closed = k.world.closed; halted = k.world.halted }
+    (fits_post k.s.history k.d k.halt v w.post seated refl quiet refl refl refl refl f)
+    (fits_new k.s.history k.d k.halt v.pass.limit publisher_post (λ _. (f.pass seated).limit) refl refl refl (λ e. no e))
+    (λ _. ap (λ (p : Post). record p { made = p.made + 1 }) mine) (λ nz. absurd (nz z)) (λ _. z) refl
+    (omega arith) (omega arith) (λ h. refl) (λ h. refl)
+
+-- 9, the drain at the start
+pub starts_drain : (id : ℕ) (v : View) → v.post.controls ≡ true → v.post.drains ≡ false → v.post.seated ≡ true → v.post.started ≡ false → Splits Kept id v (starts v) (drainer v)
+starts_drain id v controls quiet seated fresh_one t k me = let z = k.controls id v me controls in let mine = heads t k id v me z in let f = k.each id v me in let w = starts v in
+    let unstarted : k.head.started ≡ false = ap (λ (p : Post). p.started) (sym mine) ∙ fresh_one in
+    let not_yet : one_if k.head.started ≡ 0 = ap one_if unstarted in
+    let silent : is_drain v ≡ 0 = ap one_if quiet in
+    let before = k.world.unstarted unstarted in
+    let head : Post = record k.head { started = true } in
+    split t k id v w (drainer v) head me refl refl
+    record { stands = k.world.stands; last = k.world.last; controls = k.world.controls; unstarted = λ e. absurd (true≢false e); closed = k.world.closed; halted = k.world.halted }
+    (fits_post k.s.history k.d k.halt v w.post seated refl quiet refl refl refl refl f)
+    (fits_new k.s.history k.d k.halt v.pass.limit (drain_post None []) (λ _. (f.pass seated).limit) refl refl refl (λ _. (before.0, sym before.1)))
+    (λ _. ap (λ (p : Post). record p { started = true }) mine) (λ nz. absurd (nz z)) (λ _. z) refl
+    (omega arith) (omega arith) (λ h. refl) (λ h. refl)
+
+-- 9, a note
+pub notes_drain : (id : ℕ) (v : View) → v.post ≡ drain_post v.post.stop v.post.taken → Splits Kept id v v (noted v)
+notes_drain id v shape t k me = let f = k.each id v me in
+    let drains : v.post.drains ≡ true = ap (λ (p : Post). p.drains) shape in
+    let seated : v.post.seated ≡ true = ap (λ (p : Post). p.seated) shape in
+    split t k id v v (noted v) k.head me refl refl k.world f
+    record {
+      hand = λ e. no e;
+      pass = λ e. no e;
+      known = λ n x at. absurd (at_none n x at);
+      note = record {
+        taken = f.note.taken;
+        told = λ g is. (f.pass seated).found g is;
+        cause = λ g stop is end. (f.drains drains).1 ∙ k.world.halted stop (((f.pass seated).found g is).later.end (Stopped stop) end);
+      };
+      drains = λ e. no e;
+      idle = λ _. (refl, refl);
+    }
+    (heads t k id v me) (λ _. refl) (k.controls id v me) refl (omega arith) (omega arith) (λ h. refl) (λ h. refl)
+
+-- two seats become one
+joined : (t : St) (k : Kept t) (id : ℕ) (v : View) (other : ℕ) (u w : View) (head : Post) → get_elem? t.views id ≡ some v → ¬ (other ≡ id) → get_elem? (set t.views id w) other ≡ some u → id ≡ 0
+    → w.holds ≡ v.holds → u.holds ≡ false → World k.s k.d head k.halt → Fits k.s.history k.d k.halt w → w.post ≡ head
+    → ids w + k.head.made ≡ ids v + ids u + head.made → is_drain w + one_if k.head.started ≡ is_drain v + is_drain u + one_if head.started
+    → ((h : ℕ × Rec → ℕ) → weigh h w ≡ weigh h v + weigh h u)
+    → Kept (board t.words t.homes (set (set t.views id w) other nobody))
+joined t k id v other u w head me apart them z holds idle world mine here made drains same = let vs : List View = set t.views id w in
+    let both : (g : View → ℕ) → total g (set vs other nobody) + g u + g v ≡ total g t.views + g w + g nobody = λ g. omega (arith, total-set g t.views id v w me, total-set g vs other u nobody them) in
+    record {
+      s = k.s;
+      d = k.d;
+      head = head;
+      halt = k.halt;
+      world = world;
+      wired = k.wired;
+      holders = omega (arith, both has_turn, ap one_if holds, has_not u idle, k.holders);
+      each = λ j x e. ⊎_elim (λ y. subst (Fits k.s.history k.d k.halt) y.1 (fits_new k.s.history k.d k.halt 0 no_post (λ e'. no e') refl refl refl (λ e'. no e')))
+          (λ y. ⊎_elim (λ q. subst (Fits k.s.history k.d k.halt) q.1 mine) (λ q. k.each j x q.1) (at_set t.views id j w x y.1)) (at_set vs other j nobody x e);
+      first = (w, set_else vs other 0 nobody (λ e. apart (sym e ∙ sym z)) ∙ (ap (λ (i : ℕ). get_elem? vs i) (sym z) ∙ set_at t.views id v w me), here);
+      controls = λ j x e c. ⊎_elim (λ (y : (j ≡ other) × (nobody ≡ x)). no (ap (λ (q : View). q.post.controls) y.1 ∙ c))
+          (λ y. ⊎_elim (λ (q : (j ≡ id) × (w ≡ x)). q.0 ∙ z) (λ q. k.controls j x q.1 c) (at_set t.views id j w x y.1)) (at_set vs other j nobody x e);
+      made = omega (arith, both ids, k.made, made);
+      drains = omega (arith, both is_drain, k.drains, drains);
+      pairs = λ h. omega (arith, both (weigh h), same h, k.pairs h);
+    }
+
+-- 10, the control gathers a publisher
+pub gathers_seat : (id : ℕ) (v : View) (other : ℕ) (u : View) → v.post.controls ≡ true → v.post.drains ≡ false → v.post.seated ≡ true → u.holds ≡ false → u.post ≡ publisher_post → Joins Kept id v other u (gathers v u) nobody
+gathers_seat id v other u controls quiet seated idle shape t k me apart them = let z = k.controls id v me controls in let mine = heads t k id v me z in let f = k.each id v me in let w = gathers v u in
+    let there : get_elem? t.views other ≡ some u = sym (set_else t.views id other w apart) ∙ them in let g = k.each other u there in
+    let one : ids u ≡ 1 = ap (λ (p : Post). p.ids) shape in
+    let silent : is_drain u ≡ 0 = ap (λ (p : Post). one_if p.drains) shape in
+    let unknown : u.post.known ≡ [] = ap (λ (p : Post). p.known) shape in
+    let shown : PassFits k.s.history k.d u.pass = g.pass (ap (λ (p : Post). p.seated) shape) in
+    let head : Post = record k.head { ids = k.head.ids + u.post.ids; known = k.head.known ++ u.pass ∷ [] } in
+    joined t k id v other u w head me apart them z refl idle
+    record { stands = k.world.stands; last = k.world.last; controls = k.world.controls; unstarted = k.world.unstarted; closed = k.world.closed; halted = k.world.halted }
+    record {
+      hand = f.hand;
+      pass = f.pass;
+      known = each_last (PassFits k.s.history k.d) v.post.known u.pass f.known shown;
+      note = record { taken = f.note.taken; told = f.note.told; cause = f.note.cause };
+      drains = λ e. no (sym quiet ∙ e);
+      idle = λ none_left. absurd (omega (arith, none_left, one));
+    }
+    (ap (λ (p : Post). record p { ids = p.ids + u.post.ids; known = p.known ++ u.pass ∷ [] }) mine)
+    (omega arith) (omega (arith, silent))
+    (λ h. omega (arith, total-append (λ (x : PassState). total h x.own) v.post.known (u.pass ∷ []), ap (total (λ (x : PassState). total h x.own)) unknown))
+
+-- 10, the control reads a note
+pub reads_note : (id : ℕ) (v : View) (other : ℕ) (u : View) → v.post.controls ≡ true → v.post.drains ≡ false → v.post.seated ≡ true → u ≡ newcomer 0 (note_post u.post.stop u.post.taken u.post.told) → Joins Kept id v other u (reads v u) nobody
+reads_note id v other u controls quiet seated shape t k me apart them = let z = k.controls id v me controls in let mine = heads t k id v me z in let f = k.each id v me in let w = reads v u in
+    let there : get_elem? t.views other ≡ some u = sym (set_else t.views id other w apart) ∙ them in let g = k.each other u there in
+    let head : Post = record k.head { stop = u.post.stop; taken = u.post.taken; told = u.post.told } in
+    joined t k id v other u w head me apart them z refl (ap (λ (x : View). x.holds) shape)
+    record { stands = k.world.stands; last = k.world.last; controls = k.world.controls; unstarted = k.world.unstarted; closed = k.world.closed; halted = k.world.halted }
+    record {
+      hand = f.hand;
+      pass = f.pass;
+      known = f.known;
+      note = record { taken = g.note.taken; told = g.note.told; cause = g.note.cause };
+      drains = λ e. no (sym quiet ∙ e);
+      idle = f.idle;
+    }
+    (ap (λ (p : Post). record p { stop = u.post.stop; taken = u.post.taken; told = u.post.told }) mine)
+    (omega (arith, ap ids shape)) (omega (arith, ap is_drain shape))
+    (λ h. omega (arith, ap (weigh h) shape))
+
+-- ---- looks
+
+-- a load changes nothing
+loads : (t : St) (k : Kept t) (id : ℕ) (v : View) → get_elem? t.views id ≡ some v → Kept (board (set t.words 1 (get_or t.words 1 0)) t.homes (set t.views id v))
+loads t k id v me = let x : ℕ = get_or t.words 1 0 in let f = k.each id v me in let same = set-get_or t.words 1 0 in
+    moved t k id v v (set t.words 1 x) t.homes k.s k.d k.head k.halt me k.world
+    record {
+      wide = length-set t.words 1 x ∙ k.wired.wide;
+      homes_one = k.wired.homes_one;
+      turn = subst (λ (ws : List ℕ). get_or ws 0 0 ≤ 1) (sym same) k.wired.turn;
+      free = λ e. k.wired.free (ap (λ (ws : List ℕ). get_or ws 0 0) (sym same) ∙ e);
+      out = λ e. k.wired.out (ap (λ (ws : List ℕ). get_or ws 0 0) (sym same) ∙ e);
+    }
+    (omega (arith, ap (λ (ws : List ℕ). get_or ws 0 0) same)) f (λ j u _ e. k.each j u e)
+    (heads t k id v me) (λ _. refl) (k.controls id v me) (omega arith) (omega arith) (λ h. refl)
+
+-- 11, behind a publisher that was gathered
+pub settles : (n id : ℕ) (m : Sat) → Allows Kept n id m 1 (λ y. y) (settled (step n 1 0 0 none) m)
+settles n id m t k wide me _ = let v = m.0 in let f = k.each id v me in (
+  v,
+  keeps,
+  tt,
+  loads t k id v me,
+  (
+    refl,
+    λ controls open_still j p at g is end.
+        let z = k.controls id v me controls in
+        let mine = heads t k id v me z in
+        let there = (f.known j p at).found g is in
+        let shut : k.head.closed ≡ true = k.world.closed (there.later.end Closed end) in
+        true≢false (sym shut ∙ ap (λ (x : Post). x.closed) (sym mine) ∙ open_still),
+  ),
+)
+
+-- what a pass showed, where the intake has ended and the history is whole
+shown_to : (s : State) (d : DeskView) (end : End) (p : PassState) → DeskStandsFor d s → end_of d ≡ Some end → PassFits s.history d p → ShownTo s.history end p
+shown_to s d end p stands is fits =
+    let parts_of = parts d s stands in
+    record {
+      own = fits.own;
+      named = fits.named;
+      fulls = fits.fulls;
+      lacks = fits.lacks;
+      found = λ g there.
+          let it = fits.found g there in
+          record {
+            within = omega (arith, it.later.count, parts_of.count);
+            schemas = omega (arith, it.later.schemas, ap length parts_of.contents.schemas, schemas_counted s.history);
+            channels = omega (arith, it.later.channels, ap length parts_of.contents.channels, channels_counted s.history);
+            numbers = fits.there g there;
+            all = λ e ended. it.all e ended ∙ parts_of.count;
+            same = λ e ended. same_Some e end (sym (it.later.end e ended) ∙ is);
+          };
+    }
+
+-- 11, where all is gathered
+pub meets : (n id : ℕ) (m : Sat) → Allows Kept n id m 1 (λ y. y) (met (step n 1 0 0 none) m)
+meets n id m t k wide me _ = let v = m.0 in let f = k.each id v me in (
+  v,
+  keeps,
+  tt,
+  loads t k id v me,
+  (
+    refl,
+    λ end all.
+        let history = k.s.history in
+        let z = k.controls id v me all.controls in
+        let mine = heads t k id v me z in
+        let p = parts k.d k.s k.world.stands in
+        let told = f.note.told all.found all.told in
+        let stood : end_of k.d ≡ Some end = told.later.end end all.ended in
+        let size : length v.post.taken ≡ length history = sym all.count ∙ (told.all end all.ended ∙ p.count) in
+        let whole : v.post.taken ≡ history = f.note.taken.same ∙ take_all (length v.post.taken) history (omega (arith, size)) in
+        let everyone : total ids t.views ≡ ids v = k.made ∙ (ap (λ (x : Post). x.made) (sym mine) ∙ sym all.all) in
+        record {
+          numbered = subst Numbered (sym whole) k.world.stands.numbered;
+          pairs = λ h.
+              let alone = total-alone ids (weigh h) t.views id v me everyone
+              (λ i u e none_there. let idle = (k.each i u e).idle none_there in omega (arith, ap (total h) idle.0, ap (total (λ (x : PassState). total h x.own)) idle.1)) in
+              omega (arith, alone, k.pairs h, ap (total h) all.own, ap (λ (l : List Rec). total h (placed_from 0 l)) whole);
+          shown = λ j x at. subst (λ (l : List Rec). ShownTo l end x) (sym whole) (shown_to k.s k.d end x k.world.stands stood (f.known j x at));
+          closes = λ is. ap (λ (x : Post). x.closed) mine ∙ k.world.closed (stood ∙ ap Some is);
+          stops = λ stop is. f.note.cause all.found stop all.told (all.ended ∙ ap Some is);
+        },
+  ),
+)
+
+-- ---- at the start
+
+start_stands : (limit : ℕ) → DeskStandsFor (new_desk limit) start
+start_stands limit = record { desk = refl; within = omega arith; numbered = λ n x at. absurd (at_none n x at) }
+
+pub opens : (limit : ℕ) → Kept (opening (0 ∷ 0 ∷ []) (new_desk limit ∷ []) (newcomer limit first_post))
+opens limit = let d = new_desk limit in let v = newcomer limit first_post in record {
+  s = start;
+  d = d;
+  head = first_post;
+  halt = None;
+  world = record {
+    stands = start_stands limit;
+    last = λ e at is. absurd (none-some _ is);
+    controls = refl;
+    unstarted = λ _. (refl, refl);
+    closed = λ e. absurd (none-some _ e);
+    halted = λ stop e. absurd (none-some _ e);
+  };
+  wired = record { wide = refl; homes_one = refl; turn = omega arith; free = λ _. refl; out = λ e. absurd (omega arith) };
+  holders = refl;
+  each = λ j u e. ⊎_elim (λ (x : get_elem? [] j ≡ some u). absurd (some-ne-none u (sym x))) (λ (x : v ≡ u). subst (Fits [] d None) x (fits_new [] d None limit first_post (λ _. refl) refl refl refl (λ e'. no e'))) (at_snoc [] v u j e);
+  first = (v, refl, refl);
+  controls = λ j u e _. at_zero v j u e;
+  made = refl;
+  drains = refl;
+  pairs = λ h. refl;
+}
+  where
+    at_zero : (v : View) (j : ℕ) (u : View) → get_elem? (v ∷ []) j ≡ some u → j ≡ 0
+    at_zero v zero u e = refl
+    at_zero v (suc j) u e = absurd (some-ne-none u (sym e))

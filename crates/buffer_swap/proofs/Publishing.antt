@@ -1,0 +1,195 @@
+-- A turn in which a message was published, as a pass says it.
+use Rattle.std.proofs.Common.{◌≡◌, ◌⊎◌, ℕ, ◌<◌, ◌≤◌, Bool, true, false, List, [], ◌∷◌, ◌++◌, length, drop, Option, Some, None, Result, Ok, Err, refl, sym, ap, subst, inl, inr, ◌∙◌, arith}
+use Rattle.std.specs.Prelude.{nat_lt, nat_le, ◌&&◌}
+use Rattle.std.proofs.lemmas.Bool.{and_parts, ltb-true, leb-true}
+use Rattle.std.proofs.Math.Seq.{drop-append_seam}
+use Rattle.rec_data.specs.declared.owned.Rec.{Rec}
+use Rattle.rec_data.specs.declared.channel.ChannelDef.{ChannelDef}
+use Rattle.mcap_model.specs.declared.ends.End.TheVariants as ends
+use Rattle.mcap_model.proofs.Places.{at_within}
+use Rattle.record_core.specs.Ids.{Ids, is_known, channel_place, channel_id, new_records}
+use Rattle.record_core.specs.Tables.{IsTable}
+use Rattle.record_core.specs.Desk.{DeskView, accepted, added, first_of, found_of, fields_of_message, Published, declared_size, DeclaredBy}
+use Rattle.record_core.specs.declared.answers.Declared.{Declared}
+use Rattle.record_core.specs.declared.answers.NewMessage.{NewMessage}
+use Rattle.record_core.specs.declared.answers.PublishRefused.{PublishRefused}
+use Rattle.record_core.specs.declared.answers.PublishRefused.TheVariants as publishing
+use Rattle.record_core.specs.declared.answers.DeclareRefused.{DeclareRefused}
+use Rattle.record_core.specs.declared.answers.DeclareRefused.TheVariants as declaring
+use Rattle.feed_lane.specs.Pass.{PassState, Reason, for_size, for_close, for_stop, for_channel, for_count, for_room, for_id, Finds, full_at, with_found, placed_from, message_record, MayTake, HasPlace, IsUnnamed, AreAdded, GetsId, with_declared}
+use Rattle.buffer_swap.specs.Shown.{ChannelStands}
+use Rattle.buffer_swap.specs.Posts.{Post}
+use Rattle.buffer_swap.specs.Turns.{view}
+use Rattle.buffer_swap.specs.Plays.{Sat, Stood, Took, fresh}
+use Rattle.buffer_swap.specs.Calls.{counts_message, pass_published, counts_declared, pass_declared, PublishedInTurn, DeclaredInTurn, reasoned, Publishes, Declares, TriesBy}
+use Rattle.buffer_swap.specs.declared.view.View.{View}
+use Rattle.buffer_swap.proofs.Desks.{parts}
+use Rattle.buffer_swap.proofs.Reasons.{PublishReason, HasRecords, publish_reason, declare_reason}
+use Rattle.buffer_swap.proofs.Numbers.{are_added, lacking_schemas, stands_nowhere, gets_id}
+
+-- how the desk was found, beside what the pass had
+pub finds : (d : DeskView) (p : PassState) (reasons : List Reason) → Stood d p → Finds (reasoned p reasons) (found_of d)
+finds d p reasons stood =
+    let q = parts d stood.s stood.stands in
+    record {
+      places = λ k pair at. let there = at_within stood.s.history pair.0 pair.1 (stood.fits.own k pair at) in omega (arith, there, q.count);
+      ids = λ k pair at. let there = stood.fits.named_ids k pair at in (there.0, omega (arith, there.1, ap length q.contents.channels));
+      later = λ last is. (stood.fits.found last is).later;
+      within = q.held;
+    }
+
+known_id : (ids : Ids) (channel : ℕ) → is_known ids channel ≡ true → (1 ≤ channel) × (channel ≤ length ids.channels)
+known_id ids channel known =
+    let both = and_parts (nat_lt 0 channel) (nat_le channel (length ids.channels)) known in
+    (let some = ltb-true 0 channel both.0 in omega (arith, some), leb-true channel (length ids.channels) both.1)
+
+unknown_by : (ids : Ids) (channel : ℕ) (some known : Bool) → nat_lt 0 channel ≡ some → nat_le channel (length ids.channels) ≡ known → (some && known) ≡ false → (channel ≡ 0) ⊎ (length ids.channels < channel)
+unknown_by ids channel false known is all no_more = let le : channel ≤ 0 = grind arith in inl (omega (arith, le))
+unknown_by ids channel true false is all no_more = inr (grind arith)
+unknown_by ids channel true true is all no_more = cc
+
+unknown_id : (ids : Ids) (channel : ℕ) → is_known ids channel ≡ false → (channel ≡ 0) ⊎ (length ids.channels < channel)
+unknown_id ids channel unknown = unknown_by ids channel (nat_lt 0 channel) (nat_le channel (length ids.channels)) refl refl unknown
+
+-- nothing refuses the message
+may_take : (d : DeskView) (p : PassState) (reasons : List Reason) (channel : ℕ) {len : ℕ} → Stood d p → PublishReason d channel len None → MayTake (reasoned p reasons) (found_of d) channel
+may_take d p reasons channel stood (open_end, known, few, room, small) = record {
+  finds = finds d p reasons stood;
+  unended = ap first_of open_end;
+  known = known_id d.ids channel known;
+  place = record { few = few; room = omega (arith, room, stood.fits.limit) };
+}
+
+-- the view of a seat that took the turn
+abbrev pub sees : DeskView → ℕ → PassState → Post → View
+sees d missed p post = view true d missed (with_found p (found_of d)) post
+
+abbrev grown : PassState → DeskView → List Reason → List Rec → PassState
+grown p d reasons records = record p { own = p.own ++ placed_from (accepted d) records; reasons = reasons; found = Some (found_of d) }
+
+grown_same : (p : PassState) (d after : DeskView) (reasons : List Reason) (records : List Rec) → after ≡ added d records → grown p d reasons (fresh d after) ≡ grown p d reasons records
+grown_same p d after reasons records is =
+    ap (grown p d reasons) (ap (λ (x : DeskView). drop (length d.primary) x.primary) is ∙ drop-append_seam d.primary records)
+
+publishes : (d after : DeskView) (missed : ℕ) (p : PassState) (post : Post) (m : NewMessage) (result : Result ℕ PublishRefused) → Stood d p → length m.payload.now ≤ 33554432
+    → Published d m.channel (fields_of_message m) result after → let v = counts_message (sees d missed p post) after result in Publishes p (pass_published v result) m result
+publishes d after missed p post m (Ok place) stood small is reasons =
+    let why = publish_reason d m.channel (length m.payload.now) None is.0 in
+    (reasons, (found_of d, small, may_take d p reasons m.channel stood why, is.1, grown_same p d after reasons (message_record m ∷ []) is.2))
+publishes d after missed p post m (Err (publishing.TooLarge len)) stood small is reasons =
+    let why = publish_reason d m.channel (length m.payload.now) (Some (publishing.TooLarge len)) is.0 in
+    absurd (omega (arith, why.0, why.1, small))
+publishes d after missed p post m (Err (publishing.Closed at)) stood small is reasons =
+    let why = publish_reason d m.channel (length m.payload.now) (Some (publishing.Closed at)) is.0 in
+    (reasons ++ for_close at ∷ [], (found_of d, why.1, finds d p reasons stood, ap first_of why.0, stood.last ends.Closed at why.0, refl))
+publishes d after missed p post m (Err (publishing.Stopped at stop)) stood small is reasons =
+    let why = publish_reason d m.channel (length m.payload.now) (Some (publishing.Stopped at stop)) is.0 in
+    (reasons ++ for_stop at stop ∷ [], (found_of d, why.1, finds d p reasons stood, ap first_of why.0, stood.last (ends.Stopped stop) at why.0, refl))
+publishes d after missed p post m (Err publishing.UnknownChannel) stood small is reasons =
+    let why = publish_reason d m.channel (length m.payload.now) (Some publishing.UnknownChannel) is.0 in
+    (reasons ++ for_channel ∷ [], (found_of d, why.2, finds d p reasons stood, ap first_of why.0, unknown_id d.ids m.channel why.1, refl))
+publishes d after missed p post m (Err (publishing.TooManyRecords count)) stood small is reasons =
+    let why = publish_reason d m.channel (length m.payload.now) (Some (publishing.TooManyRecords count)) is.0 in
+    (reasons ++ for_count count ∷ [], (found_of d, why.4, finds d p reasons stood, ap first_of why.0, known_id d.ids m.channel why.3, why.1, why.2, refl))
+publishes d after missed p post m (Err (publishing.Full h)) stood small is reasons =
+    let why = publish_reason d m.channel (length m.payload.now) (Some (publishing.Full h)) is.0 in
+    (reasons ++ for_room (full_at (found_of d)) ∷ [], (found_of d, why.5, finds d p reasons stood, ap first_of why.0, known_id d.ids m.channel why.3, why.4, why.1, omega (arith, why.2, stood.fits.limit), refl))
+
+pub published_answer : (m n behind : Sat) (message : NewMessage) (result : Result ℕ PublishRefused) → Took m n → m.0.post.seated ≡ true → length message.payload.now ≤ 33554432
+    → PublishedInTurn n message result behind → Publishes m.0.pass behind.0.pass message result
+published_answer m n behind message result took seated small published =
+    let it = subst (λ (x : Sat). PublishedInTurn x message result behind) took.is published in
+    subst (λ (x : Sat). Publishes m.0.pass x.0.pass message result) (sym it.is)
+    (publishes took.d it.after took.missed m.0.pass m.0.post message result (took.stood seated) small it.published)
+
+-- a message that is too large is refused without a step
+pub too_large : (p : PassState) (message : NewMessage) (len : ℕ) → len ≡ length message.payload.now → 33554432 < len → Publishes p p message (Err (publishing.TooLarge len))
+too_large p message len is over reasons = (reasons ++ for_size len ∷ [], (is, over, refl))
+
+-- ---- declarations
+
+unnamed : (d : DeskView) (p : PassState) (reasons : List Reason) (c : ChannelDef) → Stood d p → channel_place d.ids c ≡ None → IsUnnamed (reasoned p reasons) c
+unnamed d p reasons c stood none = λ k pair at same.
+    stands_nowhere d.ids stood.s.history c pair.0 (parts d stood.s stood.stands).contents stood.stands.numbered none (subst (ChannelStands stood.s.history pair.0) same (stood.fits.named k pair at))
+
+placed : (d : DeskView) (p : PassState) (reasons : List Reason) → Stood d p → HasRecords d → HasPlace (reasoned p reasons) (found_of d)
+placed d p reasons stood has = let room = has.room in record { few = has.few; room = omega (arith, room, stood.fits.limit) }
+
+abbrev named_grown : PassState → DeskView → ChannelDef → ℕ → List Reason → List Rec → PassState
+named_grown p d c channel reasons records = with_declared (reasoned p reasons) (found_of d) c channel records
+
+named_same : (p : PassState) (d after : DeskView) (c : ChannelDef) (channel : ℕ) (reasons : List Reason) (records : List Rec) → after ≡ added d records
+    → named_grown p d c channel reasons (fresh d after) ≡ named_grown p d c channel reasons records
+named_same p d after c channel reasons records is =
+    ap (named_grown p d c channel reasons) (ap (λ (x : DeskView). drop (length d.primary) x.primary) is ∙ drop-append_seam d.primary records)
+
+declares : (d after : DeskView) (missed : ℕ) (p : PassState) (post : Post) (c : ChannelDef) (result : Result Declared DeclareRefused) → Stood d p → declared_size c ≤ 1048576 → IsTable after.ids
+    → DeclaredBy d c result after → let v = counts_declared (sees d missed p post) after result in Declares p (pass_declared v c result) c result
+declares d after missed p post c (Ok given) stood small few is reasons =
+    let why = declare_reason d c None is.0 in
+    let records = new_records d.ids c in
+    let channel : given.channel ≡ channel_id d.ids c = is.1 in (
+      reasons,
+      (
+        found_of d,
+        records,
+        small,
+        finds d p reasons stood,
+        ap first_of why.0,
+        is.2,
+        is.3,
+        subst (λ (k : ℕ). AreAdded c k records) (sym channel) (are_added d.ids c),
+        subst (λ (k : ℕ). GetsId (reasoned p reasons) (found_of d) k records) (sym channel) (gets_id d c (reasoned p reasons) stood.fits.limit why.1),
+        named_same p d after c given.channel reasons records is.4,
+      ),
+    )
+declares d after missed p post c (Err (declaring.TooLarge len)) stood small few is reasons =
+    let why = declare_reason d c (Some (declaring.TooLarge len)) is.0 in
+    absurd (omega (arith, why.0, why.1, small))
+declares d after missed p post c (Err (declaring.Closed at)) stood small few is reasons =
+    let why = declare_reason d c (Some (declaring.Closed at)) is.0 in
+    (reasons ++ for_close at ∷ [], (found_of d, small, finds d p reasons stood, ap first_of why, stood.last ends.Closed at why, refl))
+declares d after missed p post c (Err (declaring.Stopped at stop)) stood small few is reasons =
+    let why = declare_reason d c (Some (declaring.Stopped at stop)) is.0 in
+    (reasons ++ for_stop at stop ∷ [], (found_of d, small, finds d p reasons stood, ap first_of why, stood.last (ends.Stopped stop) at why, refl))
+declares d after missed p post c (Err (declaring.TooManyRecords count)) stood small few is reasons =
+    let why = declare_reason d c (Some (declaring.TooManyRecords count)) is.0 in
+    (reasons ++ for_count count ∷ [], (found_of d, small, finds d p reasons stood, ap first_of why.0, unnamed d p reasons c stood why.3, why.1, why.2, refl))
+declares d after missed p post c (Err (declaring.Full h)) stood small few is reasons =
+    let why = declare_reason d c (Some (declaring.Full h)) is.0 in
+    (reasons ++ for_room (full_at (found_of d)) ∷ [], (found_of d, small, finds d p reasons stood, ap first_of why.0, unnamed d p reasons c stood why.3, why.4, why.1, omega (arith, why.2, stood.fits.limit), refl))
+declares d after missed p post c (Err declaring.TooManySchemas) stood small few is reasons =
+    let why = declare_reason d c (Some declaring.TooManySchemas) is.0 in
+    let at_most : length d.ids.schemas ≤ 65535 = subst (λ (x : DeskView). length x.ids.schemas ≤ 65535) is.1 few.few_schemas in
+    (reasons ++ for_id declaring.TooManySchemas ∷ [], (found_of d, small, finds d p reasons stood, ap first_of why.0, unnamed d p reasons c stood why.2, placed d p reasons stood why.3, omega (arith, at_most, lacking_schemas d.ids c why.1), refl))
+declares d after missed p post c (Err declaring.TooManyChannels) stood small few is reasons =
+    let why = declare_reason d c (Some declaring.TooManyChannels) is.0 in
+    let at_most : length d.ids.channels ≤ 65535 = subst (λ (x : DeskView). length x.ids.channels ≤ 65535) is.1 few.few_channels in
+    (reasons ++ for_id declaring.TooManyChannels ∷ [], (found_of d, small, finds d p reasons stood, ap first_of why.0, unnamed d p reasons c stood why.1, placed d p reasons stood why.4, omega (arith, at_most, why.2), refl))
+declares d after missed p post c (Err declaring.Memory) stood small few is reasons =
+    let why = declare_reason d c None is.0 in
+    (reasons, (found_of d, small, finds d p reasons stood, ap first_of why.0, refl))
+
+pub declared_answer : (m n behind : Sat) (c : ChannelDef) (result : Result Declared DeclareRefused) → Took m n → m.0.post.seated ≡ true → declared_size c ≤ 1048576
+    → DeclaredInTurn n c result behind → Declares m.0.pass behind.0.pass c result
+declared_answer m n behind c result took seated small declared =
+    let it = subst (λ (x : Sat). DeclaredInTurn x c result behind) took.is declared in
+    subst (λ (x : Sat). Declares m.0.pass x.0.pass c result) (sym it.is)
+    (declares took.d it.after took.missed m.0.pass m.0.post c result (took.stood seated) small it.few it.declared)
+
+pub too_wide : (p : PassState) (c : ChannelDef) (len : ℕ) → len ≡ declared_size c → 1048576 < len → Declares p p c (Err (declaring.TooLarge len))
+too_wide p c len is over reasons = (reasons ++ for_size len ∷ [], (is, over, refl))
+
+-- ---- a call that may find the turn taken
+
+counts_missed : (v : View) (d : DeskView) (result : Result ℕ PublishRefused) → (counts_message v d result).missed ≡ v.missed
+counts_missed v d (Ok place) = refl
+counts_missed v d (Err refusal) = refl
+
+pub tried_answer : (m n behind : Sat) (message : NewMessage) (result : Result ℕ PublishRefused) (answer : Option (Result ℕ PublishRefused)) → answer ≡ Some result → Took m n → n.0.missed ≡ m.0.missed → m.0.post.seated ≡ true
+    → length message.payload.now ≤ 33554432 → PublishedInTurn n message result behind → TriesBy m.0.pass m.0.missed behind.0.pass behind.0.missed message answer
+tried_answer m n behind message result answer is took missed seated small published =
+    subst (TriesBy m.0.pass m.0.missed behind.0.pass behind.0.missed message) (sym is) (
+      ap (λ (x : Sat). x.0.missed) published.is ∙ counts_missed n.0 published.after result ∙ missed,
+      published_answer m n behind message result took seated small published,
+    )

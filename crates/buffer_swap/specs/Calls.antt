@@ -1,0 +1,204 @@
+-- What the calls at a turn answer.
+use Rattle.std.specs.Prelude.{◌≡◌, ℕ, ◌+◌, ◌<◌, List, [], ◌++◌, length, true, OnOk, Option, Some, None, Result, Ok, Err}
+use Rattle.rec_data.specs.declared.channel.ChannelDef.{ChannelDef}
+use Rattle.mcap_model.specs.declared.ends.End.{End}
+use Rattle.mcap_model.specs.declared.ends.End.TheVariants.{Closed, Stopped}
+use Rattle.mcap_model.specs.declared.ends.Stop.{Stop}
+use Rattle.mcap_model.specs.History.{Numbered}
+use Rattle.record_cache.specs.Buffers.{Buffer}
+use Rattle.record_core.specs.Desk.{DeskView, swapped, ended, end_of, fields_of_message, Published, DeclaredBy, SwapAnswered, EndsAt}
+use Rattle.record_core.specs.Tables.{IsTable}
+use Rattle.record_core.specs.declared.answers.Declared.{Declared}
+use Rattle.record_core.specs.declared.answers.Empty.{Empty}
+use Rattle.record_core.specs.declared.answers.Found.{Found}
+use Rattle.record_core.specs.declared.answers.NewMessage.{NewMessage}
+use Rattle.record_core.specs.declared.answers.PublishRefused.{PublishRefused}
+use Rattle.record_core.specs.declared.answers.PublishRefused.TheVariants as publishing
+use Rattle.record_core.specs.declared.answers.DeclareRefused.{DeclareRefused}
+use Rattle.record_core.specs.declared.answers.DeclareRefused.TheVariants as declaring
+use Rattle.feed_lane.specs.Pass.{PassState, Reason, with_found, IsLater, Finds, PublishedBy, DeclaredInto}
+use Rattle.atomic_table.specs.Seated.{TableId}
+use Rattle.atomic_table.specs.declared.shared.Seat.{Seat}
+use Rattle.buffer_swap.specs.Posts.{Post, first_post, drain_post}
+use Rattle.buffer_swap.specs.Plays.{Sat, counts, frees, with_full_hand, with_name, with_lacking, hands_over, closes, stops}
+use Rattle.buffer_swap.specs.Turns.{newcomer}
+use Rattle.buffer_swap.specs.declared.view.View.{View}
+use Rattle.buffer_swap.specs.declared.answers.TryRefused.{TryRefused}
+use Rattle.buffer_swap.specs.declared.answers.TryRefused.TheVariants.{Busy, Refused}
+
+-- ---- parts of a call
+
+-- how a seat counts what a message added
+abbrev pub counts_message : View → DeskView → Result ℕ PublishRefused → View
+counts_message v d (Ok place) = counts v d
+counts_message v d (Err refusal) = v
+
+-- what a pass shows as the turn is freed behind a message
+abbrev pub pass_published : View → Result ℕ PublishRefused → PassState
+pass_published v (Ok place) = v.pass
+pass_published v (Err (publishing.Full held)) = with_full_hand v
+pass_published v (Err refusal) = v.pass
+
+abbrev pub counts_declared : View → DeskView → Result Declared DeclareRefused → View
+counts_declared v d (Ok given) = counts v d
+counts_declared v d (Err refusal) = v
+
+abbrev pub pass_declared : View → ChannelDef → Result Declared DeclareRefused → PassState
+pass_declared v c (Ok given) = with_name (given.channel, c) v
+pass_declared v c (Err (declaring.Full held)) = with_full_hand v
+pass_declared v c (Err declaring.TooManySchemas) = with_lacking (c, declaring.TooManySchemas) v
+pass_declared v c (Err declaring.TooManyChannels) = with_lacking (c, declaring.TooManyChannels) v
+pass_declared v c (Err refusal) = v.pass
+
+-- the seat behind a turn in which a message was published
+pub record PublishedInTurn (m : Sat) (message : NewMessage) (result : Result ℕ PublishRefused) (n : Sat) : Type 0 where
+  pub after : DeskView
+  pub published : Published m.0.hand message.channel (fields_of_message message) result after
+  pub is : n ≡ (frees (counts_message m.0 after result) (pass_published (counts_message m.0 after result) result), [])
+
+-- the same of a declaration
+pub record DeclaredInTurn (m : Sat) (c : ChannelDef) (result : Result Declared DeclareRefused) (n : Sat) : Type 0 where
+  pub after : DeskView
+  pub declared : DeclaredBy m.0.hand c result after
+  pub few : IsTable after.ids
+  pub is : n ≡ (frees (counts_declared m.0 after result) (pass_declared (counts_declared m.0 after result) c result), [])
+
+-- what a drain hands over
+abbrev pub hands_if : View → Result Buffer Empty → View
+hands_if v (Ok full) = hands_over v (swapped v.hand)
+hands_if v (Err empty) = v
+
+pub record SwappedInTurn (m : Sat) (result : Result Buffer Empty) (n : Sat) : Type 0 where
+  pub after : DeskView
+  pub answered : SwapAnswered m.0.hand result after
+  pub numbered : OnOk result (Numbered (m.0.post.taken ++ m.0.hand.primary))
+  pub is : n ≡ (frees (hands_if m.0 result) (hands_if m.0 result).pass, [])
+
+-- how a control closes where it found that end
+abbrev pub closes_if : View → Option End → View
+closes_if v None = closes v (ended v.hand Closed)
+closes_if v (Some end) = v
+
+pub record ClosedInTurn (m : Sat) (at : ℕ) (n : Sat) : Type 0 where
+  pub place : EndsAt (ended m.0.hand Closed) at
+  pub is : n ≡ (frees (closes_if m.0 (end_of m.0.hand)) (closes_if m.0 (end_of m.0.hand)).pass, [])
+
+-- how a drain stops where it found that end
+abbrev pub stops_if : View → Option End → Stop → View
+stops_if v None stop = stops v (ended v.hand (Stopped stop))
+stops_if v (Some end) stop = v
+
+pub record StoppedInTurn (m : Sat) (stop : Stop) (at : ℕ) (n : Sat) : Type 0 where
+  pub place : EndsAt (ended m.0.hand (Stopped stop)) at
+  pub is : n ≡ (frees (stops_if m.0 (end_of m.0.hand) stop) (stops_if m.0 (end_of m.0.hand) stop).pass, [])
+
+-- the same behind a turn that shows nothing of a full buffer
+pub record TriedInTurn (m : Sat) (message : NewMessage) (result : Result ℕ PublishRefused) (n : Sat) : Type 0 where
+  pub after : DeskView
+  pub published : Published m.0.hand message.channel (fields_of_message message) result after
+  pub is : n ≡ (frees (counts_message m.0 after result) (counts_message m.0 after result).pass, [])
+
+abbrev pub pass_named : View → ChannelDef → Result Declared DeclareRefused → PassState
+pass_named v c (Ok given) = with_name (given.channel, c) v
+pass_named v c (Err declaring.TooManySchemas) = with_lacking (c, declaring.TooManySchemas) v
+pass_named v c (Err declaring.TooManyChannels) = with_lacking (c, declaring.TooManyChannels) v
+pass_named v c (Err refusal) = v.pass
+
+pub record NamedInTurn (m : Sat) (c : ChannelDef) (result : Result Declared DeclareRefused) (n : Sat) : Type 0 where
+  pub after : DeskView
+  pub declared : DeclaredBy m.0.hand c result after
+  pub few : IsTable after.ids
+  pub is : n ≡ (frees (counts_declared m.0 after result) (pass_named (counts_declared m.0 after result) c result), [])
+
+-- ---- a publisher's calls
+
+-- the same pass, where its calls were refused for these reasons
+abbrev pub reasoned : PassState → List Reason → PassState
+reasoned p reasons = record p { reasons = reasons }
+
+-- A message was published or refused as a pass says it. Why earlier calls were refused is no part of a seat's pass, since a
+-- message that is too large is refused without a step.
+abbrev pub Publishes : PassState → PassState → NewMessage → Result ℕ PublishRefused → Type 0
+Publishes before after m result = (reasons : List Reason) → (more : List Reason) × PublishedBy (reasoned before reasons) (reasoned after more) m result
+
+abbrev pub Declares : PassState → PassState → ChannelDef → Result Declared DeclareRefused → Type 0
+Declares before after c result = (reasons : List Reason) → (more : List Reason) × DeclaredInto (reasoned before reasons) (reasoned after more) c result
+
+-- The pass has but looked at the intake since.
+pub record LooksOn (before after : PassState) : Type 0 where
+  pub same : after ≡ record before { found = after.found }
+  pub later : (last : Found) → before.found ≡ Some last → (now : Found) × (after.found ≡ Some now) × IsLater last now
+
+-- the buffer wasn't full for a message, or for a declaration
+abbrev pub NotFull : Result ℕ PublishRefused → Type 0
+NotFull result = (h : ℕ) → result ≡ Err (publishing.Full h) → ⊥
+
+abbrev pub NeverFull : Result Declared DeclareRefused → Type 0
+NeverFull result = (h : ℕ) → result ≡ Err (declaring.Full h) → ⊥
+
+-- the answer of a call that may find the turn taken
+abbrev pub answer_of : Result ℕ TryRefused → Option (Result ℕ PublishRefused)
+answer_of (Ok place) = Some (Ok place)
+answer_of (Err Busy) = None
+answer_of (Err (Refused refusal)) = Some (Err refusal)
+
+-- Where the turn was another's, the pass missed it once more and shows nothing else; else it never missed it.
+abbrev pub TriesBy : PassState → ℕ → PassState → ℕ → NewMessage → Option (Result ℕ PublishRefused) → Type 0
+TriesBy before missed after now m None = (now ≡ missed + 1) × (after ≡ before)
+TriesBy before missed after now m (Some answer) = (now ≡ missed) × Publishes before after m answer
+
+-- ---- the drain's calls and the control's
+
+-- how a call found the intake
+abbrev pub FoundSo : PassState → PassState → Found → Type 0
+FoundSo before after found = Finds before found × (after ≡ with_found before found)
+
+-- The buffer that was taken isn't empty, and what was taken grows by its records and is numbered. Nothing was taken exactly
+-- where the intake was found with no more records than were taken; then the empty buffer comes back.
+abbrev pub SwapsTo : PassState → Post → PassState → Post → Result Buffer Empty → Type 0
+SwapsTo before post after now (Ok full) = (found : Found) × FoundSo before after found × (full.limit ≡ before.limit) × (full.records ≡ [] → ⊥)
+    × (length post.taken < found.count) × (now ≡ drain_post post.stop (post.taken ++ full.records)) × Numbered now.taken
+SwapsTo before post after now (Err empty) = (found : Found) × FoundSo before after found × (empty.cache ≡ record { limit = before.limit; records = [] })
+    × (found.count ≡ length post.taken) × (empty.at ≡ length post.taken) × (empty.end ≡ found.end) × (now ≡ post)
+
+-- the end was set where none was found, and its place is that of all records that were found
+abbrev pub stopped_at : Option End → Stop → Post → Post
+stopped_at None stop post = drain_post (Some stop) post.taken
+stopped_at (Some end) stop post = post
+
+abbrev pub closed_at : Option End → Post → Post
+closed_at None post = record post { closed = true }
+closed_at (Some end) post = post
+
+pub record StopsBy (before : PassState) (post : Post) (stop : Stop) (after : PassState) (now : Post) (at : ℕ) : Type 0 where
+  pub found : Found
+  pub finds : FoundSo before after found
+  pub place : at ≡ found.count
+  pub stopped : now ≡ stopped_at found.end stop post
+
+pub record ClosesBy (before : PassState) (post : Post) (after : PassState) (now : Post) (at : ℕ) : Type 0 where
+  pub found : Found
+  pub finds : FoundSo before after found
+  pub place : at ≡ found.count
+  pub closed : now ≡ closed_at found.end post
+
+-- ---- where all is over
+
+-- the drain took all that it found, and found that end
+pub record IsOver (pass : PassState) (post : Post) (end : End) : Type 0 where
+  pub found : Found
+  pub shown : pass.found ≡ Some found
+  pub ended : found.end ≡ Some end
+  pub count : found.count ≡ length post.taken
+
+-- ---- a turn before its start
+
+-- from how many bytes on the buffer is full, as the first seat has it
+abbrev pub first_limit : Option (Seat DeskView View) → ℕ
+first_limit None = 0
+first_limit (Some seat) = seat.me.0.pass.limit
+
+-- the first seat is there, and has done nothing
+abbrev pub IsNewTurn : TableId → Option (Seat DeskView View) → Type 0
+IsNewTurn table None = ⊥
+IsNewTurn table (Some seat) = (seat.table_id ≡ table) × (seat.me ≡ (newcomer seat.me.0.pass.limit first_post, []))

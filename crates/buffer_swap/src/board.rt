@@ -1,0 +1,583 @@
+//! The steps of a turn.
+ghost use Rattle.std.specs.Prelude.{◌≡◌, ◌≢◌, ℕ, ◌+◌, ◌≤◌, [], ◌∷◌, ◌++◌, true, false, IfOk, OnOk, OnErr, List, length, Some, None, Err};
+ghost use Rattle.rec_data.specs.declared.owned.Rec.{Rec};
+ghost use Rattle.mcap_model.specs.declared.ends.End.TheVariants.{Closed, Stopped};
+ghost use Rattle.mcap_model.specs.History.{Numbered};
+ghost use Rattle.record_core.specs.Ids.{new_records};
+ghost use Rattle.record_core.specs.Tables.{IsTable};
+ghost use Rattle.record_core.specs.Sights.{DefFits};
+ghost use Rattle.record_core.specs.declared.answers.DeclareRefused.TheVariants.{TooManySchemas, TooManyChannels};
+ghost use Rattle.record_core.specs.Desk.{DeskView, new_desk, found_of, swapped, ended, end_of, fields_of_message, Published, DeclaredBy, SwapAnswered, EndsAt, IsCause, EndIsLast};
+ghost use Rattle.feed_lane.specs.Pass.{message_record, with_found};
+ghost use Rattle.buffer_swap.specs.Posts.{first_post, drain_post};
+ghost use Rattle.buffer_swap.specs.Turns.{newcomer, ids};
+ghost use Rattle.buffer_swap.specs.Plays.{desk_of, HasDesk, IsIdle, Took, MayCount, NamedAt, LacksAt, missing, counts, hands_over, closes, stops, frees, same_pass, with_full_hand, with_name, with_lacking};
+ghost use Rattle.buffer_swap.specs.Calls.{counts_message, pass_published, counts_declared, pass_declared, PublishedInTurn, DeclaredInTurn, TriedInTurn, pass_named, NamedInTurn, hands_if, SwappedInTurn, closes_if, ClosedInTurn, stops_if, StoppedInTurn};
+
+use crate::plays::{
+    Close, Count, Free, FreeFull, FreeLacking, FreeNamed, HandOver, Said, Stop, Take,
+};
+use crate::seats::{Board, Seat};
+use atomic_table::{Refused as NoTable, Table};
+use mcap_model::{End, Stop as Why};
+use mcap_wire::Memory;
+use rec_data::ChannelDef;
+use record_cache::Cache;
+use record_core::{DeclareRefused, Declared, Desk, Empty, Found, NewMessage, PublishRefused};
+use std::alloc::Global;
+use std::marker::Brand;
+use std::sync::Wait;
+
+pub(crate) const TURN: usize = 0;
+
+pub(crate) const EVENTS: usize = 1;
+
+impl Board {
+    pub(crate) fn open(alloc: Global, desk: Desk) -> Result<(Board, Seat), Memory>
+        requires { (limit : ℕ) × (desk ≡ new_desk limit) }
+        ensures { IfOk result (λ t. (t.1.table_id ≡ t.0.table.shared.table_id) × (t.1.me ≡ (newcomer desk.limit first_post, []))) }
+    {
+        let limit = desk.limit();
+        let mut slots = Vec::new(alloc);
+        match slots.push(desk) {
+            Ok(()) => {}
+            Err(_) => return Err(Memory),
+        }
+        let (table, seat) = match Table::new(alloc, &[0, 0], slots, &limit) {
+            Ok(made) => made,
+            Err(NoTable { slots: _ }) => return Err(Memory),
+        };
+        Ok((Board { table }, seat))
+    }
+
+    // ---- 1, 2
+
+    /// True where the turn was taken.
+    pub(crate) fn take(&self, seat: &mut Seat) -> bool
+        requires id { seat.old.table_id ≡ self.now.table.shared.table_id }
+        requires idle { IsIdle seat.old.me }
+        ensures id { seat.new.table_id ≡ seat.old.table_id }
+        ensures took { result ≡ true → Took seat.old.me seat.new.me × (seat.new.me.0.missed ≡ seat.old.me.0.missed) }
+        ensures missed { result ≡ false → seat.new.me ≡ (missing seat.old.me.0, []) }
+    {
+        self.table.shared.compare_exchange::<Take>(seat, TURN, 0, 1) == 0
+    }
+
+    /// Takes the turn, and waits for it.
+    pub(crate) fn wait<R: Wait>(&self, rt: &R, seat: &mut Seat)
+        requires id { seat.old.table_id ≡ self.now.table.shared.table_id }
+        requires idle { IsIdle seat.old.me }
+        ensures id { seat.new.table_id ≡ seat.old.table_id }
+        ensures took { Took seat.old.me seat.new.me }
+    {
+        for _ in rt.forever() {
+            if self.take(seat) {
+                return;
+            }
+            self.table.shared.park(rt, TURN, 1);
+        }
+        unreachable!()
+    }
+
+    // ---- 3, 7: loans of the desk
+
+    /// How the desk came out.
+    pub(crate) fn found_out(&self, seat: &mut Seat) -> Found
+        requires id { seat.old.table_id ≡ self.now.table.shared.table_id }
+        requires desk { HasDesk seat.old.me }
+        ensures id { seat.new.table_id ≡ seat.old.table_id }
+        ensures same { seat.new.me ≡ seat.old.me }
+        ensures found { result ≡ found_of seat.old.me.0.hand }
+    {
+        let desk = seat.slot_mut(&self.table.shared, 0);
+        desk.found()
+    }
+
+    // The desk's answer to a message.
+    fn publish_out(&self, seat: &mut Seat, m: &NewMessage<'_>) -> Result<u64, PublishRefused>
+        requires id { seat.old.table_id ≡ self.now.table.shared.table_id }
+        requires desk { HasDesk seat.old.me }
+        ensures id { seat.new.table_id ≡ seat.old.table_id }
+        ensures same { seat.new.me.0 ≡ seat.old.me.0 }
+        ensures out { seat.new.me.1 ≡ (0, desk_of seat.new.me.1) ∷ [] }
+        ensures published { Published seat.old.me.0.hand m.now.channel (fields_of_message m.now) result (desk_of seat.new.me.1) }
+        ensures counts { OnOk result (MayCount seat.old.me.0.hand (message_record m.now ∷ []) (desk_of seat.new.me.1)) }
+        ensures refused { OnErr result (desk_of seat.new.me.1 ≡ seat.old.me.0.hand) }
+    {
+        let desk = seat.slot_mut(&self.table.shared, 0);
+        desk.publish(m)
+    }
+
+    // The desk's answer to a declaration.
+    fn declare_out(&self, seat: &mut Seat, channel: &ChannelDef) -> Result<Declared, DeclareRefused>
+        requires id { seat.old.table_id ≡ self.now.table.shared.table_id }
+        requires desk { HasDesk seat.old.me }
+        requires fits { DefFits channel.now }
+        ensures id { seat.new.table_id ≡ seat.old.table_id }
+        ensures same { seat.new.me.0 ≡ seat.old.me.0 }
+        ensures out { seat.new.me.1 ≡ (0, desk_of seat.new.me.1) ∷ [] }
+        ensures declared { DeclaredBy seat.old.me.0.hand channel.now result (desk_of seat.new.me.1) }
+        ensures counts { OnOk result (MayCount seat.old.me.0.hand (new_records seat.old.me.0.hand.ids channel.now) (desk_of seat.new.me.1)) }
+        ensures known { IfOk result (λ given. given.count ≡ 0 → desk_of seat.new.me.1 ≡ seat.old.me.0.hand) }
+        ensures refused { OnErr result (desk_of seat.new.me.1 ≡ seat.old.me.0.hand) }
+        ensures named { IfOk result (λ given. NamedAt (desk_of seat.new.me.1) (given.channel, channel.now)) }
+        ensures few { IsTable (desk_of seat.new.me.1).ids }
+        ensures no_schemas { result ≡ Err TooManySchemas → LacksAt seat.old.me.0.hand (channel.now, TooManySchemas) }
+        ensures no_channels { result ≡ Err TooManyChannels → LacksAt seat.old.me.0.hand (channel.now, TooManyChannels) }
+    {
+        let desk = seat.slot_mut(&self.table.shared, 0);
+        desk.declare(channel)
+    }
+
+    // The desk's buffer for an empty one.
+    fn swap_out(&self, seat: &mut Seat, empty: Cache) -> Result<Cache, Empty>
+        requires id { seat.old.table_id ≡ self.now.table.shared.table_id }
+        requires desk { HasDesk seat.old.me }
+        requires empty { empty ≡ record { limit = seat.old.me.0.hand.limit; records = [] } }
+        ensures id { seat.new.table_id ≡ seat.old.table_id }
+        ensures same { seat.new.me.0 ≡ seat.old.me.0 }
+        ensures out { seat.new.me.1 ≡ (0, desk_of seat.new.me.1) ∷ [] }
+        ensures swapped { SwapAnswered seat.old.me.0.hand result (desk_of seat.new.me.1) }
+    {
+        let desk = seat.slot_mut(&self.table.shared, 0);
+        desk.swap(empty)
+    }
+
+    // Closes the desk.
+    fn close_out(&self, seat: &mut Seat) -> u64
+        requires id { seat.old.table_id ≡ self.now.table.shared.table_id }
+        requires desk { HasDesk seat.old.me }
+        ensures id { seat.new.table_id ≡ seat.old.table_id }
+        ensures same { seat.new.me.0 ≡ seat.old.me.0 }
+        ensures out { seat.new.me.1 ≡ (0, ended seat.old.me.0.hand Closed) ∷ [] }
+        ensures at { EndsAt (ended seat.old.me.0.hand Closed) result }
+    {
+        let desk = seat.slot_mut(&self.table.shared, 0);
+        desk.close()
+    }
+
+    // Stops the desk.
+    fn stop_out(&self, seat: &mut Seat, stop: Why) -> u64
+        requires id { seat.old.table_id ≡ self.now.table.shared.table_id }
+        requires desk { HasDesk seat.old.me }
+        requires cause { IsCause stop }
+        ensures id { seat.new.table_id ≡ seat.old.table_id }
+        ensures same { seat.new.me.0 ≡ seat.old.me.0 }
+        ensures out { seat.new.me.1 ≡ (0, ended seat.old.me.0.hand (Stopped stop)) ∷ [] }
+        ensures at { EndsAt (ended seat.old.me.0.hand (Stopped stop)) result }
+    {
+        let desk = seat.slot_mut(&self.table.shared, 0);
+        desk.stop(stop)
+    }
+
+    // ---- 4, 5, 6: events
+
+    // Records are counted.
+    fn count(&self, seat: &mut Seat)
+        requires id { seat.old.table_id ≡ self.now.table.shared.table_id }
+        requires desk { (seat.old.me.0.holds ≡ true) × (seat.old.me.1 ≡ (0, desk_of seat.old.me.1) ∷ []) }
+        requires publisher { ids seat.old.me.0 ≢ 0 }
+        requires counts { (records : List Rec) × MayCount seat.old.me.0.hand records (desk_of seat.old.me.1) }
+        ensures id { seat.new.table_id ≡ seat.old.table_id }
+        ensures me { seat.new.me ≡ (counts seat.old.me.0 (desk_of seat.old.me.1), seat.old.me.1) }
+    {
+        self.table.shared.fetch_add::<Count>(seat, EVENTS, 1);
+    }
+
+    // The buffer is handed over.
+    fn hand_over(&self, seat: &mut Seat)
+        requires id { seat.old.table_id ≡ self.now.table.shared.table_id }
+        requires desk { (seat.old.me.0.holds ≡ true) × (seat.old.me.1 ≡ (0, swapped seat.old.me.0.hand) ∷ []) }
+        requires drain { seat.old.me.0.post ≡ drain_post seat.old.me.0.post.stop seat.old.me.0.post.taken }
+        ensures id { seat.new.table_id ≡ seat.old.table_id }
+        ensures me { seat.new.me ≡ (hands_over seat.old.me.0 (swapped seat.old.me.0.hand), (0, swapped seat.old.me.0.hand) ∷ []) }
+        ensures numbered { Numbered (seat.old.me.0.post.taken ++ seat.old.me.0.hand.primary) }
+    {
+        self.table.shared.fetch_add::<HandOver>(seat, EVENTS, 1);
+    }
+
+    // The control closes the intake.
+    fn close(&self, seat: &mut Seat)
+        requires id { seat.old.table_id ≡ self.now.table.shared.table_id }
+        requires desk { (seat.old.me.0.holds ≡ true) × (seat.old.me.1 ≡ (0, ended seat.old.me.0.hand Closed) ∷ []) }
+        requires unended { seat.old.me.0.hand.end ≡ None }
+        requires control { (seat.old.me.0.post.controls ≡ true) × (seat.old.me.0.post.drains ≡ false) }
+        ensures id { seat.new.table_id ≡ seat.old.table_id }
+        ensures me { seat.new.me ≡ (closes seat.old.me.0 (ended seat.old.me.0.hand Closed), (0, ended seat.old.me.0.hand Closed) ∷ []) }
+    {
+        self.table.shared.fetch_add::<Close>(seat, EVENTS, 1);
+    }
+
+    // The drain stops the intake.
+    fn stop(&self, seat: &mut Seat, _stop: Why)
+        requires id { seat.old.table_id ≡ self.now.table.shared.table_id }
+        requires desk { (seat.old.me.0.holds ≡ true) × (seat.old.me.1 ≡ (0, ended seat.old.me.0.hand (Stopped _stop)) ∷ []) }
+        requires unended { seat.old.me.0.hand.end ≡ None }
+        requires drain { seat.old.me.0.post ≡ drain_post seat.old.me.0.post.stop seat.old.me.0.post.taken }
+        ensures id { seat.new.table_id ≡ seat.old.table_id }
+        ensures me { seat.new.me ≡ (stops seat.old.me.0 (ended seat.old.me.0.hand (Stopped _stop)), (0, ended seat.old.me.0.hand (Stopped _stop)) ∷ []) }
+    {
+        self.table.shared.fetch_add::<Stop>(seat, EVENTS, 1);
+    }
+
+    // ---- 8: the turn is freed
+
+    // Shows nothing more.
+    fn free(&self, seat: &mut Seat)
+        requires id { seat.old.table_id ≡ self.now.table.shared.table_id }
+        requires desk { HasDesk seat.old.me }
+        ensures id { seat.new.table_id ≡ seat.old.table_id }
+        ensures me { seat.new.me ≡ (frees seat.old.me.0 (same_pass seat.old.me.0), []) }
+    {
+        self.table.shared.store::<Free>(seat, TURN, 0);
+        self.table.shared.wake_one(TURN);
+    }
+
+    // Shows that the buffer was full.
+    fn free_full(&self, seat: &mut Seat)
+        requires id { seat.old.table_id ≡ self.now.table.shared.table_id }
+        requires desk { HasDesk seat.old.me }
+        ensures id { seat.new.table_id ≡ seat.old.table_id }
+        ensures me { seat.new.me ≡ (frees seat.old.me.0 (with_full_hand seat.old.me.0), []) }
+    {
+        self.table.shared.store::<FreeFull>(seat, TURN, 0);
+        self.table.shared.wake_one(TURN);
+    }
+
+    // Shows the id that a channel got.
+    fn free_named<N: Said>(&self, seat: &mut Seat, _channel: u16, _def: &ChannelDef)
+        requires said { N.name ≡ (_channel, _def.now) }
+        requires id { seat.old.table_id ≡ self.now.table.shared.table_id }
+        requires desk { HasDesk seat.old.me }
+        requires named { NamedAt seat.old.me.0.hand (_channel, _def.now) }
+        ensures id { seat.new.table_id ≡ seat.old.table_id }
+        ensures me { seat.new.me ≡ (frees seat.old.me.0 (with_name (_channel, _def.now) seat.old.me.0), []) }
+    {
+        self.table.shared.store::<FreeNamed<N>>(seat, TURN, 0);
+        self.table.shared.wake_one(TURN);
+    }
+
+    // Shows that no id was left for a channel.
+    fn free_lacking<N: Said>(&self, seat: &mut Seat, _def: &ChannelDef, _why: DeclareRefused)
+        requires said { N.lacking ≡ (_def.now, _why) }
+        requires id { seat.old.table_id ≡ self.now.table.shared.table_id }
+        requires desk { HasDesk seat.old.me }
+        requires lacks { LacksAt seat.old.me.0.hand (_def.now, _why) }
+        ensures id { seat.new.table_id ≡ seat.old.table_id }
+        ensures me { seat.new.me ≡ (frees seat.old.me.0 (with_lacking (_def.now, _why) seat.old.me.0), []) }
+    {
+        self.table.shared.store::<FreeLacking<N>>(seat, TURN, 0);
+        self.table.shared.wake_one(TURN);
+    }
+
+    // ---- a turn that was taken
+
+    // Counts the record of a message that was accepted.
+    fn count_message(
+        &self,
+        seat: &mut Seat,
+        _m: &NewMessage<'_>,
+        answer: &Result<u64, PublishRefused>,
+    )
+        requires id { seat.old.table_id ≡ self.now.table.shared.table_id }
+        requires desk { (seat.old.me.0.holds ≡ true) × (seat.old.me.1 ≡ (0, desk_of seat.old.me.1) ∷ []) }
+        requires publisher { ids seat.old.me.0 ≢ 0 }
+        requires counts { OnOk answer.now (MayCount seat.old.me.0.hand (message_record _m.now ∷ []) (desk_of seat.old.me.1)) }
+        requires refused { OnErr answer.now (desk_of seat.old.me.1 ≡ seat.old.me.0.hand) }
+        ensures id { seat.new.table_id ≡ seat.old.table_id }
+        ensures view { seat.new.me.0 ≡ counts_message seat.old.me.0 (desk_of seat.old.me.1) answer.now }
+        ensures desk { HasDesk seat.new.me }
+    {
+        match answer {
+            Ok(_) => self.count(seat),
+            Err(_) => {}
+        }
+    }
+
+    // Frees the turn behind the answer to a message.
+    fn free_published(&self, seat: &mut Seat, answer: &Result<u64, PublishRefused>)
+        requires id { seat.old.table_id ≡ self.now.table.shared.table_id }
+        requires desk { HasDesk seat.old.me }
+        ensures id { seat.new.table_id ≡ seat.old.table_id }
+        ensures me { seat.new.me ≡ (frees seat.old.me.0 (pass_published seat.old.me.0 answer.now), []) }
+    {
+        match answer {
+            Err(PublishRefused::Full { .. }) => self.free_full(seat),
+            _ => self.free(seat),
+        }
+    }
+
+    /// Publishes a message in a turn that was taken, and frees it.
+    pub(crate) fn publish_in_turn(
+        &self,
+        seat: &mut Seat,
+        m: &NewMessage<'_>,
+    ) -> Result<u64, PublishRefused>
+        requires id { seat.old.table_id ≡ self.now.table.shared.table_id }
+        requires desk { HasDesk seat.old.me }
+        requires publisher { ids seat.old.me.0 ≢ 0 }
+        ensures id { seat.new.table_id ≡ seat.old.table_id }
+        ensures published { PublishedInTurn seat.old.me m.now result seat.new.me }
+    {
+        let answer = self.publish_out(seat, m);
+        self.count_message(seat, m, &answer);
+        self.free_published(seat, &answer);
+        answer
+    }
+
+    // Counts the records of a channel that was declared.
+    fn count_declared(
+        &self,
+        seat: &mut Seat,
+        _channel: &ChannelDef,
+        answer: &Result<Declared, DeclareRefused>,
+    )
+        requires id { seat.old.table_id ≡ self.now.table.shared.table_id }
+        requires desk { (seat.old.me.0.holds ≡ true) × (seat.old.me.1 ≡ (0, desk_of seat.old.me.1) ∷ []) }
+        requires publisher { ids seat.old.me.0 ≢ 0 }
+        requires counts { OnOk answer.now (MayCount seat.old.me.0.hand (new_records seat.old.me.0.hand.ids _channel.now) (desk_of seat.old.me.1)) }
+        requires known { IfOk answer.now (λ given. given.count ≡ 0 → desk_of seat.old.me.1 ≡ seat.old.me.0.hand) }
+        requires refused { OnErr answer.now (desk_of seat.old.me.1 ≡ seat.old.me.0.hand) }
+        ensures id { seat.new.table_id ≡ seat.old.table_id }
+        ensures view { seat.new.me.0 ≡ counts_declared seat.old.me.0 (desk_of seat.old.me.1) answer.now }
+        ensures desk { HasDesk seat.new.me }
+    {
+        match answer {
+            Ok(given) => self.count_some(seat, given.count, _channel),
+            Err(_) => {}
+        }
+    }
+
+    // Counts records, if there are any.
+    fn count_some(&self, seat: &mut Seat, count: u8, _channel: &ChannelDef)
+        requires id { seat.old.table_id ≡ self.now.table.shared.table_id }
+        requires desk { (seat.old.me.0.holds ≡ true) × (seat.old.me.1 ≡ (0, desk_of seat.old.me.1) ∷ []) }
+        requires publisher { ids seat.old.me.0 ≢ 0 }
+        requires counts { MayCount seat.old.me.0.hand (new_records seat.old.me.0.hand.ids _channel.now) (desk_of seat.old.me.1) }
+        requires known { count ≡ 0 → desk_of seat.old.me.1 ≡ seat.old.me.0.hand }
+        ensures id { seat.new.table_id ≡ seat.old.table_id }
+        ensures view { seat.new.me.0 ≡ counts seat.old.me.0 (desk_of seat.old.me.1) }
+        ensures desk { HasDesk seat.new.me }
+    {
+        if count > 0 {
+            self.count(seat);
+        }
+    }
+
+    // Frees the turn behind the answer to a declaration.
+    fn free_declared(
+        &self,
+        seat: &mut Seat,
+        channel: &ChannelDef,
+        answer: &Result<Declared, DeclareRefused>,
+    )
+        requires id { seat.old.table_id ≡ self.now.table.shared.table_id }
+        requires desk { HasDesk seat.old.me }
+        requires named { IfOk answer.now (λ given. NamedAt seat.old.me.0.hand (given.channel, channel.now)) }
+        requires no_schemas { answer.now ≡ Err TooManySchemas → LacksAt seat.old.me.0.hand (channel.now, TooManySchemas) }
+        requires no_channels { answer.now ≡ Err TooManyChannels → LacksAt seat.old.me.0.hand (channel.now, TooManyChannels) }
+        ensures id { seat.new.table_id ≡ seat.old.table_id }
+        ensures me { seat.new.me ≡ (frees seat.old.me.0 (pass_declared seat.old.me.0 channel.now answer.now), []) }
+    {
+        match answer {
+            Ok(given) => self.free_named::<Brand>(seat, given.channel, channel),
+            Err(DeclareRefused::Full { .. }) => self.free_full(seat),
+            Err(DeclareRefused::TooManySchemas) => {
+                self.free_lacking::<Brand>(seat, channel, DeclareRefused::TooManySchemas);
+            }
+            Err(DeclareRefused::TooManyChannels) => {
+                self.free_lacking::<Brand>(seat, channel, DeclareRefused::TooManyChannels);
+            }
+            _ => self.free(seat),
+        }
+    }
+
+    /// Declares a channel in a turn that was taken, and frees it.
+    pub(crate) fn declare_in_turn(
+        &self,
+        seat: &mut Seat,
+        channel: &ChannelDef,
+    ) -> Result<Declared, DeclareRefused>
+        requires id { seat.old.table_id ≡ self.now.table.shared.table_id }
+        requires desk { HasDesk seat.old.me }
+        requires publisher { ids seat.old.me.0 ≢ 0 }
+        requires fits { DefFits channel.now }
+        ensures id { seat.new.table_id ≡ seat.old.table_id }
+        ensures declared { DeclaredInTurn seat.old.me channel.now result seat.new.me }
+    {
+        let answer = self.declare_out(seat, channel);
+        self.count_declared(seat, channel, &answer);
+        self.free_declared(seat, channel, &answer);
+        answer
+    }
+
+    // The drain hands over what the desk gave.
+    fn hand_swapped(&self, seat: &mut Seat, answer: &Result<Cache, Empty>)
+        requires id { seat.old.table_id ≡ self.now.table.shared.table_id }
+        requires desk { (seat.old.me.0.holds ≡ true) × (seat.old.me.1 ≡ (0, desk_of seat.old.me.1) ∷ []) }
+        requires drain { seat.old.me.0.post ≡ drain_post seat.old.me.0.post.stop seat.old.me.0.post.taken }
+        requires swapped { SwapAnswered seat.old.me.0.hand answer.now (desk_of seat.old.me.1) }
+        ensures id { seat.new.table_id ≡ seat.old.table_id }
+        ensures view { seat.new.me.0 ≡ hands_if seat.old.me.0 answer.now }
+        ensures desk { HasDesk seat.new.me }
+        ensures numbered { OnOk answer.now (Numbered (seat.old.me.0.post.taken ++ seat.old.me.0.hand.primary)) }
+    {
+        match answer {
+            Ok(_) => {
+                self.hand_over(seat);
+            }
+            Err(_) => {}
+        }
+    }
+
+    /// Swaps in a turn that was taken, and frees it. Whoever waits for a swap is woken.
+    pub(crate) fn swap_in_turn(&self, seat: &mut Seat, empty: Cache) -> Result<Cache, Empty>
+        requires id { seat.old.table_id ≡ self.now.table.shared.table_id }
+        requires desk { HasDesk seat.old.me }
+        requires drain { seat.old.me.0.post ≡ drain_post seat.old.me.0.post.stop seat.old.me.0.post.taken }
+        requires empty { empty ≡ record { limit = seat.old.me.0.hand.limit; records = [] } }
+        ensures id { seat.new.table_id ≡ seat.old.table_id }
+        ensures swapped { SwappedInTurn seat.old.me result seat.new.me }
+    {
+        let answer = self.swap_out(seat, empty);
+        self.hand_swapped(seat, &answer);
+        self.free(seat);
+        self.table.shared.wake_all(EVENTS);
+        answer
+    }
+
+    // The control closes the intake where no end was found.
+    fn close_if(&self, seat: &mut Seat, end: Option<End>)
+        requires id { seat.old.table_id ≡ self.now.table.shared.table_id }
+        requires desk { (seat.old.me.0.holds ≡ true) × (seat.old.me.1 ≡ (0, ended seat.old.me.0.hand Closed) ∷ []) }
+        requires control { (seat.old.me.0.post.controls ≡ true) × (seat.old.me.0.post.drains ≡ false) }
+        requires end { end ≡ end_of seat.old.me.0.hand }
+        ensures id { seat.new.table_id ≡ seat.old.table_id }
+        ensures view { seat.new.me.0 ≡ closes_if seat.old.me.0 end }
+        ensures desk { HasDesk seat.new.me }
+    {
+        match end {
+            None => self.close(seat),
+            Some(_) => {}
+        }
+    }
+
+    /// Closes in a turn that was taken, and frees it.
+    pub(crate) fn close_in_turn(&self, seat: &mut Seat) -> u64
+        requires id { seat.old.table_id ≡ self.now.table.shared.table_id }
+        requires desk { HasDesk seat.old.me }
+        requires control { (seat.old.me.0.post.controls ≡ true) × (seat.old.me.0.post.drains ≡ false) }
+        ensures id { seat.new.table_id ≡ seat.old.table_id }
+        ensures closed { ClosedInTurn seat.old.me result seat.new.me }
+    {
+        let found = self.found_out(seat);
+        let at = self.close_out(seat);
+        self.close_if(seat, found.end);
+        self.free(seat);
+        self.table.shared.wake_all(EVENTS);
+        at
+    }
+
+    // The drain stops the intake where no end was found.
+    fn stop_if(&self, seat: &mut Seat, end: Option<End>, stop: Why)
+        requires id { seat.old.table_id ≡ self.now.table.shared.table_id }
+        requires desk { (seat.old.me.0.holds ≡ true) × (seat.old.me.1 ≡ (0, ended seat.old.me.0.hand (Stopped stop)) ∷ []) }
+        requires drain { seat.old.me.0.post ≡ drain_post seat.old.me.0.post.stop seat.old.me.0.post.taken }
+        requires end { end ≡ end_of seat.old.me.0.hand }
+        ensures id { seat.new.table_id ≡ seat.old.table_id }
+        ensures view { seat.new.me.0 ≡ stops_if seat.old.me.0 end stop }
+        ensures desk { HasDesk seat.new.me }
+    {
+        match end {
+            None => self.stop(seat, stop),
+            Some(_) => {}
+        }
+    }
+
+    /// Stops in a turn that was taken, and frees it.
+    pub(crate) fn stop_in_turn(&self, seat: &mut Seat, stop: Why) -> u64
+        requires id { seat.old.table_id ≡ self.now.table.shared.table_id }
+        requires desk { HasDesk seat.old.me }
+        requires drain { seat.old.me.0.post ≡ drain_post seat.old.me.0.post.stop seat.old.me.0.post.taken }
+        requires cause { IsCause stop }
+        ensures id { seat.new.table_id ≡ seat.old.table_id }
+        ensures stopped { StoppedInTurn seat.old.me stop result seat.new.me }
+    {
+        let found = self.found_out(seat);
+        let at = self.stop_out(seat, stop);
+        self.stop_if(seat, found.end, stop);
+        self.free(seat);
+        self.table.shared.wake_all(EVENTS);
+        at
+    }
+
+    // ---- a turn that shows nothing of a full buffer
+
+    /// Publishes a message in a turn that was taken, and frees it.
+    pub(crate) fn try_in_turn(
+        &self,
+        seat: &mut Seat,
+        m: &NewMessage<'_>,
+    ) -> Result<u64, PublishRefused>
+        requires id { seat.old.table_id ≡ self.now.table.shared.table_id }
+        requires desk { HasDesk seat.old.me }
+        requires publisher { ids seat.old.me.0 ≢ 0 }
+        ensures id { seat.new.table_id ≡ seat.old.table_id }
+        ensures tried { TriedInTurn seat.old.me m.now result seat.new.me }
+    {
+        let answer = self.publish_out(seat, m);
+        self.count_message(seat, m, &answer);
+        self.free(seat);
+        answer
+    }
+
+    // Frees the turn behind the answer to a declaration.
+    fn free_tried(
+        &self,
+        seat: &mut Seat,
+        channel: &ChannelDef,
+        answer: &Result<Declared, DeclareRefused>,
+    )
+        requires id { seat.old.table_id ≡ self.now.table.shared.table_id }
+        requires desk { HasDesk seat.old.me }
+        requires named { IfOk answer.now (λ given. NamedAt seat.old.me.0.hand (given.channel, channel.now)) }
+        requires no_schemas { answer.now ≡ Err TooManySchemas → LacksAt seat.old.me.0.hand (channel.now, TooManySchemas) }
+        requires no_channels { answer.now ≡ Err TooManyChannels → LacksAt seat.old.me.0.hand (channel.now, TooManyChannels) }
+        ensures id { seat.new.table_id ≡ seat.old.table_id }
+        ensures me { seat.new.me ≡ (frees seat.old.me.0 (pass_named seat.old.me.0 channel.now answer.now), []) }
+    {
+        match answer {
+            Err(DeclareRefused::Full { .. }) => self.free(seat),
+            _ => self.free_declared(seat, channel, answer),
+        }
+    }
+
+    /// Declares a channel in a turn that was taken, and frees it.
+    pub(crate) fn name_in_turn(
+        &self,
+        seat: &mut Seat,
+        channel: &ChannelDef,
+    ) -> Result<Declared, DeclareRefused>
+        requires id { seat.old.table_id ≡ self.now.table.shared.table_id }
+        requires desk { HasDesk seat.old.me }
+        requires publisher { ids seat.old.me.0 ≢ 0 }
+        requires fits { DefFits channel.now }
+        ensures id { seat.new.table_id ≡ seat.old.table_id }
+        ensures declared { NamedInTurn seat.old.me channel.now result seat.new.me }
+    {
+        let answer = self.declare_out(seat, channel);
+        self.count_declared(seat, channel, &answer);
+        self.free_tried(seat, channel, &answer);
+        answer
+    }
+
+    /// How many events there were, in the bits on which a thread may sleep.
+    pub(crate) fn events(&self) -> u32 {
+        (self.table.shared.peek(EVENTS) & 0xffff_ffff) as u32
+    }
+
+    /// Sleeps until there is an event behind these, and may return early.
+    pub(crate) fn sleep<R: Wait>(&self, rt: &R, events: u32) {
+        self.table.shared.park(rt, EVENTS, events);
+    }
+}

@@ -1,0 +1,32 @@
+//! The drain: it takes what was accepted, buffer by buffer.
+ghost use Rattle.std.specs.Prelude.{◌≡◌, ℕ, []};
+ghost use Rattle.record_core.specs.Desk.{IsCause};
+ghost use Rattle.buffer_swap.specs.Calls.{SwapsTo, StopsBy};
+
+use crate::seats::Drain;
+use mcap_model::Stop;
+use record_cache::Cache;
+use record_core::Empty;
+use std::sync::Wait;
+
+impl Drain<'_> {
+    /// Takes the buffer for an empty one, or hands that back where nothing was accepted since. It may wait for the turn.
+    pub fn swap<R: Wait>(&mut self, rt: &R, empty: Cache) -> Result<Cache, Empty>
+        requires { empty ≡ record { limit = self.old.seat.me.0.pass.limit; records = [] } }
+        ensures turn { self.new.seat.table_id ≡ self.old.seat.table_id }
+        ensures swapped { SwapsTo self.old.seat.me.0.pass self.old.seat.me.0.post self.new.seat.me.0.pass self.new.seat.me.0.post result }
+    {
+        self.board.wait(rt, &mut self.seat);
+        self.board.swap_in_turn(&mut self.seat, empty)
+    }
+
+    /// Stops the intake where no end stands, and answers how many records it has then. It may wait for the turn.
+    pub fn stop<R: Wait>(&mut self, rt: &R, stop: Stop) -> u64
+        requires { IsCause stop }
+        ensures turn { self.new.seat.table_id ≡ self.old.seat.table_id }
+        ensures stopped { StopsBy self.old.seat.me.0.pass self.old.seat.me.0.post stop self.new.seat.me.0.pass self.new.seat.me.0.post result }
+    {
+        self.board.wait(rt, &mut self.seat);
+        self.board.stop_in_turn(&mut self.seat, stop)
+    }
+}

@@ -1,0 +1,155 @@
+//! The rule of the turn, and the kinds of its steps. A turn is told once from how many bytes on its buffer is full.
+ghost use Rattle.buffer_swap.specs.Posts.{first_post};
+ghost use Rattle.buffer_swap.specs.Turns.{Kept, newcomer, nobody};
+ghost use Rattle.buffer_swap.specs.Plays.{took, counted, handed_over, closed, stopped, freed, same_pass, with_full_hand, with_name, with_lacking, starts, drainer, hires, hired, gathers, noted, reads, settled, met};
+
+use crate::view::View;
+use atomic_table::{Join, Play, Split, TableRule};
+use record_core::Desk;
+use std::marker::{Brand, PhantomData};
+
+pub(crate) struct Order;
+
+impl TableRule<Desk, View, u64> for Order {
+    ghost holds = { λ _. Kept };
+
+    ghost first = { λ limit. newcomer limit first_post };
+}
+
+// 1 and 2: the turn is taken, or found taken.
+pub(crate) struct Take;
+
+impl Play<Desk, View> for Take {
+    ghost then = { took };
+}
+
+// 4: records are counted.
+pub(crate) struct Count;
+
+impl Play<Desk, View> for Count {
+    ghost then = { counted };
+}
+
+// 5: the buffer is handed over.
+pub(crate) struct HandOver;
+
+impl Play<Desk, View> for HandOver {
+    ghost then = { handed_over };
+}
+
+// 6: the intake is closed, or stopped.
+pub(crate) struct Close;
+
+impl Play<Desk, View> for Close {
+    ghost then = { closed };
+}
+
+pub(crate) struct Stop;
+
+impl Play<Desk, View> for Stop {
+    ghost then = { stopped };
+}
+
+// 8: the turn is freed, and the pass shows what it was refused or named.
+pub(crate) struct Free;
+
+impl Play<Desk, View> for Free {
+    ghost then = { freed same_pass };
+}
+
+pub(crate) struct FreeFull;
+
+impl Play<Desk, View> for FreeFull {
+    ghost then = { freed with_full_hand };
+}
+
+/// What a call says of a declaration.
+pub(crate) trait Said {
+    ghost use Rattle.std.specs.Prelude.{ℕ};
+    ghost use Rattle.rec_data.specs.declared.channel.ChannelDef.{ChannelDef};
+    ghost use Rattle.record_core.specs.declared.answers.DeclareRefused.{DeclareRefused};
+
+    ghost name: { ℕ × ChannelDef };
+
+    ghost lacking: { ChannelDef × DeclareRefused };
+}
+
+impl Said for Brand {
+    ghost use Rattle.std.specs.Prelude.{[], None};
+    ghost use Rattle.record_core.specs.declared.answers.DeclareRefused.TheVariants.{Memory};
+
+    ghost name = { (0, record { topic = []; message_encoding = []; metadata = []; schema = None }) };
+
+    ghost lacking = { (record { topic = []; message_encoding = []; metadata = []; schema = None }, Memory) };
+}
+
+pub(crate) struct FreeNamed<N> {
+    of: PhantomData<N>,
+}
+
+impl<N: Said> Play<Desk, View> for FreeNamed<N> {
+    ghost then = { freed (with_name N.name) };
+}
+
+pub(crate) struct FreeLacking<N> {
+    of: PhantomData<N>,
+}
+
+impl<N: Said> Play<Desk, View> for FreeLacking<N> {
+    ghost then = { freed (with_lacking N.lacking) };
+}
+
+// 9: seats are split.
+pub(crate) struct Start;
+
+impl Split<View> for Start {
+    ghost left = { starts };
+
+    ghost right = { drainer };
+}
+
+pub(crate) struct Hire;
+
+impl Split<View> for Hire {
+    ghost left = { hires };
+
+    ghost right = { hired };
+}
+
+pub(crate) struct Note;
+
+impl Split<View> for Note {
+    ghost left = { λ v. v };
+
+    ghost right = { noted };
+}
+
+// 10: seats are joined.
+pub(crate) struct Gather;
+
+impl Join<View> for Gather {
+    ghost both = { gathers };
+
+    ghost spent = { nobody };
+}
+
+pub(crate) struct Read;
+
+impl Join<View> for Read {
+    ghost both = { reads };
+
+    ghost spent = { nobody };
+}
+
+// 11: looks.
+pub(crate) struct Settle;
+
+impl Play<Desk, View> for Settle {
+    ghost then = { settled };
+}
+
+pub(crate) struct Meet;
+
+impl Play<Desk, View> for Meet {
+    ghost then = { met };
+}

@@ -1,0 +1,211 @@
+//! A publisher's calls. Each is one turn, or was too large or found the turn taken and was none.
+ghost use Rattle.std.specs.Prelude.{◌≡◌, ◌≤◌, ℕ, Ok, Err, Some, length, true, false};
+ghost use Rattle.mcap_wire.specs.Limits.{data_limit, declaration_limit};
+ghost use Rattle.record_core.specs.Desk.{declared_size};
+ghost use Rattle.record_core.specs.declared.answers.PublishRefused.TheVariants.{Full};
+ghost use Rattle.record_core.specs.declared.answers.DeclareRefused.TheVariants.{Full as DeclareFull};
+ghost use Rattle.record_core.specs.Sights.{DefFits};
+ghost use Rattle.buffer_swap.specs.Calls.{Publishes, Declares, TriesBy, answer_of, LooksOn, NotFull, NeverFull};
+
+use crate::answers::TryRefused;
+use crate::seats::{EndedPass, Publisher};
+use rec_data::ChannelDef;
+use record_core::{DeclareRefused, Declared, Found, NewMessage, PublishRefused, declared_size};
+use std::sync::Wait;
+
+// Whether the buffer was full for a message.
+fn met_full(answer: &Result<u64, PublishRefused>) -> bool
+    ensures none { result ≡ false → NotFull answer.now }
+    ensures full { result ≡ true → (h : ℕ) × (answer.now ≡ Err (Full h)) }
+{
+    matches!(answer, Err(PublishRefused::Full { .. }))
+}
+
+// Whether it was for a declaration.
+fn found_full(answer: &Result<Declared, DeclareRefused>) -> bool
+    ensures none { result ≡ false → NeverFull answer.now }
+    ensures full { result ≡ true → (h : ℕ) × (answer.now ≡ Err (DeclareFull h)) }
+{
+    matches!(answer, Err(DeclareRefused::Full { .. }))
+}
+
+impl<'t> Publisher<'t> {
+    /// Its number among the publishers of its turn.
+    pub fn number(&self) -> u32
+        ensures { result ≡ self.now.number }
+    {
+        self.number
+    }
+
+    /// How the intake was found in this publisher's last turn, before what it did there.
+    pub fn found(&self) -> Option<Found>
+        ensures { result ≡ self.now.seat.me.0.pass.found }
+    {
+        self.found
+    }
+
+    /// Publishes a message, and answers its place. It waits for nobody: where the turn is another's nothing is tried.
+    pub fn try_publish(&mut self, m: &NewMessage<'_>) -> Result<u64, TryRefused>
+        ensures turn { self.new.seat.table_id ≡ self.old.seat.table_id }
+        ensures number { self.new.number ≡ self.old.number }
+        ensures answer { TriesBy self.old.seat.me.0.pass self.old.seat.me.0.missed self.new.seat.me.0.pass self.new.seat.me.0.missed m.now (answer_of result) }
+    {
+        let len = m.payload.len() as u64;
+        if len > 33_554_432 {
+            return Err(TryRefused::Refused {
+                why: PublishRefused::TooLarge { len },
+            });
+        }
+        if !self.board.take(&mut self.seat) {
+            return Err(TryRefused::Busy);
+        }
+        let found = self.board.found_out(&mut self.seat);
+        self.found = Some(found);
+        match self.board.publish_in_turn(&mut self.seat, m) {
+            Ok(place) => return Ok(place),
+            Err(why) => return Err(TryRefused::Refused { why }),
+        }
+    }
+
+    /// Publishes a message, and answers its place. It may wait for the turn.
+    pub fn publish<R: Wait>(&mut self, rt: &R, m: &NewMessage<'_>) -> Result<u64, PublishRefused>
+        ensures turn { self.new.seat.table_id ≡ self.old.seat.table_id }
+        ensures number { self.new.number ≡ self.old.number }
+        ensures answer { Publishes self.old.seat.me.0.pass self.new.seat.me.0.pass m.now result }
+    {
+        let len = m.payload.len() as u64;
+        if len > 33_554_432 {
+            return Err(PublishRefused::TooLarge { len });
+        }
+        self.board.wait(rt, &mut self.seat);
+        let found = self.board.found_out(&mut self.seat);
+        self.found = Some(found);
+        self.board.publish_in_turn(&mut self.seat, m)
+    }
+
+    /// Declares a channel with its schema, and answers its id and the places of the records that this added. It may wait for
+    /// the turn.
+    pub fn declare<R: Wait>(
+        &mut self,
+        rt: &R,
+        channel: &ChannelDef,
+    ) -> Result<Declared, DeclareRefused>
+        requires { DefFits channel.now }
+        ensures turn { self.new.seat.table_id ≡ self.old.seat.table_id }
+        ensures number { self.new.number ≡ self.old.number }
+        ensures answer { Declares self.old.seat.me.0.pass self.new.seat.me.0.pass channel.now result }
+    {
+        let len = declared_size(channel);
+        if len > 1_048_576 {
+            return Err(DeclareRefused::TooLarge { len });
+        }
+        self.board.wait(rt, &mut self.seat);
+        let found = self.board.found_out(&mut self.seat);
+        self.found = Some(found);
+        self.board.declare_in_turn(&mut self.seat, channel)
+    }
+
+    // One turn of a call that waits while the buffer is full.
+    fn publish_once<R: Wait>(&mut self, rt: &R, m: &NewMessage<'_>) -> Result<u64, PublishRefused>
+        requires { length m.now.payload.now ≤ data_limit }
+        ensures turn { self.new.seat.table_id ≡ self.old.seat.table_id }
+        ensures number { self.new.number ≡ self.old.number }
+        ensures answer { NotFull result → Publishes self.old.seat.me.0.pass self.new.seat.me.0.pass m.now result }
+        ensures full { (h : ℕ) → result ≡ Err (Full h) → LooksOn self.old.seat.me.0.pass self.new.seat.me.0.pass }
+    {
+        self.board.wait(rt, &mut self.seat);
+        let found = self.board.found_out(&mut self.seat);
+        self.found = Some(found);
+        self.board.try_in_turn(&mut self.seat, m)
+    }
+
+    /// Publishes a message, and answers its place. It may wait for the turn, and while the buffer is full.
+    pub fn publish_lossless<R: Wait>(
+        &mut self,
+        rt: &R,
+        m: &NewMessage<'_>,
+    ) -> Result<u64, PublishRefused>
+        ensures turn { self.new.seat.table_id ≡ self.old.seat.table_id }
+        ensures number { self.new.number ≡ self.old.number }
+        ensures answer { Publishes self.old.seat.me.0.pass self.new.seat.me.0.pass m.now result }
+        ensures unfull { NotFull result }
+    {
+        let len = m.payload.len() as u64;
+        if len > 33_554_432 {
+            return Err(PublishRefused::TooLarge { len });
+        }
+        'tries: for _ in rt.forever() {
+            let events = self.board.events();
+            let answer = self.publish_once(rt, m);
+            if !met_full(&answer) {
+                return answer;
+            }
+            self.board.sleep(rt, events);
+        }
+        unreachable!()
+    }
+
+    // One turn of a declaration that waits while the buffer is full.
+    fn declare_once<R: Wait>(
+        &mut self,
+        rt: &R,
+        channel: &ChannelDef,
+    ) -> Result<Declared, DeclareRefused>
+        requires fits { DefFits channel.now }
+        requires small { declared_size channel.now ≤ declaration_limit }
+        ensures turn { self.new.seat.table_id ≡ self.old.seat.table_id }
+        ensures number { self.new.number ≡ self.old.number }
+        ensures answer { NeverFull result → Declares self.old.seat.me.0.pass self.new.seat.me.0.pass channel.now result }
+        ensures full { (h : ℕ) → result ≡ Err (DeclareFull h) → LooksOn self.old.seat.me.0.pass self.new.seat.me.0.pass }
+    {
+        self.board.wait(rt, &mut self.seat);
+        let found = self.board.found_out(&mut self.seat);
+        self.found = Some(found);
+        self.board.name_in_turn(&mut self.seat, channel)
+    }
+
+    /// Declares a channel with its schema, and answers its id and the places of the records that this added. It may wait for
+    /// the turn, and while the buffer is full.
+    pub fn declare_lossless<R: Wait>(
+        &mut self,
+        rt: &R,
+        channel: &ChannelDef,
+    ) -> Result<Declared, DeclareRefused>
+        requires { DefFits channel.now }
+        ensures turn { self.new.seat.table_id ≡ self.old.seat.table_id }
+        ensures number { self.new.number ≡ self.old.number }
+        ensures answer { Declares self.old.seat.me.0.pass self.new.seat.me.0.pass channel.now result }
+        ensures unfull { NeverFull result }
+    {
+        let len = declared_size(channel);
+        if len > 1_048_576 {
+            return Err(DeclareRefused::TooLarge { len });
+        }
+        'tries: for _ in rt.forever() {
+            let events = self.board.events();
+            let answer = self.declare_once(rt, channel);
+            if !found_full(&answer) {
+                return answer;
+            }
+            self.board.sleep(rt, events);
+        }
+        unreachable!()
+    }
+
+    /// Ends its calls.
+    pub fn end(self) -> EndedPass<'t>
+        ensures seat { result.publisher.seat ≡ self.entry.seat }
+        ensures number { result.publisher.number ≡ self.entry.number }
+    {
+        EndedPass { publisher: self }
+    }
+}
+
+impl EndedPass<'_> {
+    /// The number of the publisher that ended.
+    pub fn number(&self) -> u32
+        ensures { result ≡ self.now.publisher.number }
+    {
+        self.publisher.number
+    }
+}

@@ -1,0 +1,65 @@
+//! The table of a turn, and those who sit at it.
+ghost use Rattle.std.specs.Prelude.{◌≡◌, ◌+◌, ℕ, [], true, false, length};
+ghost use Rattle.buffer_swap.specs.Posts.{publisher_post, drain_post};
+ghost use Rattle.buffer_swap.specs.Plays.{IsIdle};
+
+use crate::plays::Order;
+use crate::view::View;
+use atomic_table::Table;
+use record_core::{Desk, Found};
+use std::alloc::Global;
+
+pub(crate) type Seat = atomic_table::Seat<Desk, View>;
+
+/// The desk in its slot, and the words of the turn and of the events.
+#[derive(Drop)]
+pub(crate) struct Board {
+    pub table: Table<Desk, View, u64, Order, Global>,
+    ghost sized_words: { table.shared.table_id.words ≡ 2 },
+    ghost sized_slots: { table.shared.table_id.slots ≡ 1 },
+}
+
+/// A publisher: it declares channels and publishes messages, one call at a time.
+#[derive(Drop)]
+pub struct Publisher<'t> {
+    pub(crate) board: &'t Board,
+    pub(crate) seat: Seat,
+    pub(crate) number: u32,
+    pub(crate) found: Option<Found>,
+    ghost fits: { seat.table_id ≡ board.now.table.shared.table_id },
+    ghost idle: { IsIdle seat.me },
+    ghost kind: { seat.me.0.post ≡ publisher_post },
+    ghost found_is: { found ≡ seat.me.0.pass.found },
+}
+
+/// A publisher that makes no more calls.
+#[derive(Drop)]
+pub struct EndedPass<'t> {
+    pub(crate) publisher: Publisher<'t>,
+}
+
+/// It makes publishers, closes the intake, and knows at the end what all publishers did.
+#[derive(Drop)]
+pub struct Control<'t> {
+    pub(crate) board: &'t Board,
+    pub(crate) seat: Seat,
+    pub(crate) made: u32,
+    ghost fits: { seat.table_id ≡ board.now.table.shared.table_id },
+    ghost idle: { IsIdle seat.me },
+    ghost controls: { seat.me.0.post.controls ≡ true },
+    ghost drains: { seat.me.0.post.drains ≡ false },
+    ghost seated: { seat.me.0.post.seated ≡ true },
+    ghost own: { seat.me.0.pass.own ≡ [] },
+    ghost made_is: { made ≡ seat.me.0.post.made },
+    ghost ids: { seat.me.0.post.ids ≡ length seat.me.0.post.known },
+}
+
+/// It takes what was accepted, buffer by buffer, and may stop the intake.
+#[derive(Drop)]
+pub struct Drain<'t> {
+    pub(crate) board: &'t Board,
+    pub(crate) seat: Seat,
+    ghost fits: { seat.table_id ≡ board.now.table.shared.table_id },
+    ghost idle: { IsIdle seat.me },
+    ghost kind: { seat.me.0.post ≡ drain_post seat.me.0.post.stop seat.me.0.post.taken },
+}

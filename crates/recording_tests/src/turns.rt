@@ -1,0 +1,273 @@
+//! Publishers, a drain and a control at one turn, on one thread and on many.
+ghost use Rattle.std.specs.Prelude.{◌≡◌, ◌+◌, ◌≤◌, ◌<◌, ◌^◌, [], length, IfOk};
+ghost use Rattle.record_core.specs.Sights.{DefFits};
+
+use crate::same::holds;
+use buffer_swap::{Control, Drain, Publisher, Turn};
+use mcap_model::End;
+use mcap_wire::{Memory, Pairs, Text, take_pairs};
+use rec_data::ChannelDef;
+use record_cache::Cache;
+use record_core::{Desk, NewMessage, PublishRefused};
+use std::alloc::Global;
+use std::sync::Wait;
+use std::test::Fail;
+use std::thread;
+use std::thread::{Threads, join_mut};
+
+const NO_PAIRS: &[u8] = b"\0\0\0\0";
+
+// A message of one byte, of 32 bytes.
+fn message<'a>(channel: u16, sequence: u32, payload: &'a [u8]) -> NewMessage<'a>
+    ensures { result.payload.now ≡ payload.now }
+{
+    NewMessage {
+        channel,
+        sequence,
+        log_time: 10,
+        publish_time: 9,
+        payload,
+    }
+}
+
+// The channel of a topic.
+fn plain(alloc: Global, topic: &str) -> Result<ChannelDef, Memory>
+    requires { length topic.now < 2 ^ 32 }
+    ensures { IfOk result DefFits }
+{
+    let Ok((pairs, _end)) = take_pairs(NO_PAIRS, 0) else {
+        return Err(Memory);
+    };
+    let topic = Text::copied(alloc, topic)?;
+    let message_encoding = Text::copied(alloc, "")?;
+    let metadata = Pairs::sorted(alloc, &pairs)?;
+    Ok(ChannelDef {
+        topic,
+        message_encoding,
+        metadata,
+        schema: None,
+    })
+}
+
+// What became of each message of a publisher: the places of those that were accepted, by their number, and how often the
+// turn was another's or the buffer full.
+#[derive(Drop)]
+struct Lane<'t> {
+    publisher: Publisher<'t>,
+    mark: u8,
+    many: u32,
+    places: Vec<u64>,
+    met: u64,
+    refused: u64,
+}
+
+impl Lane<'_> {
+    // Publishes a message, first without waiting.
+    fn put<R: Wait>(&mut self, rt: &R, channel: u16, sequence: u32) {
+        let payload = [self.mark];
+        let m = message(channel, sequence, &payload);
+        let answer = match self.publisher.try_publish(&m) {
+            Ok(place) => Ok(place),
+            Err(_) => {
+                self.met = self.met.wrapping_add(1);
+                self.publisher.publish_lossless(rt, &m)
+            }
+        };
+        match answer {
+            Ok(place) => match self.places.push(place) {
+                Ok(()) => {}
+                Err(_) => self.refused = self.refused.wrapping_add(1),
+            },
+            Err(_) => self.refused = self.refused.wrapping_add(1),
+        }
+    }
+
+    // Declares `/a` and publishes all messages.
+    fn run<R: Wait>(&mut self, rt: &R, alloc: Global) {
+        let Ok(declared) = plain(alloc, "/a") else {
+            return;
+        };
+        match self.publisher.declare_lossless(rt, &declared) {
+            Ok(given) => {
+                for sequence in 0..self.many {
+                    self.put(rt, given.channel, sequence);
+                }
+            }
+            Err(_) => self.refused = self.refused.wrapping_add(1),
+        }
+    }
+}
+
+// Takes all bytes up to the end, which is answered.
+fn drain_all<R: Wait>(
+    rt: &R,
+    alloc: Global,
+    drain: &mut Drain<'_>,
+    limit: u64,
+    bytes: &mut Vec<u8>,
+) -> Option<End>
+    requires small { limit ≤ 1000 }
+    requires limit { limit ≡ drain.old.seat.me.0.pass.limit }
+{
+    let Ok(mut spare) = Cache::new(alloc, limit) else {
+        return None;
+    };
+    'swaps: for _ in rt.forever() {
+        match drain.swap(rt, spare) {
+            Ok(full) => {
+                let mut full = full;
+                if bytes.extend_from_slice(full.framed()).is_err() {
+                    return None;
+                }
+                full.clear();
+                spare = full;
+            }
+            Err(empty) => {
+                if empty.end.is_some() {
+                    return empty.end;
+                }
+                spare = empty.cache;
+                thread::yield_now();
+            }
+        }
+    }
+    unreachable!()
+}
+
+// Runs the lanes side by side, and closes.
+fn run_lanes<R: Threads + Wait + Sync>(
+    rt: &R,
+    alloc: Global,
+    control: &mut Control<'_>,
+    lanes: &mut [Lane<'_>],
+) {
+    thread::for_each_mut(rt, lanes, 64, &|_, lane| lane.run(rt, alloc));
+    control.close(rt);
+}
+
+// A publisher with a mark, for so many messages.
+fn hire<'t>(alloc: Global, control: &mut Control<'t>, mark: u8, many: u32) -> Lane<'t>
+    requires { control.old.seat.me.0.post.made < 64 }
+    ensures { control.new.seat.me.0.post.made ≡ control.old.seat.me.0.post.made + 1 }
+{
+    Lane {
+        publisher: control.publisher(),
+        mark,
+        many,
+        places: Vec::new(alloc),
+        met: 0,
+        refused: 0,
+    }
+}
+
+// Whether that message stands at its place, behind one Channel of 27 bytes.
+fn is_there(bytes: &[u8], place: u64, sequence: u32, mark: u8) -> bool {
+    if place == 0 || place > 1_000_000 {
+        return false;
+    }
+    let at = 27 + 32 * (place as usize - 1);
+    let [a, b, c, d] = sequence.to_le_bytes();
+    let wanted = [
+        5, 23, 0, 0, 0, 0, 0, 0, 0, 1, 0, a, b, c, d, 10, 0, 0, 0, 0, 0, 0, 0, 9, 0, 0, 0, 0, 0, 0,
+        0, mark,
+    ];
+    bytes.get(at..at + 32) == Some(wanted.as_slice())
+}
+
+// Whether all messages of a lane were accepted, at places that rise, and stand there.
+fn all_there(bytes: &[u8], lane: &Lane<'_>) -> bool {
+    if lane.refused != 0 || lane.places.len() != lane.many as usize {
+        return false;
+    }
+    let mut sequence = 0u32;
+    let mut last = 0;
+    for place in lane.places.iter() {
+        if *place <= last || !is_there(bytes, *place, sequence, lane.mark) {
+            return false;
+        }
+        last = *place;
+        sequence = sequence.wrapping_add(1);
+    }
+    true
+}
+
+// Four publishers beside a drain, over a buffer of so many bytes: whether each message stands once, each publisher's in
+// order, behind the one channel.
+fn four<R: Threads + Wait + Sync>(
+    rt: &R,
+    alloc: Global,
+    limit: u64,
+    many: u32,
+) -> Result<bool, Memory>
+    requires { limit ≤ 1000 }
+{
+    let desk = Desk::open(alloc, limit)?;
+    let mut turn = Turn::open(alloc, desk)?;
+    let (mut control, mut drain) = turn.start();
+    let mut lanes = [
+        hire(alloc, &mut control, 1, many),
+        hire(alloc, &mut control, 2, many),
+        hire(alloc, &mut control, 3, many),
+        hire(alloc, &mut control, 4, many),
+    ];
+    let mut bytes = Vec::new(alloc);
+    let mut end = None;
+    join_mut(
+        rt,
+        &mut || run_lanes(rt, alloc, &mut control, lanes.as_mut_slice()),
+        &mut || end = drain_all(rt, alloc, &mut drain, limit, &mut bytes),
+    );
+    let mut there = end == Some(End::Closed) && bytes.len() == 27 + 4 * 32 * many as usize;
+    for lane in lanes.iter() {
+        there = there && all_there(bytes.as_slice(), lane);
+    }
+    Ok(there)
+}
+
+// One publisher on one thread: what its calls answer, how many bytes a swap gives, and how the intake ends.
+fn alone<R: Wait>(rt: &R, alloc: Global) -> Result<bool, Memory> {
+    let channel = plain(alloc, "/a")?;
+    let desk = Desk::open(alloc, 1000)?;
+    let mut turn = Turn::open(alloc, desk)?;
+    let (mut control, mut drain) = turn.start();
+    let mut publisher = control.publisher();
+    let declared = match publisher.declare(rt, &channel) {
+        Ok(given) => given.first == 0 && given.channel == 1 && given.count == 1,
+        Err(_) => false,
+    };
+    let payload = [7];
+    let m = message(1, 1, &payload);
+    let one = publisher.try_publish(&m) == Ok(1);
+    let two = publisher.publish(rt, &m) == Ok(2);
+    let three = publisher.publish_lossless(rt, &m) == Ok(3);
+    let spare = Cache::new(alloc, 1000)?;
+    let held = match drain.swap(rt, spare) {
+        Ok(full) => full.framed().len(),
+        Err(_) => 0,
+    };
+    let at = control.close(rt);
+    let closed = publisher.publish(rt, &m) == Err(PublishRefused::Closed { at: 4 });
+    control.gather(publisher.end());
+    Ok(declared && one && two && three && held == 123 && at == 4 && closed)
+}
+
+#[test]
+fn one_publisher_is_never_in_its_own_way(rt: HostRuntime) -> Result<(), Fail> {
+    let answered = alone(&rt, rt.alloc())?;
+    holds(&rt, answered);
+    Ok(())
+}
+
+#[test]
+fn four_publishers_and_a_drain(rt: HostRuntime) -> Result<(), Fail> {
+    let there = four(&rt, rt.alloc(), 200, 5000)?;
+    holds(&rt, there);
+    Ok(())
+}
+
+#[test]
+fn a_buffer_of_one_record_at_a_time(rt: HostRuntime) -> Result<(), Fail> {
+    let there = four(&rt, rt.alloc(), 1, 500)?;
+    holds(&rt, there);
+    Ok(())
+}
