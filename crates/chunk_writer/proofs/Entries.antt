@@ -9,7 +9,7 @@ use Rattle.mcap_model.specs.Blocks.{Piece, block, Cuts, cuts, pieces_bytes, bloc
 use Rattle.mcap_model.specs.File.{front, blocks_from, written_of}
 use Rattle.mcap_model.proofs.Standing.{count_blocks}
 use Rattle.mcap_model.proofs.OneMore.{zip_push}
-use Rattle.chunk_writer.specs.declared.entry.Entry.{Entry}
+use Rattle.live_entry.specs.declared.entry.Entry.{Entry}
 use Rattle.chunk_writer.specs.Scribes.{SeenExtents, IsEntryOf, GivesEntry, Lists, KeepsOn, sure_blocks, GivesEntries}
 use Rattle.chunk_writer.proofs.Cuts.{cuts_more, one_more}
 use Rattle.chunk_writer.proofs.Noting.{blocks_append}
@@ -51,7 +51,7 @@ entry_before : {X : Type 0} (seen : SeenExtents X) (store : LiveState) (e : Entr
 entry_before seen store e offset records keeps is = record {
   numbers = is.numbers;
   long = is.long;
-  told = λ before holds. is.told (before ++ (keeps before holds).0) (keeps before holds).1;
+  told = let all = is.told in record { there = λ before holds. all.there (before ++ (keeps before holds).0) (keeps before holds).1; only = all.only };
 }
 
 pub no_entries : {X : Type 0} (seen : SeenExtents X) (options : FileOptions) (history : List Rec) → GivesEntries seen options history [] []

@@ -17,7 +17,7 @@ use Rattle.chunk_build.specs.Chunker.{AreFramed}
 use Rattle.record_cache.specs.Buffers.{IsKept}
 use Rattle.record_cache.specs.Offers.{StartsAt, RecordAt}
 use Rattle.record_cache.proofs.Kept.{there, kept_at}
-use Rattle.chunk_writer.specs.declared.entry.Entry.{Entry}
+use Rattle.live_entry.specs.declared.entry.Entry.{Entry}
 use Rattle.chunk_writer.specs.declared.phase.Phase.TheVariants as phases
 use Rattle.chunk_writer.specs.declared.scribe.Scribe.{Scribe}
 use Rattle.chunk_writer.specs.Limits.{Holds}

@@ -11,7 +11,7 @@ use Rattle.mcap_model.specs.Built.{IsBlock}
 use Rattle.mcap_model.specs.Blocks.{Piece, block, alone, cuts, pieces_of, piece_bytes, pieces_bytes, block_bytes}
 use Rattle.mcap_model.specs.File.{front, data_end, section, noted, tail_by, written_of, file_of}
 use Rattle.mcap_model.specs.Pieces.{back_of}
-use Rattle.chunk_writer.specs.declared.entry.Entry.{Entry}
+use Rattle.live_entry.specs.declared.entry.Entry.{Entry}
 use Rattle.chunk_writer.specs.declared.phase.Phase.{Phase}
 use Rattle.chunk_writer.specs.declared.phase.Phase.TheVariants as phases
 use Rattle.chunk_writer.specs.declared.next.Next.{Next}
@@ -20,7 +20,7 @@ use Rattle.chunk_writer.specs.Limits.{Holds}
 use Rattle.chunk_writer.specs.Bodies.{Closes}
 use Rattle.chunk_writer.specs.Planning.{Planning}
 use Rattle.chunk_writer.specs.Plans.{Plans, IsPlanned, IsNext, PutStopped, HoldsBlock, HoldsNext, StoppedBefore, IsWhole, IsLast, LastStopped, BackStopped}
-use Rattle.chunk_writer.specs.Stops.{StopsAt, StopsBehind, Added}
+use Rattle.chunk_writer.specs.Stops.{StopsAt, StopsBehind, Added, TellsPiece}
 use Rattle.chunk_writer.specs.Scribes.{ScribeStands, SeenExtents, IsEntryOf, IsEntryWith, AddsLast, Ends, GivesEntry, GivesLast}
 use Rattle.chunk_writer.proofs.Cuts.{bytes_behind}
 use Rattle.chunk_writer.proofs.Planned.{whole_none, whole_some}
@@ -145,7 +145,7 @@ add_refused options opened held history r p after stop going refused before stan
 -- ---- entries
 
 pub entry_of_block : {X : Type 0} (seen : SeenExtents X) (e : Entry X) (offset : ℕ) (blk : Block) (records : List Rec) → IsEntryWith e e.extent offset blk → IsBlock blk records
-    → seen.size e.extent ≡ length blk.bytes → ((before : List ℕ) → seen.held ≡ Some before → seen.tells e.extent ≡ Some blk.bytes) → IsEntryOf seen e offset records
+    → seen.size e.extent ≡ length blk.bytes → TellsPiece (seen.tells e.extent) seen.held blk.bytes → IsEntryOf seen e offset records
 entry_of_block seen e offset blk records is built long told = record {
   numbers = record {
     offset_is = is.offset_is;
@@ -156,12 +156,12 @@ entry_of_block seen e offset blk records is built long told = record {
     declaring = is.declaring ∙ built.declaring;
   };
   long = long ∙ ap (λ (l : List ℕ). length l) built.spelled;
-  told = λ before holds. told before holds ∙ ap Some built.spelled;
+  told = record { there = λ before holds. told.there before holds ∙ ap Some built.spelled; only = λ said is. told.only said is ∙ built.spelled };
 }
 
 -- the entry of the block that a record closed
 pub block_entry : {X : Type 0} (seen : SeenExtents X) (options : FileOptions) (opened held : Option (List ℕ)) (history : List Rec) (r : Rec) (p mid : Planning) (next : Next) (blk : Block) (e : Entry X) (bytes : ℕ) → next ≡ nexts.Block blk → Planned p r next mid
-    → p.phase ≡ phases.Going → bytes ≡ p.bytes → IsEntryWith e e.extent bytes blk → seen.size e.extent ≡ length blk.bytes → ((before : List ℕ) → seen.held ≡ Some before → seen.tells e.extent ≡ Some blk.bytes)
+    → p.phase ≡ phases.Going → bytes ≡ p.bytes → IsEntryWith e e.extent bytes blk → seen.size e.extent ≡ length blk.bytes → TellsPiece (seen.tells e.extent) seen.held blk.bytes
     → ScribeStands options opened held history p → GivesEntry seen options history r (Some e)
 block_entry seen options opened held history r p mid next blk e bytes is planned going place with_it long told stands =
     let (plans, first) = stands.going going in
@@ -199,7 +199,7 @@ adds_none options opened held history p mid last is lasts going stands =
 
 pub last_entry : {X : Type 0} (seen : SeenExtents X) (options : FileOptions) (opened held : Option (List ℕ)) (history : List Rec) (p mid : Planning) (last : Option Block) (blk : Block) (e : Entry X) (bytes : ℕ)
     → last ≡ Some blk → Lasts p last mid → p.phase ≡ phases.Going → bytes ≡ p.bytes → IsEntryWith e e.extent bytes blk → seen.size e.extent ≡ length blk.bytes
-    → ((before : List ℕ) → seen.held ≡ Some before → seen.tells e.extent ≡ Some blk.bytes) → ScribeStands options opened held history p → GivesLast seen options history (Some e)
+    → TellsPiece (seen.tells e.extent) seen.held blk.bytes → ScribeStands options opened held history p → GivesLast seen options history (Some e)
 last_entry seen options opened held history p mid last blk e bytes is lasts going place with_it long told stands =
     let (plans, first) = stands.going going in
     let made : IsLast options history (Some blk) mid = subst (λ (x : Option Block). IsLast options history x mid) is (lasts options history plans) in

@@ -11,7 +11,7 @@ use Rattle.mcap_model.specs.Blocks.{block, cuts, pieces_of, pieces_bytes, last_p
 use Rattle.mcap_model.specs.Built.{declarations}
 use Rattle.mcap_model.specs.File.{front, blocks_from, written_of, file_of}
 use Rattle.chunk_build.specs.Chunker.{AreFramed}
-use Rattle.chunk_writer.specs.declared.entry.Entry.{Entry}
+use Rattle.live_entry.specs.declared.entry.Entry.{Entry}
 use Rattle.chunk_writer.specs.declared.phase.Phase.{Phase}
 use Rattle.chunk_writer.specs.declared.phase.Phase.TheVariants as phases
 use Rattle.chunk_writer.specs.declared.scribe.Scribe.{Scribe}
@@ -19,7 +19,7 @@ use Rattle.chunk_writer.specs.declared.tape.Written.{Written}
 use Rattle.chunk_writer.specs.Planning.{Planning}
 use Rattle.chunk_writer.specs.Bodies.{Closes}
 use Rattle.chunk_writer.specs.Plans.{Plans, IsWhole}
-use Rattle.chunk_writer.specs.Stops.{StopsAt, StopsBehind}
+use Rattle.chunk_writer.specs.Stops.{StopsAt, StopsBehind, TellsPiece}
 
 -- The plan of a scribe, whose store held the first bytes when it was opened and holds the second now, stands for a history.
 -- While it goes on, all pieces that are sure stand behind the first bytes. Where it stopped, it stopped at a piece of each
@@ -90,11 +90,11 @@ pub record SeenExtents (X : Type 0) : Type 0 where
 abbrev pub seen_before : {X : Type 0} → (X → Option (List ℕ)) → (X → ℕ) → LiveState → SeenExtents X
 seen_before tells size store = record { tells = tells; size = size; held = store.held }
 
--- its extent is as long as the block, and tells the block's bytes where the store told what it held
+-- its extent is as long as the block, and tells the block's bytes where the store told what it held, and nothing else
 pub record IsEntryOf {X : Type 0} (seen : SeenExtents X) (e : Entry X) (offset : ℕ) (records : List Rec) : Type 0 where
   pub numbers : IsEntry e offset records
   pub long : seen.size e.extent ≡ length (block_bytes records)
-  pub told : (before : List ℕ) → seen.held ≡ Some before → seen.tells e.extent ≡ Some (block_bytes records)
+  pub told : TellsPiece (seen.tells e.extent) seen.held (block_bytes records)
 
 -- which entry a put record gives: that of the block that it closes, if it does so
 abbrev pub GivesEntry : {X : Type 0} → SeenExtents X → FileOptions → List Rec → Rec → Option (Entry X) → Type 0

@@ -44,11 +44,16 @@ abbrev pub Cause : {X : Type 0} → ℕ → ℕ → Result X Stop → Type 0
 Cause before now (Ok it) = now ≡ before
 Cause before now (Err stop) = StopCause before now stop
 
+-- What an extent tells is the piece, where its store told what it held before; and where it tells, that is all that it tells.
+pub record TellsPiece (told held : Option (List ℕ)) (piece : List ℕ) : Type 0 where
+  pub there : (before : List ℕ) → held ≡ Some before → told ≡ Some piece
+  pub only : (bytes : List ℕ) → told ≡ Some bytes → bytes ≡ piece
+
 -- What an append did to a store: the piece stands there, in its extent; or it was refused, and the store took some first
 -- bytes of it where it failed, and none where memory lacked.
 abbrev pub Appends : {X : Type 0} → (X → Option (List ℕ)) → (X → ℕ) → LiveState → LiveState → List ℕ → Result X Stop → Type 0
 Appends tells size old new piece (Ok e) = Adds old.held new.held piece × (size e ≡ length piece)
-    × ((before : List ℕ) → old.held ≡ Some before → tells e ≡ Some piece)
+    × TellsPiece (tells e) old.held piece
 Appends tells size old new piece (Err (stops.Fault faults)) = AddsPart old.held new.held 0 piece
 Appends tells size old new piece (Err (stops.Limit blocks bytes)) = ⊥
 Appends tells size old new piece (Err stops.Memory) = new.held ≡ old.held

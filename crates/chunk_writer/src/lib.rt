@@ -4,7 +4,6 @@
 
 mod body;
 mod buffered;
-mod entry;
 mod limits;
 mod next;
 mod phase;
@@ -13,8 +12,8 @@ mod plan;
 mod scribe;
 mod tape;
 
-pub use entry::Entry;
 pub use limits::keep_limit;
+pub use live_entry::Entry;
 pub use phase::Phase;
 pub use scribe::Scribe;
 pub use tape::{Finished, Taken, Tape, Written};

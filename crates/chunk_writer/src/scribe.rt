@@ -19,13 +19,13 @@ ghost use Rattle.chunk_writer.specs.Stops.{StopsAt, Cause, StopCause, Appends, A
 ghost use Rattle.chunk_writer.specs.Scribes.{ScribeStands, Writes, Grows, OfEach, KeepsOn, store_of, phase_of, blocks_of, bytes_of, seen_before, GivesEntry, GivesLast, ListsEntry, PutsFront, Ends, EndsFile, CountsLast, CountsBytes, IsEntryWith, AddsLast};
 
 use crate::buffered::Buffered;
-use crate::entry::Entry;
 use crate::next::Next;
 use crate::phase::Phase;
 use crate::pieces::front_piece;
 use crate::plan::Plan;
 use crate::tape::{Finished, Taken};
 use chunk_build::framed_of;
+use live_entry::Entry;
 use mcap_io::{AppendRefused, LiveStore};
 use mcap_model::{Block, FileOptions, Stop};
 use mcap_wire::Memory;

@@ -9,9 +9,9 @@ ghost use Rattle.chunk_writer.specs.Limits.{Holds};
 ghost use Rattle.chunk_writer.specs.Stops.{Cause};
 ghost use Rattle.chunk_writer.specs.Scribes.{Grows, EndsFile, grows_none, grows_on, store_of, phase_of, blocks_of, bytes_of};
 
-use crate::entry::Entry;
 use crate::phase::Phase;
 use crate::scribe::Scribe;
+use live_entry::Entry;
 use mcap_io::{Extent, LiveStore};
 use mcap_model::Stop;
 use record_cache::Cache;

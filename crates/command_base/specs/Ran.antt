@@ -99,11 +99,13 @@ object_faults (Some keeping) = keeping.faults
 abbrev pub source_faults : ObjectKind → ℕ → ℕ
 source_faults kinds.Source faults = faults
 source_faults kinds.Store faults = faults
+source_faults kinds.Sink faults = 0
 source_faults kinds.Live faults = 0
 
 abbrev pub live_faults : ObjectKind → ℕ → ℕ
 live_faults kinds.Source faults = 0
 live_faults kinds.Store faults = 0
+live_faults kinds.Sink faults = 0
 live_faults kinds.Live faults = faults
 
 -- of all openings

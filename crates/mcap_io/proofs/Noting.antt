@@ -33,7 +33,7 @@ noted_there log before behind entry there kind name at kept stands is place out 
 
 -- a world with these names and this log; what a keeping says doesn't look at the counts
 abbrev telling : Names → List Opening → WorldState
-telling names log = record { told = Some (record { names = names; log = log }); faults = 0; input_faults = 0; output_faults = 0 }
+telling names log = record { told = Some (record { names = names; log = log }); faults = 0; input_faults = 0; output_faults = 0; watch_faults = 0 }
 
 -- whether a keeping went well
 well_is : (result : Result Unit Failed) → is_ok result ≡ went_well result

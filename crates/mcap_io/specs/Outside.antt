@@ -53,13 +53,14 @@ pub record Told : Type 0 where
   pub names : Names
   pub log : List Opening
 
--- of a world: what it tells, if it does; how often an opening or a keeping has failed; and the faults of the sources
--- and stores and of the live stores that it took back
+-- of a world: what it tells, if it does; how often an opening or a keeping has failed; and the faults of what it took back:
+-- of the sources and stores, of the live stores, and of the sinks and views
 pub record WorldState : Type 0 where
   pub told : Option Told
   pub faults : ℕ
   pub input_faults : ℕ
   pub output_faults : ℕ
+  pub watch_faults : ℕ
 
 -- ---- counts of faults
 
@@ -174,6 +175,7 @@ Opens old new kind name (Err open_refusals.Memory) = new.told ≡ old.told
 pub record CountsStand (old new : WorldState) : Type 0 where
   pub inputs : new.input_faults ≡ old.input_faults
   pub outputs : new.output_faults ≡ old.output_faults
+  pub watches : new.watch_faults ≡ old.watch_faults
 
 -- ---- keepings
 
@@ -224,6 +226,11 @@ abbrev pub KeepsSource : WorldState → WorldState → List ℕ → SourceState 
 KeepsSource old new name it result = (told : Told) → old.told ≡ Some told → (now : Told) × (new.told ≡ Some now) × (now.names ≡ told.names)
     × Notes told.log now.log kinds.Source name (record { well = went_well result; faults = it.faults; left = it.left; asked = 0 })
 
+-- a sink that is taken back is noted, and its bytes stand under its name alone
+abbrev pub KeepsSink : WorldState → WorldState → List ℕ → SinkState → Result Unit Failed → Type 0
+KeepsSink old new name it result = (told : Told) → old.told ≡ Some told → (now : Told) × (new.told ≡ Some now) × KeepsName told.names now.names name it.took result
+    × Notes told.log now.log kinds.Sink name (record { well = went_well result; faults = it.faults; left = None; asked = 0 })
+
 -- a live store that is taken back is noted, and its bytes stand under its name alone
 abbrev pub KeepsLive : WorldState → WorldState → List ℕ → LiveState → Result Unit Failed → Type 0
 KeepsLive old new name it result = (told : Told) → old.told ≡ Some told → (now : Told) × (new.told ≡ Some now) × KeepsName told.names now.names name it.held result
@@ -236,3 +243,15 @@ TellsName world name source = (told : Told) → world.told ≡ Some told → (so
 -- what a newly made store tells: nothing yet
 abbrev pub TellsNothingYet : WorldState → LiveState → Type 0
 TellsNothingYet world live = (told : Told) → world.told ≡ Some told → live.held ≡ Some []
+
+-- what a newly made sink tells: it took nothing yet
+abbrev pub TookNothingYet : WorldState → SinkState → Type 0
+TookNothingYet world sink = (told : Told) → world.told ≡ Some told → sink.took ≡ Some []
+
+-- a view is let go, whose faults were so many
+pub record LetsViewGo (old new : WorldState) (failures : ℕ) : Type 0 where
+  pub told : new.told ≡ old.told
+  pub faults : new.faults ≡ old.faults
+  pub inputs : new.input_faults ≡ old.input_faults
+  pub outputs : new.output_faults ≡ old.output_faults
+  pub watches : new.watch_faults ≡ added old.watch_faults failures

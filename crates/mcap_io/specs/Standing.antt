@@ -40,4 +40,5 @@ seen world = record {
   faults = world.faults;
   input_faults = world.input_faults;
   output_faults = world.output_faults;
+  watch_faults = world.watch_faults;
 }

@@ -7,14 +7,15 @@ ghost use Rattle.mcap_io.specs.Files.{nothing, PlacedAs, IsWritten};
 ghost use Rattle.mcap_io.specs.Appending.{EachLeaves, EachCause};
 ghost use Rattle.mcap_io.specs.Gathered.{Stores, StoresEach};
 ghost use Rattle.mcap_io.specs.Inputs.{LetsGo};
-ghost use Rattle.mcap_io.specs.Stores.{IsUnused};
-ghost use Rattle.mcap_io.specs.Outside.{HasCause, OpenCause, ReadGives, Adds, AppendCause, AppendLeaves, RisesOnce, added};
+ghost use Rattle.mcap_io.specs.Stores.{IsUnused, GivesPart};
+ghost use Rattle.mcap_io.specs.Outside.{HasCause, OpenCause, ReadGives, Adds, AppendCause, AppendLeaves, LetsViewGo, RisesOnce, added};
 
 use crate::ahead::{ROOM, ReadAhead};
 use crate::gather::Gather;
 use crate::inputs::{FileId, holds, let_go};
 use crate::outside::{
-    AppendRefused, EachRefused, Extent, Failed, LiveStore, OpenRefused, Short, Source, World,
+    AppendRefused, EachRefused, Extent, Failed, LiveStore, LiveView, OpenRefused, Short, Sink,
+    Source, World,
 };
 use crate::pieces::{Pieces, refused_in};
 use crate::store::Store;
@@ -116,6 +117,36 @@ impl Extent for Stretch {
     ghost sized = { λ stretch bytes told. Prim.cc };
 }
 
+/// A view over a handle of its own to the file. It reads at offsets what is with the system.
+#[derive(Drop)]
+pub struct FileView<F> {
+    file: F,
+    faults: u64,
+}
+
+impl<F: FileExt + Drop> LiveView<Stretch> for FileView<F> {
+    ghost failures = { λ view. view.faults };
+
+    fn read_part(&mut self, extent: &Stretch, from: u64, out: &mut [u8]) -> Result<(), Failed>
+        requires { from + length out.old ≤ extent.now.len }
+        ensures gives { GivesPart nothing from out.new result }
+        ensures cause { HasCause self.old.faults self.new.faults result }
+    {
+        if let Some(at) = extent.from.checked_add(from) {
+            match self.file.read_exact_at(out, at) {
+                Ok(()) => return Ok(()),
+                Err(_) => {}
+            }
+        }
+        self.faults = self.faults.saturating_add(1);
+        return Err(Failed);
+    }
+
+    fn faults(&self) -> u64 {
+        self.faults
+    }
+}
+
 /// A live store over a file. Pieces wait in a buffer of 262,144 bytes until it is full or the store is kept; a
 /// larger piece goes past it. Once a write has failed, each append fails.
 pub struct FileLive<F> {
@@ -124,7 +155,7 @@ pub struct FileLive<F> {
     faults: u64,
 }
 
-impl<F: Write + Drop> FileLive<F> {
+impl<F: Write + OpenFile + FileExt + Drop> FileLive<F> {
     // The room is an empty buffer. It is taken before the file is opened, since opening empties the file.
     fn new(room: Vec<u8>, file: F) -> Self
         requires { room.items ≡ [] }
@@ -180,14 +211,17 @@ impl<F: Write + Drop> FileLive<F> {
     }
 }
 
-impl<F: Write + Drop> LiveStore for FileLive<F> {
+impl<F: Write + OpenFile + FileExt + Drop> LiveStore for FileLive<F> {
     type Extent = Stretch;
+
+    type View = FileView<F>;
 
     ghost state = { λ s. record { held = nothing; faults = s.faults } };
 
     fn append(&mut self, bytes: &[u8]) -> Result<Stretch, AppendRefused>
         ensures adds { IfOk result (λ e. Adds nothing nothing bytes.now) }
         ensures extent { IfOk result (λ e. (e.len ≡ length bytes.now) × ((before : List ℕ) → nothing ≡ Some before → nothing ≡ Some bytes.now)) }
+        ensures names { IfOk result (λ e. (told : List ℕ) → nothing ≡ Some told → told ≡ bytes.now) }
         ensures leaves { IfErr result (AppendLeaves nothing nothing bytes.now) }
         ensures cause { AppendCause self.old.faults self.new.faults result }
         // The pieces stand one behind the other.
@@ -205,6 +239,7 @@ impl<F: Write + Drop> LiveStore for FileLive<F> {
     fn append_through(&mut self, bytes: &[u8]) -> Result<Stretch, AppendRefused>
         ensures adds { IfOk result (λ e. Adds nothing nothing bytes.now) }
         ensures extent { IfOk result (λ e. (e.len ≡ length bytes.now) × ((before : List ℕ) → nothing ≡ Some before → nothing ≡ Some bytes.now)) }
+        ensures names { IfOk result (λ e. (told : List ℕ) → nothing ≡ Some told → told ≡ bytes.now) }
         ensures leaves { IfErr result (AppendLeaves nothing nothing bytes.now) }
         ensures cause { AppendCause self.old.faults self.new.faults result }
         // The pieces stand one behind the other.
@@ -246,6 +281,21 @@ impl<F: Write + Drop> LiveStore for FileLive<F> {
         }
     }
 
+    fn view(&mut self) -> Result<FileView<F>, Failed>
+        ensures held { nothing ≡ nothing }
+        ensures unused { IfOk result (λ it. it.faults ≡ 0) }
+        ensures cause { HasCause self.old.faults self.new.faults result }
+        ensures rest { self.new ≡ record self.old { faults = self.new.faults } }
+    {
+        match self.gather.another() {
+            Ok(file) => return Ok(FileView { file, faults: 0 }),
+            Err(Failed) => {
+                self.faults = self.faults.saturating_add(1);
+                return Err(Failed);
+            }
+        }
+    }
+
     fn faults(&self) -> u64 {
         self.faults
     }
@@ -260,6 +310,7 @@ pub struct FileWorld<R> {
     faults: u64,
     input_faults: u64,
     output_faults: u64,
+    watch_faults: u64,
 }
 
 impl<R: Files + AllocGlobal> FileWorld<R>
@@ -268,7 +319,7 @@ where
 {
     /// The files of this runtime.
     pub fn new(runtime: R) -> Self
-        ensures { ⟦<FileWorld<R> as World>⟧.state result ≡ record { told = None; faults = 0; input_faults = 0; output_faults = 0 } }
+        ensures { ⟦<FileWorld<R> as World>⟧.state result ≡ record { told = None; faults = 0; input_faults = 0; output_faults = 0; watch_faults = 0 } }
     {
         let inputs = Vec::new(runtime.alloc());
         FileWorld {
@@ -277,15 +328,28 @@ where
             faults: 0,
             input_faults: 0,
             output_faults: 0,
+            watch_faults: 0,
         }
+    }
+}
+
+// Opens the file to be written, and to be read by a view where that is allowed.
+fn open_to_write<R: Files>(runtime: &R, name: &str) -> Result<R::File, Failed> {
+    let mut options = OpenOptions::new();
+    options.read(true).write(true).create(true);
+    if let Ok(file) = runtime.open_file(&options, name) {
+        return Ok(file);
+    }
+    options.read(false);
+    match runtime.open_file(&options, name) {
+        Ok(file) => return Ok(file),
+        Err(_) => return Err(Failed),
     }
 }
 
 // Opens the file and empties it. One that is read as an input is refused and stays as it was.
 fn open_output<R: Files>(runtime: &R, inputs: &[FileId], name: &str) -> Result<R::File, Failed> {
-    let mut options = OpenOptions::new();
-    options.write(true).create(true);
-    let Ok(file) = runtime.open_file(&options, name) else {
+    let Ok(file) = open_to_write(runtime, name) else {
         return Err(Failed);
     };
     let Ok(metadata) = file.metadata() else {
@@ -344,14 +408,17 @@ where
 
     type Store = FileStore<R::File>;
 
+    type Sink = WriterSink<R::File>;
+
     type Live = FileLive<R::File>;
 
-    ghost state = { λ w. record { told = None; faults = w.faults; input_faults = w.input_faults; output_faults = w.output_faults } };
+    ghost state = { λ w. record { told = None; faults = w.faults; input_faults = w.input_faults; output_faults = w.output_faults; watch_faults = w.watch_faults } };
 
     fn source(&mut self, name: &str) -> Result<FileSource<R::File>, OpenRefused>
         ensures unused { IfOk result (λ it. it.faults ≡ 0) }
         ensures input_faults { self.new.input_faults ≡ self.old.input_faults }
         ensures output_faults { self.new.output_faults ≡ self.old.output_faults }
+        ensures watch_faults { self.new.watch_faults ≡ self.old.watch_faults }
         ensures cause { OpenCause self.old.faults self.new.faults result }
         ensures noted { IfOk result (λ it. self.new.inputs.items ≡ self.old.inputs.items ++ it.id ∷ []) }
         ensures rest { OnErr result (self.new.inputs.items ≡ self.old.inputs.items) }
@@ -376,6 +443,7 @@ where
         ensures unused { IfOk result (λ it. IsUnused (⟦<FileStore<R::File> as Store>⟧.state it)) }
         ensures input_faults { self.new.input_faults ≡ self.old.input_faults }
         ensures output_faults { self.new.output_faults ≡ self.old.output_faults }
+        ensures watch_faults { self.new.watch_faults ≡ self.old.watch_faults }
         ensures cause { OpenCause self.old.faults self.new.faults result }
         ensures noted { IfOk result (λ it. self.new.inputs.items ≡ self.old.inputs.items ++ it.id ∷ []) }
         ensures rest { OnErr result (self.new.inputs.items ≡ self.old.inputs.items) }
@@ -389,6 +457,16 @@ where
         };
         self.inputs.push(id).unwrap();
         Ok(FileStore::new(self.runtime.alloc(), file, id))
+    }
+
+    fn sink(&mut self, name: &str) -> Result<WriterSink<R::File>, OpenRefused> {
+        match open_output(&self.runtime, &self.inputs, name) {
+            Ok(file) => return Ok(WriterSink::new(file)),
+            Err(Failed) => {
+                self.faults = self.faults.saturating_add(1);
+                return Err(OpenRefused::Failed);
+            }
+        }
     }
 
     fn live(&mut self, name: &str) -> Result<FileLive<R::File>, OpenRefused> {
@@ -407,6 +485,7 @@ where
     fn keep_source(&mut self, _name: &str, it: FileSource<R::File>) -> Result<(), Failed>
         ensures input_faults { self.new.input_faults ≡ added self.old.input_faults it.faults }
         ensures output_faults { self.new.output_faults ≡ self.old.output_faults }
+        ensures watch_faults { self.new.watch_faults ≡ self.old.watch_faults }
         ensures cause { HasCause self.old.faults self.new.faults result }
         ensures let_go { LetsGo self.old.inputs.items self.new.inputs.items it.id }
     {
@@ -419,6 +498,7 @@ where
     fn keep_store(&mut self, _name: &str, it: FileStore<R::File>) -> Result<(), Failed>
         ensures input_faults { self.new.input_faults ≡ added self.old.input_faults it.faults }
         ensures output_faults { self.new.output_faults ≡ self.old.output_faults }
+        ensures watch_faults { self.new.watch_faults ≡ self.old.watch_faults }
         ensures cause { HasCause self.old.faults self.new.faults result }
         ensures let_go { LetsGo self.old.inputs.items self.new.inputs.items it.id }
     {
@@ -427,9 +507,21 @@ where
         Ok(())
     }
 
+    fn keep_sink(&mut self, _name: &str, it: WriterSink<R::File>) -> Result<(), Failed> {
+        self.watch_faults = self.watch_faults.saturating_add(it.faults());
+        drop(it);
+        Ok(())
+    }
+
+    fn keep_view(&mut self, it: FileView<R::File>) {
+        self.watch_faults = self.watch_faults.saturating_add(it.faults());
+        drop(it);
+    }
+
     fn keep_live(&mut self, _name: &str, it: FileLive<R::File>) -> Result<(), Failed>
         ensures input_faults { self.new.input_faults ≡ self.old.input_faults }
         ensures output_faults { self.new.output_faults ≡ added self.old.output_faults it.faults }
+        ensures watch_faults { self.new.watch_faults ≡ self.old.watch_faults }
         ensures cause { HasCause self.old.faults self.new.faults result }
         ensures written { OnOk result (IsWritten R.File.contents it.gather.sink.writer it.gather.waiting.items) }
         ensures broken { IsTrue it.gather.broken → IsErr result }
@@ -454,5 +546,9 @@ where
 
     fn output_faults(&self) -> u64 {
         self.output_faults
+    }
+
+    fn watch_faults(&self) -> u64 {
+        self.watch_faults
     }
 }

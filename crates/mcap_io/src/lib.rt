@@ -21,15 +21,15 @@ mod store_source;
 mod stretch;
 mod writer;
 
-pub use files::{FileLive, FileSource, FileWorld, Stretch};
+pub use files::{FileLive, FileSource, FileView, FileWorld, Stretch};
 pub use memory::{
-    FailingWrite, MemoryLive, MemorySink, MemorySource, Piece, QuietLive, QuietSource,
+    FailingWrite, MemoryLive, MemorySink, MemorySource, MemoryView, Piece, QuietLive, QuietSource,
 };
 pub use memory_world::{MemoryWorld, Plan};
 pub use openings::{Kept, Opened};
 pub use outside::{
-    AppendRefused, EachRefused, Extent, Failed, LiveStore, ObjectKind, OpenRefused, ReadRefused,
-    Short, Sink, Source, World,
+    AppendRefused, EachRefused, Extent, Failed, LiveStore, LiveView, ObjectKind, OpenRefused,
+    ReadRefused, Short, Sink, Source, World,
 };
 pub use pieces::Pieces;
 pub use room::Room;

@@ -1,12 +1,15 @@
 //! Sources, sinks and live stores in memory. They tell all of their bytes.
 ghost use Rattle.std.proofs.Common.{◌∙◌};
-ghost use Rattle.std.specs.Prelude.{refl, ◌≡◌, ◌≤◌, ◌<◌, ◌↔◌, ℕ, List, length, [], Some, Ok, Contains, IsTrue, IsErr, IfOk, IfErr, OnOk, vec_len};
+ghost use Rattle.std.specs.Prelude.{refl, ◌≡◌, ◌+◌, ◌≤◌, ◌<◌, ◌↔◌, ℕ, List, length, [], Some, Ok, Contains, IsTrue, IsErr, IfOk, IfErr, OnOk, vec_len};
 ghost use Rattle.std.specs.List.{concat};
 ghost use Rattle.mcap_io.specs.Appending.{EachLeaves, EachCause};
 ghost use Rattle.mcap_io.specs.Outside.{HasCause, ReadGives, Writes, Adds, AppendCause, AppendLeaves};
+ghost use Rattle.mcap_io.specs.Stores.{GivesPart};
 ghost use Rattle.mcap_io.specs.Planned.{left_of, planned, next_call, WritesAsPlanned, AppendsAsPlanned, EachAsPlanned};
 
-use crate::outside::{AppendRefused, EachRefused, Extent, Failed, LiveStore, Sink, Source};
+use crate::outside::{
+    AppendRefused, EachRefused, Extent, Failed, LiveStore, LiveView, Sink, Source,
+};
 use crate::pieces::{Pieces, piece_at};
 use std::alloc::{AllocError, Global};
 
@@ -212,6 +215,18 @@ impl MemorySink {
     {
         &self.bytes
     }
+
+    /// The same, by themselves.
+    pub fn into_bytes(self) -> Vec<u8>
+        ensures { (⟦<MemorySink as Sink>⟧.state self).took ≡ Some result.items }
+    {
+        let MemorySink {
+            bytes,
+            writes: _,
+            faults: _,
+        } = self;
+        bytes
+    }
 }
 
 impl Sink for MemorySink {
@@ -272,6 +287,52 @@ impl Extent for Piece {
     ghost sized = { λ piece bytes told. Prim.cc };
 }
 
+/// A view of pieces, which fails where it is told to.
+#[derive(Drop)]
+pub struct MemoryView {
+    reads: Calls,
+    faults: u64,
+}
+
+impl MemoryView {
+    /// The reads are numbered from 0. Those in the list fail, once each.
+    pub fn new(failing: Vec<u64>) -> Self
+        ensures unused { ⟦<MemoryView as LiveView<Piece>>⟧.failures result ≡ 0 }
+        ensures plan { result.reads.failing ≡ failing }
+        ensures made { result.reads.made ≡ 0 }
+    {
+        MemoryView {
+            reads: Calls::new(failing),
+            faults: 0,
+        }
+    }
+}
+
+impl LiveView<Piece> for MemoryView {
+    ghost failures = { λ view. view.faults };
+
+    fn read_part(&mut self, extent: &Piece, from: u64, out: &mut [u8]) -> Result<(), Failed>
+        requires { from + length out.old ≤ length extent.now.bytes.now }
+        ensures gives { GivesPart (Some extent.now.bytes.now) from out.new result }
+        ensures cause { HasCause self.old.faults self.new.faults result }
+        ensures planned { IsErr result ↔ Contains self.old.reads.failing.items self.old.reads.made }
+        ensures counted { self.new.reads.made ≡ next_call self.old.reads.made }
+        ensures plan { self.new.reads.failing ≡ self.old.reads.failing }
+    {
+        if self.reads.next_fails() {
+            self.faults = self.faults.saturating_add(1);
+            return Err(Failed);
+        }
+        let at = from as usize;
+        out.copy_from_slice(&extent.bytes[at..at + out.len()]);
+        return Ok(());
+    }
+
+    fn faults(&self) -> u64 {
+        self.faults
+    }
+}
+
 /// A live store that keeps what is appended and never fails.
 #[derive(Drop)]
 pub struct QuietLive {
@@ -309,6 +370,8 @@ impl QuietLive {
 impl LiveStore for QuietLive {
     type Extent = Piece;
 
+    type View = MemoryView;
+
     ghost state = { λ s. record { held = Some s.bytes.items; faults = 0 } };
 
     fn append(&mut self, bytes: &[u8]) -> Result<Piece, AppendRefused> {
@@ -323,6 +386,10 @@ impl LiveStore for QuietLive {
 
     fn append_through(&mut self, bytes: &[u8]) -> Result<Piece, AppendRefused> {
         self.append(bytes)
+    }
+
+    fn view(&mut self) -> Result<MemoryView, Failed> {
+        Ok(MemoryView::new(Vec::new(self.alloc)))
     }
 
     fn faults(&self) -> u64 {
@@ -375,11 +442,14 @@ impl MemoryLive {
 impl LiveStore for MemoryLive {
     type Extent = Piece;
 
+    type View = MemoryView;
+
     ghost state = { λ s. record { held = Some s.store.bytes.items; faults = s.faults } };
 
     fn append(&mut self, bytes: &[u8]) -> Result<Piece, AppendRefused>
         ensures adds { IfOk result (λ e. Adds (Some self.old.store.bytes.items) (Some self.new.store.bytes.items) bytes.now) }
         ensures extent { IfOk result (λ e. (length e.bytes.now ≡ length bytes.now) × ((before : List ℕ) → Some self.old.store.bytes.items ≡ Some before → Some e.bytes.now ≡ Some bytes.now)) }
+        ensures names { IfOk result (λ e. (told : List ℕ) → Some e.bytes.now ≡ Some told → told ≡ bytes.now) }
         ensures leaves { IfErr result (AppendLeaves (Some self.old.store.bytes.items) (Some self.new.store.bytes.items) bytes.now) }
         ensures cause { AppendCause self.old.faults self.new.faults result }
         ensures planned { AppendsAsPlanned (planned self.old.appends.failing.items self.old.appends.made (length bytes.now)) result }
@@ -401,6 +471,7 @@ impl LiveStore for MemoryLive {
     fn append_through(&mut self, bytes: &[u8]) -> Result<Piece, AppendRefused>
         ensures adds { IfOk result (λ e. Adds (Some self.old.store.bytes.items) (Some self.new.store.bytes.items) bytes.now) }
         ensures extent { IfOk result (λ e. (length e.bytes.now ≡ length bytes.now) × ((before : List ℕ) → Some self.old.store.bytes.items ≡ Some before → Some e.bytes.now ≡ Some bytes.now)) }
+        ensures names { IfOk result (λ e. (told : List ℕ) → Some e.bytes.now ≡ Some told → told ≡ bytes.now) }
         ensures leaves { IfErr result (AppendLeaves (Some self.old.store.bytes.items) (Some self.new.store.bytes.items) bytes.now) }
         ensures cause { AppendCause self.old.faults self.new.faults result }
         ensures planned { AppendsAsPlanned (planned self.old.appends.failing.items self.old.appends.made (length bytes.now)) result }
@@ -433,6 +504,10 @@ impl LiveStore for MemoryLive {
             }
         }
         return Ok(());
+    }
+
+    fn view(&mut self) -> Result<MemoryView, Failed> {
+        self.store.view()
     }
 
     fn faults(&self) -> u64 {

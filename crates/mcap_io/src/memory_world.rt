@@ -1,14 +1,14 @@
 //! A world in memory: its names stand in a map.
 ghost use Rattle.std.specs.Prelude.{◌≡◌, ◌↔◌, Some, None, [], map, Contains, IfOk, OnOk, OnErr, IsErr, IsTrue};
 ghost use Rattle.std.specs.Option.{option_copied, option_map};
-ghost use Rattle.mcap_io.specs.Outside.{OthersSame, KeepsName, OpenCause, HasCause, TellsName, TellsNothingYet, Opens, CountsStand, KeepsSource, KeepsLive, added};
+ghost use Rattle.mcap_io.specs.Outside.{OthersSame, KeepsName, OpenCause, HasCause, TellsName, TookNothingYet, TellsNothingYet, Opens, CountsStand, KeepsSource, KeepsSink, KeepsLive, LetsViewGo, added};
 ghost use Rattle.mcap_io.specs.Stores.{IsUnused, TellsStore, KeepsStore};
 ghost use Rattle.mcap_io.specs.Planned.{next_call, OpensAsPlanned};
 ghost use Rattle.mcap_io.specs.Standing.{standing, shown, seen};
 
-use crate::memory::{Calls, FailingWrite, MemoryLive, MemorySource};
+use crate::memory::{Calls, FailingWrite, MemoryLive, MemorySink, MemorySource, MemoryView};
 use crate::openings::{Kept, Opened, list, make_room, note};
-use crate::outside::{Failed, LiveStore, ObjectKind, OpenRefused, Source, World};
+use crate::outside::{Failed, LiveStore, LiveView, ObjectKind, OpenRefused, Sink, Source, World};
 use crate::store::Store;
 use crate::store_memory::MemoryStore;
 use std::alloc::{AllocError, Global};
@@ -19,10 +19,12 @@ use std::collections::BTreeMap;
 pub struct Plan {
     /// The openings, of all objects in one count.
     pub openings: Vec<u64>,
-    /// The keepings, of all objects in one count. Those of live stores put nothing under the name.
+    /// The keepings, of all objects in one count, views aside. Those of sinks and live stores put nothing under the name.
     pub keepings: Vec<u64>,
     /// The reads of each source that it opens; of each store the questions for its length and the reads, in one count.
     pub reads: Vec<u64>,
+    /// The writes of each sink that it opens.
+    pub writes: Vec<FailingWrite>,
     /// The appends of each live store that it opens.
     pub appends: Vec<FailingWrite>,
 }
@@ -36,26 +38,30 @@ pub struct MemoryWorld {
     openings: Calls,
     keepings: Calls,
     reads: Vec<u64>,
+    writes: Vec<FailingWrite>,
     appends: Vec<FailingWrite>,
     faults: u64,
     input_faults: u64,
     output_faults: u64,
+    watch_faults: u64,
     log: Vec<Opened>,
 }
 
 impl MemoryWorld {
     /// A world with no names.
     pub fn new(alloc: Global, plan: Plan) -> Self
-        ensures tells { ⟦<MemoryWorld as World>⟧.state result ≡ record { told = Some (record { names = λ name. None; log = [] }); faults = 0; input_faults = 0; output_faults = 0 } }
+        ensures tells { ⟦<MemoryWorld as World>⟧.state result ≡ record { told = Some (record { names = λ name. None; log = [] }); faults = 0; input_faults = 0; output_faults = 0; watch_faults = 0 } }
         ensures openings { (result.openings.failing ≡ plan.openings) × (result.openings.made ≡ 0) }
         ensures keepings { (result.keepings.failing ≡ plan.keepings) × (result.keepings.made ≡ 0) }
         ensures reads { result.reads ≡ plan.reads }
+        ensures writes { result.writes ≡ plan.writes }
         ensures appends { result.appends ≡ plan.appends }
     {
         let Plan {
             openings,
             keepings,
             reads,
+            writes,
             appends,
         } = plan;
         MemoryWorld {
@@ -64,10 +70,12 @@ impl MemoryWorld {
             openings: Calls::new(openings),
             keepings: Calls::new(keepings),
             reads,
+            writes,
             appends,
             faults: 0,
             input_faults: 0,
             output_faults: 0,
+            watch_faults: 0,
             log: Vec::new(alloc),
         }
     }
@@ -144,6 +152,24 @@ impl MemoryWorld {
             Ok((bytes, reads)) => return Ok(MemoryStore::new(bytes, reads)),
             Err(why) => return Err(why),
         }
+    }
+
+    // An empty sink, with a plan of its own.
+    fn open_sink(&mut self, fails: bool) -> Result<MemorySink, OpenRefused>
+        ensures tells { IfOk result (λ it. ⟦<MemorySink as Sink>⟧.state it ≡ record { took = Some []; faults = 0 }) }
+        ensures unused { IfOk result (λ it. (it.writes.failing.items ≡ self.old.writes.items) × (it.writes.made ≡ 0)) }
+        ensures cause { OpenCause self.old.faults self.new.faults result }
+        ensures planned { OpensAsPlanned (IsTrue fails) ⊥ result }
+        ensures rest { self.new ≡ record self.old { faults = self.new.faults } }
+    {
+        if fails {
+            self.faults = self.faults.saturating_add(1);
+            return Err(OpenRefused::Failed);
+        }
+        let Ok(writes) = Vec::from_slice(self.alloc, &self.writes) else {
+            return Err(OpenRefused::Memory);
+        };
+        Ok(MemorySink::new(self.alloc, writes))
     }
 
     // An empty live store, with a plan of its own.
@@ -241,6 +267,8 @@ impl World for MemoryWorld {
 
     type Store = MemoryStore;
 
+    type Sink = MemorySink;
+
     type Live = MemoryLive;
 
     ghost state = { λ w. seen w };
@@ -299,6 +327,33 @@ impl World for MemoryWorld {
         }
     }
 
+    fn sink(&mut self, name: &str) -> Result<MemorySink, OpenRefused>
+        ensures opens { Opens (seen self.old) (seen self.new) ObjectKind.Sink name.now result }
+        ensures tells { IfOk result (λ it. TookNothingYet (seen self.old) (⟦<MemorySink as Sink>⟧.state it)) }
+        ensures unused { IfOk result (λ it. (⟦<MemorySink as Sink>⟧.state it).faults ≡ 0) }
+        ensures counts { CountsStand (seen self.old) (seen self.new) }
+        ensures cause { OpenCause self.old.faults self.new.faults result }
+        ensures planned { OpensAsPlanned (Contains self.old.openings.failing.items self.old.openings.made) ⊥ result }
+        ensures plan { IfOk result (λ it. (it.writes.failing.items ≡ self.old.writes.items) × (it.writes.made ≡ 0)) }
+        ensures rest { self.new ≡ record self.old { log = self.new.log; faults = self.new.faults; openings = record { failing = self.old.openings.failing; made = next_call self.old.openings.made } } }
+    {
+        let fails = self.openings.next_fails();
+        let Ok(copy) = make_room(self.alloc, &mut self.log, name) else {
+            return Err(OpenRefused::Memory);
+        };
+        match self.open_sink(fails) {
+            Ok(sink) => {
+                list(&mut self.log, ObjectKind::Sink, copy, true);
+                return Ok(sink);
+            }
+            Err(OpenRefused::Failed) => {
+                list(&mut self.log, ObjectKind::Sink, copy, false);
+                return Err(OpenRefused::Failed);
+            }
+            Err(OpenRefused::Memory) => return Err(OpenRefused::Memory),
+        }
+    }
+
     fn live(&mut self, name: &str) -> Result<MemoryLive, OpenRefused>
         ensures opens { Opens (seen self.old) (seen self.new) ObjectKind.Live name.now result }
         ensures tells { IfOk result (λ it. TellsNothingYet (seen self.old) (⟦<MemoryLive as LiveStore>⟧.state it)) }
@@ -330,6 +385,7 @@ impl World for MemoryWorld {
         ensures keeps { KeepsSource (seen self.old) (seen self.new) name.now (⟦<MemorySource as Source>⟧.state it) result }
         ensures input_faults { self.new.input_faults ≡ added self.old.input_faults it.faults }
         ensures output_faults { self.new.output_faults ≡ self.old.output_faults }
+        ensures watch_faults { self.new.watch_faults ≡ self.old.watch_faults }
         ensures cause { HasCause self.old.faults self.new.faults result }
         ensures planned { IsErr result ↔ Contains self.old.keepings.failing.items self.old.keepings.made }
         ensures rest { self.new ≡ record self.old { log = self.new.log; faults = self.new.faults; input_faults = self.new.input_faults; keepings = record { failing = self.old.keepings.failing; made = next_call self.old.keepings.made } } }
@@ -352,6 +408,7 @@ impl World for MemoryWorld {
         ensures keeps { KeepsStore (seen self.old) (seen self.new) name.now (⟦<MemoryStore as Store>⟧.state it) result }
         ensures input_faults { self.new.input_faults ≡ added self.old.input_faults it.faults }
         ensures output_faults { self.new.output_faults ≡ self.old.output_faults }
+        ensures watch_faults { self.new.watch_faults ≡ self.old.watch_faults }
         ensures cause { HasCause self.old.faults self.new.faults result }
         ensures planned { IsErr result ↔ Contains self.old.keepings.failing.items self.old.keepings.made }
         ensures rest { self.new ≡ record self.old { log = self.new.log; faults = self.new.faults; input_faults = self.new.input_faults; keepings = record { failing = self.old.keepings.failing; made = next_call self.old.keepings.made } } }
@@ -370,10 +427,34 @@ impl World for MemoryWorld {
         counted
     }
 
+    fn keep_sink(&mut self, name: &str, it: MemorySink) -> Result<(), Failed>
+        ensures keeps { KeepsSink (seen self.old) (seen self.new) name.now (⟦<MemorySink as Sink>⟧.state it) result }
+        ensures input_faults { self.new.input_faults ≡ self.old.input_faults }
+        ensures output_faults { self.new.output_faults ≡ self.old.output_faults }
+        ensures watch_faults { self.new.watch_faults ≡ added self.old.watch_faults it.faults }
+        ensures cause { HasCause self.old.faults self.new.faults result }
+        // It fails where it is to, and where memory lacks for the name.
+        ensures planned { Contains self.old.keepings.failing.items self.old.keepings.made → IsErr result × (self.new.entries ≡ self.old.entries) }
+        ensures rest { self.new ≡ record self.old { log = self.new.log; faults = self.new.faults; watch_faults = self.new.watch_faults; entries = self.new.entries; keepings = record { failing = self.old.keepings.failing; made = next_call self.old.keepings.made } } }
+    {
+        self.watch_faults = self.watch_faults.saturating_add(it.faults());
+        let faults = it.faults();
+        let put = self.put_back(name, it.into_bytes());
+        let kept = Kept {
+            well: put.is_ok(),
+            faults,
+            rest: None,
+            asked: 0,
+        };
+        note(&mut self.log, ObjectKind::Sink, name, kept);
+        put
+    }
+
     fn keep_live(&mut self, name: &str, it: MemoryLive) -> Result<(), Failed>
         ensures keeps { KeepsLive (seen self.old) (seen self.new) name.now (⟦<MemoryLive as LiveStore>⟧.state it) result }
         ensures input_faults { self.new.input_faults ≡ self.old.input_faults }
         ensures output_faults { self.new.output_faults ≡ added self.old.output_faults it.faults }
+        ensures watch_faults { self.new.watch_faults ≡ self.old.watch_faults }
         ensures cause { HasCause self.old.faults self.new.faults result }
         // It fails where it is to, and where memory lacks for the name.
         ensures planned { Contains self.old.keepings.failing.items self.old.keepings.made → IsErr result × (self.new.entries ≡ self.old.entries) }
@@ -392,6 +473,13 @@ impl World for MemoryWorld {
         put
     }
 
+    fn keep_view(&mut self, it: MemoryView)
+        ensures lets_go { LetsViewGo (seen self.old) (seen self.new) it.faults }
+        ensures rest { self.new ≡ record self.old { watch_faults = self.new.watch_faults } }
+    {
+        self.watch_faults = self.watch_faults.saturating_add(it.faults());
+    }
+
     fn faults(&self) -> u64 {
         self.faults
     }
@@ -402,5 +490,9 @@ impl World for MemoryWorld {
 
     fn output_faults(&self) -> u64 {
         self.output_faults
+    }
+
+    fn watch_faults(&self) -> u64 {
+        self.watch_faults
     }
 }

@@ -1,9 +1,9 @@
 //! The traits of the outside, and the answers of their calls.
-ghost use Rattle.std.specs.Prelude.{◌≡◌, ◌≤◌, ◌<◌, ℕ, List, Option, Some, length, Ok, IfOk, IfErr, OnOk};
+ghost use Rattle.std.specs.Prelude.{◌≡◌, ◌+◌, ◌≤◌, ◌<◌, ℕ, List, Option, Some, length, Ok, IfOk, IfErr, OnOk};
 ghost use Rattle.std.specs.List.{concat};
 ghost use Rattle.mcap_io.specs.Appending.{EachLeaves, EachCause};
-ghost use Rattle.mcap_io.specs.Stores.{IsUnused, TellsStore, KeepsStore};
-ghost use Rattle.mcap_io.specs.Outside.{SourceState, SinkState, LiveState, WorldState, HasCause, OpenCause, AppendCause, ReadGives, Writes, Adds, AppendLeaves, Opens, CountsStand, KeepsSource, KeepsLive, TellsName, TellsNothingYet, added};
+ghost use Rattle.mcap_io.specs.Stores.{IsUnused, TellsStore, KeepsStore, GivesPart};
+ghost use Rattle.mcap_io.specs.Outside.{SourceState, SinkState, LiveState, WorldState, HasCause, OpenCause, AppendCause, ReadGives, Writes, Adds, AppendLeaves, Opens, CountsStand, KeepsSource, KeepsSink, KeepsLive, LetsViewGo, TellsName, TookNothingYet, TellsNothingYet, added};
 
 use crate::pieces::{Pieces, piece_at};
 use crate::store::Store;
@@ -17,6 +17,7 @@ pub struct Failed;
 pub enum ObjectKind {
     Source,
     Store,
+    Sink,
     Live,
 }
 
@@ -115,9 +116,26 @@ pub trait Extent: Drop {
     ghost sized: { (e : Self) (bytes : List ℕ) → tells e ≡ Some bytes → length bytes ≡ size e };
 }
 
+/// Reads what a live store holds, while that goes on.
+pub trait LiveView<X: Extent> {
+    /// How often it has failed.
+    ghost failures: { Self → ℕ };
+
+    /// Fills `out` with the bytes of the extent that stand from `from` on.
+    fn read_part(&mut self, extent: &X, from: u64, out: &mut [u8]) -> Result<(), Failed>
+        requires { from + length out.old ≤ X.size extent.now }
+        ensures gives { GivesPart (X.tells extent.now) from out.new result }
+        ensures cause { HasCause (failures self.old) (failures self.new) result };
+
+    fn faults(&self) -> u64
+        ensures { result ≡ failures self.now };
+}
+
 /// A store that is written by appending, and may be read meanwhile.
 pub trait LiveStore {
     type Extent: Extent;
+
+    type View: LiveView<Self::Extent>;
 
     /// What it holds, where it tells that, and how often it has failed.
     ghost state: { Self → LiveState };
@@ -126,6 +144,8 @@ pub trait LiveStore {
     fn append(&mut self, bytes: &[u8]) -> Result<Self::Extent, AppendRefused>
         ensures adds { IfOk result (λ e. Adds (state self.old).held (state self.new).held bytes.now) }
         ensures extent { IfOk result (λ e. (Self.Extent.size e ≡ length bytes.now) × ((before : List ℕ) → (state self.old).held ≡ Some before → Self.Extent.tells e ≡ Some bytes.now)) }
+        // Whether the store tells or not, an extent tells nothing else.
+        ensures names { IfOk result (λ e. (told : List ℕ) → Self.Extent.tells e ≡ Some told → told ≡ bytes.now) }
         ensures leaves { IfErr result (AppendLeaves (state self.old).held (state self.new).held bytes.now) }
         ensures cause { AppendCause (state self.old).faults (state self.new).faults result };
 
@@ -133,6 +153,8 @@ pub trait LiveStore {
     fn append_through(&mut self, bytes: &[u8]) -> Result<Self::Extent, AppendRefused>
         ensures adds { IfOk result (λ e. Adds (state self.old).held (state self.new).held bytes.now) }
         ensures extent { IfOk result (λ e. (Self.Extent.size e ≡ length bytes.now) × ((before : List ℕ) → (state self.old).held ≡ Some before → Self.Extent.tells e ≡ Some bytes.now)) }
+        // Whether the store tells or not, an extent tells nothing else.
+        ensures names { IfOk result (λ e. (told : List ℕ) → Self.Extent.tells e ≡ Some told → told ≡ bytes.now) }
         ensures leaves { IfErr result (AppendLeaves (state self.old).held (state self.new).held bytes.now) }
         ensures cause { AppendCause (state self.old).faults (state self.new).faults result };
 
@@ -159,6 +181,12 @@ pub trait LiveStore {
         return Ok(());
     }
 
+    /// Makes a view of it, which reads what is with the system.
+    fn view(&mut self) -> Result<Self::View, Failed>
+        ensures held { (state self.new).held ≡ (state self.old).held }
+        ensures unused { IfOk result (λ it. Self.View.failures it ≡ 0) }
+        ensures cause { HasCause (state self.old).faults (state self.new).faults result };
+
     fn faults(&self) -> u64
         ensures { result ≡ (state self.now).faults };
 }
@@ -168,6 +196,8 @@ pub trait World {
     type Source: Source + Send;
 
     type Store: Store + Send;
+
+    type Sink: Sink + Send;
 
     type Live: LiveStore + Send;
 
@@ -191,6 +221,14 @@ pub trait World {
         ensures counts { CountsStand (state self.old) (state self.new) }
         ensures cause { OpenCause (state self.old).faults (state self.new).faults result };
 
+    /// Makes an empty sink, whose bytes are to stand under the name.
+    fn sink(&mut self, name: &str) -> Result<Self::Sink, OpenRefused>
+        ensures opens { Opens (state self.old) (state self.new) ObjectKind.Sink name.now result }
+        ensures tells { IfOk result (λ it. TookNothingYet (state self.old) (Self.Sink.state it)) }
+        ensures unused { IfOk result (λ it. (Self.Sink.state it).faults ≡ 0) }
+        ensures counts { CountsStand (state self.old) (state self.new) }
+        ensures cause { OpenCause (state self.old).faults (state self.new).faults result };
+
     /// Makes an empty live store that is to stand under the name.
     fn live(&mut self, name: &str) -> Result<Self::Live, OpenRefused>
         ensures opens { Opens (state self.old) (state self.new) ObjectKind.Live name.now result }
@@ -204,6 +242,7 @@ pub trait World {
         ensures keeps { KeepsSource (state self.old) (state self.new) name.now (Self.Source.state it) result }
         ensures input_faults { (state self.new).input_faults ≡ added (state self.old).input_faults (Self.Source.state it).faults }
         ensures output_faults { (state self.new).output_faults ≡ (state self.old).output_faults }
+        ensures watch_faults { (state self.new).watch_faults ≡ (state self.old).watch_faults }
         ensures cause { HasCause (state self.old).faults (state self.new).faults result };
 
     /// Takes a store back, after a failure too.
@@ -211,6 +250,15 @@ pub trait World {
         ensures keeps { KeepsStore (state self.old) (state self.new) name.now (Self.Store.state it) result }
         ensures input_faults { (state self.new).input_faults ≡ added (state self.old).input_faults (Self.Store.state it).faults }
         ensures output_faults { (state self.new).output_faults ≡ (state self.old).output_faults }
+        ensures watch_faults { (state self.new).watch_faults ≡ (state self.old).watch_faults }
+        ensures cause { HasCause (state self.old).faults (state self.new).faults result };
+
+    /// Takes a sink back, and puts what it took under the name.
+    fn keep_sink(&mut self, name: &str, it: Self::Sink) -> Result<(), Failed>
+        ensures keeps { KeepsSink (state self.old) (state self.new) name.now (Self.Sink.state it) result }
+        ensures input_faults { (state self.new).input_faults ≡ (state self.old).input_faults }
+        ensures output_faults { (state self.new).output_faults ≡ (state self.old).output_faults }
+        ensures watch_faults { (state self.new).watch_faults ≡ added (state self.old).watch_faults (Self.Sink.state it).faults }
         ensures cause { HasCause (state self.old).faults (state self.new).faults result };
 
     /// Takes a live store back, and puts what it holds under the name.
@@ -218,7 +266,12 @@ pub trait World {
         ensures keeps { KeepsLive (state self.old) (state self.new) name.now (Self.Live.state it) result }
         ensures input_faults { (state self.new).input_faults ≡ (state self.old).input_faults }
         ensures output_faults { (state self.new).output_faults ≡ added (state self.old).output_faults (Self.Live.state it).faults }
+        ensures watch_faults { (state self.new).watch_faults ≡ (state self.old).watch_faults }
         ensures cause { HasCause (state self.old).faults (state self.new).faults result };
+
+    /// Takes a view back. It can't be refused, and changes nothing but the count.
+    fn keep_view(&mut self, it: <Self::Live as LiveStore>::View)
+        ensures { LetsViewGo (state self.old) (state self.new) (Self.Live.View.failures it) };
 
     fn faults(&self) -> u64
         ensures { result ≡ (state self.now).faults };
@@ -228,4 +281,7 @@ pub trait World {
 
     fn output_faults(&self) -> u64
         ensures { result ≡ (state self.now).output_faults };
+
+    fn watch_faults(&self) -> u64
+        ensures { result ≡ (state self.now).watch_faults };
 }

@@ -32,6 +32,7 @@ impl Failing {
                 keepings: Vec::new(alloc),
                 reads: Vec::new(alloc),
                 appends: Vec::new(alloc),
+                writes: Vec::new(alloc),
             },
             out: Vec::new(alloc),
             err: Vec::new(alloc),

@@ -20,6 +20,7 @@ fn kind_text(kind: ObjectKind) -> &'static str {
     match kind {
         ObjectKind::Source => "source",
         ObjectKind::Store => "store",
+        ObjectKind::Sink => "sink",
         ObjectKind::Live => "live",
     }
 }

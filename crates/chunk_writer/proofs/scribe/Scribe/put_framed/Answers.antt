@@ -1,7 +1,7 @@
 -- A record was put, or its piece was refused.
 use Rattle.std.proofs.Common.{arith}
 use Rattle.std.proofs.lemmas.Grind.{common_steps}
-use Rattle.chunk_writer.specs.declared.entry.Entry.{Entry}
+use Rattle.live_entry.specs.declared.entry.Entry.{Entry}
 use Rattle.chunk_writer.specs.Scribes.{seen_before}
 use Rattle.chunk_writer.proofs.Stopping.{added_err}
 use Rattle.chunk_writer.proofs.Writing.{put_block, block_entry, put_record, block_refused, record_refused, add_refused}

@@ -13,7 +13,7 @@ returns-in-Ok-open_source-clause-opens c =
     (ap (λ (n : List ℕ). opened kinds.Source n true) c.in-Ok.ensures.name)
 
 pub returns-in-Ok-open_source-clause-counts : goal.returns-in-Ok-open_source-clause-counts
-returns-in-Ok-open_source-clause-counts c = record { inputs = ap (λ (w : MemoryWorld). w.input_faults) c.in-Ok-open_source.ensures.rest; outputs = ap (λ (w : MemoryWorld). w.output_faults) c.in-Ok-open_source.ensures.rest }
+returns-in-Ok-open_source-clause-counts c = record { inputs = ap (λ (w : MemoryWorld). w.input_faults) c.in-Ok-open_source.ensures.rest; outputs = ap (λ (w : MemoryWorld). w.output_faults) c.in-Ok-open_source.ensures.rest; watches = ap (λ (w : MemoryWorld). w.watch_faults) c.in-Ok-open_source.ensures.rest }
 
 pub returns-in-Ok-open_source-clause-cause : goal.returns-in-Ok-open_source-clause-cause
 returns-in-Ok-open_source-clause-cause c = c.in-Ok-open_source.ensures.cause
@@ -30,7 +30,7 @@ returns-in-Err-Failed-clause-opens c =
     (ap (λ (n : List ℕ). opened kinds.Source n false) c.in-Ok.ensures.name)
 
 pub returns-in-Err-Failed-clause-counts : goal.returns-in-Err-Failed-clause-counts
-returns-in-Err-Failed-clause-counts c = record { inputs = ap (λ (w : MemoryWorld). w.input_faults) c.in-Err-Failed.ensures.rest; outputs = ap (λ (w : MemoryWorld). w.output_faults) c.in-Err-Failed.ensures.rest }
+returns-in-Err-Failed-clause-counts c = record { inputs = ap (λ (w : MemoryWorld). w.input_faults) c.in-Err-Failed.ensures.rest; outputs = ap (λ (w : MemoryWorld). w.output_faults) c.in-Err-Failed.ensures.rest; watches = ap (λ (w : MemoryWorld). w.watch_faults) c.in-Err-Failed.ensures.rest }
 
 pub returns-in-Err-Failed-clause-cause : goal.returns-in-Err-Failed-clause-cause
 returns-in-Err-Failed-clause-cause c = rw c.in-Err-Failed.field-0-is at c.in-Err-Failed.ensures.cause

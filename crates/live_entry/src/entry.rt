@@ -1,7 +1,8 @@
 //! The blocks of a file that is being written.
-ghost use Rattle.std.specs.Prelude.{◌≡◌};
+ghost use Rattle.std.specs.Prelude.{◌≡◌, ◌++◌, OnOk, OnErr};
 
 use mcap_io::Extent;
+use mcap_wire::Memory;
 
 /// A block that stands in its store: the extent that holds its bytes, its offset in the file, how long its framed Chunk is, the
 /// first and the last log time of its messages (0 where it has none), and how many of its records are messages and how many
@@ -32,4 +33,19 @@ impl<X: Extent> Entry<X> {
             declared: self.declared,
         }
     }
+}
+
+/// Adds copies of the entries, or none of them.
+pub fn copy_all<X: Extent>(to: &mut Vec<Entry<X>>, from: &[Entry<X>]) -> Result<(), Memory>
+    ensures copied { OnOk result (to.new.items ≡ to.old.items ++ from.now) }
+    ensures kept { OnErr result (to.new.items ≡ to.old.items) }
+{
+    let held = to.len();
+    for entry in from {
+        if to.push(entry.same()).is_err() {
+            to.truncate(held);
+            return Err(Memory);
+        }
+    }
+    return Ok(());
 }

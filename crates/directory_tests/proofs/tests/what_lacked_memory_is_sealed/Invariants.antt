@@ -1,0 +1,5 @@
+use Rattle.directory_tests.proofs.tests.what_lacked_memory_is_sealed.Given as goal
+
+-- the history that was just opened
+abbrev pub ghosts-all_is_sealed_as : goal.ghosts-all_is_sealed_as
+ghosts-all_is_sealed_as g a = record { book = a.opened.seen.book }
