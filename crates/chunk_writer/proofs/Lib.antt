@@ -7,3 +7,4 @@ pub mod Entries
 pub mod Taking
 pub mod Uncut
 pub mod Plain
+mod Gathered

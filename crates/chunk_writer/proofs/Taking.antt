@@ -24,9 +24,10 @@ use Rattle.chunk_writer.specs.Limits.{Holds}
 use Rattle.chunk_writer.specs.Planning.{Planning}
 use Rattle.chunk_writer.specs.Plans.{StoppedBefore}
 use Rattle.chunk_writer.specs.Stops.{StopsBehind}
-use Rattle.chunk_writer.specs.Scribes.{ScribeStands, Grows, OfEach, KeepsOn, SeenExtents, ListsEntry, GivesEntries, PutsFront, grows_on}
+use Rattle.chunk_writer.specs.Scribes.{ScribeStands, Writes, Grows, OfEach, KeepsOn, SeenExtents, ListsEntry, GivesEntries, PutsFront, grows_on}
 use Rattle.chunk_writer.proofs.Entries.{seen_later, no_entries, entries_more}
-use Rattle.chunk_writer.proofs.Writing.{going_apart, add_refused}
+use Rattle.chunk_writer.proofs.Writing.{going_apart, add_refused, holding, plans_begun, stands_stopped}
+use Rattle.chunk_writer.proofs.Stopping.{put_lacks}
 
 -- ---- one record
 
@@ -39,13 +40,21 @@ pub memory_lacks : (options : FileOptions) (opened held : Option (List ℕ)) (hi
     → ScribeStands options opened held history p → ScribeStands options opened held (history ++ r ∷ []) after
 memory_lacks options opened held history r p after going before stands = add_refused options opened held history r p after stops.Memory going (λ o h plans. tt) before stands
 
+-- it lacks where no record comes
+pub memory_stops : (options : FileOptions) (opened held : Option (List ℕ)) (history : List Rec) (p after : Planning) → p.phase ≡ phases.Going → StoppedBefore p.blocks p.bytes stops.Memory after
+    → ScribeStands options opened held history p → ScribeStands options opened held history after
+memory_stops options opened held history p after going before stands =
+    let (plans, adds) = stands.going going in
+    stands_stopped options opened held history after stops.Memory p.blocks p.bytes before (plans_begun options history p plans)
+    (λ extras behind. put_lacks options extras opened held history p.blocks p.bytes behind (holding options opened held history p going stands))
+
 -- ---- where the writing stopped
 
 -- a scribe that stopped stands for all that may come behind its history
 pub stopped_on : (options : FileOptions) (opened now : Option (List ℕ)) (history more : List Rec) (p : Planning) (stop : Stop) → p.phase ≡ phases.Stopped stop → ScribeStands options opened now history p → ScribeStands options opened now (history ++ more) p
 stopped_on options opened now history more p stop is stands = record {
   going = λ going. absurd (going_apart p.phase stop is going);
-  stopped = λ other e behind. subst (λ (l : List Rec). StopsBehind options l opened now other p.blocks p.bytes) (sym (append_assoc history more behind)) (stands.stopped other e (more ++ behind));
+  stopped = λ other e extras behind. subst (λ (l : List Rec). StopsBehind options extras l opened now other p.blocks p.bytes) (sym (append_assoc history more behind)) (stands.stopped other e extras (more ++ behind));
   unended = stands.unended;
 }
 
@@ -75,8 +84,8 @@ begun state seen before records entries going holds none = record {
   still = refl;
   keeps = λ held is. ([], is ∙ ap Some (sym (append-nil held)));
   counted = let size = ap (λ (l : List (Entry _)). length l) none in omega (arith, size);
-  grows = λ options opened history writes. subst (λ (l : List Rec). ScribeStands options opened.held (state before.store).held l before.plan) (sym (append-nil history)) writes;
-  gives = λ options opened history writes. subst (λ (l : List (Entry _)). GivesEntries seen options history [] l) (sym none) (no_entries seen options history);
+  grows = λ options extras opened history writes. subst (λ (l : List Rec). Writes state options extras opened l before) (sym (append-nil history)) writes;
+  gives = λ options extras opened history writes. subst (λ (l : List (Entry _)). GivesEntries seen options history [] l) (sym none) (no_entries seen options history);
 }
 
 -- the record that begins there, and what is put with it
@@ -146,10 +155,10 @@ step state seen before now after records at next framed entries more same kept w
       keeps = keeps_more (state before.store).held (state now.store).held (state after.store).held way.keeps keeps;
       counted = omega (arith, counts, old);
       grows = subst (λ (l : List Rec). Grows state before after l) (sym one.more) (grows_on state before now after (take way.count records) (one.rec ∷ []) way.grows (grows one.rec one.framed_is));
-      gives = λ options opened history writes.
+      gives = λ options extras opened history writes.
           subst (λ (l : List Rec). GivesEntries seen options history l more) (sym one.more)
-          (entries_more seen (state now.store) options history (take way.count records) one.rec entries more lists.given held (way.gives options opened history writes) lists.listed
-          (lists.entry one.rec one.framed_is options opened (history ++ take way.count records) (way.grows options opened history writes)));
+          (entries_more seen (state now.store) options history (take way.count records) one.rec entries more lists.given held (way.gives options extras opened history writes) lists.listed
+          (lists.entry one.rec one.framed_is options extras opened (history ++ take way.count records) (way.grows options extras opened history writes)));
     }
 
 -- ---- the end of the walk
@@ -163,10 +172,10 @@ all_grows state seen before now records at entries way none =
 -- all records were put
 pub all_front : {L X : Type 0} (state : L → LiveState) (seen : SeenExtents X) (before now : Scribe L) (records : List Rec) (at : ℕ) (entries : List (Entry X)) → Partway state seen before now records at entries → (at < length (history_bytes records) → ⊥)
     → OfEach state before (λ options history. PutsFront seen options history records entries now.plan.bytes (Ok tt))
-all_front state seen before now records at entries way none options opened history writes = record {
+all_front state seen before now records at entries way none options extras opened history writes = record {
   count = way.count;
-  entries_are = way.gives options opened history writes;
-  bytes_are = ((way.grows options opened history writes).going way.going).0.bytes;
+  entries_are = way.gives options extras opened history writes;
+  bytes_are = ((way.grows options extras opened history writes).0.going way.going).0.bytes;
   all = all_put records at way.count way.within way.place none;
   before = tt;
 }
@@ -180,32 +189,32 @@ framed_there records at next count framed kept less place found =
 -- the record there was refused, so that it and those behind it weren't put
 pub front_stopped : {L X : Type 0} (state : L → LiveState) (seen : SeenExtents X) (before now : Scribe L) (records : List Rec) (at : ℕ) (entries more : List (Entry X)) (bytes : ℕ) (stop : Stop) → Partway state seen before now records at entries
     → at < length (history_bytes records) → more ≡ entries → bytes ≡ now.plan.bytes → OfEach state before (λ options history. PutsFront seen options history records more bytes (Err stop))
-front_stopped state seen before now records at entries more bytes stop way less same same_bytes options opened history writes = record {
+front_stopped state seen before now records at entries more bytes stop way less same same_bytes options extras opened history writes = record {
   count = way.count;
-  entries_are = subst (λ (l : List (Entry _)). GivesEntries seen options history (take way.count records) l) (sym same) (way.gives options opened history writes);
-  bytes_are = same_bytes ∙ ((way.grows options opened history writes).going way.going).0.bytes;
+  entries_are = subst (λ (l : List (Entry _)). GivesEntries seen options history (take way.count records) l) (sym same) (way.gives options extras opened history writes);
+  bytes_are = same_bytes ∙ ((way.grows options extras opened history writes).0.going way.going).0.bytes;
   all = tt;
   before = some_left records at way.count way.within way.place less;
 }
 
 pub stopped_grows : {L X : Type 0} (state : L → LiveState) (seen : SeenExtents X) (before now after : Scribe L) (records : List Rec) (at next : ℕ) (framed : List ℕ) (entries : List (Entry X)) (stop : Stop) → All IsKept records → Partway state seen before now records at entries
     → at < length (history_bytes records) → RecordAt records at framed next → ((r : Rec) → AreFramed framed r → Grows state now after (r ∷ [])) → after.plan.phase ≡ phases.Stopped stop → Grows state before after records
-stopped_grows state seen before now after records at next framed entries stop kept way less found grows stopped options opened history writes =
+stopped_grows state seen before now after records at next framed entries stop kept way less found grows stopped options extras opened history writes =
     let below = some_left records at way.count way.within way.place less in
     let one = next_of records at next way.count framed kept below way.place found in
-    let front = way.grows options opened history writes in
-    let put = grows one.rec one.framed_is options opened (history ++ take way.count records) front in
+    let front = way.grows options extras opened history writes in
+    let put = grows one.rec one.framed_is options extras opened (history ++ take way.count records) front in
     let rest = drop (suc way.count) records in
     let whole : ((history ++ take way.count records) ++ one.rec ∷ []) ++ rest ≡ history ++ records =
     ap (λ (l : List Rec). l ++ rest) (append_assoc history (take way.count records) (one.rec ∷ []) ∙ ap (λ (l : List Rec). history ++ l) (sym one.more))
     ∙ append_assoc history (take (suc way.count) records) rest
     ∙ ap (λ (l : List Rec). history ++ l) (take-append-drop (suc way.count) records) in
-    subst (λ (l : List Rec). ScribeStands options opened.held (state after.store).held l after.plan) whole
-    (stopped_on options opened.held (state after.store).held ((history ++ take way.count records) ++ one.rec ∷ []) rest after.plan stop stopped put)
+    subst (λ (l : List Rec). Writes state options extras opened l after) whole
+    (stopped_on options opened.held (state after.store).held ((history ++ take way.count records) ++ one.rec ∷ []) rest after.plan stop stopped put.0, put.1)
 
 -- the same front, told by other names
 pub front_so : {L X : Type 0} (state : L → LiveState) (seen : SeenExtents X) (before : Scribe L) (records : List Rec) (entries entries' : List (Entry X)) (bytes : ℕ) (end end' : Result Unit Stop) → entries' ≡ entries → end' ≡ end
     → OfEach state before (λ options history. PutsFront seen options history records entries bytes end) → OfEach state before (λ options history. PutsFront seen options history records entries' bytes end')
-front_so state seen before records entries entries' bytes end end' same_entries same_end front options opened history writes =
+front_so state seen before records entries entries' bytes end end' same_entries same_end front options extras opened history writes =
     subst (λ (l : List (Entry _)). PutsFront seen options history records l bytes end') (sym same_entries)
-    (subst (λ (e : Result Unit Stop). PutsFront seen options history records entries bytes e) (sym same_end) (front options opened history writes))
+    (subst (λ (e : Result Unit Stop). PutsFront seen options history records entries bytes e) (sym same_end) (front options extras opened history writes))

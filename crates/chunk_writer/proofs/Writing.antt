@@ -9,6 +9,8 @@ use Rattle.mcap_model.specs.declared.options.FileOptions.{FileOptions}
 use Rattle.mcap_model.specs.declared.ends.Stop.{Stop}
 use Rattle.mcap_model.specs.Built.{IsBlock}
 use Rattle.mcap_model.specs.Blocks.{Piece, block, alone, cuts, pieces_of, piece_bytes, pieces_bytes, block_bytes}
+use Rattle.std.proofs.lemmas.Grind.{flat_map-append}
+use Rattle.mcap_model.specs.Tops.{Top, top_bytes, spelled}
 use Rattle.mcap_model.specs.File.{front, data_end, section, noted, tail_by, written_of, file_of}
 use Rattle.mcap_model.specs.Pieces.{back_of}
 use Rattle.live_entry.specs.declared.entry.Entry.{Entry}
@@ -19,12 +21,12 @@ use Rattle.chunk_writer.specs.declared.next.Next.TheVariants as nexts
 use Rattle.chunk_writer.specs.Limits.{Holds}
 use Rattle.chunk_writer.specs.Bodies.{Closes}
 use Rattle.chunk_writer.specs.Planning.{Planning}
-use Rattle.chunk_writer.specs.Plans.{Plans, IsPlanned, IsNext, PutStopped, HoldsBlock, HoldsNext, StoppedBefore, IsWhole, IsLast, LastStopped, BackStopped}
+use Rattle.chunk_writer.specs.Plans.{Plans, IsPlanned, IsNext, PutStopped, HoldsBlock, HoldsNext, StoppedBefore, IsFilled, IsLast, LastStopped, ExtraStopped, BackStopped}
 use Rattle.chunk_writer.specs.Stops.{StopsAt, StopsBehind, Added, TellsPiece}
-use Rattle.chunk_writer.specs.Scribes.{ScribeStands, SeenExtents, IsEntryOf, IsEntryWith, AddsLast, Ends, GivesEntry, GivesLast}
+use Rattle.chunk_writer.specs.Scribes.{ScribeStands, AreWaiting, SeenExtents, IsEntryOf, IsEntryWith, AddsLast, Fills, Ends, GivesEntry, GivesLast}
 use Rattle.chunk_writer.proofs.Cuts.{bytes_behind}
 use Rattle.chunk_writer.proofs.Planned.{whole_none, whole_some}
-use Rattle.chunk_writer.proofs.Stopping.{Holding, put_refused, append_refused, last_refused, last_append_refused, back_refused, back_append_refused}
+use Rattle.chunk_writer.proofs.Stopping.{Holding, Wholly, extra_refused, extra_append_refused, put_refused, append_refused, last_refused, last_append_refused, back_refused, back_append_refused}
 
 -- ---- phases
 
@@ -64,18 +66,18 @@ stands_going options opened now history p going plans adds = record {
 }
 
 -- the pieces that are sure have the front's bytes
-plans_begun : (options : FileOptions) (history : List Rec) (p : Planning) → Plans options history p → length (front options.profile) ≤ p.bytes
+pub plans_begun : (options : FileOptions) (history : List Rec) (p : Planning) → Plans options history p → length (front options.profile) ≤ p.bytes
 plans_begun options history p plans = omega (arith, plans.bytes, length-append (front options.profile) (pieces_bytes (cuts options.chunk history).pieces))
 
-stands_stopped : (options : FileOptions) (opened now : Option (List ℕ)) (history : List Rec) (p : Planning) (stop : Stop) (blocks bytes : ℕ) → StoppedBefore blocks bytes stop p
-    → length (front options.profile) ≤ bytes → ((behind : List Rec) → StopsAt options (history ++ behind) opened now stop blocks bytes) → ScribeStands options opened now history p
+pub stands_stopped : (options : FileOptions) (opened now : Option (List ℕ)) (history : List Rec) (p : Planning) (stop : Stop) (blocks bytes : ℕ) → StoppedBefore blocks bytes stop p
+    → length (front options.profile) ≤ bytes → ((extras : List Top) (behind : List Rec) → StopsAt options extras (history ++ behind) opened now stop blocks bytes) → ScribeStands options opened now history p
 stands_stopped options opened now history p stop blocks bytes before begun stops = record {
   going = λ e. absurd (going_apart p.phase stop before.phase e);
-  stopped = λ other e behind. record {
+  stopped = λ other e extras behind. record {
     stops =
-        subst (λ (s : Stop). StopsAt options (history ++ behind) opened now s p.blocks p.bytes) (same_stop p.phase stop other before.phase e)
-        (subst (λ (n : ℕ). StopsAt options (history ++ behind) opened now stop n p.bytes) (sym before.blocks_are)
-        (subst (λ (n : ℕ). StopsAt options (history ++ behind) opened now stop blocks n) (sym before.bytes_are) (stops behind)));
+        subst (λ (s : Stop). StopsAt options extras (history ++ behind) opened now s p.blocks p.bytes) (same_stop p.phase stop other before.phase e)
+        (subst (λ (n : ℕ). StopsAt options extras (history ++ behind) opened now stop n p.bytes) (sym before.blocks_are)
+        (subst (λ (n : ℕ). StopsAt options extras (history ++ behind) opened now stop blocks n) (sym before.bytes_are) (stops extras behind)));
     begun = omega (arith, begun, before.bytes_are);
   };
   unended = λ e. ended_apart p.phase stop before.phase e;
@@ -83,6 +85,18 @@ stands_stopped options opened now history p stop blocks bytes before begun stops
 
 abbrev pub Planned : Planning → Rec → Next → Planning → Type 0
 Planned p r next mid = (options : FileOptions) (history : List Rec) → Plans options history p → IsPlanned options history r next mid
+
+-- the same extras wait
+pub waits_same : (before after : Phase) (extras : List Top) (xs ys : List (List ℕ)) → ys ≡ xs → before ≡ phases.Going → AreWaiting before extras xs → AreWaiting after extras ys
+waits_same before after extras xs ys same going waits later = let (are, each) = waits going in (same ∙ are, each)
+
+pub put_waits : (options : FileOptions) (opened held : Option (List ℕ)) (history : List Rec) (r : Rec) (p mid : Planning) (next : Next) → next ≡ nexts.Waits → Planned p r next mid
+    → mid.phase ≡ phases.Going → p.phase ≡ phases.Going → ScribeStands options opened held history p → ScribeStands options opened held (history ++ r ∷ []) mid
+put_waits options opened held history r p mid next is planned going before stands =
+    let (plans, first) = stands.going before in
+    let made = planned options history plans in
+    let same : IsNext options.chunk history r nexts.Waits = subst (λ (n : Next). IsNext options.chunk history r n) is made.next_is in
+    stands_going options opened held (history ++ r ∷ []) mid going made.stands (subst (λ (ps : List Piece). Adds opened held (front options.profile ++ pieces_bytes ps)) (sym same) first)
 
 pub put_block : (options : FileOptions) (opened held now : Option (List ℕ)) (history : List Rec) (r : Rec) (p mid after : Planning) (next : Next) (blk : Block) → next ≡ nexts.Block blk → Planned p r next mid
     → mid.phase ≡ phases.Going → after ≡ mid → p.phase ≡ phases.Going → Adds held now blk.bytes → ScribeStands options opened held history p → ScribeStands options opened now (history ++ r ∷ []) after
@@ -116,7 +130,7 @@ block_refused options opened held now history r p mid after next framed blk stop
     let fits : Holds (p.blocks + 1) (p.bytes + length (block_bytes records)) = subst (λ (l : List ℕ). Holds (p.blocks + 1) (p.bytes + length l)) built.spelled holds in
     let stopped : StoppedBefore p.blocks p.bytes stop after = record { phase = before.phase; blocks_are = before.blocks_are ∙ same_b; bytes_are = before.bytes_are ∙ same_n } in
     stands_stopped options opened now (history ++ r ∷ []) after stop p.blocks p.bytes stopped (plans_begun options history p (stands.going going).0)
-    (λ behind. append_refused options opened held now history r (block records) stop p.blocks p.bytes behind (holding options opened held history p going stands) closes fits piece)
+    (λ extras behind. append_refused options extras opened held now history r (block records) stop p.blocks p.bytes behind (holding options opened held history p going stands) closes fits piece)
 
 pub record_refused : (options : FileOptions) (opened held now : Option (List ℕ)) (history : List Rec) (r : Rec) (p mid after : Planning) (next : Next) (piece : List ℕ) (stop : Stop) (blocks bytes : ℕ) → next ≡ nexts.Record → piece ≡ rec_bytes r → Planned p r next mid
     → HoldsNext p.blocks p.bytes piece next → blocks ≡ p.blocks → bytes ≡ p.bytes → StoppedBefore blocks bytes stop after → p.phase ≡ phases.Going → Added held now piece (Err stop) → ScribeStands options opened held history p
@@ -133,14 +147,14 @@ record_refused options opened held now history r p mid after next piece stop blo
     let fits : Holds (p.blocks + 0) (p.bytes + length (rec_bytes r)) = record { few = omega (arith, few); small = omega (arith, small, long) } in
     let stopped : StoppedBefore p.blocks p.bytes stop after = record { phase = before.phase; blocks_are = before.blocks_are ∙ same_b; bytes_are = before.bytes_are ∙ same_n } in
     stands_stopped options opened now (history ++ r ∷ []) after stop p.blocks p.bytes stopped (plans_begun options history p (stands.going going).0)
-    (λ behind. append_refused options opened held now history r (alone r) stop p.blocks p.bytes behind (holding options opened held history p going stands) closes fits left)
+    (λ extras behind. append_refused options extras opened held now history r (alone r) stop p.blocks p.bytes behind (holding options opened held history p going stands) closes fits left)
 
 pub add_refused : (options : FileOptions) (opened held : Option (List ℕ)) (history : List Rec) (r : Rec) (p after : Planning) (stop : Stop) → p.phase ≡ phases.Going
     → ((o : FileOptions) (h : List Rec) → Plans o h p → PutStopped o.chunk h r p.blocks p.bytes stop) → StoppedBefore p.blocks p.bytes stop after → ScribeStands options opened held history p
     → ScribeStands options opened held (history ++ r ∷ []) after
 add_refused options opened held history r p after stop going refused before stands =
     stands_stopped options opened held (history ++ r ∷ []) after stop p.blocks p.bytes before (plans_begun options history p (stands.going going).0)
-    (λ behind. put_refused options opened held history r stop p.blocks p.bytes behind (holding options opened held history p going stands) (refused options history (stands.going going).0))
+    (λ extras behind. put_refused options extras opened held history r stop p.blocks p.bytes behind (holding options opened held history p going stands) (refused options history (stands.going going).0))
 
 -- ---- entries
 
@@ -209,15 +223,15 @@ last_entry seen options opened held history p mid last blk e bytes is lasts goin
           (subst (λ (n : ℕ). IsEntryWith e e.extent n blk) offset with_it) made.last_block.1 long told,
     )
 
-stops_so : (options : FileOptions) (opened now : Option (List ℕ)) (history : List Rec) (p : Planning) (stop : Stop) (blocks bytes : ℕ) → StoppedBefore blocks bytes stop p → StopsAt options history opened now stop blocks bytes
-    → StopsAt options history opened now stop p.blocks p.bytes
-stops_so options opened now history p stop blocks bytes before stops =
-    subst (λ (n : ℕ). StopsAt options history opened now stop n p.bytes) (sym before.blocks_are) (subst (λ (n : ℕ). StopsAt options history opened now stop blocks n) (sym before.bytes_are) stops)
+stops_so : (options : FileOptions) (extras : List Top) (opened now : Option (List ℕ)) (history : List Rec) (p : Planning) (stop : Stop) (blocks bytes : ℕ) → StoppedBefore blocks bytes stop p → StopsAt options extras history opened now stop blocks bytes
+    → StopsAt options extras history opened now stop p.blocks p.bytes
+stops_so options extras opened now history p stop blocks bytes before stops =
+    subst (λ (n : ℕ). StopsAt options extras history opened now stop n p.bytes) (sym before.blocks_are) (subst (λ (n : ℕ). StopsAt options extras history opened now stop blocks n) (sym before.bytes_are) stops)
 
-pub block_last_refused : (options : FileOptions) (opened held now : Option (List ℕ)) (history : List Rec) (p mid after : Planning) (last : Option Block) (blk : Block) (stop : Stop) (blocks bytes : ℕ) → last ≡ Some blk → Lasts p last mid
+pub block_last_refused : (options : FileOptions) (extras : List Top) (opened held now : Option (List ℕ)) (history : List Rec) (p mid after : Planning) (last : Option Block) (blk : Block) (stop : Stop) (blocks bytes : ℕ) → last ≡ Some blk → Lasts p last mid
     → HoldsBlock p.blocks p.bytes last → blocks ≡ p.blocks → bytes ≡ p.bytes → StoppedBefore blocks bytes stop after → p.phase ≡ phases.Going → Added held now blk.bytes (Err stop) → ScribeStands options opened held history p
-    → StopsAt options history opened now stop after.blocks after.bytes
-block_last_refused options opened held now history p mid after last blk stop blocks bytes is lasts room same_b same_n before going added stands =
+    → StopsAt options extras history opened now stop after.blocks after.bytes
+block_last_refused options extras opened held now history p mid after last blk stop blocks bytes is lasts room same_b same_n before going added stands =
     let (plans, first) = stands.going going in
     let made : IsLast options history (Some blk) mid = subst (λ (x : Option Block). IsLast options history x mid) is (lasts options history plans) in
     let records = (cuts options.chunk history).waiting in
@@ -226,68 +240,125 @@ block_last_refused options opened held now history p mid after last blk stop blo
     let holds : Holds (p.blocks + 1) (p.bytes + length blk.bytes) = subst (λ (x : Option Block). HoldsBlock p.blocks p.bytes x) is room in
     let fits : Holds (p.blocks + 1) (p.bytes + length (block_bytes records)) = subst (λ (l : List ℕ). Holds (p.blocks + 1) (p.bytes + length l)) built.spelled holds in
     let stopped : StoppedBefore p.blocks p.bytes stop after = record { phase = before.phase; blocks_are = before.blocks_are ∙ same_b; bytes_are = before.bytes_are ∙ same_n } in
-    stops_so options opened now history after stop p.blocks p.bytes stopped
-    (last_append_refused options opened held now history (block records) stop p.blocks p.bytes (holding options opened held history p going stands) made.last_block.0 fits piece)
+    stops_so options extras opened now history after stop p.blocks p.bytes stopped
+    (last_append_refused options extras opened held now history (block records) stop p.blocks p.bytes (holding options opened held history p going stands) made.last_block.0 fits piece)
 
-pub last_stopped : (options : FileOptions) (opened held : Option (List ℕ)) (history : List Rec) (p after : Planning) (stop : Stop) → p.phase ≡ phases.Going
+pub last_stopped : (options : FileOptions) (extras : List Top) (opened held : Option (List ℕ)) (history : List Rec) (p after : Planning) (stop : Stop) → p.phase ≡ phases.Going
     → ((o : FileOptions) (h : List Rec) → Plans o h p → LastStopped o.chunk h p.blocks p.bytes stop) → StoppedBefore p.blocks p.bytes stop after → ScribeStands options opened held history p
-    → StopsAt options history opened held stop after.blocks after.bytes
-last_stopped options opened held history p after stop going refused before stands =
-    stops_so options opened held history after stop p.blocks p.bytes before
-    (last_refused options opened held history stop p.blocks p.bytes (holding options opened held history p going stands) (refused options history (stands.going going).0))
+    → StopsAt options extras history opened held stop after.blocks after.bytes
+last_stopped options extras opened held history p after stop going refused before stands =
+    stops_so options extras opened held history after stop p.blocks p.bytes before
+    (last_refused options extras opened held history stop p.blocks p.bytes (holding options opened held history p going stands) (refused options history (stands.going going).0))
+
+-- ---- the extras
+
+file_whole : (options : FileOptions) (extras : List Top) (history : List Rec) → section options extras history ++ back_of options extras history ≡ file_of options extras history
+unfolding file_of
+file_whole options extras history = sym (append_assoc (section options extras history) data_end (tail_by options.chunk (noted options extras history) (length (section options extras history ++ data_end))))
+
+-- behind the pieces no extras stand yet
+pub fills_none : (options : FileOptions) (opened now : Option (List ℕ)) (history : List Rec) (p : Planning) → AddsLast options opened now history p → Fills options [] opened now history p
+fills_none options opened now history p lasts =
+    let whole = lasts.whole in
+    let ps = pieces_bytes (pieces_of options.chunk history) in
+    let same : front options.profile ++ ps ≡ section options [] history = ap (λ (l : List ℕ). front options.profile ++ l) (sym (append-nil ps)) in
+    record {
+      filled = record {
+        body = whole.body;
+        blocks = whole.blocks;
+        bytes = whole.bytes ∙ ap (λ (l : List ℕ). length l) same;
+      };
+      adds = subst (λ (l : List ℕ). Adds opened now l) same lasts.adds;
+    }
+
+section_more : (options : FileOptions) (extras : List Top) (t : Top) (history : List Rec) → section options (extras ++ t ∷ []) history ≡ section options extras history ++ top_bytes t
+section_more options extras t history =
+    let ps = pieces_bytes (pieces_of options.chunk history) in
+    ap (λ (l : List ℕ). front options.profile ++ (ps ++ l)) (flat_map-append top_bytes extras (t ∷ []) ∙ ap (λ (l : List ℕ). spelled extras ++ l) (append-nil (top_bytes t)))
+    ∙ ap (λ (l : List ℕ). front options.profile ++ l) (sym (append_assoc ps (spelled extras) (top_bytes t)))
+    ∙ sym (append_assoc (front options.profile) (ps ++ spelled extras) (top_bytes t))
+
+pub wholly : (options : FileOptions) (extras : List Top) (opened held : Option (List ℕ)) (history : List Rec) (p : Planning) → Fills options extras opened held history p → Wholly options extras opened held history p.blocks p.bytes
+wholly options extras opened held history p fills = (fills.adds, fills.filled.blocks, fills.filled.bytes)
+
+pub fills_more : (options : FileOptions) (extras : List Top) (t : Top) (opened held now : Option (List ℕ)) (history : List Rec) (p after : Planning) (piece : List ℕ) → piece ≡ top_bytes t → IsFilled options (extras ++ t ∷ []) history after
+    → Adds held now piece → Fills options extras opened held history p → Fills options (extras ++ t ∷ []) opened now history after
+fills_more options extras t opened held now history p after piece is filled adds fills = record {
+  filled = filled;
+  adds = subst (λ (l : List ℕ). Adds opened now l) (ap (λ (l : List ℕ). section options extras history ++ l) is ∙ sym (section_more options extras t history)) (adds-adds opened held now (section options extras history) piece fills.adds adds);
+}
+
+-- the front's bytes are among those of a file's section
+section_begun : (options : FileOptions) (extras : List Top) (history : List Rec) → length (front options.profile) ≤ length (section options extras history)
+section_begun options extras history = omega (arith, length-append (front options.profile) (pieces_bytes (pieces_of options.chunk history) ++ spelled extras))
+
+fills_begun : (options : FileOptions) (extras : List Top) (opened held : Option (List ℕ)) (history : List Rec) (p : Planning) → Fills options extras opened held history p → length (front options.profile) ≤ p.bytes
+fills_begun options extras opened held history p fills = let long = fills.filled.bytes in omega (arith, long, section_begun options extras history)
+
+-- an extra stopped the writer
+extra_so : (options : FileOptions) (extras : List Top) (opened now : Option (List ℕ)) (history : List Rec) (p : Planning) (stop : Stop) (blocks bytes : ℕ) → StoppedBefore blocks bytes stop p → length (front options.profile) ≤ bytes
+    → StopsAt options extras history opened now stop blocks bytes → StopsBehind options extras history opened now stop p.blocks p.bytes
+extra_so options extras opened now history p stop blocks bytes before begun stops = record {
+  stops = stops_so options extras opened now history p stop blocks bytes before stops;
+  begun = let same = before.bytes_are in omega (arith, begun, same);
+}
+
+pub extra_stopped : (options : FileOptions) (extras : List Top) (t : Top) (behind : List Top) (opened held : Option (List ℕ)) (history : List Rec) (p after : Planning) (framed : List ℕ) (stop : Stop) → framed ≡ top_bytes t
+    → ExtraStopped p.blocks p.bytes framed stop → StoppedBefore p.blocks p.bytes stop after → Fills options extras opened held history p
+    → StopsBehind options (extras ++ t ∷ behind) history opened held stop after.blocks after.bytes
+extra_stopped options extras t behind opened held history p after framed stop is why before fills =
+    extra_so options (extras ++ t ∷ behind) opened held history after stop p.blocks p.bytes before (fills_begun options extras opened held history p fills)
+    (extra_refused options extras t behind opened held history stop p.blocks p.bytes (wholly options extras opened held history p fills) (subst (λ (l : List ℕ). ExtraStopped p.blocks p.bytes l stop) is why))
+
+pub extra_not_appended : (options : FileOptions) (extras : List Top) (t : Top) (behind : List Top) (opened held now : Option (List ℕ)) (history : List Rec) (p after : Planning) (framed : List ℕ) (stop : Stop) (blocks bytes : ℕ) → framed ≡ top_bytes t
+    → Holds p.blocks (p.bytes + length framed) → blocks ≡ p.blocks → bytes ≡ p.bytes → StoppedBefore blocks bytes stop after → Added held now framed (Err stop) → Fills options extras opened held history p
+    → StopsBehind options (extras ++ t ∷ behind) history opened now stop after.blocks after.bytes
+extra_not_appended options extras t behind opened held now history p after framed stop blocks bytes is holds same_b same_n before added fills =
+    let stopped : StoppedBefore p.blocks p.bytes stop after = record { phase = before.phase; blocks_are = before.blocks_are ∙ same_b; bytes_are = before.bytes_are ∙ same_n } in
+    extra_so options (extras ++ t ∷ behind) opened now history after stop p.blocks p.bytes stopped (fills_begun options extras opened held history p fills)
+    (extra_append_refused options extras t behind opened held now history stop p.blocks p.bytes (wholly options extras opened held history p fills) (subst (λ (l : List ℕ). Holds p.blocks (p.bytes + length l)) is holds) (subst (λ (l : List ℕ). Added held now l (Err stop)) is added))
 
 -- ---- the back
 
-whole_bytes : (f p d t : List ℕ) → (f ++ p) ++ (d ++ t) ≡ ((f ++ (p ++ [])) ++ d) ++ t
-whole_bytes f p d t = simp (append_assoc, append-nil) refl
-
-file_whole : (options : FileOptions) (history : List Rec) → (front options.profile ++ pieces_bytes (pieces_of options.chunk history)) ++ back_of options [] history ≡ file_of options [] history
-unfolding file_of
-file_whole options history =
-    whole_bytes (front options.profile) (pieces_bytes (pieces_of options.chunk history)) data_end
-    (tail_by options.chunk (noted options [] history) (length (section options [] history ++ data_end)))
-
-pub back_ends : (options : FileOptions) (opened held now : Option (List ℕ)) (history : List Rec) (p after : Planning) (piece : List ℕ) → ((o : FileOptions) (h : List Rec) → IsWhole o h p → piece ≡ back_of o [] h)
-    → after.blocks ≡ p.blocks → after.bytes ≡ p.bytes + length piece → Adds held now piece → AddsLast options opened held history p → Ends options opened now history after.blocks after.bytes (Ok tt)
-back_ends options opened held now history p after piece is many long adds lasts =
-    let whole = lasts.whole in
-    let back : piece ≡ back_of options [] history = is options history whole in
-    let start = front options.profile ++ pieces_bytes (pieces_of options.chunk history) in
-    let all : start ++ piece ≡ file_of options [] history = ap (λ (l : List ℕ). start ++ l) back ∙ file_whole options history in (
-      subst (λ (l : List ℕ). Adds opened now l) all (adds-adds opened held now start piece lasts.adds adds),
-      many ∙ whole.blocks,
-      long ∙ ap (λ (n : ℕ). n + length piece) whole.bytes ∙ sym (length-append start piece) ∙ ap (λ (l : List ℕ). length l) all,
+pub back_ends : (options : FileOptions) (extras : List Top) (opened held now : Option (List ℕ)) (history : List Rec) (p after : Planning) (piece : List ℕ) → ((o : FileOptions) (e : List Top) (h : List Rec) → IsFilled o e h p → piece ≡ back_of o e h)
+    → after.blocks ≡ p.blocks → after.bytes ≡ p.bytes + length piece → Adds held now piece → Fills options extras opened held history p → Ends options extras opened now history after.blocks after.bytes (Ok tt)
+back_ends options extras opened held now history p after piece is many long adds fills =
+    let filled = fills.filled in
+    let back : piece ≡ back_of options extras history = is options extras history filled in
+    let start = section options extras history in
+    let all : start ++ piece ≡ file_of options extras history = ap (λ (l : List ℕ). start ++ l) back ∙ file_whole options extras history in (
+      subst (λ (l : List ℕ). Adds opened now l) all (adds-adds opened held now start piece fills.adds adds),
+      many ∙ filled.blocks,
+      long ∙ ap (λ (n : ℕ). n + length piece) filled.bytes ∙ sym (length-append start piece) ∙ ap (λ (l : List ℕ). length l) all,
     )
 
-pub back_stopped : (options : FileOptions) (opened held : Option (List ℕ)) (history : List Rec) (p after : Planning) (stop : Stop)
-    → ((o : FileOptions) (h : List Rec) → IsWhole o h p → BackStopped o h p.blocks p.bytes stop) → StoppedBefore p.blocks p.bytes stop after → AddsLast options opened held history p
-    → StopsAt options history opened held stop after.blocks after.bytes
-back_stopped options opened held history p after stop refused before lasts =
-    let whole = lasts.whole in
-    stops_so options opened held history after stop p.blocks p.bytes before
-    (back_refused options opened held history stop p.blocks p.bytes (lasts.adds, whole.blocks, whole.bytes) (refused options history whole))
+pub back_stopped : (options : FileOptions) (extras : List Top) (opened held : Option (List ℕ)) (history : List Rec) (p after : Planning) (stop : Stop)
+    → ((o : FileOptions) (e : List Top) (h : List Rec) → IsFilled o e h p → BackStopped o e h p.blocks p.bytes stop) → StoppedBefore p.blocks p.bytes stop after → Fills options extras opened held history p
+    → StopsAt options extras history opened held stop after.blocks after.bytes
+back_stopped options extras opened held history p after stop refused before fills =
+    stops_so options extras opened held history after stop p.blocks p.bytes before
+    (back_refused options extras opened held history stop p.blocks p.bytes (wholly options extras opened held history p fills) (refused options extras history fills.filled))
 
-pub back_not_appended : (options : FileOptions) (opened held now : Option (List ℕ)) (history : List Rec) (p after : Planning) (piece : List ℕ) (stop : Stop) (blocks bytes : ℕ) → ((o : FileOptions) (h : List Rec) → IsWhole o h p → piece ≡ back_of o [] h)
-    → Holds p.blocks (p.bytes + length piece) → blocks ≡ p.blocks → bytes ≡ p.bytes → StoppedBefore blocks bytes stop after → Added held now piece (Err stop) → AddsLast options opened held history p
-    → StopsAt options history opened now stop after.blocks after.bytes
-back_not_appended options opened held now history p after piece stop blocks bytes is holds same_b same_n before added lasts =
-    let whole = lasts.whole in
-    let back : piece ≡ back_of options [] history = is options history whole in
+pub back_not_appended : (options : FileOptions) (extras : List Top) (opened held now : Option (List ℕ)) (history : List Rec) (p after : Planning) (piece : List ℕ) (stop : Stop) (blocks bytes : ℕ) → ((o : FileOptions) (e : List Top) (h : List Rec) → IsFilled o e h p → piece ≡ back_of o e h)
+    → Holds p.blocks (p.bytes + length piece) → blocks ≡ p.blocks → bytes ≡ p.bytes → StoppedBefore blocks bytes stop after → Added held now piece (Err stop) → Fills options extras opened held history p
+    → StopsAt options extras history opened now stop after.blocks after.bytes
+back_not_appended options extras opened held now history p after piece stop blocks bytes is holds same_b same_n before added fills =
+    let back : piece ≡ back_of options extras history = is options extras history fills.filled in
     let stopped : StoppedBefore p.blocks p.bytes stop after = record { phase = before.phase; blocks_are = before.blocks_are ∙ same_b; bytes_are = before.bytes_are ∙ same_n } in
-    stops_so options opened now history after stop p.blocks p.bytes stopped
-    (back_append_refused options opened held now history stop p.blocks p.bytes (lasts.adds, whole.blocks, whole.bytes) (subst (λ (l : List ℕ). Holds p.blocks (p.bytes + length l)) back holds) (subst (λ (l : List ℕ). Added held now l (Err stop)) back added))
+    stops_so options extras opened now history after stop p.blocks p.bytes stopped
+    (back_append_refused options extras opened held now history stop p.blocks p.bytes (wholly options extras opened held history p fills) (subst (λ (l : List ℕ). Holds p.blocks (p.bytes + length l)) back holds) (subst (λ (l : List ℕ). Added held now l (Err stop)) back added))
 
 -- the same end, told in other numbers
-pub ends_so : (options : FileOptions) (opened now : Option (List ℕ)) (history : List Rec) (blocks bytes blocks' bytes' : ℕ) (end end' : Result Unit Stop) → end' ≡ end → blocks' ≡ blocks → bytes' ≡ bytes
-    → Ends options opened now history blocks bytes end → Ends options opened now history blocks' bytes' end'
-ends_so options opened now history blocks bytes blocks' bytes' end end' same_end same_b same_n ends =
-    subst (λ (e : Result Unit Stop). Ends options opened now history blocks' bytes' e) (sym same_end)
-    (subst (λ (n : ℕ). Ends options opened now history n bytes' end) (sym same_b) (subst (λ (n : ℕ). Ends options opened now history blocks n end) (sym same_n) ends))
+pub ends_so : (options : FileOptions) (extras : List Top) (opened now : Option (List ℕ)) (history : List Rec) (blocks bytes blocks' bytes' : ℕ) (end end' : Result Unit Stop) → end' ≡ end → blocks' ≡ blocks → bytes' ≡ bytes
+    → Ends options extras opened now history blocks bytes end → Ends options extras opened now history blocks' bytes' end'
+ends_so options extras opened now history blocks bytes blocks' bytes' end end' same_end same_b same_n ends =
+    subst (λ (e : Result Unit Stop). Ends options extras opened now history blocks' bytes' e) (sym same_end)
+    (subst (λ (n : ℕ). Ends options extras opened now history n bytes' end) (sym same_b) (subst (λ (n : ℕ). Ends options extras opened now history blocks n end) (sym same_n) ends))
 
 -- a history ends where the scribe had stopped
-pub stopped_ends : (options : FileOptions) (opened now : Option (List ℕ)) (history : List Rec) (p : Planning) (stop : Stop) → p.phase ≡ phases.Stopped stop → ScribeStands options opened now history p
-    → StopsBehind options history opened now stop p.blocks p.bytes
-stopped_ends options opened now history p stop is stands = subst (λ (l : List Rec). StopsBehind options l opened now stop p.blocks p.bytes) (append-nil history) (stands.stopped stop is [])
+pub stopped_ends : (options : FileOptions) (extras : List Top) (opened now : Option (List ℕ)) (history : List Rec) (p : Planning) (stop : Stop) → p.phase ≡ phases.Stopped stop → ScribeStands options opened now history p
+    → StopsBehind options extras history opened now stop p.blocks p.bytes
+stopped_ends options extras opened now history p stop is stands = subst (λ (l : List Rec). StopsBehind options extras l opened now stop p.blocks p.bytes) (append-nil history) (stands.stopped stop is extras [])
 
 -- it had not, and stopped at its last block
 pub last_begun : (options : FileOptions) (opened now : Option (List ℕ)) (history : List Rec) (p : Planning) → p.phase ≡ phases.Going → ScribeStands options opened now history p → length (front options.profile) ≤ p.bytes
@@ -296,15 +367,13 @@ last_begun options opened now history p going stands = plans_begun options histo
 -- ---- the front
 
 -- the bytes of a whole file have those of its front
-whole_begun : (options : FileOptions) (history : List Rec) → length (front options.profile) ≤ length (file_of options [] history)
-whole_begun options history =
-    let all = ap (λ (l : List ℕ). length l) (file_whole options history) in
-    let pieces = length-append (front options.profile) (pieces_bytes (pieces_of options.chunk history)) in
-    omega (arith, all, pieces, length-append (front options.profile ++ pieces_bytes (pieces_of options.chunk history)) (back_of options [] history))
+whole_begun : (options : FileOptions) (extras : List Top) (history : List Rec) → length (front options.profile) ≤ length (file_of options extras history)
+whole_begun options extras history =
+    let all = ap (λ (l : List ℕ). length l) (file_whole options extras history) in
+    omega (arith, all, section_begun options extras history, length-append (section options extras history) (back_of options extras history))
 
 -- behind the last piece no bytes are lost
-pub back_begun : (options : FileOptions) (opened now : Option (List ℕ)) (history : List Rec) (p : Planning) (blocks bytes : ℕ) (end : Result Unit Stop) → IsWhole options history p
-    → Ends options opened now history blocks bytes end → OnErr end ((blocks ≡ p.blocks) × (bytes ≡ p.bytes)) → length (front options.profile) ≤ bytes
-back_begun options opened now history p blocks bytes (Ok it) whole ends same = omega (arith, whole_begun options history, ends.2)
-back_begun options opened now history p blocks bytes (Err stop) whole ends same =
-    omega (arith, whole.bytes, same.1, length-append (front options.profile) (pieces_bytes (pieces_of options.chunk history)))
+pub back_begun : (options : FileOptions) (extras : List Top) (opened held now : Option (List ℕ)) (history : List Rec) (p : Planning) (blocks bytes : ℕ) (end : Result Unit Stop) → Fills options extras opened held history p
+    → Ends options extras opened now history blocks bytes end → OnErr end ((blocks ≡ p.blocks) × (bytes ≡ p.bytes)) → length (front options.profile) ≤ bytes
+back_begun options extras opened held now history p blocks bytes (Ok it) fills ends same = omega (arith, whole_begun options extras history, ends.2)
+back_begun options extras opened held now history p blocks bytes (Err stop) fills ends same = omega (arith, same.1, fills_begun options extras opened held history p fills)

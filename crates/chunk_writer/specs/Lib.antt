@@ -6,3 +6,4 @@ pub mod Held
 pub mod Stops
 pub mod Scribes
 pub mod Buffered
+pub mod Waiting

@@ -7,7 +7,8 @@ use Rattle.mcap_model.specs.declared.ends.Stop.{Stop}
 use Rattle.mcap_model.specs.declared.ends.Stop.TheVariants as stops
 use Rattle.mcap_model.specs.Built.{IsBlock}
 use Rattle.mcap_model.specs.Blocks.{Piece, block, alone, piece_bytes, cuts, pieces_of, pieces_bytes, last_piece, blocks_in}
-use Rattle.mcap_model.specs.File.{front, written_of}
+use Rattle.mcap_model.specs.Tops.{Top}
+use Rattle.mcap_model.specs.File.{front, section, noted, written_of}
 use Rattle.mcap_model.specs.Pieces.{back_of}
 use Rattle.chunk_build.specs.Chunker as chunker
 use Rattle.chunk_writer.specs.declared.phase.Phase.TheVariants as phases
@@ -82,6 +83,18 @@ pub record IsWhole (options : FileOptions) (history : List Rec) (p : Planning) :
   pub blocks : p.blocks ≡ length (blocks_in (pieces_of options.chunk history))
   pub bytes : p.bytes ≡ length (front options.profile ++ pieces_bytes (pieces_of options.chunk history))
 
+-- all pieces of a history and these extras behind them are counted, and its summary stands for them
+pub record IsFilled (options : FileOptions) (extras : List Top) (history : List Rec) (p : Planning) : Type 0 where
+  pub body : SummaryFor options.chunk (noted options extras history) p.body
+  pub blocks : p.blocks ≡ length (blocks_in (pieces_of options.chunk history))
+  pub bytes : p.bytes ≡ length (section options extras history)
+
+-- why an extra of these bytes isn't counted
+abbrev pub ExtraStopped : ℕ → ℕ → List ℕ → Stop → Type 0
+ExtraStopped blocks bytes framed (stops.Fault faults) = ⊥
+ExtraStopped blocks bytes framed (stops.Limit at_blocks at_bytes) = (at_blocks ≡ blocks) × (at_bytes ≡ bytes) × (Holds blocks (bytes + length framed) → ⊥)
+ExtraStopped blocks bytes framed stops.Memory = Unit {0}
+
 -- a history has ended, with its last block
 pub record IsLast (options : FileOptions) (history : List Rec) (last : Option Block) (after : Planning) : Type 0 where
   pub whole : IsWhole options history after
@@ -100,8 +113,8 @@ LastStopped size history blocks bytes (stops.Limit at_blocks at_bytes) = (piece 
 LastStopped size history blocks bytes stops.Memory = Unit {0}
 
 -- why what closes the file isn't given
-abbrev pub BackStopped : FileOptions → List Rec → ℕ → ℕ → Stop → Type 0
-BackStopped options history blocks bytes (stops.Fault faults) = ⊥
-BackStopped options history blocks bytes (stops.Limit at_blocks at_bytes) = (at_blocks ≡ blocks) × (at_bytes ≡ bytes)
-    × (Holds blocks (bytes + length (back_of options [] history)) → ⊥)
-BackStopped options history blocks bytes stops.Memory = Unit {0}
+abbrev pub BackStopped : FileOptions → List Top → List Rec → ℕ → ℕ → Stop → Type 0
+BackStopped options extras history blocks bytes (stops.Fault faults) = ⊥
+BackStopped options extras history blocks bytes (stops.Limit at_blocks at_bytes) = (at_blocks ≡ blocks) × (at_bytes ≡ bytes)
+    × (Holds blocks (bytes + length (back_of options extras history)) → ⊥)
+BackStopped options extras history blocks bytes stops.Memory = Unit {0}

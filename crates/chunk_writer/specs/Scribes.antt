@@ -1,5 +1,5 @@
 -- The histories for which a scribe stands, its entries, and how its file ends.
-use Rattle.std.specs.Prelude.{◌≡◌, ℕ, ◌+◌, ◌<◌, ◌≤◌, List, [], ◌∷◌, ◌++◌, length, take, Option, Some, None, Result, Ok, Err, OnOk, OnErr}
+use Rattle.std.specs.Prelude.{◌≡◌, ℕ, ◌+◌, ◌<◌, ◌≤◌, List, [], ◌∷◌, ◌++◌, length, map, take, Option, Some, None, Result, Ok, Err, OnOk, OnErr}
 use Rattle.std.specs.List.{AllZip}
 use Rattle.std.proofs.Common.{sym, subst, append-nil, append_assoc}
 use Rattle.rec_data.specs.declared.owned.Rec.{Rec}
@@ -9,7 +9,10 @@ use Rattle.mcap_model.specs.declared.block.Block.{Block}
 use Rattle.mcap_model.specs.declared.ends.Stop.{Stop}
 use Rattle.mcap_model.specs.Blocks.{block, cuts, pieces_of, pieces_bytes, last_piece, blocks_in, block_bytes, chunk_bytes, least, greatest, log_times, logged}
 use Rattle.mcap_model.specs.Built.{declarations}
-use Rattle.mcap_model.specs.File.{front, blocks_from, written_of, file_of}
+use Rattle.mcap_model.specs.Places.{Each}
+use Rattle.mcap_model.specs.Tops.{Top, top_bytes}
+use Rattle.mcap_model.specs.Laws.{IsExtra}
+use Rattle.mcap_model.specs.File.{front, section, blocks_from, written_of, file_of}
 use Rattle.chunk_build.specs.Chunker.{AreFramed}
 use Rattle.live_entry.specs.declared.entry.Entry.{Entry}
 use Rattle.chunk_writer.specs.declared.phase.Phase.{Phase}
@@ -18,21 +21,25 @@ use Rattle.chunk_writer.specs.declared.scribe.Scribe.{Scribe}
 use Rattle.chunk_writer.specs.declared.tape.Written.{Written}
 use Rattle.chunk_writer.specs.Planning.{Planning}
 use Rattle.chunk_writer.specs.Bodies.{Closes}
-use Rattle.chunk_writer.specs.Plans.{Plans, IsWhole}
+use Rattle.chunk_writer.specs.Plans.{Plans, IsWhole, IsFilled}
 use Rattle.chunk_writer.specs.Stops.{StopsAt, StopsBehind, TellsPiece}
 
 -- The plan of a scribe, whose store held the first bytes when it was opened and holds the second now, stands for a history.
 -- While it goes on, all pieces that are sure stand behind the first bytes. Where it stopped, it stopped at a piece of each
--- history that goes on from this one, behind its front.
+-- history that goes on from this one, behind its front, whatever the extras.
 pub record ScribeStands (options : FileOptions) (opened now : Option (List ℕ)) (history : List Rec) (p : Planning) : Type 0 where
   pub going : p.phase ≡ phases.Going → Plans options history p × Adds opened now (written_of options history)
-  pub stopped : (stop : Stop) → p.phase ≡ phases.Stopped stop → (behind : List Rec) → StopsBehind options (history ++ behind) opened now stop p.blocks p.bytes
+  pub stopped : (stop : Stop) → p.phase ≡ phases.Stopped stop → (extras : List Top) (behind : List Rec) → StopsBehind options extras (history ++ behind) opened now stop p.blocks p.bytes
   pub unended : p.phase ≡ phases.Ended → ⊥
 
--- A scribe stands for a history of a file of these options; its store was in this state when it was opened. What is seen of
--- a store is handed in.
-abbrev pub Writes : {L : Type 0} → (L → LiveState) → FileOptions → LiveState → List Rec → Scribe L → Type 0
-Writes seen options opened history scribe = ScribeStands options opened.held (seen scribe.store).held history scribe.plan
+-- while a scribe goes on these extras wait in it, framed, for the end of its file
+abbrev pub AreWaiting : Phase → List Top → List (List ℕ) → Type 0
+AreWaiting phase extras waiting = phase ≡ phases.Going → (waiting ≡ map top_bytes extras) × Each IsExtra extras
+
+-- A scribe stands for extras and a history of a file of these options; its store was in this state when it was opened. What
+-- is seen of a store is handed in.
+abbrev pub Writes : {L : Type 0} → (L → LiveState) → FileOptions → List Top → LiveState → List Rec → Scribe L → Type 0
+Writes seen options extras opened history scribe = ScribeStands options opened.held (seen scribe.store).held history scribe.plan × AreWaiting scribe.plan.phase extras scribe.extras
 
 abbrev pub store_of : {L : Type 0} → Scribe L → L
 store_of scribe = scribe.store
@@ -49,22 +56,27 @@ abbrev pub bytes_of : {L : Type 0} → Scribe L → ℕ
 bytes_of scribe = scribe.plan.bytes
 
 -- The second scribe is the first, later: of whatever history the first stands, the second stands for that history with these
--- records behind it.
+-- records behind it, and the same extras.
 abbrev pub Grows : {L : Type 0} → (L → LiveState) → Scribe L → Scribe L → List Rec → Type 0
-Grows seen before after records = (options : FileOptions) (opened : LiveState) (history : List Rec) → Writes seen options opened history before
-    → Writes seen options opened (history ++ records) after
+Grows seen before after records = (options : FileOptions) (extras : List Top) (opened : LiveState) (history : List Rec) → Writes seen options extras opened history before
+    → Writes seen options extras opened (history ++ records) after
+
+-- the same with an extra more
+abbrev pub Gathers : {L : Type 0} → (L → LiveState) → Scribe L → Scribe L → Top → Type 0
+Gathers seen before after t = (options : FileOptions) (extras : List Top) (opened : LiveState) (history : List Rec) → Writes seen options extras opened history before
+    → Writes seen options (extras ++ t ∷ []) opened history after
 
 -- a scribe stands for the same where nothing is called, and over several calls
 pub grows_none : {L : Type 0} (seen : L → LiveState) (scribe : Scribe L) → Grows seen scribe scribe []
-grows_none seen scribe = λ options opened history writes. subst (λ (l : List Rec). Writes seen options opened l scribe) (sym (append-nil history)) writes
+grows_none seen scribe = λ options extras opened history writes. subst (λ (l : List Rec). Writes seen options extras opened l scribe) (sym (append-nil history)) writes
 
 pub grows_on : {L : Type 0} (seen : L → LiveState) (one two three : Scribe L) (before behind : List Rec) → Grows seen one two before → Grows seen two three behind → Grows seen one three (before ++ behind)
-grows_on seen one two three before behind first second = λ options opened history writes.
-    subst (λ (l : List Rec). Writes seen options opened l three) (append_assoc history before behind) (second options opened (history ++ before) (first options opened history writes))
+grows_on seen one two three before behind first second = λ options extras opened history writes.
+    subst (λ (l : List Rec). Writes seen options extras opened l three) (append_assoc history before behind) (second options extras opened (history ++ before) (first options extras opened history writes))
 
 -- this holds of each history for which a scribe stands
 abbrev pub OfEach : {L : Type 0} → (L → LiveState) → Scribe L → (FileOptions → List Rec → Type 0) → Type 0
-OfEach seen scribe holds = (options : FileOptions) (opened : LiveState) (history : List Rec) → Writes seen options opened history scribe → holds options history
+OfEach seen scribe holds = (options : FileOptions) (extras : List Top) (opened : LiveState) (history : List Rec) → Writes seen options extras opened history scribe → holds options history
 
 -- a store keeps what it told, whatever it takes behind it
 abbrev pub KeepsOn : Option (List ℕ) → Option (List ℕ) → Type 0
@@ -140,16 +152,16 @@ pub record PutsFront {X : Type 0} (seen : SeenExtents X) (options : FileOptions)
 
 -- ---- the end
 
--- how the file of a history ended: all of it stands behind what the store held, or the writer stopped at a piece of it
-abbrev pub Ends : FileOptions → Option (List ℕ) → Option (List ℕ) → List Rec → ℕ → ℕ → Result Unit Stop → Type 0
-Ends options opened now history blocks bytes (Ok it) = Adds opened now (file_of options [] history)
-    × (blocks ≡ length (blocks_in (pieces_of options.chunk history))) × (bytes ≡ length (file_of options [] history))
-Ends options opened now history blocks bytes (Err stop) = StopsAt options history opened now stop blocks bytes
+-- how the file of extras and a history ended: all of it stands behind what the store held, or the writer stopped at a piece of it
+abbrev pub Ends : FileOptions → List Top → Option (List ℕ) → Option (List ℕ) → List Rec → ℕ → ℕ → Result Unit Stop → Type 0
+Ends options extras opened now history blocks bytes (Ok it) = Adds opened now (file_of options extras history)
+    × (blocks ≡ length (blocks_in (pieces_of options.chunk history))) × (bytes ≡ length (file_of options extras history))
+Ends options extras opened now history blocks bytes (Err stop) = StopsAt options extras history opened now stop blocks bytes
 
 -- the second scribe is the first with its end, which came to this with so many blocks and bytes, those of the front among them
 abbrev pub EndsFile : {L : Type 0} → (L → LiveState) → Scribe L → Scribe L → Written → Result Unit Stop → Type 0
-EndsFile seen before after written end = (options : FileOptions) (opened : LiveState) (history : List Rec) → Writes seen options opened history before
-    → Ends options opened.held (seen after.store).held history written.blocks written.bytes end × (length (front options.profile) ≤ written.bytes)
+EndsFile seen before after written end = (options : FileOptions) (extras : List Top) (opened : LiveState) (history : List Rec) → Writes seen options extras opened history before
+    → Ends options extras opened.held (seen after.store).held history written.blocks written.bytes end × (length (front options.profile) ≤ written.bytes)
 
 -- there is an entry for each block that was appended, at most one
 abbrev pub CountsLast : {X : Type 0} → ℕ → ℕ → Option (Entry X) → Type 0
@@ -165,6 +177,11 @@ CountsBytes size before after (Some e) = after ≡ before + size e.extent
 pub record AddsLast (options : FileOptions) (opened now : Option (List ℕ)) (history : List Rec) (p : Planning) : Type 0 where
   pub whole : IsWhole options history p
   pub adds : Adds opened now (front options.profile ++ pieces_bytes (pieces_of options.chunk history))
+
+-- the same of the first extras behind the pieces
+pub record Fills (options : FileOptions) (extras : List Top) (opened now : Option (List ℕ)) (history : List Rec) (p : Planning) : Type 0 where
+  pub filled : IsFilled options extras history p
+  pub adds : Adds opened now (section options extras history)
 
 -- an entry with this extent and this offset has the numbers of a block
 pub record IsEntryWith {X : Type 0} (e : Entry X) (extent : X) (offset : ℕ) (b : Block) : Type 0 where

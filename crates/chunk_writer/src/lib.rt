@@ -4,6 +4,7 @@
 
 mod body;
 mod buffered;
+mod extras;
 mod limits;
 mod next;
 mod phase;

@@ -1,13 +1,13 @@
 //! The front and the back of a file.
 ghost use Rattle.std.specs.Prelude.{◌≡◌, ◌≤◌, ◌+◌, ◌++◌, ℕ, Option, length, IfOk, OnOk};
-ghost use Rattle.mcap_wire.specs.Layout.{content_limit};
+ghost use Rattle.mcap_wire.specs.Layout.{content_limit, framed};
 ghost use Rattle.mcap_wire.specs.Limits.{file_limit};
 ghost use Rattle.mcap_model.specs.Summary.{Noted};
 ghost use Rattle.mcap_model.specs.File.{front, data_end, tail_by};
 ghost use Rattle.chunk_writer.specs.Bodies.{SummaryFor, plain_tail};
 
 use crate::body::Body;
-use mcap_wire::{Bytes, MAGIC, Memory, put_bytes};
+use mcap_wire::{Bytes, MAGIC, Memory, add_bytes, add_head, make_room, put_bytes};
 use rec_data::{DataEnd, Footer, Header};
 use std::alloc::Global;
 
@@ -81,4 +81,15 @@ pub(crate) fn back_piece(alloc: Global, body: &Option<Body>, bytes: u64) -> Resu
             }
         }
     }
+}
+
+/// The framed bytes of a record of that opcode and that content.
+pub(crate) fn framed_extra(alloc: Global, op: u8, content: &[u8]) -> Result<Bytes, Memory>
+    ensures { IfOk result (λ piece. piece ≡ framed op content.now) }
+{
+    let mut piece = Vec::new(alloc);
+    make_room(&mut piece, 9 + content.len())?;
+    add_head(&mut piece, op, content.len() as u64);
+    add_bytes(&mut piece, content);
+    Ok(Bytes::new(piece))
 }

@@ -1,5 +1,5 @@
 //! The plan of a file: which piece is to be appended next, and how many blocks and bytes there are with it.
-ghost use Rattle.std.specs.Prelude.{◌≡◌, ◌<◌, ◌≤◌, ◌+◌, ◌^◌, ℕ, List, [], ◌∷◌, ◌++◌, length, true, Some, None, IfOk, IfErr, OnOk, OnErr};
+ghost use Rattle.std.specs.Prelude.{◌≡◌, ◌<◌, ◌≤◌, ◌+◌, ◌^◌, ℕ, List, Option, [], ◌∷◌, ◌++◌, length, drop, true, Some, None, IfOk, IfErr, OnOk, OnErr};
 ghost use Rattle.mcap_wire.specs.Limits.{block_limit, chunk_size_limit, file_limit};
 ghost use Rattle.rec_data.specs.declared.owned.Rec.{Rec};
 ghost use Rattle.chunk_build.specs.Chunker.{AreFramed};
@@ -7,13 +7,15 @@ ghost use Rattle.mcap_model.specs.declared.options.FileOptions.{FileOptions};
 ghost use Rattle.mcap_model.specs.Built.{IsBlock};
 ghost use Rattle.mcap_model.specs.Summary.{Noted};
 ghost use Rattle.mcap_model.specs.History.{history_bytes};
+ghost use Rattle.mcap_model.specs.Tops.{Top, top_bytes};
 ghost use Rattle.mcap_model.specs.File.{front};
 ghost use Rattle.mcap_model.specs.Pieces.{back_of};
-ghost use Rattle.summary_write.specs.Tally.{StandsFor, with_noted_block};
+ghost use Rattle.summary_write.specs.Tally.{StandsFor, with_noted_block, with_noted_extra};
 ghost use Rattle.chunk_writer.specs.declared.phase.Phase.TheVariants as phases;
 ghost use Rattle.chunk_writer.specs.Limits.{Holds, Kept, IsNoFault};
-ghost use Rattle.chunk_writer.specs.Bodies.{BodyFor, StandsSo, NextBlock, LastBlock};
-ghost use Rattle.chunk_writer.specs.Plans.{Plans, counted_on, IsPlanned, PutStopped, IsLast, LastStopped, IsWhole, BackStopped, HoldsBlock, HoldsNext, CountsNext, CountsBlock, StoppedBefore};
+ghost use Rattle.chunk_writer.specs.Bodies.{BodyFor, SummaryFor, StandsSo, NextBlock, LastBlock};
+ghost use Rattle.chunk_writer.specs.Waiting.{AreExtra};
+ghost use Rattle.chunk_writer.specs.Plans.{Plans, counted_on, IsPlanned, PutStopped, IsLast, LastStopped, IsFilled, ExtraStopped, BackStopped, HoldsBlock, HoldsNext, CountsNext, CountsBlock, StoppedBefore};
 
 use crate::body::{Body, begin, take, take_last};
 use crate::limits::keep_limit;
@@ -22,6 +24,7 @@ use crate::phase::Phase;
 use crate::pieces::back_piece;
 use mcap_model::{Block, FileOptions, Stop};
 use mcap_wire::{Bytes, FILE_LIMIT, Memory};
+use rec_data::ATTACHMENT;
 use std::alloc::Global;
 use std::marker::Model;
 use summary_write::Summary;
@@ -126,6 +129,39 @@ fn last_block(body: &mut Body, blocks: u64, bytes: u64) -> Result<Option<Block>,
             Ok(()) => return Ok(Some(block)),
             Err(stop) => return Err(stop),
         },
+    }
+}
+
+// What stands behind the nine bytes of a record's head.
+fn content_of(framed: &[u8]) -> &[u8]
+    requires { 9 ≤ length framed.now }
+    ensures { result.now ≡ drop 9 framed.now }
+{
+    &framed[9..]
+}
+
+// Notes an extra that stands at that offset.
+fn note_in(summary: &mut Summary, at: u64, framed: &[u8]) -> Result<(), Memory>
+    requires within { at ≤ 2 ^ 41 }
+    requires extra { AreExtra framed.now }
+    ensures { OnOk result ((t : Top) → framed.now ≡ top_bytes t → (n : Noted) → StandsFor summary.old n → StandsFor summary.new (with_noted_extra n at t)) }
+{
+    let content = content_of(framed);
+    if framed[0] == ATTACHMENT {
+        return summary.note_attachment(at, content);
+    }
+    return summary.note_metadata(at, content);
+}
+
+// Notes it where there is a summary.
+fn note_behind(body: &mut Option<Body>, at: u64, framed: &[u8]) -> Result<(), Memory>
+    requires within { at ≤ 2 ^ 41 }
+    requires extra { AreExtra framed.now }
+    ensures { OnOk result ((t : Top) → framed.now ≡ top_bytes t → (size : Option ℕ) (n : Noted) → SummaryFor size n body.old → SummaryFor size (with_noted_extra n at t) body.new) }
+{
+    match body {
+        Some(body) => return note_in(&mut body.summary, at, framed),
+        None => return Ok(()),
     }
 }
 
@@ -272,16 +308,47 @@ impl Plan {
         }
     }
 
+    /// Counts an extra, which stands behind all blocks, and notes it for the summary.
+    pub(crate) fn note_extra(&mut self, framed: &[u8]) -> Result<(), Stop>
+        requires ended { self.old.phase ≡ phases.Ended }
+        requires extra { AreExtra framed.now }
+        ensures ok { OnOk result ((t : Top) → framed.now ≡ top_bytes t → (options : FileOptions) (extras : List Top) (history : List Rec) → IsFilled options extras history self.old
+            → IsFilled options (extras ++ t ∷ []) history self.new) }
+        ensures counted { OnOk result (self.new.bytes ≡ self.old.bytes + length framed.now) }
+        ensures same { OnOk result ((self.new.blocks ≡ self.old.blocks) × (self.new.phase ≡ phases.Ended)) }
+        ensures room { OnOk result (Holds self.old.blocks (self.old.bytes + length framed.now)) }
+        ensures err { IfErr result (λ stop. ExtraStopped self.old.blocks self.old.bytes framed.now stop) }
+        ensures no_fault { IfErr result (λ stop. IsNoFault stop) }
+        ensures stopped { IfErr result (λ stop. StoppedBefore self.old.blocks self.old.bytes stop self.new) }
+    {
+        match keep_limit(self.blocks, self.bytes, 0, framed) {
+            Ok(()) => {}
+            Err(stop) => {
+                self.phase = Phase::Stopped { stop };
+                return Err(stop);
+            }
+        }
+        match note_behind(&mut self.body, self.bytes, framed) {
+            Ok(()) => {}
+            Err(_) => {
+                self.phase = Phase::Stopped { stop: Stop::Memory };
+                return Err(Stop::Memory);
+            }
+        }
+        self.bytes += framed.len() as u64;
+        return Ok(());
+    }
+
     /// The Data End and all behind it, which it counts.
     pub(crate) fn back(&mut self) -> Result<Bytes, Stop>
         requires { self.old.phase ≡ phases.Ended }
-        ensures ok { IfOk result (λ piece. (options : FileOptions) (history : List Rec) → IsWhole options history self.old
-            → piece ≡ back_of options [] history) }
+        ensures ok { IfOk result (λ piece. (options : FileOptions) (extras : List Top) (history : List Rec) → IsFilled options extras history self.old
+            → piece ≡ back_of options extras history) }
         ensures counted { IfOk result (λ piece. self.new.bytes ≡ self.old.bytes + length piece) }
         ensures same { OnOk result ((self.new.blocks ≡ self.old.blocks) × (self.new.phase ≡ phases.Ended)) }
         ensures room { IfOk result (λ piece. Holds self.old.blocks (self.old.bytes + length piece)) }
-        ensures err { IfErr result (λ stop. (options : FileOptions) (history : List Rec) → IsWhole options history self.old
-            → BackStopped options history self.old.blocks self.old.bytes stop) }
+        ensures err { IfErr result (λ stop. (options : FileOptions) (extras : List Top) (history : List Rec) → IsFilled options extras history self.old
+            → BackStopped options extras history self.old.blocks self.old.bytes stop) }
         ensures no_fault { IfErr result (λ stop. IsNoFault stop) }
         ensures stopped { IfErr result (λ stop. StoppedBefore self.old.blocks self.old.bytes stop self.new) }
     {

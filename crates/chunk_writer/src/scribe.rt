@@ -1,6 +1,6 @@
 //! The scribe appends the pieces of a file to its store: the magic and the Header; each block, or each record where there are
 //! no chunks; and the Data End with all behind it.
-ghost use Rattle.std.specs.Prelude.{◌≡◌, ◌≤◌, ◌+◌, ℕ, List, Option, [], ◌∷◌, ◌++◌, length, Some, None, Ok, Err, IfOk, IfErr, OnOk, OnErr};
+ghost use Rattle.std.specs.Prelude.{◌≡◌, ◌<◌, ◌≤◌, ◌+◌, ℕ, List, Option, [], ◌∷◌, ◌++◌, length, map, get_or, Some, None, Ok, Err, IfOk, IfErr, OnOk, OnErr};
 ghost use Rattle.mcap_wire.specs.Layout.{content_limit};
 ghost use Rattle.mcap_wire.specs.Limits.{chunk_size_limit, file_limit};
 ghost use Rattle.rec_data.specs.declared.owned.Rec.{Rec};
@@ -11,17 +11,21 @@ ghost use Rattle.mcap_model.specs.declared.ends.Stop.{Stop};
 ghost use Rattle.mcap_model.specs.declared.ends.Stop.TheVariants as stops;
 ghost use Rattle.chunk_build.specs.Chunker.{AreFramed};
 ghost use Rattle.record_cache.specs.Buffers.{held};
+ghost use Rattle.mcap_model.specs.Tops.{Top, top_bytes};
+ghost use Rattle.mcap_model.specs.Made.{top};
+ghost use Rattle.mcap_model.specs.Laws.{IsExtra};
 ghost use Rattle.mcap_model.specs.File.{front};
 ghost use Rattle.chunk_writer.specs.declared.phase.Phase.TheVariants as phases;
 ghost use Rattle.chunk_writer.specs.Limits.{Holds};
 ghost use Rattle.chunk_writer.specs.Plans.{Plans, StoppedBefore};
-ghost use Rattle.chunk_writer.specs.Stops.{StopsAt, Cause, StopCause, Appends, Added, refusal};
-ghost use Rattle.chunk_writer.specs.Scribes.{ScribeStands, Writes, Grows, OfEach, KeepsOn, store_of, phase_of, blocks_of, bytes_of, seen_before, GivesEntry, GivesLast, ListsEntry, PutsFront, Ends, EndsFile, CountsLast, CountsBytes, IsEntryWith, AddsLast};
+ghost use Rattle.chunk_writer.specs.Stops.{StopsAt, StopsBehind, Cause, StopCause, Appends, Added, refusal};
+ghost use Rattle.chunk_writer.specs.Scribes.{ScribeStands, Writes, Grows, Gathers, Fills, OfEach, KeepsOn, store_of, phase_of, blocks_of, bytes_of, seen_before, GivesEntry, GivesLast, ListsEntry, PutsFront, Ends, EndsFile, CountsLast, CountsBytes, IsEntryWith, AddsLast};
 
 use crate::buffered::Buffered;
+use crate::extras::Extras;
 use crate::next::Next;
 use crate::phase::Phase;
-use crate::pieces::front_piece;
+use crate::pieces::{framed_extra, front_piece};
 use crate::plan::Plan;
 use crate::tape::{Finished, Taken};
 use chunk_build::framed_of;
@@ -34,12 +38,13 @@ use record_cache::Cache;
 use std::alloc::Global;
 
 /// Writes the file of a history into a store, record by record. A scribe stands for each history (`Writes`) whose sure pieces
-/// stand in its store and whose other records wait in its plan. Once an append was refused it keeps the refusal: it answers
+/// stand in its store and whose other records wait in its plan; the extras wait, framed, for the end of the file. Once an append was refused it keeps the refusal: it answers
 /// that at every call, and appends nothing.
 #[derive(Drop)]
 pub struct Scribe<L> {
     store: L,
     plan: Plan,
+    extras: Extras,
 }
 
 // Why an append was refused.
@@ -121,7 +126,7 @@ fn begin_file<L: LiveStore>(
     requires profile { length options.now.profile ≤ content_limit }
     ensures stands { IfOk result (λ plan. ScribeStands options.now (L.state store.old).held (L.state store.new).held [] plan) }
     ensures goes_on { IfOk result (λ plan. plan.phase ≡ phases.Going) }
-    ensures refused { IfErr result (λ stop. (history : List Rec) → StopsAt options.now history (L.state store.old).held (L.state store.new).held stop 0 0) }
+    ensures refused { IfErr result (λ stop. (extras : List Top) (history : List Rec) → StopsAt options.now extras history (L.state store.old).held (L.state store.new).held stop 0 0) }
     ensures cause { Cause (L.state store.old).faults (L.state store.new).faults result }
 {
     let (plan, piece) = match opening(alloc, options) {
@@ -156,15 +161,19 @@ impl<L: LiveStore> Scribe<L> {
     pub fn open(alloc: Global, store: L, options: &FileOptions) -> Result<Scribe<L>, (L, Stop)>
         requires size { (n : ℕ) → options.now.chunk ≡ Some n → (1 ≤ n) × (n ≤ chunk_size_limit) }
         requires profile { length options.now.profile ≤ content_limit }
-        ensures stands { IfOk result (λ s. Writes L.state options.now (L.state store) [] s) }
+        ensures stands { IfOk result (λ s. Writes L.state options.now [] (L.state store) [] s) }
         ensures goes_on { IfOk result (λ s. phase_of s ≡ phases.Going) }
         ensures still { IfOk result (λ s. (L.state (store_of s)).faults ≡ (L.state store).faults) }
-        ensures refused { IfErr result (λ e. (history : List Rec) → StopsAt options.now history (L.state store).held (L.state e.0).held e.1 0 0) }
+        ensures refused { IfErr result (λ e. (extras : List Top) (history : List Rec) → StopsAt options.now extras history (L.state store).held (L.state e.0).held e.1 0 0) }
         ensures cause { IfErr result (λ e. StopCause (L.state store).faults (L.state e.0).faults e.1) }
     {
         let mut store = store;
         match begin_file(alloc, &mut store, options) {
-            Ok(plan) => return Ok(Scribe { store, plan }),
+            Ok(plan) => return Ok(Scribe {
+                store,
+                plan,
+                extras: Extras::new(alloc),
+            }),
             Err(stop) => return Err((store, stop)),
         }
     }
@@ -196,6 +205,51 @@ impl<L: LiveStore> Scribe<L> {
             Err(_) => return Err(self.stop_for_memory()),
         };
         self.put_framed(framed.as_slice())
+    }
+
+    /// Does the same with a record that is given by its framed bytes.
+    pub fn put_bytes(&mut self, framed: &[u8]) -> Result<Option<Entry<L::Extent>>, Stop>
+        requires framed { (r : Rec) × AreFramed framed.now r }
+        requires unended { phase_of self.old ≡ phases.Ended → ⊥ }
+        ensures stands { (r : Rec) → AreFramed framed.now r → Grows L.state self.old self.new (r ∷ []) }
+        ensures keeps { KeepsOn (L.state (store_of self.old)).held (L.state (store_of self.new)).held }
+        ensures goes_on { OnOk result ((phase_of self.old ≡ phases.Going) × (phase_of self.new ≡ phases.Going)) }
+        ensures stopped { IfErr result (λ stop. phase_of self.new ≡ phases.Stopped stop) }
+        ensures kept { (stop : Stop) → phase_of self.old ≡ phases.Stopped stop → (result ≡ Err stop) × (self.new ≡ self.old) }
+        ensures cause { phase_of self.old ≡ phases.Going → Cause (L.state (store_of self.old)).faults (L.state (store_of self.new)).faults result }
+    {
+        match self.plan.phase() {
+            Phase::Going => {}
+            Phase::Stopped { stop } => return Err(stop),
+            Phase::Ended => unreachable!(),
+        }
+        self.put_framed(framed)
+    }
+
+    /// Adds an Attachment or a Metadata, which waits for the end of the file. Only memory may lack for it.
+    pub fn add_extra(&mut self, op: u8, content: &[u8]) -> Result<(), Stop>
+        requires meets { IsExtra (top op content.now) }
+        requires unended { phase_of self.old ≡ phases.Ended → ⊥ }
+        ensures gathers { Gathers L.state self.old self.new (top op content.now) }
+        ensures store { store_of self.new ≡ store_of self.old }
+        ensures goes_on { OnOk result ((phase_of self.old ≡ phases.Going) × (phase_of self.new ≡ phases.Going)) }
+        ensures stopped { IfErr result (λ stop. phase_of self.new ≡ phases.Stopped stop) }
+        ensures memory { phase_of self.old ≡ phases.Going → IfErr result (λ stop. stop ≡ stops.Memory) }
+        ensures kept { (stop : Stop) → phase_of self.old ≡ phases.Stopped stop → (result ≡ Err stop) × (self.new ≡ self.old) }
+    {
+        match self.plan.phase() {
+            Phase::Going => {}
+            Phase::Stopped { stop } => return Err(stop),
+            Phase::Ended => unreachable!(),
+        }
+        let framed = match framed_extra(self.plan.alloc(), op, content) {
+            Ok(framed) => framed,
+            Err(_) => return Err(self.stop_for_memory()),
+        };
+        match self.extras.push(framed) {
+            Ok(()) => return Ok(()),
+            Err(_) => return Err(self.stop_for_memory()),
+        }
     }
 
     /// Puts the buffer's records, in their order, each once, and gives the entries of the blocks that are appended. Where that is
@@ -331,11 +385,12 @@ impl<L: LiveStore> Scribe<L> {
         }
     }
 
-    // Stops where memory lacks for a record.
-    fn stop_for_memory(&mut self) -> Stop
+    /// Stops for want of memory, as where it lacks for a record that is to be put.
+    pub fn stop_for_memory(&mut self) -> Stop
         requires going { phase_of self.old ≡ phases.Going }
         ensures memory { result ≡ stops.Memory }
         ensures grows { (r : Rec) → Grows L.state self.old self.new (r ∷ []) }
+        ensures gathers { (t : Top) → Gathers L.state self.old self.new t }
         ensures store { self.new.store ≡ self.old.store }
         ensures stopped { StoppedBefore (blocks_of self.old) (bytes_of self.old) stops.Memory self.new.plan }
     {
@@ -387,6 +442,7 @@ impl<L: LiveStore> Scribe<L> {
         ensures appends { Appends (λ e. L.Extent.tells e.extent) (λ e. L.Extent.size e.extent) (L.state (store_of self.old)) (L.state (store_of self.new)) block.bytes result }
         ensures cause { Cause (L.state (store_of self.old)).faults (L.state (store_of self.new)).faults result }
         ensures entry { IfOk result (λ e. IsEntryWith e e.extent bytes block) }
+        ensures waiting { self.new.extras ≡ self.old.extras }
         ensures ok { OnOk result (self.new.plan ≡ self.old.plan) }
         ensures err { IfErr result (λ stop. StoppedBefore blocks bytes stop self.new.plan) }
     {
@@ -408,6 +464,7 @@ impl<L: LiveStore> Scribe<L> {
         requires { Holds blocks bytes }
         ensures appends { Added (L.state (store_of self.old)).held (L.state (store_of self.new)).held framed.now result }
         ensures cause { Cause (L.state (store_of self.old)).faults (L.state (store_of self.new)).faults result }
+        ensures waiting { self.new.extras ≡ self.old.extras }
         ensures ok { OnOk result (self.new.plan ≡ self.old.plan) }
         ensures err { IfErr result (λ stop. StoppedBefore blocks bytes stop self.new.plan) }
     {
@@ -420,14 +477,13 @@ impl<L: LiveStore> Scribe<L> {
         }
     }
 
-    /// Ends the file: the last block, if records wait for one, and then the Data End and all behind it, both appended through.
+    /// Ends the file: the last block, if records wait for one, appended through; the extras; and then the Data End and all behind
+    /// it, appended through.
     pub fn finish(&mut self) -> Finished<L::Extent>
         requires unended { phase_of self.old ≡ phases.Ended → ⊥ }
         ensures ends { EndsFile L.state self.old self.new (record { blocks = result.blocks; bytes = result.bytes }) result.end }
         ensures last { OfEach L.state self.old (λ options history. GivesLast (seen_before (λ e. L.Extent.tells e) (λ e. L.Extent.size e) (L.state (store_of self.old))) options history result.last) }
         ensures counted { CountsLast (blocks_of self.old) result.blocks result.last }
-        // What stopped it isn't counted.
-        ensures uncounted { OnErr result.end (CountsBytes (λ e. L.Extent.size e) (bytes_of self.old) result.bytes result.last) }
         ensures numbers { (result.blocks ≡ blocks_of self.new) × (result.bytes ≡ bytes_of self.new) }
         ensures ended { OnOk result.end (phase_of self.new ≡ phases.Ended) }
         ensures within { Holds result.blocks result.bytes }
@@ -441,10 +497,13 @@ impl<L: LiveStore> Scribe<L> {
             Phase::Ended => unreachable!(),
         }
         match self.append_last() {
-            Ok(last) => {
-                let end = self.append_back();
-                return self.finished(last, end);
-            }
+            Ok(last) => match self.append_extras() {
+                Ok(()) => {
+                    let end = self.append_back();
+                    return self.finished(last, end);
+                }
+                Err(stop) => return self.finished(last, Err(stop)),
+            },
             Err(stop) => return self.finished(None, Err(stop)),
         }
     }
@@ -452,14 +511,15 @@ impl<L: LiveStore> Scribe<L> {
     // Appends the last block, if records wait for one. Records no longer come.
     fn append_last(&mut self) -> Result<Option<Entry<L::Extent>>, Stop>
         requires going { phase_of self.old ≡ phases.Going }
-        ensures last { IfOk result (λ last. (options : FileOptions) (opened : LiveState) (history : List Rec) → Writes L.state options opened history self.old
+        ensures last { IfOk result (λ last. (options : FileOptions) (extras : List Top) (opened : LiveState) (history : List Rec) → Writes L.state options extras opened history self.old
             → AddsLast options opened.held (L.state (store_of self.new)).held history self.new.plan) }
+        ensures waiting { self.new.extras ≡ self.old.extras }
         ensures entry { IfOk result (λ last. OfEach L.state self.old (λ options history. GivesLast (seen_before (λ e. L.Extent.tells e) (λ e. L.Extent.size e) (L.state (store_of self.old))) options history last)) }
         ensures counted { IfOk result (λ last. CountsLast (blocks_of self.old) (blocks_of self.new) last) }
         ensures bytes { IfOk result (λ last. CountsBytes (λ e. L.Extent.size e) (bytes_of self.old) (bytes_of self.new) last) }
         ensures ended { OnOk result (phase_of self.new ≡ phases.Ended) }
-        ensures refused { IfErr result (λ stop. (options : FileOptions) (opened : LiveState) (history : List Rec) → Writes L.state options opened history self.old
-            → StopsAt options history opened.held (L.state (store_of self.new)).held stop (blocks_of self.new) (bytes_of self.new)) }
+        ensures refused { IfErr result (λ stop. (options : FileOptions) (extras : List Top) (opened : LiveState) (history : List Rec) → Writes L.state options extras opened history self.old
+            → StopsAt options extras history opened.held (L.state (store_of self.new)).held stop (blocks_of self.new) (bytes_of self.new)) }
         ensures stopped { IfErr result (λ stop. StoppedBefore (blocks_of self.old) (bytes_of self.old) stop self.new.plan) }
         ensures cause { Cause (L.state (store_of self.old)).faults (L.state (store_of self.new)).faults result }
     {
@@ -475,11 +535,67 @@ impl<L: LiveStore> Scribe<L> {
         }
     }
 
+    // Appends the extras that wait.
+    fn append_extras(&mut self) -> Result<(), Stop>
+        requires ended { phase_of self.old ≡ phases.Ended }
+        ensures fills { OnOk result ((options : FileOptions) (extras : List Top) (opened : LiveState) (history : List Rec) → self.old.extras ≡ map top_bytes extras
+            → Fills options [] opened.held (L.state (store_of self.old)).held history self.old.plan
+            → Fills options extras opened.held (L.state (store_of self.new)).held history self.new.plan) }
+        ensures refused { IfErr result (λ stop. (options : FileOptions) (extras : List Top) (opened : LiveState) (history : List Rec) → self.old.extras ≡ map top_bytes extras
+            → Fills options [] opened.held (L.state (store_of self.old)).held history self.old.plan
+            → StopsBehind options extras history opened.held (L.state (store_of self.new)).held stop (blocks_of self.new) (bytes_of self.new)) }
+        ensures same { blocks_of self.new ≡ blocks_of self.old }
+        ensures stays { OnOk result (phase_of self.new ≡ phases.Ended) }
+        ensures stopped { IfErr result (λ stop. phase_of self.new ≡ phases.Stopped stop) }
+        ensures cause { Cause (L.state (store_of self.old)).faults (L.state (store_of self.new)).faults result }
+    {
+        let count = self.extras.len();
+        let mut place = 0;
+        'extras: while place < count {
+            match self.append_extra(place) {
+                Ok(()) => {}
+                Err(stop) => return Err(stop),
+            }
+            place += 1;
+        }
+        return Ok(());
+    }
+
+    // Appends the extra at that place.
+    fn append_extra(&mut self, place: usize) -> Result<(), Stop>
+        requires there { place < length self.old.extras }
+        requires ended { phase_of self.old ≡ phases.Ended }
+        ensures fills { OnOk result ((t : Top) → get_or self.old.extras place [] ≡ top_bytes t → (options : FileOptions) (extras : List Top) (opened : LiveState) (history : List Rec)
+            → Fills options extras opened.held (L.state (store_of self.old)).held history self.old.plan
+            → Fills options (extras ++ t ∷ []) opened.held (L.state (store_of self.new)).held history self.new.plan) }
+        ensures refused { IfErr result (λ stop. (t : Top) → get_or self.old.extras place [] ≡ top_bytes t → (options : FileOptions) (extras behind : List Top) (opened : LiveState) (history : List Rec)
+            → Fills options extras opened.held (L.state (store_of self.old)).held history self.old.plan
+            → StopsBehind options (extras ++ t ∷ behind) history opened.held (L.state (store_of self.new)).held stop (blocks_of self.new) (bytes_of self.new)) }
+        ensures same { (blocks_of self.new ≡ blocks_of self.old) × (self.new.extras ≡ self.old.extras) }
+        ensures stays { OnOk result (phase_of self.new ≡ phases.Ended) }
+        ensures stopped { IfErr result (λ stop. phase_of self.new ≡ phases.Stopped stop) }
+        ensures cause { Cause (L.state (store_of self.old)).faults (L.state (store_of self.new)).faults result }
+    {
+        let blocks = self.plan.blocks();
+        let bytes = self.plan.bytes();
+        let extra = self.extras.get(place);
+        match self.plan.note_extra(extra) {
+            Ok(()) => match append(&mut self.store, extra) {
+                Ok(_) => return Ok(()),
+                Err(stop) => {
+                    self.plan.stop(stop, blocks, bytes);
+                    return Err(stop);
+                }
+            },
+            Err(stop) => return Err(stop),
+        }
+    }
+
     // Appends the Data End and all behind it.
     fn append_back(&mut self) -> Result<(), Stop>
         requires ended { phase_of self.old ≡ phases.Ended }
-        ensures ends { (options : FileOptions) (opened : LiveState) (history : List Rec) → AddsLast options opened.held (L.state (store_of self.old)).held history self.old.plan
-            → Ends options opened.held (L.state (store_of self.new)).held history (blocks_of self.new) (bytes_of self.new) result }
+        ensures ends { (options : FileOptions) (extras : List Top) (opened : LiveState) (history : List Rec) → Fills options extras opened.held (L.state (store_of self.old)).held history self.old.plan
+            → Ends options extras opened.held (L.state (store_of self.new)).held history (blocks_of self.new) (bytes_of self.new) result }
         ensures same { blocks_of self.new ≡ blocks_of self.old }
         ensures stays { OnOk result (phase_of self.new ≡ phases.Ended) }
         ensures within { OnOk result (Holds (blocks_of self.new) (bytes_of self.new)) }
@@ -547,7 +663,11 @@ impl<L: LiveStore> Scribe<L> {
     pub fn into_store(self) -> L
         ensures { result ≡ store_of self }
     {
-        let Scribe { store, plan: _ } = self;
+        let Scribe {
+            store,
+            plan: _,
+            extras: _,
+        } = self;
         store
     }
 }

@@ -30,7 +30,7 @@ use Rattle.mcap_model.proofs.Section.{piece_recs, piece_tops, PieceIsSound, IsRi
 use Rattle.mcap_model.proofs.Files.{groups_tops, group_tops, offset_tops, footer_top, length-spelled_append}
 use Rattle.mcap_model.proofs.Logged.{logs_channel}
 use Rattle.mcap_model.proofs.ShownBack.{length-offsets, is_offset, chunk_index_shown, chunk_index_shows}
-use Rattle.mcap_laws.proofs.ExtraIndexes.{attachment_index_shows, metadata_index_shows}
+use Rattle.mcap_model.proofs.ExtraIndexes.{attachment_index_shows, metadata_index_shows}
 use Rattle.mcap_model.proofs.Distinct.{rec_id, as_channel}
 use Rattle.mcap_model.proofs.Groups.{in_front, IsOfKind, of_kind_there, kinds_rise, content_there}
 use Rattle.mcap_model.proofs.Standing.{bytes_before, blocks_are, are_blocks, blocks_rise, extras_are, extras_rise, block_stands}

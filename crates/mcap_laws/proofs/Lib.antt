@@ -1,5 +1,4 @@
 mod Sizes
-mod ExtraIndexes
 mod Readouts
 mod Smallest
 mod Broken
@@ -18,3 +17,5 @@ mod Order
 mod Recovered
 mod Premises
 pub mod Leading
+mod Repairing
+mod Rewriting

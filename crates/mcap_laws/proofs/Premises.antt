@@ -24,7 +24,7 @@ use Rattle.mcap_model.proofs.ReadBack.{schema_back}
 use Rattle.mcap_model.proofs.Histories.{recs_flat, recs_are_flat, numbered_ids_agree}
 use Rattle.mcap_model.proofs.Meets.{attachment_meets}
 use Rattle.mcap_model.proofs.Lists.{each_cons}
-use Rattle.mcap_laws.proofs.ExtraIndexes.{behind_field}
+use Rattle.mcap_model.proofs.ExtraIndexes.{behind_field}
 use Rattle.mcap_model.proofs.Distinct.{rec_id}
 use Rattle.mcap_model.proofs.Flat.{good_lists_agree, at_mapped}
 use Rattle.mcap_laws.proofs.Validity.{files_are_indexed}

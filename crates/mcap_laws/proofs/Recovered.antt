@@ -14,7 +14,7 @@ use Rattle.mcap_model.specs.Repaired.{is_extra, ProfileIs}
 use Rattle.mcap_model.specs.Laws.{RepairsAreOne}
 use Rattle.mcap_model.proofs.Readings.{kept_once}
 
-flat_once : (tops : List Top) (one two : List Rec) → AllZip IsRec tops one → AllZip IsRec tops two → one ≡ two
+pub flat_once : (tops : List Top) (one two : List Rec) → AllZip IsRec tops one → AllZip IsRec tops two → one ≡ two
 flat_once [] [] [] a b = refl
 flat_once [] [] (s ∷ ss) a b = absurd b
 flat_once [] (r ∷ rs) two a b = absurd a
@@ -23,7 +23,7 @@ flat_once (t ∷ ts) (r ∷ rs) [] a b = absurd b
 flat_once (t ∷ ts) (r ∷ rs) (s ∷ ss) a b =
     ap (λ (x : Rec). x ∷ rs) (shown_once t.op t.content r s a.0 b.0) ∙ ap (λ (l : List Rec). s ∷ l) (flat_once ts rs ss a.1 b.1)
 
-profile_once : (tops : List Top) (p q : List ℕ) → ProfileIs tops p → ProfileIs tops q → p ≡ q
+pub profile_once : (tops : List Top) (p q : List ℕ) → ProfileIs tops p → ProfileIs tops q → p ≡ q
 profile_once [] p q one two = one ∙ sym two
 profile_once (t ∷ ts) p q (a, a_is) (b, b_is) =
     let same = shows_decided header_kinds t.content (a.profile, (a.library, tt)) (b.profile, (b.library, tt)) a.layout b.layout in
@@ -32,8 +32,10 @@ profile_once (t ∷ ts) p q (a, a_is) (b, b_is) =
 pub repairs_are_one : RepairsAreOne
 repairs_are_one bytes profile other_profile extras other_extras history other_history one two =
     let tops = kept_once bytes two.tops one.tops two.kept one.kept in
-    let flattened = flat_once (flat one.tops) one.flattened two.flattened one.are_flattened (subst (λ (l : List Top). AreFlatRecords l two.flattened) tops two.are_flattened) in (
-      profile_once one.tops profile other_profile one.profile_is (subst (λ (l : List Top). ProfileIs l other_profile) tops two.profile_is),
-      one.extras_are ∙ ap (filter is_extra) (sym tops) ∙ sym two.extras_are,
-      one.history_is ∙ ap without_repeats flattened ∙ sym two.history_is,
+    let a = one.repairs in
+    let b = two.repairs in
+    let flattened = flat_once (flat one.tops) a.flattened b.flattened a.are_flattened (subst (λ (l : List Top). AreFlatRecords l b.flattened) tops b.are_flattened) in (
+      profile_once one.tops profile other_profile a.profile_is (subst (λ (l : List Top). ProfileIs l other_profile) tops b.profile_is),
+      a.extras_are ∙ ap (filter is_extra) (sym tops) ∙ sym b.extras_are,
+      a.history_is ∙ ap without_repeats flattened ∙ sym b.history_is,
     )

@@ -16,11 +16,12 @@ use Rattle.mcap_model.specs.Places.{At, Each, EachBehind}
 use Rattle.mcap_model.specs.Tops.{Top, Tops, top_bytes, spelled, offset_behind, flattened, flat, Placed, placed}
 use Rattle.mcap_model.specs.Fields.{IsHeader, IsMessage}
 use Rattle.mcap_model.specs.Rules.{V7, HasDataEnd, Agrees}
-use Rattle.mcap_model.specs.Kept.{reading_limits, Fits, Good, at_end, at_data_end}
+use Rattle.mcap_model.specs.Kept.{Halts, reading_limits, Fits, Good, at_end, at_data_end}
 use Rattle.mcap_model.specs.Scan.{Seen, IsSeen, is_message_top, tops_of, Scan}
 use Rattle.mcap_model.specs.History.{rec_top, flat_history, is_message}
 use Rattle.mcap_model.specs.Blocks.{Piece, block, alone, pieces_of, logged_channels}
 use Rattle.mcap_model.specs.File.{library, noted, file_of}
+use Rattle.mcap_model.specs.Written.{IdsAgree}
 use Rattle.mcap_model.specs.Laws.{IsReadBack, IsNumberedRec, IsExtra, CanBeRead, HoldsSeen, chunk_top, index_top, PieceIsShort, FilesAreScanned}
 use Rattle.mcap_model.proofs.Lists.{cut_at, at_second, take_second, take_first, each_cons, each_joined}
 use Rattle.mcap_model.proofs.Shape.{ends_there}
@@ -40,10 +41,10 @@ use Rattle.std.proofs.lemmas.Option.{same_Some}
 
 -- ---- the messages, from the flat records alone
 
-abbrev ShowsSeen : Top → Seen → Type 0
+abbrev pub ShowsSeen : Top → Seen → Type 0
 ShowsSeen t s = IsMessage t s.channel s.message
 
-zip_tops : (records : List Top) (ps : List Placed) (messages : List Seen) → AllZip (IsSeen records) (filter (λ p. is_message_top p.top) ps) messages → AllZip ShowsSeen (filter is_message_top (tops_of ps)) messages
+pub zip_tops : (records : List Top) (ps : List Placed) (messages : List Seen) → AllZip (IsSeen records) (filter (λ p. is_message_top p.top) ps) messages → AllZip ShowsSeen (filter is_message_top (tops_of ps)) messages
 zip_tops records [] [] zip = zip
 zip_tops records [] (s ∷ ss) zip = zip
 zip_tops records (p ∷ ps) messages zip = by (is_message_top p.top) messages (λ more. zip_tops records ps more) zip
@@ -176,7 +177,7 @@ piece_short (block records) fits = each_cons (λ t. length t.content ≤ 2684354
 piece_short (alone r) fits = each_cons (λ t. length t.content ≤ 268435456) (rec_top r) [] fits (λ n y at. absurd (at_none n y at))
 
 -- what can be read could be written
-stand_of : (options : FileOptions) (extras : List Top) (history : List Rec) → IsUtf8 options.profile → Each IsReadBack history → Each IsNumberedRec history → Each IsExtra extras → CanBeRead options extras history → CanStand options extras history
+pub stand_of : (options : FileOptions) (extras : List Top) (history : List Rec) → IsUtf8 options.profile → Each IsReadBack history → Each IsNumberedRec history → Each IsExtra extras → CanBeRead options extras history → CanStand options extras history
 stand_of options extras history utf8 back numbered are readable = record {
   profile = utf8;
   profile_fits = (let size = length-header_text (record { profile = options.profile; library = library }) in let short = readable.header in omega (arith, size, short));
@@ -187,8 +188,14 @@ stand_of options extras history utf8 back numbered are readable = record {
   size_fits = (let near = readable.file in omega (arith, near));
 }
 
-pub files_are_scanned : FilesAreScanned
-files_are_scanned options extras history utf8 back numbered agree are readable =
+-- the records up to the Data End, with which a file is read
+pub record IsReadSo (options : FileOptions) (extras : List Top) (history : List Rec) : Type 0 where
+  pub halts : Halts reading_limits (file_of options extras history) (section_tops options extras history ++ end_top ∷ []) (at_end (offset_behind (section_tops options extras history ++ end_top ∷ [])))
+  pub flat_all : flat (section_tops options extras history ++ end_top ∷ []) ≡ flat_history history
+  pub seen : (messages : List Seen) → Scan (section_tops options extras history ++ end_top ∷ []) messages → AllZip HoldsSeen (filter is_message history) messages
+
+pub read_so : (options : FileOptions) (extras : List Top) (history : List Rec) → IsUtf8 options.profile → Each IsReadBack history → Each IsNumberedRec history → IdsAgree history → Each IsExtra extras → CanBeRead options extras history → IsReadSo options extras history
+read_so options extras history utf8 back numbered agree are readable =
     let written = stand_of options extras history utf8 back numbered are readable in
     let header = header_top options.profile in
     let ps = pieces_of options.chunk history in
@@ -211,13 +218,17 @@ files_are_scanned options extras history utf8 back numbered agree are readable =
     let limit = readable.file in
     let until : offset_behind tops ≤ 1099511627776 = omega (arith, bytes, more, limit) in
     let good = good_of_sound header inside (header_is options extras history written) readable.header sound (subst (EachBehind Agrees) (sym flat_all) agree) until in
-    let ended : HasDataEnd tops = ends_there (section_tops options extras history) [] in (
-      tops,
-      offset_behind tops,
-      record {
+    let ended : HasDataEnd tops = ends_there (section_tops options extras history) [] in
+    record {
+      halts = record {
         kept = halts_are_last file tops rest (at_end (offset_behind tops)) stands good (inl ended);
         there = at_data_end rest stands ended;
-      },
-      flat_all,
-      λ messages scan. scan_of_flat tops history messages flat_recs back scan,
-    )
+      };
+      flat_all = flat_all;
+      seen = λ messages scan. scan_of_flat tops history messages flat_recs back scan;
+    }
+
+pub files_are_scanned : FilesAreScanned
+files_are_scanned options extras history utf8 back numbered agree are readable =
+    let it = read_so options extras history utf8 back numbered agree are readable in
+    (section_tops options extras history ++ end_top ∷ [], offset_behind (section_tops options extras history ++ end_top ∷ []), it.halts, it.flat_all, it.seen)

@@ -31,7 +31,7 @@ use Rattle.mcap_model.proofs.WrittenChunks.{time_fits, least_fits, greatest_fits
 use Rattle.mcap_model.proofs.Lists.{each_cons, each_joined, filter_passed, pairs_at, pairs_from, pairs_cons, all_from}
 use Rattle.mcap_model.proofs.Logged.{channels_ascend, channels_fit, few_channels, length-entries}
 use Rattle.mcap_model.proofs.ShownBack.{chunk_index_shown, summary_offset_shown}
-use Rattle.mcap_laws.proofs.ExtraIndexes.{attachment_index_shown, metadata_index_shown}
+use Rattle.mcap_model.proofs.ExtraIndexes.{attachment_index_shown, metadata_index_shown}
 use Rattle.mcap_model.proofs.Distinct.{any_has, repeats_are, rec_id, schema_ids, schema_ids_apart, schema_id_is, channel_ids, channel_ids_apart, channel_id_is}
 use Rattle.mcap_model.proofs.Meets.{chunk_index_meets, attachment_index_meets, metadata_index_meets, statistics_meets, summary_offset_meets}
 use Rattle.mcap_model.proofs.Files.{group_tops, groups_tops, offset_tops}

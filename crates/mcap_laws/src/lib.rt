@@ -1,6 +1,7 @@
 //! What holds of the definitions of the format, each law as the contract of a function that does nothing.
 #![tactic(auto)]
 
+ghost use Rattle.mcap_model.specs.Recovery.{RepairsCanBeWritten, FilesAreRepaired, FrontsAreRepaired, RepairsKeepMessages, RepairsGoOn, GoodRecordsAreKept};
 ghost use Rattle.mcap_model.specs.Laws.{GoodFromTheFront, ReadingsHaltOnce, KeptIsOne, HaltsAreLast, FrontsKeepWhole, RecordsAreFound, ChunksAreOpened, ExtrasAreIndexed, ChunksAreWritten, IndexesAreWritten, ReplaysAreOne, BlocksAreOne, SizesRipen, GoodListsAgree, GoodListsAreScanned, NumberedIdsAgree, RepeatsMayGo, RepairsAreOne, FlawsExcludeValidity, FilesAreScanned, FilesAreValid, FilesAreIndexed, PrefixesAreKept, GoodHistoriesAgree, SmallBlocksFit, WholeFilesAreOne, PiecesMakeFiles, StopsLeavePrefixes, IndexesLeadToTheScan, LedReplaysAreScans};
 
 /// What stands in front in a good list is a good list.
@@ -152,4 +153,34 @@ pub fn indexes_lead_to_the_scan()
 /// There a replay of what the summary leads to is one of the scan, and the other way round.
 pub fn led_replays_are_scans()
     ensures { LedReplaysAreScans }
+{}
+
+/// What is repaired has the messages of the scan, all of them, in order.
+pub fn repairs_keep_messages()
+    ensures { RepairsKeepMessages }
+{}
+
+/// Of the first ones of some records repairing makes first parts.
+pub fn repairs_go_on()
+    ensures { RepairsGoOn }
+{}
+
+/// Good records with which bytes begin are the first that are kept of them.
+pub fn good_records_are_kept()
+    ensures { GoodRecordsAreKept }
+{}
+
+/// A file is read to its Data End, and repairing makes of it what it was written of.
+pub fn files_are_repaired()
+    ensures { FilesAreRepaired }
+{}
+
+/// Of a first part of a file repairing makes first parts of what the file was written of.
+pub fn fronts_are_repaired()
+    ensures { FrontsAreRepaired }
+{}
+
+/// Of what repairing makes of good records a file can be written.
+pub fn repairs_can_be_written()
+    ensures { RepairsCanBeWritten }
 {}

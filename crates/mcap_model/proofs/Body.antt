@@ -42,7 +42,7 @@ standing options extras history written = record {
 }
 
 module _ (options : FileOptions) (extras : List Top) (history : List Rec) (written : CanStand options extras history) where
-  pub header_is : IsHeader (header_top options.profile)
+  unfoldable pub header_is : IsHeader (header_top options.profile)
   header_is = record { kind = refl; profile = options.profile; library = library; layout = row_shown header_kinds (options.profile, (library, tt)) ((written.profile_fits, written.profile), ((omega arith, ascii), tt)) }
 
   -- the records up to the Data End are shorter than the file

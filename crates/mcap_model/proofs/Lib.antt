@@ -47,3 +47,4 @@ pub mod Pieces
 pub mod OneMore
 pub mod Once
 pub mod FewRecords
+pub mod ExtraIndexes

@@ -14,6 +14,7 @@ pub mod Repaired
 pub mod Whole
 pub mod Valid
 pub mod Laws
+pub mod Recovery
 pub mod Built
 pub mod Made
 pub mod Found

@@ -16,12 +16,17 @@ abbrev pub ProfileIs : List Top → List ℕ → Type 0
 ProfileIs [] profile = profile ≡ []
 ProfileIs (t ∷ ts) profile = (header : IsHeader t) × (header.profile ≡ profile)
 
-pub record Repaired (bytes profile : List ℕ) (extras : List Top) (history : List Rec) : Type 0 where
-  pub tops : List Top
-  pub kept : Kept reading_limits bytes tops
+-- What repairing makes of records: a profile; the extras, their contents unchanged; and the Schemas, Channels and Messages
+-- with their own ids, but for an id's further declarations.
+pub record Repairs (tops : List Top) (profile : List ℕ) (extras : List Top) (history : List Rec) : Type 0 where
   pub profile_is : ProfileIs tops profile
   pub extras_are : extras ≡ filter is_extra tops
-  -- its Schemas, Channels and Messages, but for an id's further declarations
   pub flattened : List Rec
   pub are_flattened : AreFlatRecords tops flattened
   pub history_is : history ≡ without_repeats flattened
+
+-- what repairing makes of some bytes: of the records that a reading of them keeps
+pub record Repaired (bytes profile : List ℕ) (extras : List Top) (history : List Rec) : Type 0 where
+  pub tops : List Top
+  pub kept : Kept reading_limits bytes tops
+  pub repairs : Repairs tops profile extras history

@@ -34,13 +34,13 @@ recorded_so options before now history r reported writer all = record {
 module _ {L : Type 0} (state : L → LiveState) (options : RecordOptions) (source now : SourceState) where
   -- onto a scribe
   pub onto_scribe : (live : LiveState) (first last : Scribe L) (store : L) (limit : ℕ) (history : List Rec) (report r : Report) → Some report ≡ Some r → limit ≡ options.limit → store ≡ store_of last
-      → Writes state options.file live [] first → (state (store_of first)).faults ≡ live.faults → IsReported limit source now history report
+      → Writes state options.file [] live [] first → (state (store_of first)).faults ≡ live.faults → IsReported limit source now history report
       → IsWritten (λ before after records. Grows state before after records) (λ before after written end. EndsFile state before after written end) (λ s. (state (store_of s)).faults) first last history report.writer
       → IsAll history report.writer → Recorded options (sides source live) (sides now (state store)) r
   onto_scribe live first last store limit history report r is limited stored stands still reported written all =
       let before = sides source live in
       let w = report.writer in
-      let ended = written.ended options.file live history (written.grown options.file live [] stands) in
+      let ended = written.ended options.file [] live history (written.grown options.file [] live [] stands) in
       let writer : WriterRecorded options.file live (state (store_of last)) history w = record {
         records = all.records;
         wrote = ended.0;
@@ -56,7 +56,7 @@ module _ {L : Type 0} (state : L → LiveState) (options : RecordOptions) (sourc
   -- nothing was begun
   pub onto_nothing : (live : LiveState) (store : L) (limit : ℕ) (stop : Stop) (report r : Report) → Some report ≡ Some r → limit ≡ options.limit
       → IsReported limit source now [] report → report.writer ≡ record { records = 0; blocks = 0; bytes = 0; end = ends.Stopped stop }
-      → StopsAt options.file [] live.held (state store).held stop 0 0 → StopCause live.faults (state store).faults stop
+      → StopsAt options.file [] [] live.held (state store).held stop 0 0 → StopCause live.faults (state store).faults stop
       → Recorded options (sides source live) (sides now (state store)) r
   onto_nothing live store limit stop report r is limited reported written stops cause =
       let none : WriterReport = record { records = 0; blocks = 0; bytes = 0; end = ends.Stopped stop } in

@@ -44,7 +44,7 @@ IsBegun options history bytes = (length (front options.profile) ≤ bytes) ⊎ (
 -- else the writer stopped at a piece of that file.
 pub record WriterRecorded (options : FileOptions) (before now : LiveState) (history : List Rec) (w : WriterReport) : Type 0 where
   pub records : w.records ≡ length history
-  pub wrote : Ends options before.held now.held history w.blocks w.bytes (answer_of w.end)
+  pub wrote : Ends options [] before.held now.held history w.blocks w.bytes (answer_of w.end)
   pub within : Holds w.blocks w.bytes
   pub begun : IsBegun options history w.bytes
   -- the store's count rises by one where the writer stopped at a fault, which carries it, and stands still otherwise

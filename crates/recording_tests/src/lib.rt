@@ -16,6 +16,8 @@ mod index_tables;
 #[cfg(test)]
 mod lanes;
 #[cfg(test)]
+mod recoveries;
+#[cfg(test)]
 mod regions;
 #[cfg(test)]
 mod same;

@@ -54,6 +54,7 @@ make schema_ids schemas channel_ids channels t = record {
   counts = t.counts;
   blocks = t.blocks;
   chunk_indexes = t.chunk_indexes;
+  extras = t.extras;
 }
 
 some_mark : (m : Mark) → None ≡ Some m → ⊥

@@ -9,14 +9,14 @@ use Rattle.mcap_model.specs.Summary.{capped, footer_fields}
 use Rattle.summary_write.specs.declared.text.Numbers.{Numbers}
 use Rattle.summary_write.specs.Tally.{Tally}
 
--- the fields of the Statistics of these numbers, without extras
+-- the fields of the Statistics of these numbers
 abbrev pub counted : Numbers → StatisticsFields
 counted n = record {
   messages = n.messages;
   schemas = n.schemas;
   channels = capped n.channels;
-  attachments = 0;
-  metadata = 0;
+  attachments = n.attachments;
+  metadata = n.metadata;
   chunks = capped n.blocks;
   start = n.start;
   end = n.end;
@@ -31,8 +31,8 @@ tally_fields t = record {
   messages = t.messages;
   schemas = length t.schema_ids;
   channels = capped (length t.channel_ids);
-  attachments = 0;
-  metadata = 0;
+  attachments = t.extras.attachments;
+  metadata = t.extras.metadata;
   chunks = capped t.blocks;
   start = t.start;
   end = t.end;
@@ -42,20 +42,29 @@ tally_fields t = record {
 abbrev pub statistics_of : Tally → List ℕ
 statistics_of t = statistics_record (tally_fields t)
 
+abbrev pub six_texts : List ℕ → List ℕ → List ℕ → List ℕ → List ℕ → List ℕ → List ℕ
+six_texts a b c d e f = a ++ (b ++ (c ++ (d ++ (e ++ f))))
+
 abbrev pub groups_of_tally : Tally → List ℕ
-groups_of_tally t = t.schemas ++ (t.channels ++ (statistics_of t ++ t.chunk_indexes))
+groups_of_tally t = six_texts t.schemas t.channels (statistics_of t) t.chunk_indexes t.extras.attachment_indexes t.extras.metadata_indexes
 
 -- the Summary Offset of a group of so many bytes, if it is there
 abbrev pub offset_of : ℕ → ℕ → ℕ → List ℕ
 offset_of op at zero = []
 offset_of op at (suc len) = framed 14 (summary_offset_text (record { op = op; offset = at; size = suc len }))
 
+-- those of the six groups, where they have these lengths and the first one stands at that offset
+abbrev pub six_offsets : ℕ → ℕ → ℕ → ℕ → ℕ → ℕ → ℕ → List ℕ
+six_offsets at a b c d e f =
+    offset_of 3 at a
+    ++ (offset_of 4 (at + a) b
+    ++ (offset_of 11 (at + a + b) c
+    ++ (offset_of 8 (at + a + b + c) d
+    ++ (offset_of 10 (at + a + b + c + d) e
+    ++ offset_of 13 (at + a + b + c + d + e) f))))
+
 abbrev pub offsets_of_tally : Tally → ℕ → List ℕ
-offsets_of_tally t at =
-    offset_of 3 at (length t.schemas)
-    ++ (offset_of 4 (at + length t.schemas) (length t.channels)
-    ++ (offset_of 11 (at + length t.schemas + length t.channels) (length (statistics_of t))
-    ++ offset_of 8 (at + length t.schemas + length t.channels + length (statistics_of t)) (length t.chunk_indexes)))
+offsets_of_tally t at = six_offsets at (length t.schemas) (length t.channels) (length (statistics_of t)) (length t.chunk_indexes) (length t.extras.attachment_indexes) (length t.extras.metadata_indexes)
 
 -- behind these bytes the Footer of a summary that starts at one offset, its Summary Offsets at another, and the magic
 abbrev pub closed_by : List ℕ → ℕ → ℕ → List ℕ

@@ -3,14 +3,17 @@ ghost use Rattle.std.specs.Prelude.{◌≡◌, ◌+◌, ◌^◌, ◌<◌, ◌≤
 ghost use Rattle.mcap_wire.specs.Limits.{record_count_limit};
 ghost use Rattle.rec_data.specs.declared.owned.Rec.{Rec};
 ghost use Rattle.rec_data.specs.Owned.{LengthsFit};
+ghost use Rattle.rec_data.specs.Fields.{AttachmentFields, MetadataFields};
+ghost use Rattle.rec_data.specs.Records.{ShowsAttachment, ShowsMetadata};
 ghost use Rattle.chunk_build.specs.Building.{mark_of};
 ghost use Rattle.chunk_build.specs.Chunker.{AreFramed};
 ghost use Rattle.mcap_model.specs.Built.{IsBlock};
 ghost use Rattle.mcap_model.specs.Summary.{Noted, summary_text};
-ghost use Rattle.summary_write.specs.Tally.{StandsFor, no_notes, id_of, with_record, with_id_once, with_bytes_once, with_noted_record, with_noted_block, index_of_block};
+ghost use Rattle.summary_write.specs.Tally.{StandsFor, no_notes, id_of, with_record, with_id_once, with_bytes_once, with_noted_record, with_noted_block, with_noted_extra, index_of_block};
 
 use crate::counts::count;
-use crate::text::{Numbers, put_end, put_offsets, put_statistics};
+use crate::extras::{add_attachment_index, add_metadata_index};
+use crate::text::{Lengths, Numbers, put_end, put_offsets, put_statistics};
 use chunk_build::{framed_of, mark_of_bytes};
 use indexmap::IndexSet;
 use mcap_model::{Block, IndexPart};
@@ -21,7 +24,7 @@ use std::alloc::Global;
 use std::marker::Model;
 
 /// The summary of a file, as it grows. Contracts see the ids and the framed records of its schemas and channels, the numbers of its
-/// messages and its framed Chunk Indexes.
+/// messages, its framed Chunk Indexes, and the numbers and framed indexes of Attachments and Metadata.
 #[derive(Drop)]
 pub struct Summary {
     alloc: Global,
@@ -35,6 +38,10 @@ pub struct Summary {
     counts: Vec<(u16, u64)>,
     blocks: u64,
     chunk_indexes: Vec<u8>,
+    attachments: u32,
+    attachment_indexes: Vec<u8>,
+    metadata: u32,
+    metadata_indexes: Vec<u8>,
 }
 
 impl Model for Summary {
@@ -67,6 +74,10 @@ impl Summary {
             counts: Vec::new(alloc),
             blocks: 0,
             chunk_indexes: Vec::new(alloc),
+            attachments: 0,
+            attachment_indexes: Vec::new(alloc),
+            metadata: 0,
+            metadata_indexes: Vec::new(alloc),
         })
     }
 
@@ -156,6 +167,40 @@ impl Summary {
         return Ok(());
     }
 
+    /// Notes an Attachment of that content that starts at that offset of the file, in bytes. Where memory lacks nothing changes.
+    pub fn note_attachment(&mut self, at: u64, content: &[u8]) -> Result<(), Memory>
+        requires within { at ≤ 2 ^ 41 }
+        requires meets { (f : AttachmentFields) × ShowsAttachment content.now f }
+        ensures ok { OnOk result ((n : Noted) → StandsFor self.old n → StandsFor self.new (with_noted_extra n at (record { op = 9; content = content.now }))) }
+        ensures err { OnErr result (self.new ≡ self.old) }
+        ensures messages { self.new.messages ≡ self.old.messages }
+        ensures blocks { self.new.blocks ≡ self.old.blocks }
+    {
+        match add_attachment_index(&mut self.attachment_indexes, at, content) {
+            Ok(()) => {}
+            Err(memory) => return Err(memory),
+        }
+        self.attachments = self.attachments.saturating_add(1);
+        return Ok(());
+    }
+
+    /// Does the same with a Metadata.
+    pub fn note_metadata(&mut self, at: u64, content: &[u8]) -> Result<(), Memory>
+        requires within { at ≤ 2 ^ 41 }
+        requires meets { (f : MetadataFields) × ShowsMetadata content.now f }
+        ensures ok { OnOk result ((n : Noted) → StandsFor self.old n → StandsFor self.new (with_noted_extra n at (record { op = 12; content = content.now }))) }
+        ensures err { OnErr result (self.new ≡ self.old) }
+        ensures messages { self.new.messages ≡ self.old.messages }
+        ensures blocks { self.new.blocks ≡ self.old.blocks }
+    {
+        match add_metadata_index(&mut self.metadata_indexes, at, content) {
+            Ok(()) => {}
+            Err(memory) => return Err(memory),
+        }
+        self.metadata = self.metadata.saturating_add(1);
+        return Ok(());
+    }
+
     /// The end of the file behind Data End, where that starts at that offset: the summary of what was noted, its Summary
     /// Offsets, the Footer and the magic.
     pub fn text(&self, at: u64) -> Result<Bytes, Memory>
@@ -167,6 +212,8 @@ impl Summary {
             schemas: self.schema_ids.len(),
             channels: self.channel_ids.len(),
             blocks: self.blocks,
+            attachments: self.attachments,
+            metadata: self.metadata,
             start: self.start,
             end: self.end,
             counts: self.counts.as_slice(),
@@ -188,11 +235,24 @@ impl Summary {
             Ok(()) => {}
             Err(memory) => return Err(memory),
         }
+        match put_bytes(&mut out, self.attachment_indexes.as_slice()) {
+            Ok(()) => {}
+            Err(memory) => return Err(memory),
+        }
+        match put_bytes(&mut out, self.metadata_indexes.as_slice()) {
+            Ok(()) => {}
+            Err(memory) => return Err(memory),
+        }
         let behind = at + out.len() as u64;
-        let schemas = self.schemas.len() as u64;
-        let channels = self.channels.len() as u64;
-        let chunks = self.chunk_indexes.len() as u64;
-        match put_offsets(&mut out, at, schemas, channels, statistics, chunks) {
+        let lengths = Lengths {
+            schemas: self.schemas.len() as u64,
+            channels: self.channels.len() as u64,
+            statistics,
+            chunks: self.chunk_indexes.len() as u64,
+            attachments: self.attachment_indexes.len() as u64,
+            metadata: self.metadata_indexes.len() as u64,
+        };
+        match put_offsets(&mut out, at, lengths) {
             Ok(()) => {}
             Err(memory) => return Err(memory),
         }

@@ -2,7 +2,7 @@
 ghost use Rattle.std.specs.Prelude.{◌≡◌, ◌+◌, ◌^◌, ◌<◌, ◌++◌, length, IfOk, OnOk, All};
 ghost use Rattle.mcap_model.specs.Summary.{capped};
 ghost use Rattle.summary_write.specs.Counts.{CountsRise};
-ghost use Rattle.summary_write.specs.Writing.{counted, statistics_record, offset_of, closed_by};
+ghost use Rattle.summary_write.specs.Writing.{counted, statistics_record, offset_of, six_offsets, closed_by};
 
 use mcap_crc::crc_of;
 use mcap_wire::{CountsRef, MAGIC, Memory, put_bytes};
@@ -17,6 +17,8 @@ pub(crate) struct Numbers<'a> {
     pub(crate) schemas: usize,
     pub(crate) channels: usize,
     pub(crate) blocks: u64,
+    pub(crate) attachments: u32,
+    pub(crate) metadata: u32,
     pub(crate) start: u64,
     pub(crate) end: u64,
     pub(crate) counts: &'a [(u16, u64)],
@@ -43,8 +45,8 @@ pub(crate) fn put_statistics(out: &mut Vec<u8>, n: &Numbers<'_>) -> Result<u64, 
         message_count: n.messages,
         schema_count: (n.schemas % 65536) as u16,
         channel_count: in_four_bytes(n.channels as u64),
-        attachment_count: 0,
-        metadata_count: 0,
+        attachment_count: n.attachments,
+        metadata_count: n.metadata,
         chunk_count: in_four_bytes(n.blocks),
         message_start_time: n.start,
         message_end_time: n.end,
@@ -71,33 +73,48 @@ fn put_offset(out: &mut Vec<u8>, op: u8, start: u64, len: u64) -> Result<(), Mem
     return offset.frame(out);
 }
 
+/// How long the groups of a summary are, in bytes, in their order.
+#[derive(Clone, Copy)]
+pub(crate) struct Lengths {
+    pub(crate) schemas: u64,
+    pub(crate) channels: u64,
+    pub(crate) statistics: u64,
+    pub(crate) chunks: u64,
+    pub(crate) attachments: u64,
+    pub(crate) metadata: u64,
+}
+
 /// Appends the Summary Offsets of groups of these lengths, the first of which starts at that offset.
-pub(crate) fn put_offsets(
-    out: &mut Vec<u8>,
-    at: u64,
-    schemas: u64,
-    channels: u64,
-    statistics: u64,
-    chunks: u64,
-) -> Result<(), Memory>
-    requires { at + schemas + channels + statistics < 2 ^ 64 }
-    ensures { OnOk result (out.new.items ≡ out.old.items ++ (offset_of 3 at schemas
-        ++ (offset_of 4 (at + schemas) channels ++ (offset_of 11 (at + schemas + channels) statistics
-        ++ offset_of 8 (at + schemas + channels + statistics) chunks)))) }
+pub(crate) fn put_offsets(out: &mut Vec<u8>, at: u64, lengths: Lengths) -> Result<(), Memory>
+    requires { at + lengths.schemas + lengths.channels + lengths.statistics + lengths.chunks + lengths.attachments < 2 ^ 64 }
+    ensures { OnOk result (out.new.items ≡ out.old.items
+        ++ six_offsets at lengths.schemas lengths.channels lengths.statistics lengths.chunks lengths.attachments lengths.metadata) }
 {
-    match put_offset(out, 3, at, schemas) {
+    match put_offset(out, 3, at, lengths.schemas) {
         Ok(()) => {}
         Err(memory) => return Err(memory),
     }
-    match put_offset(out, 4, at + schemas, channels) {
+    let at = at + lengths.schemas;
+    match put_offset(out, 4, at, lengths.channels) {
         Ok(()) => {}
         Err(memory) => return Err(memory),
     }
-    match put_offset(out, 11, at + schemas + channels, statistics) {
+    let at = at + lengths.channels;
+    match put_offset(out, 11, at, lengths.statistics) {
         Ok(()) => {}
         Err(memory) => return Err(memory),
     }
-    return put_offset(out, 8, at + schemas + channels + statistics, chunks);
+    let at = at + lengths.statistics;
+    match put_offset(out, 8, at, lengths.chunks) {
+        Ok(()) => {}
+        Err(memory) => return Err(memory),
+    }
+    let at = at + lengths.chunks;
+    match put_offset(out, 10, at, lengths.attachments) {
+        Ok(()) => {}
+        Err(memory) => return Err(memory),
+    }
+    return put_offset(out, 13, at + lengths.attachments, lengths.metadata);
 }
 
 /// Appends the Footer of a summary that starts at one offset, its Summary Offsets at another, and the magic.

@@ -6,11 +6,11 @@ use Rattle.chunk_writer.proofs.Stopping.{front_lacks, front_refused, added_err}
 use Rattle.chunk_writer.proofs.scribe.begin_file.Goals as goal
 
 pub returns-in-Err-clause-refused : goal.returns-in-Err-clause-refused
-returns-in-Err-clause-refused g c = λ history. front_lacks c.args.options.now (g.L.LiveStore.state c.args.store.now).held history
+returns-in-Err-clause-refused g c = λ extras history. front_lacks c.args.options.now extras (g.L.LiveStore.state c.args.store.now).held history
 
 pub returns-in-Err-append_through-clause-refused : goal.returns-in-Err-append_through-clause-refused
-returns-in-Err-append_through-clause-refused g c = λ history.
-    front_refused c.args.options.now (g.L.LiveStore.state c.args.store.now).held (g.L.LiveStore.state c.append_through.new.store).held history c.in-Err-append_through.stop
+returns-in-Err-append_through-clause-refused g c = λ extras history.
+    front_refused c.args.options.now extras (g.L.LiveStore.state c.args.store.now).held (g.L.LiveStore.state c.append_through.new.store).held history c.in-Err-append_through.stop
     (omega (arith, c.requires.profile, length-front c.args.options.now.profile))
     (subst (λ (l : List ℕ). Added (g.L.LiveStore.state c.args.store.now).held (g.L.LiveStore.state c.append_through.new.store).held l (Err c.in-Err-append_through.stop)) (c.as_slice.ensures.value ∙ c.in-Ok.ensures.front)
     (added_err {X = g.row.L-Extent.Denot} (λ e. g.L.Extent.Extent.tells e) (λ e. g.L.Extent.Extent.size e) (g.L.LiveStore.state c.args.store.now) (g.L.LiveStore.state c.append_through.new.store) c.as_slice.result.now

@@ -18,7 +18,7 @@ returns-in-Err-open-clause-recorded g c = λ r is.
     let nowhere = c.record_nowhere-report in
     let limit = ap (λ (d : DeskView). d.limit) c.in-Ok.ensures.desk in
     onto_nothing state c.args.options.now (g.S.Source.state c.args.feed) (g.S.Source.state nowhere.result.feed) (state c.args.live) c.in-Err-open.live
-    c.in-Ok.room.desk.limit c.in-Err-open.stop nowhere.result.report r is limit nowhere.ensures.reported nowhere.ensures.writer (c.in-Err-open.ensures.refused []) c.in-Err-open.ensures.cause
+    c.in-Ok.room.desk.limit c.in-Err-open.stop nowhere.result.report r is limit nowhere.ensures.reported nowhere.ensures.writer (c.in-Err-open.ensures.refused [] []) c.in-Err-open.ensures.cause
 
 -- nothing was read
 pub returns-in-Err-clause-stays : goal.returns-in-Err-clause-stays

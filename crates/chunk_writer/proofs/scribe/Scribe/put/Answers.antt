@@ -6,8 +6,8 @@ use Rattle.chunk_writer.proofs.Writing.{going_apart}
 use Rattle.chunk_writer.proofs.scribe.Scribe.put.Goals as goal
 
 pub returns-in-Stopped-clause-stands : goal.returns-in-Stopped-clause-stands
-returns-in-Stopped-clause-stands g c = λ options opened history stands.
-    stopped_on options opened.held _ history (c.args.r.now ∷ []) c.args.self.now.plan c.in-Stopped.stop (sym c.phase.ensures ∙ c.in-Stopped.is) stands
+returns-in-Stopped-clause-stands g c = λ options extras opened history (stands, waits).
+    (stopped_on options opened.held _ history (c.args.r.now ∷ []) c.args.self.now.plan c.in-Stopped.stop (sym c.phase.ensures ∙ c.in-Stopped.is) stands, waits)
 
 pub returns-clause-stands : goal.returns-clause-stands
 returns-clause-stands g c = c.put_framed.ensures.grows c.args.r.now (subst (λ (l : List ℕ). AreFramed l c.args.r.now) (sym c.as_slice.ensures) c.in-Ok.ensures)

@@ -33,8 +33,8 @@ pub returns-in-Going-clause-cause : goal.returns-in-Going-clause-cause
 returns-in-Going-clause-cause g c = λ going. rw c.taken.ensures.end c.put_all-end.ensures.cause
 
 pub returns-in-Stopped-clause-grows : goal.returns-in-Stopped-clause-grows
-returns-in-Stopped-clause-grows g c = λ options opened history stands.
-    stopped_on options opened.held _ history c.args.full.records c.args.self.now.plan c.in-Stopped.stop (sym c.phase.ensures ∙ c.in-Stopped.is) stands
+returns-in-Stopped-clause-grows g c = λ options extras opened history (stands, waits).
+    (stopped_on options opened.held _ history c.args.full.records c.args.self.now.plan c.in-Stopped.stop (sym c.phase.ensures ∙ c.in-Stopped.is) stands, waits)
 
 pub returns-in-Stopped-clause-front : goal.returns-in-Stopped-clause-front
 returns-in-Stopped-clause-front g c = λ going. absurd (going_apart c.args.self.now.plan.phase c.in-Stopped.stop (sym c.phase.ensures ∙ c.in-Stopped.is) going)

@@ -1,0 +1,5 @@
+use Rattle.mcap_laws.proofs.Repairing.{good_records_are_kept}
+use Rattle.mcap_laws.proofs.good_records_are_kept.Goals as goal
+
+pub returns : goal.returns
+returns c = good_records_are_kept

@@ -1,0 +1,467 @@
+-- What a recovery leaves where it ends.
+use Rattle.std.proofs.Common.{◌≡◌, ◌⊎◌, ℕ, zero, suc, ◌+◌, ◌≤◌, ◌<◌, ◌-◌, ◌^◌, min, Bool, true, false, List, [], ◌∷◌, ◌++◌, length, take, drop, Option, Some, Result, Ok, Err, refl, sym, ap, subst, inl, inr, ◌∙◌, append_assoc, append-nil, arith}
+use Rattle.std.specs.Prelude.{filter, fold, if◌then◌else◌}
+use Rattle.std.specs.List.{AllZip, list_any}
+use Rattle.std.proofs.lemmas.List.{length-append}
+use Rattle.std.proofs.lemmas.Grind.{flat_map-append}
+use Rattle.mcap_wire.specs.Layout.{magic}
+use Rattle.mcap_wire.proofs.Contents.{shows_decided}
+use Rattle.rec_data.specs.declared.owned.Rec.{Rec}
+use Rattle.rec_data.specs.Records.{header_kinds}
+use Rattle.rec_data.proofs.OwnedReading.{shown_once}
+use Rattle.mcap_io.specs.Outside.{SourceState, LiveState, RisesOnce, Adds}
+use Rattle.mcap_model.specs.declared.options.FileOptions.{FileOptions}
+use Rattle.mcap_model.specs.declared.ends.Stop.{Stop}
+use Rattle.mcap_model.specs.declared.ends.Stop.TheVariants as stops
+use Rattle.mcap_model.specs.Tops.{Top, Tops, top_bytes, spelled, offset_behind, flat, flattened, is_flat_kind, is_chunk, inner_tops, chunk_records, records_in, first_records, begins_record, behind_first, first_top}
+use Rattle.mcap_wire.specs.Reading.{text_length, bytes_length}
+use Rattle.mcap_wire.proofs.Framing.{length-framed}
+use Rattle.mcap_scan.proofs.Scanning.{good_stand}
+use Rattle.mcap_recover.proofs.Reading.{read_stand}
+use Rattle.mcap_recover.specs.declared.answers.Recovered.{Recovered}
+use Rattle.mcap_model.specs.Rules.{V1}
+use Rattle.mcap_model.specs.Kept.{Good, Kept, reading_limits, Halt, at_end, grammar, compressed, beyond, HaltsThere, HaltsAt, Halts, no_magic, behind_kept, at_data_end, short_head, zero_opcode, past_limit, cut_short, packed_chunk, broken_rule}
+use Rattle.mcap_model.specs.History.{kept_with, without_repeats, is_message, declare_same}
+use Rattle.mcap_model.specs.Pieces.{file_pieces, joined}
+use Rattle.mcap_model.specs.File.{file_of, IsPrefix}
+use Rattle.mcap_model.specs.Written.{IsRec, AreFlatRecords}
+use Rattle.mcap_model.specs.Repaired.{is_extra, ProfileIs, Repairs, Repaired}
+use Rattle.mcap_model.proofs.Readings.{readings_follow, kept_once}
+use Rattle.mcap_model.proofs.Pieces.{pieces_make_files, stops_leave_prefixes}
+use Rattle.mcap_scan.specs.declared.reader.Reader.{Reader}
+use Rattle.mcap_scan.specs.declared.reader.Stage.TheVariants as stages
+use Rattle.mcap_scan.specs.declared.answers.ScanRefused.{ScanRefused}
+use Rattle.mcap_scan.specs.declared.answers.ScanRefused.TheVariants as scans
+use Rattle.mcap_scan.specs.Scanning.{HaltsSo, FaultStands, MemoryStands, RefusalStands, IsGoing}
+use Rattle.chunk_writer.specs.Stops.{StopsAt, StopCause}
+use Rattle.chunk_writer.specs.Scribes.{ScribeStands, phase_of, blocks_of, bytes_of, store_of}
+use Rattle.chunk_writer.specs.declared.phase.Phase.TheVariants as phases
+use Rattle.chunk_writer.proofs.Writing.{holding}
+use Rattle.chunk_writer.proofs.Stopping.{put_lacks}
+use Rattle.mcap_recover.specs.declared.keeping.Keeping.{Keeping}
+use Rattle.mcap_recover.specs.declared.recovering.Over.{Over}
+use Rattle.mcap_recover.specs.declared.recovering.Over.TheVariants as overs
+use Rattle.mcap_recover.specs.declared.answers.Why.{Why}
+use Rattle.mcap_recover.specs.declared.answers.Why.TheVariants as whys
+use Rattle.mcap_recover.specs.declared.answers.RecoverRefused.{RecoverRefused}
+use Rattle.mcap_recover.specs.declared.answers.RecoverRefused.TheVariants as refusals
+use Rattle.mcap_recover.specs.Keeping.{Keeps, counted}
+use Rattle.mcap_recover.specs.Readings.{RefusedBy, GrammarTold, RefusalTold, HaltTold, OverSo, KeepsNone, Repairing, IsOver, IsStopped, Begun}
+use Rattle.mcap_recover.specs.Recovering.{recovered_options, TellsHalt, OfRepaired, StandsPart, LacksMagic, FaultRose, FaultsStill, Finishes, Recovers}
+use Rattle.mcap_recover.proofs.Keepings.{fold_grows}
+
+-- ---- the first ones of some records
+
+zip_parts : {X Y : Type 0} (R : X → Y → Type 0) (xs us : List X) (zs : List Y) → AllZip R (xs ++ us) zs → (ys : List Y) × (vs : List Y) × (zs ≡ ys ++ vs) × AllZip R xs ys × AllZip R us vs
+zip_parts R [] us zs zip = ([], zs, refl, tt, zip)
+zip_parts R (x ∷ xs) us [] zip = absurd zip
+zip_parts {X} {Y} R (x ∷ xs) us (z ∷ zs) zip =
+    let rest = zip_parts R xs us zs zip.1 in
+    (z ∷ rest.0, rest.1, ap (λ (l : List Y). z ∷ l) rest.2, (zip.0, rest.3), rest.4)
+
+flat_once : (tops : List Top) (one two : List Rec) → AllZip IsRec tops one → AllZip IsRec tops two → one ≡ two
+flat_once [] [] [] a b = refl
+flat_once [] [] (s ∷ ss) a b = absurd b
+flat_once [] (r ∷ rs) two a b = absurd a
+flat_once (t ∷ ts) [] two a b = absurd a
+flat_once (t ∷ ts) (r ∷ rs) [] a b = absurd b
+flat_once (t ∷ ts) (r ∷ rs) (s ∷ ss) a b =
+    ap (λ (x : Rec). x ∷ rs) (shown_once t.op t.content r s a.0 b.0) ∙ ap (λ (l : List Rec). s ∷ l) (flat_once ts rs ss a.1 b.1)
+
+fold_more : (history rs ss : List Rec) → fold kept_with history (rs ++ ss) ≡ fold kept_with (fold kept_with history rs) ss
+fold_more history [] ss = refl
+fold_more history (r ∷ rs) ss = fold_more (kept_with history r) rs ss
+
+same_profile : (tops more : List Top) (p q : List ℕ) → (tops ≡ [] → more ≡ []) → ProfileIs tops p → ProfileIs (tops ++ more) q → p ≡ q
+same_profile [] more p q none one two = one ∙ sym (subst (λ (l : List Top). ProfileIs l q) (none refl) two)
+same_profile (t ∷ ts) more p q none (a, a_is) (b, b_is) =
+    let same = shows_decided header_kinds t.content (a.profile, (a.library, tt)) (b.profile, (b.library, tt)) a.layout b.layout in
+    sym a_is ∙ ap (λ v. v.0) same ∙ b_is
+
+-- of the first ones the first ones are repaired, with the same profile
+record GoesOn (profile other : List ℕ) (history later : List Rec) : Type 0 where
+  pub same : profile ≡ other
+  pub behind : List Rec
+  pub longer : later ≡ history ++ behind
+
+goes_on : (tops more extras others : List Top) (profile other : List ℕ) (history later : List Rec) → (tops ≡ [] → more ≡ []) → Repairs tops profile extras history → Repairs (tops ++ more) other others later → GoesOn profile other history later
+goes_on tops more extras others profile other history later none one two =
+    let split : flat (tops ++ more) ≡ flat tops ++ flat more = flat_map-append flattened tops more in
+    let (ys, vs, is, first, second) = zip_parts IsRec (flat tops) (flat more) two.flattened (subst (λ (l : List Top). AllZip IsRec l two.flattened) split two.are_flattened) in
+    let front : ys ≡ one.flattened = flat_once (flat tops) ys one.flattened first one.are_flattened in
+    let (behind, grown) = fold_grows history vs in
+    record {
+      same = same_profile tops more profile other none one.profile_is two.profile_is;
+      behind = behind;
+      longer = two.history_is ∙ ap without_repeats is ∙ fold_more [] ys vs ∙ ap (λ (l : List Rec). fold kept_with (without_repeats l) vs) front ∙ ap (λ (l : List Rec). fold kept_with l vs) (sym one.history_is) ∙ grown;
+    }
+
+empty_by : {X : Type 0} (xs : List X) → length xs ≤ 0 → xs ≡ []
+empty_by [] less = refl
+empty_by (x ∷ xs) less = absurd (omega (arith, less))
+
+-- good records with which bytes begin are the first that are kept
+first_kept : (bytes : List ℕ) (tops kept : List Top) (rest : List ℕ) → Tops bytes tops rest → Good reading_limits tops → Kept reading_limits bytes kept → (more : List Top) × (kept ≡ tops ++ more)
+first_kept bytes tops kept rest there good it = by it.stands
+  where
+    most : length tops ≤ length kept
+    most = it.longest tops (inr (rest, there)) good
+
+    by : (kept ≡ []) ⊎ ((behind : List ℕ) × Tops bytes kept behind) → (more : List Top) × (kept ≡ tops ++ more)
+    by (inl none) = let size = ap (λ (l : List Top). length l) none in let empty = empty_by tops (omega (arith, most, size)) in ([], none ∙ sym (append-nil tops ∙ empty))
+    by (inr (behind, stands)) = elim (readings_follow bytes tops kept rest behind there good stands it.good) [
+      | inl follows ↦ (follows.more, follows.longer)
+      | inr follows ↦
+          let size = ap (λ (l : List Top). length l) follows.longer in
+          let none = empty_by follows.more (omega (arith, most, size, length-append kept follows.more)) in
+          ([], sym (append-nil tops ∙ follows.longer ∙ ap (λ (l : List Top). kept ++ l) none ∙ append-nil kept))
+    ]
+
+-- what is said of each longer history of the same options is said of what repairing makes of the bytes
+pub of_longer : (chunk : ℕ) (before : SourceState) (tops extras : List Top) (profile : List ℕ) (history : List Rec) (holds : FileOptions → List Top → List Rec → Type 0)
+    → ((bytes : List ℕ) → before.left ≡ Some bytes → (tops ≡ []) ⊎ ((rest : List ℕ) × Tops bytes tops rest × Good reading_limits tops)) → (tops ≡ [] → KeepsNone before)
+    → Repairs tops profile extras history → ((others : List Top) (behind : List Rec) → holds (recovered_options profile chunk) others (history ++ behind)) → OfRepaired chunk before holds
+of_longer chunk before tops extras profile history holds read none repairs each bytes told other others later repaired =
+    let (more, longer, nothing) = found (read bytes told) in
+    let on = goes_on tops more extras others profile other history later nothing repairs (subst (λ (l : List Top). Repairs l other others later) longer repaired.repairs) in
+    subst (λ (l : List Rec). holds (recovered_options other chunk) others l) (sym on.longer)
+    (subst (λ (p : List ℕ). holds (recovered_options p chunk) others (history ++ on.behind)) on.same (each others on.behind))
+  where
+    empty : tops ≡ [] → (more : List Top) × (repaired.tops ≡ tops ++ more) × (tops ≡ [] → more ≡ [])
+    empty is = ([], kept_once bytes repaired.tops [] repaired.kept (none is bytes told) ∙ sym (append-nil tops ∙ is), λ it. refl)
+
+    some : (rest : List ℕ) → Tops bytes tops rest → Good reading_limits tops → (more : List Top) × (repaired.tops ≡ tops ++ more) × (tops ≡ [] → more ≡ [])
+    some rest there good =
+        let (more, is) = first_kept bytes tops repaired.tops rest there good repaired.kept in
+        (more, is, λ empty_is. let all = kept_once bytes repaired.tops [] repaired.kept (none empty_is bytes told) in ap (λ (l : List Top). l ++ more) (sym empty_is) ∙ sym is ∙ all)
+
+    found : (tops ≡ []) ⊎ ((rest : List ℕ) × Tops bytes tops rest × Good reading_limits tops) → (more : List Top) × (repaired.tops ≡ tops ++ more) × (tops ≡ [] → more ≡ [])
+    found (inl is) = empty is
+    found (inr (rest, there, good)) = some rest there good
+
+-- ---- first parts of files
+
+pub part_of_stop : (options : FileOptions) (extras : List Top) (history : List Rec) (opened stored : LiveState) (stop : Stop) (blocks bytes : ℕ) → StopsAt options extras history opened.held stored.held stop blocks bytes → StandsPart opened stored options extras history
+part_of_stop options extras history opened stored stop blocks bytes stops start told =
+    let (text, held, stopped) = stops.took start told in
+    (text, held, subst (λ (l : List ℕ). IsPrefix text l) (pieces_make_files options extras history) (stops_leave_prefixes (file_pieces options extras history) stops.place stop text bytes stopped))
+
+pub nothing_stands : (opened : LiveState) (options : FileOptions) (extras : List Top) (history : List Rec) → StandsPart opened opened options extras history
+nothing_stands opened options extras history start told = ([], told ∙ ap Some (sym (append-nil start)), (file_of options extras history, refl))
+
+-- ---- where the writer stopped
+
+pub stopped_recovers : (chunk : ℕ) (before now : SourceState) (opened stored : LiveState) (stop : Stop) (refusal : RecoverRefused) (blocks bytes : ℕ) → RefusedBy stop refusal → StopCause opened.faults stored.faults stop → now.faults ≡ before.faults
+    → OfRepaired chunk before (λ options extras history. StopsAt options extras history opened.held stored.held stop blocks bytes) → Recovers chunk before now opened stored (Err refusal)
+stopped_recovers chunk before now opened stored (stops.Fault faults) refusal blocks bytes is (rises, carried) still each =
+    subst (λ (r : RecoverRefused). Recovers chunk before now opened stored (Err r)) (sym is)
+    (inr (rises, carried, still), λ b told p e h repaired. part_of_stop (recovered_options p chunk) e h opened stored (stops.Fault faults) blocks bytes (each b told p e h repaired))
+stopped_recovers chunk before now opened stored (stops.Limit m n) refusal blocks bytes is cause still each =
+    subst (λ (r : RecoverRefused). Recovers chunk before now opened stored (Err r)) (sym is) (
+      record { source = still; store = cause },
+      λ b told p e h repaired.
+          let stopped = each b told p e h repaired in
+          let why = stopped.why in
+          subst (λ (k : ℕ). StopsAt (recovered_options p chunk) e h opened.held stored.held (stops.Limit m n) k n) (sym why.0)
+          (subst (λ (k : ℕ). StopsAt (recovered_options p chunk) e h opened.held stored.held (stops.Limit m n) blocks k) (sym why.1) stopped),
+    )
+stopped_recovers chunk before now opened stored stops.Memory refusal blocks bytes is cause still each =
+    subst (λ (r : RecoverRefused). Recovers chunk before now opened stored (Err r)) (sym is)
+    (record { source = still; store = cause }, λ b told p e h repaired. part_of_stop (recovered_options p chunk) e h opened stored stops.Memory blocks bytes (each b told p e h repaired))
+
+pub is_stopped_recovers : {L : Type 0} (seen : L → LiveState) (chunk : ℕ) (profile : List ℕ) (before now : SourceState) (opened : LiveState) (k : Keeping L) (stop : Stop) (refusal : RecoverRefused) → RefusedBy stop refusal
+    → StopCause opened.faults (seen k.scribe.store).faults stop → IsStopped seen (recovered_options profile chunk) before now opened k stop → Recovers chunk before now opened (seen k.scribe.store) (Err refusal)
+is_stopped_recovers seen chunk profile before now opened k stop refusal is cause it =
+    stopped_recovers chunk before now opened (seen k.scribe.store) stop refusal (blocks_of k.scribe) (bytes_of k.scribe) is cause it.still
+    (of_longer chunk before it.tops it.extras profile it.history (λ options extras history. StopsAt options extras history opened.held (seen k.scribe.store).held stop (blocks_of k.scribe) (bytes_of k.scribe))
+    (λ bytes told. let (rest, there) = it.read bytes told in inr (rest, there, it.good)) (λ none. absurd (it.some none)) it.repairs
+    (λ others behind. (it.keeps.writes.0.stopped stop it.stopped others behind).stops))
+
+-- ---- where the source failed, or memory lacked
+
+going_part : {L : Type 0} (seen : L → LiveState) (options : FileOptions) (extras : List Top) (opened : LiveState) (history : List Rec) (k : Keeping L) → phase_of k.scribe ≡ phases.Going → Keeps seen options extras opened history k
+    → (others : List Top) (behind : List Rec) → StandsPart opened (seen k.scribe.store) options others (history ++ behind)
+going_part seen options extras opened history k going keeps others behind =
+    part_of_stop options others (history ++ behind) opened (seen k.scribe.store) stops.Memory (blocks_of k.scribe) (bytes_of k.scribe)
+    (put_lacks options others opened.held (seen k.scribe.store).held history (blocks_of k.scribe) (bytes_of k.scribe) behind (holding options opened.held (seen k.scribe.store).held history k.scribe.plan going keeps.writes.0))
+
+fault_read : (bytes : List ℕ) (tops : List Top) (left : Option (List ℕ)) → (part rest : List ℕ) → bytes ≡ part ++ rest → Kept reading_limits part tops → (tops ≡ []) ⊎ ((behind : List ℕ) × Tops bytes tops behind)
+fault_read bytes tops left part rest split kept = elim kept.stands [
+  | inl none ↦ inl none
+  | inr there ↦ inr (there.0 ++ rest, record { split = split ∙ ap (λ (l : List ℕ). l ++ rest) there.1.split ∙ append_assoc magic (spelled tops ++ there.0) rest ∙ ap (λ (l : List ℕ). magic ++ l) (append_assoc (spelled tops) there.0 rest) })
+]
+
+place_of : Halt → ℕ
+place_of (at_end n) = n
+place_of (grammar n r) = n
+place_of (compressed n name) = n
+place_of (beyond n) = n
+
+there_place : (tops : List Top) (rest : List ℕ) (halt : Halt) → HaltsThere reading_limits tops rest halt → place_of halt ≡ offset_behind tops
+unfolding place_of
+there_place tops rest halt (short_head a) = refl
+there_place tops rest halt (zero_opcode a b) = refl
+there_place tops rest halt (past_limit a b) = refl
+there_place tops rest halt (cut_short a b) = refl
+there_place tops rest halt (packed_chunk name a b c) = refl
+there_place tops rest halt (broken_rule rule a b c d) = refl
+
+no_front : (bytes : List ℕ) (tops : List Top) (halt : Halt) (r : ℕ) → HaltsAt reading_limits bytes tops halt → halt ≡ grammar 0 r → V1 bytes → ⊥
+unfolding place_of
+no_front bytes tops halt r (no_magic none) is has = none has
+no_front bytes tops halt r (at_data_end rest stands ended) is has = let place : 8 + length (spelled tops) ≡ 0 = ap place_of is in omega (arith, place)
+no_front bytes tops halt r (behind_kept rest stands unended other there) is has =
+    let place : place_of halt ≡ 0 = ap place_of is in
+    let same = there_place tops rest halt there in
+    omega (arith, place, same)
+
+pub begun_recovers : (chunk : ℕ) (before now : SourceState) (opened : LiveState) (reader : Reader) (refusal : RecoverRefused) → Begun before now reader (Err refusal) → Recovers chunk before now opened opened (Err refusal)
+begun_recovers chunk before now opened reader (refusals.Fault faults) begun =
+    (inl (begun.rises, begun.carried, refl), λ bytes told profile extras history repaired. nothing_stands opened (recovered_options profile chunk) extras history)
+begun_recovers chunk before now opened reader refusals.NoMagic (rule, halts) = (
+  λ bytes told has. no_front bytes [] (grammar 0 rule) rule (halts.halts bytes told).there refl has,
+  record { source = halts.still; store = refl },
+  refl,
+)
+begun_recovers chunk before now opened reader (refusals.Limit blocks bytes) begun = absurd begun
+begun_recovers chunk before now opened reader refusals.Memory still =
+    (record { source = still; store = refl }, λ bytes told profile extras history repaired. nothing_stands opened (recovered_options profile chunk) extras history)
+
+-- the reading failed behind records that were kept
+pub over_recovers : {L : Type 0} (seen : L → LiveState) (chunk : ℕ) (profile : List ℕ) (before now : SourceState) (opened : LiveState) (reader : Reader) (k : Keeping L) (over : Over) (refusal : RecoverRefused)
+    → IsOver seen (recovered_options profile chunk) before now opened reader k over → HaltTold reader over (Err refusal) → phase_of k.scribe ≡ phases.Going → (seen k.scribe.store).faults ≡ opened.faults
+    → Recovers chunk before now opened (seen k.scribe.store) (Err refusal)
+over_recovers seen chunk profile before now opened reader k over refusal it told going still = by over it.over_so told
+  where
+    was : Repairing seen (recovered_options profile chunk) before now opened reader k
+    was = it.repairing
+
+    part : ((bytes : List ℕ) → before.left ≡ Some bytes → (was.tops ≡ []) ⊎ ((rest : List ℕ) × Tops bytes was.tops rest × Good reading_limits was.tops)) → OfRepaired chunk before (StandsPart opened (seen k.scribe.store))
+    part read = of_longer chunk before was.tops was.extras profile was.history (StandsPart opened (seen k.scribe.store)) read (λ none. (was.begun none).1) was.repairs
+        (going_part seen (recovered_options profile chunk) was.extras opened was.history k going was.keeps)
+
+    with_good : (bytes : List ℕ) → Good reading_limits was.tops → (was.tops ≡ []) ⊎ ((rest : List ℕ) × Tops bytes was.tops rest) → (was.tops ≡ []) ⊎ ((rest : List ℕ) × Tops bytes was.tops rest × Good reading_limits was.tops)
+    with_good bytes good (inl none) = inl none
+    with_good bytes good (inr (rest, there)) = inr (rest, there, good)
+
+    none_or : (bytes : List ℕ) (P : List ℕ → Type 0) → ((was.tops ≡ []) × (now.left ≡ Some bytes)) ⊎ ((rest : List ℕ) × Tops bytes was.tops rest × P rest) → (was.tops ≡ []) ⊎ ((rest : List ℕ) × Tops bytes was.tops rest)
+    none_or bytes P (inl none) = inl none.0
+    none_or bytes P (inr (rest, there, more)) = inr (rest, there)
+
+    refused : (w : ScanRefused) → RefusalStands w before now was.tops → RefusalTold w (Err refusal) → Recovers chunk before now opened (seen k.scribe.store) (Err refusal)
+    refused (scans.Fault faults) stands is =
+        let same : refusal ≡ refusals.Fault faults = cc in
+        subst (λ (r : RecoverRefused). Recovers chunk before now opened (seen k.scribe.store) (Err r)) (sym same) (
+          inl (stands.rises, stands.carried, still),
+          part (λ bytes known. let leaves = stands.leaves bytes known in
+              with_good bytes leaves.cut_off.kept.good (fault_read bytes was.tops now.left leaves.part leaves.rest leaves.split leaves.cut_off.kept)),
+        )
+    refused (scans.Grammar at rule) stands (why, kind, is) = absurd (cc)
+    refused (scans.Compressed at name) stands is = absurd (cc)
+    refused (scans.Limit at) stands is = absurd (cc)
+    refused scans.Memory stands is =
+        let same : refusal ≡ refusals.Memory = cc in
+        subst (λ (r : RecoverRefused). Recovers chunk before now opened (seen k.scribe.store) (Err r)) (sym same)
+        (record { source = stands.still; store = still }, part (λ bytes known. with_good bytes stands.good (none_or bytes _ (stands.leaves bytes known))))
+
+    by : (o : Over) → OverSo reader before now was.tops o → HaltTold reader o (Err refusal) → Recovers chunk before now opened (seen k.scribe.store) (Err refusal)
+    by (overs.Ended at) so is = absurd (cc)
+    by overs.Refused (why, stage, stands) it_is = refused why stands (it_is why stage)
+
+same_ok : (a : Result (ℕ × Why) RecoverRefused) (x y : ℕ × Why) → a ≡ Ok x → a ≡ Ok y → x ≡ y
+same_ok a x y one other = cc
+
+-- how a reading that came to a halt is told
+pub over_halts : (reader : Reader) (before now : SourceState) (tops : List Top) (over : Over) (at : ℕ) (why : Why) → OverSo reader before now tops over → HaltTold reader over (Ok (at, why)) → (halt : Halt) × HaltsSo before now tops halt × TellsHalt at why halt
+over_halts reader before now tops (overs.Ended place) at why so is =
+    let pair = same_ok (Ok (at, why)) (at, why) (place, whys.Complete) refl is in
+    let same_at : at ≡ place = ap (λ v. v.0) pair in
+    let same_why : why ≡ whys.Complete = ap (λ v. v.1) pair in
+    (at_end place, so, subst (λ (w : Why). TellsHalt at w (at_end place)) (sym same_why) (ap at_end (sym same_at)))
+over_halts reader before now tops overs.Refused at why (w, stage, stands) told = by w stands (told w stage)
+  where
+    by : (v : ScanRefused) → RefusalStands v before now tops → RefusalTold v (Ok (at, why)) → (halt : Halt) × HaltsSo before now tops halt × TellsHalt at why halt
+    by (scans.Fault faults) it is = absurd (cc)
+    by (scans.Grammar place rule) it (reason, kind, is) =
+        let pair = same_ok (Ok (at, why)) (at, why) (place, reason) refl is in
+        let same_at : at ≡ place = ap (λ v. v.0) pair in
+        let same_why : why ≡ reason = ap (λ v. v.1) pair in
+        (grammar place rule, it, subst (λ (x : Why). TellsHalt at x (grammar place rule)) (sym same_why) (kinds place rule reason (sym same_at) kind))
+      where
+        kinds : (p n : ℕ) (x : Why) → p ≡ at → GrammarTold n x → TellsHalt at x (grammar p n)
+        kinds p n x same (inl (four, short)) = subst (λ (y : Why). TellsHalt at y (grammar p n)) (sym short) (ap (λ (q : ℕ). grammar q n) same ∙ ap (grammar at) four)
+        kinds p n x same (inr (other, broken)) = subst (λ (y : Why). TellsHalt at y (grammar p n)) (sym broken) (n, ap (λ (q : ℕ). grammar q n) same, other)
+    by (scans.Compressed place name) it is =
+        let pair = same_ok (Ok (at, why)) (at, why) (place, whys.Compressed) refl is in
+        let same_at : at ≡ place = ap (λ v. v.0) pair in
+        let same_why : why ≡ whys.Compressed = ap (λ v. v.1) pair in
+        (compressed place name, it, subst (λ (x : Why). TellsHalt at x (compressed place name)) (sym same_why) (name, ap (λ (q : ℕ). compressed q name) (sym same_at)))
+    by (scans.Limit place) it is =
+        let pair = same_ok (Ok (at, why)) (at, why) (place, whys.Limit) refl is in
+        let same_at : at ≡ place = ap (λ v. v.0) pair in
+        let same_why : why ≡ whys.Limit = ap (λ v. v.1) pair in
+        (beyond place, it, subst (λ (x : Why). TellsHalt at x (beyond place)) (sym same_why) (ap beyond (sym same_at)))
+    by scans.Memory it is = absurd (cc)
+
+-- ---- what the counts come to
+
+filter_few : {X : Type 0} (test : X → Bool) (xs : List X) → length (filter test xs) ≤ length xs
+filter_few test [] = omega arith
+filter_few test (x ∷ xs) = by (test x) (filter_few test xs)
+  where
+    by : (b : Bool) → length (filter test xs) ≤ length xs → length (if b then x ∷ filter test xs else filter test xs) ≤ length (x ∷ xs)
+    by true rest = omega (arith, rest)
+    by false rest = omega (arith, rest)
+
+take_few : (n : ℕ) (xs : List ℕ) → length (take n xs) ≤ length xs
+take_few zero xs = omega arith
+take_few (suc n) [] = omega arith
+take_few (suc n) (x ∷ xs) = omega (arith, take_few n xs)
+
+drop_few : (n : ℕ) (xs : List ℕ) → length (drop n xs) ≤ length xs
+drop_few zero xs = omega arith
+drop_few (suc n) [] = omega arith
+drop_few (suc n) (x ∷ xs) = omega (arith, drop_few n xs)
+
+first_few : (n : ℕ) (bytes : List ℕ) → length (first_records n bytes) ≤ n
+first_few zero bytes = omega arith
+first_few (suc n) bytes = by (begins_record bytes) (first_few n (behind_first bytes))
+  where
+    by : (b : Bool) → length (first_records n (behind_first bytes)) ≤ n → length (if b then first_top bytes ∷ first_records n (behind_first bytes) else []) ≤ suc n
+    by true rest = omega (arith, rest)
+    by false rest = omega arith
+
+found_few : (bytes : List ℕ) → length (records_in bytes) ≤ length bytes
+unfolding records_in
+found_few bytes = first_few (length bytes) bytes
+
+inside_few : (content : List ℕ) → length (chunk_records content) ≤ length content
+unfolding chunk_records
+inside_few content =
+    let at = 32 + text_length content 28 in
+    omega (arith, take_few (bytes_length 8 content at) (drop (at + 8) content), drop_few (at + 8) content)
+
+flattened_few : (t : Top) → length (flattened t) ≤ length (top_bytes t)
+flattened_few t = by (is_chunk t) refl
+  where
+    by : (b : Bool) → is_chunk t ≡ b → length (flattened t) ≤ length (top_bytes t)
+    by true is =
+        let same = ap (λ (x : Bool). length (filter is_flat_kind (if x then inner_tops t else t ∷ []))) is in
+        omega (arith, same, filter_few is_flat_kind (inner_tops t), found_few (chunk_records t.content), inside_few t.content, length-framed t.op t.content)
+    by false is =
+        let same = ap (λ (x : Bool). length (filter is_flat_kind (if x then inner_tops t else t ∷ []))) is in
+        omega (arith, same, filter_few is_flat_kind (t ∷ []), length-framed t.op t.content)
+
+flat_few : (tops : List Top) → length (flat tops) ≤ length (spelled tops)
+flat_few [] = omega arith
+flat_few (t ∷ ts) = omega (arith, flat_few ts, flattened_few t, length-append (flattened t) (flat ts), length-append (top_bytes t) (spelled ts))
+
+tops_few : (tops : List Top) → length tops ≤ length (spelled tops)
+tops_few [] = omega arith
+tops_few (t ∷ ts) = omega (arith, tops_few ts, length-append (top_bytes t) (spelled ts), length-framed t.op t.content)
+
+kept_few : (history rs : List Rec) → length (fold kept_with history rs) ≤ length history + length rs
+kept_few history [] = omega arith
+kept_few history (r ∷ rs) = omega (arith, kept_few (kept_with history r) rs, one_few (list_any (declare_same r) history))
+  where
+    one_few : (b : Bool) → length (if b then history else history ++ r ∷ []) ≤ suc (length history)
+    one_few true = omega arith
+    one_few false = omega (arith, length-append history (r ∷ []))
+
+zip_long : (us : List Top) (rs : List Rec) → AllZip IsRec us rs → length us ≡ length rs
+zip_long [] [] zip = refl
+zip_long [] (r ∷ rs) zip = absurd zip
+zip_long (u ∷ us) [] zip = absurd zip
+zip_long (u ∷ us) (r ∷ rs) zip = ap suc (zip_long us rs zip.1)
+
+history_few : (tops extras : List Top) (profile : List ℕ) (history : List Rec) → Repairs tops profile extras history → length history ≤ length (spelled tops)
+history_few tops extras profile history repairs =
+    let same = ap (λ (l : List Rec). length l) repairs.history_is in
+    omega (arith, same, kept_few [] repairs.flattened, zip_long (flat tops) repairs.flattened repairs.are_flattened, flat_few tops)
+
+all_counted : (n : ℕ) → n ≤ 1099511627776 → counted n ≡ n
+all_counted n few = omega (arith, few)
+
+-- ---- the end of the new file
+
+one_repair : (tops extras others : List Top) (profile other : List ℕ) (history later : List Rec) → Repairs tops profile extras history → Repairs tops other others later → (profile ≡ other) × (extras ≡ others) × (history ≡ later)
+one_repair tops extras others profile other history later one two = (
+  same_profile tops [] profile other (λ it. refl) one.profile_is (subst (λ (l : List Top). ProfileIs l other) (sym (append-nil tops)) two.profile_is),
+  one.extras_are ∙ sym two.extras_are,
+  one.history_is ∙ ap without_repeats (flat_once (flat tops) one.flattened two.flattened one.are_flattened two.are_flattened) ∙ sym two.history_is,
+)
+
+of_exact : (chunk : ℕ) (before : SourceState) (tops extras : List Top) (profile : List ℕ) (history : List Rec) (holds : FileOptions → List Top → List Rec → Type 0) → ((bytes : List ℕ) → before.left ≡ Some bytes → Kept reading_limits bytes tops)
+    → Repairs tops profile extras history → holds (recovered_options profile chunk) extras history → OfRepaired chunk before holds
+of_exact chunk before tops extras profile history holds keeps repairs it bytes told other others later repaired =
+    let same = kept_once bytes repaired.tops tops repaired.kept (keeps bytes told) in
+    let (p, e, h) = one_repair tops extras others profile other history later repairs (subst (λ (l : List Top). Repairs l other others later) same repaired.repairs) in
+    subst (λ (l : List Rec). holds (recovered_options other chunk) others l) h
+    (subst (λ (l : List Top). holds (recovered_options other chunk) l history) e
+    (subst (λ (q : List ℕ). holds (recovered_options q chunk) extras history) p it))
+
+magic_there : (bytes : List ℕ) (tops : List Top) → ((tops ≡ []) ⊎ ((rest : List ℕ) × Tops bytes tops rest)) → (tops ≡ [] → V1 bytes) → V1 bytes
+magic_there bytes tops (inl none) nothing = nothing none
+magic_there bytes tops (inr (rest, there)) nothing = (spelled tops ++ rest, there.split)
+
+pub finish_recovers : {L : Type 0} (seen : L → LiveState) (chunk : ℕ) (profile : List ℕ) (before now : SourceState) (opened stored : LiveState) (reader : Reader) (k : Keeping L) (over : Over) (at : ℕ) (why : Why) (result : Result Recovered RecoverRefused)
+    → IsOver seen (recovered_options profile chunk) before now opened reader k over → HaltTold reader over (Ok (at, why)) → (seen k.scribe.store).faults ≡ opened.faults → Finishes seen k stored at why result
+    → Recovers chunk before now opened stored result
+finish_recovers seen chunk profile before now opened stored reader k over at why (Ok r) it told still finishes =
+    let was = it.repairing in
+    let (halt, halts, tells) = over_halts reader before now was.tops over at why it.over_so told in
+    let (adds, answers, holds, same) = finishes (recovered_options profile chunk) was.extras opened was.history was.keeps in
+    let (at_is, why_is, messages, records, others) = answers in
+    let few = history_few was.tops was.extras profile was.history was.repairs in
+    let within = was.within in
+    let extra_size = ap (λ (l : List Top). length l) was.repairs.extras_are in
+    record {
+      tops = was.tops;
+      halt = halt;
+      halts = halts;
+      magic = λ bytes known. magic_there bytes was.tops (halts.halts bytes known).kept.stands (λ none. (was.begun none).2 bytes known);
+      told = subst (λ (w : Why). TellsHalt r.at w halt) (sym why_is) (subst (λ (n : ℕ). TellsHalt n why halt) (sym at_is) tells);
+      profile = profile;
+      extras = was.extras;
+      history = was.history;
+      repairs = was.repairs;
+      file = adds;
+      within = holds;
+      messages = messages ∙ all_counted (length (filter is_message was.history)) (omega (arith, few, within, filter_few is_message was.history));
+      records = records ∙ all_counted (length was.history) (omega (arith, few, within));
+      extras_are = others ∙ all_counted (length was.extras) (omega (arith, within, extra_size, filter_few is_extra was.tops, tops_few was.tops));
+      still = same ∙ still;
+    }
+finish_recovers seen chunk profile before now opened stored reader k over at why (Err refusal) it told still finishes =
+    let was = it.repairing in
+    let (halt, halts, tells) = over_halts reader before now was.tops over at why it.over_so told in
+    let (stop, blocks, bytes, is, stops, cause) = finishes (recovered_options profile chunk) was.extras opened was.history was.keeps in
+    stopped_recovers chunk before now opened stored stop refusal blocks bytes is (subst (λ (n : ℕ). StopCause n stored.faults stop) still cause) halts.still
+    (of_exact chunk before was.tops was.extras profile was.history (λ options extras history. StopsAt options extras history opened.held stored.held stop blocks bytes) (λ b known. (halts.halts b known).kept) was.repairs stops)
+
+-- ---- the begin of the new file
+
+pub begin_repairing : {L : Type 0} (seen : L → LiveState) (chunk : ℕ) (profile : List ℕ) (before now : SourceState) (opened : LiveState) (reader : Reader) (k : Keeping L) → Begun before now reader (Ok profile)
+    → Keeps seen (recovered_options profile chunk) [] opened [] k → Repairing seen (recovered_options profile chunk) before now opened reader k
+begin_repairing seen chunk profile before now opened reader k (tops, stands, within, begun, repairs, long, some, still) keeps = record {
+  tops = tops;
+  stands = stands;
+  within = within;
+  begun = begun;
+  extras = [];
+  history = [];
+  repairs = repairs;
+  keeps = keeps;
+}
+
+pub open_recovers : (chunk : ℕ) (profile : List ℕ) (before now : SourceState) (opened stored : LiveState) (reader : Reader) (stop : Stop) (refusal : RecoverRefused) → Begun before now reader (Ok profile) → RefusedBy stop refusal
+    → StopCause opened.faults stored.faults stop → ((extras : List Top) (history : List Rec) → StopsAt (recovered_options profile chunk) extras history opened.held stored.held stop 0 0) → Recovers chunk before now opened stored (Err refusal)
+open_recovers chunk profile before now opened stored reader stop refusal (tops, stands, within, begun, repairs, long, some, still) is cause stops =
+    stopped_recovers chunk before now opened stored stop refusal 0 0 is cause still
+    (of_longer chunk before tops [] profile [] (λ options extras history. StopsAt options extras history opened.held stored.held stop 0 0) (λ bytes told. read bytes told some) (λ none. (begun none).1) repairs (λ others behind. stops others behind))
+  where
+    read : (bytes : List ℕ) → before.left ≡ Some bytes → ((tops ≡ []) ⊎ ((tops ≡ [] → ⊥) × IsGoing reader.stage)) → (tops ≡ []) ⊎ ((rest : List ℕ) × Tops bytes tops rest × Good reading_limits tops)
+    read bytes told (inl none) = inl none
+    read bytes told (inr (not_empty, going)) =
+        let (rest, left, there) = read_stand reader before now tops going stands not_empty bytes told in
+        inr (rest, there, good_stand reader before now tops going stands)

@@ -1,0 +1,245 @@
+-- What the bytes of a record frame, and the walk over the records of a chunk.
+use Rattle.std.proofs.Common.{◌≡◌, ◌⊎◌, ℕ, ◌+◌, ◌≤◌, Bool, true, false, List, [], ◌∷◌, ◌++◌, length, take, drop, refl, sym, ap, subst, inl, inr, ◌∙◌, append_assoc, arith}
+use Rattle.std.specs.Prelude.{filter, if◌then◌else◌}
+use Rattle.std.specs.List.{AllZip, list_any}
+use Rattle.std.proofs.lemmas.List.{append-nil, length-append, drop_at, take_at}
+use Rattle.mcap_wire.proofs.Framing.{length-framed}
+use Rattle.std.proofs.lemmas.List.Elements.{filter-append}
+use Rattle.std.proofs.lemmas.Bool.{ne_eqb}
+use Rattle.std.proofs.lemmas.Grind.{flat_map-append}
+use Rattle.mcap_wire.specs.Layout.{framed}
+use Rattle.rec_data.specs.declared.owned.Rec.{Rec}
+use Rattle.rec_data.specs.declared.owned.Rec.TheVariants.{Schema, Channel, Message}
+use Rattle.rec_data.specs.Owned.{rec_bytes, def_fields}
+use Rattle.rec_data.proofs.OwnedReading.{rec_shown}
+use Rattle.rec_data.specs.Records.{ShowsMessage, ShowsSchema, ShowsChannel, schema_text, channel_text}
+use Rattle.mcap_io.specs.Outside.{LiveState}
+use Rattle.mcap_model.specs.declared.inner.Inner.{Inner}
+use Rattle.mcap_model.specs.Tops.{Top, top_bytes, spelled, records_in, inner_tops, chunk_records, is_chunk, is_flat_kind, flattened, opened}
+use Rattle.mcap_model.specs.Fields.{SchemaFields, ChannelFields, MessageFields, ChunkFields, IsChunk}
+use Rattle.mcap_model.specs.Rules.{V6, V10}
+use Rattle.mcap_model.specs.declared.ends.Stop.{Stop}
+use Rattle.mcap_model.specs.History.{schema_of, channel_of, message_of, declare_same}
+use Rattle.mcap_model.specs.Laws.{IsExtra}
+use Rattle.mcap_model.specs.Made.{top}
+use Rattle.mcap_model.specs.Walk.{inner_top, StepsOver}
+use Rattle.mcap_model.specs.Repaired.{is_extra}
+use Rattle.mcap_model.specs.Written.{IsRec}
+use Rattle.mcap_model.proofs.Unpacking.{chunks_are_opened}
+use Rattle.chunk_build.specs.Chunker.{AreFramed}
+use Rattle.mcap_recover.specs.declared.keeping.Keeping.{Keeping}
+use Rattle.chunk_writer.specs.declared.phase.Phase.TheVariants as phases
+use Rattle.chunk_writer.specs.Scribes.{Grows, phase_of}
+use Rattle.mcap_recover.specs.Keeping.{is_declared, declared_with, counted, CountsSo, Takes, TakesTop, Adds}
+use Rattle.mcap_recover.proofs.Keepings.{going_apart, schema_known, channel_known, message_known, adds_put, adds_left, takes_by, schema_counts, channel_counts, message_counts}
+
+pub message_framed : (bytes content : List ℕ) (channel : ℕ) (m : MessageFields) → bytes ≡ framed 5 content → ShowsMessage content channel m → AreFramed bytes (message_of channel m)
+message_framed bytes content channel m is shown = record {
+  spelled = is ∙ ap (framed 5) shown.spelled_there;
+  shown = rec_shown (message_of channel m) shown.fit;
+}
+
+pub schema_framed : (bytes content : List ℕ) (id : ℕ) (f : SchemaFields) → bytes ≡ framed 3 (schema_text id f) → ShowsSchema content id f → AreFramed bytes (schema_of id f)
+schema_framed bytes content id f is shown = record { spelled = is; shown = rec_shown (schema_of id f) shown.1.fit }
+
+pub channel_framed : (bytes content : List ℕ) (id : ℕ) (f : ChannelFields) → bytes ≡ framed 4 (channel_text id f) → ShowsChannel content id f → AreFramed bytes (channel_of id f)
+channel_framed bytes content id f is shown = record { spelled = is; shown = rec_shown (channel_of id f) shown.1.fit }
+
+-- a content that shows no record of a kind
+pub shown_no_message : (content : List ℕ) → ((channel : ℕ) (m : MessageFields) → ShowsMessage content channel m → ⊥) → (r : Rec) → IsRec (top 5 content) r → ⊥
+shown_no_message content none (Schema id schema) is = omega (arith, is.0)
+shown_no_message content none (Channel id schema topic encoding metadata) is = omega (arith, is.0)
+shown_no_message content none (Message channel sequence log_time publish_time payload) is = none channel (record { sequence = sequence; log_time = log_time; publish_time = publish_time; payload = payload }) is.1
+
+pub shown_no_schema : (content : List ℕ) → ((id : ℕ) (f : SchemaFields) → ShowsSchema content id f → ⊥) → (r : Rec) → IsRec (top 3 content) r → ⊥
+shown_no_schema content none (Schema id schema) is = none id (def_fields schema) is.1
+shown_no_schema content none (Channel id schema topic encoding metadata) is = omega (arith, is.0)
+shown_no_schema content none (Message channel sequence log_time publish_time payload) is = omega (arith, is.0)
+
+pub shown_no_channel : (content : List ℕ) → ((id : ℕ) (f : ChannelFields) → ShowsChannel content id f → ⊥) → (r : Rec) → IsRec (top 4 content) r → ⊥
+shown_no_channel content none (Schema id schema) is = omega (arith, is.0)
+shown_no_channel content none (Channel id schema topic encoding metadata) is = none id (record { schema = schema; topic = topic; encoding = encoding; metadata = metadata }) is.1
+shown_no_channel content none (Message channel sequence log_time publish_time payload) is = omega (arith, is.0)
+
+-- ---- messages
+
+pub message_put : {L : Type 0} (seen : L → LiveState) (old new : Keeping L) (bytes content : List ℕ) (channel : ℕ) (m : MessageFields) → ShowsMessage content channel m → phase_of old.scribe ≡ phases.Going → Grows seen old.scribe new.scribe (message_of channel m ∷ [])
+    → (phase_of new.scribe ≡ phases.Going → (new.schemas.keys ≡ old.schemas.keys) × (new.channels.keys ≡ old.channels.keys) × (new.messages ≡ counted (old.messages + 1)) × (new.extras ≡ old.extras) × (new.records ≡ counted (old.records + 1)))
+    → Takes seen old new (top 5 content ∷ [])
+message_put seen old new bytes content channel m shown going grows same =
+    takes_by seen old new (top 5 content) (message_of channel m) (refl, shown)
+    (adds_put seen old new (message_of channel m) going (λ extras history c. message_known channel m history) grows
+    (λ after extras history c. let (a, b, d, e, f) = same after in message_counts extras history channel m old new c a b d e f))
+
+pub message_lacks : {L : Type 0} (seen : L → LiveState) (old new : Keeping L) (content : List ℕ) (stop : Stop) → phase_of old.scribe ≡ phases.Going → phase_of new.scribe ≡ phases.Stopped stop
+    → ((r : Rec) → Grows seen old.scribe new.scribe (r ∷ [])) → Takes seen old new (top 5 content ∷ [])
+message_lacks seen old new content stop going stopped grows [] zip = absurd zip
+message_lacks seen old new content stop going stopped grows (Schema id schema ∷ rs) zip = absurd (omega (arith, zip.0.0))
+message_lacks seen old new content stop going stopped grows (Channel id schema topic encoding metadata ∷ rs) zip = absurd (omega (arith, zip.0.0))
+message_lacks seen old new content stop going stopped grows (Message channel sequence log_time publish_time payload ∷ []) zip =
+    let m : MessageFields = record { sequence = sequence; log_time = log_time; publish_time = publish_time; payload = payload } in
+    adds_put seen old new (message_of channel m) going (λ extras history c. message_known channel m history) (grows (message_of channel m))
+    (λ after extras history c. absurd (going_apart (phase_of new.scribe) stop stopped after))
+message_lacks seen old new content stop going stopped grows (Message channel sequence log_time publish_time payload ∷ r ∷ rs) zip = absurd zip.1
+
+-- ---- schemas
+
+schema_fresh : {L : Type 0} (old : Keeping L) (id : ℕ) (f : SchemaFields) (b : Bool) → is_declared old.schemas.keys id ≡ b → (extras : List Top) (history : List Rec) → CountsSo extras history old → list_any (declare_same (schema_of id f)) history ≡ b
+schema_fresh old id f b is extras history c = schema_known id f history ∙ ap (λ (ids : List ℕ). is_declared ids id) (sym c.schema_ids) ∙ is
+
+pub schema_put : {L : Type 0} (seen : L → LiveState) (old new : Keeping L) (content : List ℕ) (id : ℕ) (f : SchemaFields) → ShowsSchema content id f → phase_of old.scribe ≡ phases.Going → is_declared old.schemas.keys id ≡ false
+    → Grows seen old.scribe new.scribe (schema_of id f ∷ [])
+    → (phase_of new.scribe ≡ phases.Going → (new.schemas.keys ≡ declared_with old.schemas.keys id) × (new.channels.keys ≡ old.channels.keys) × (new.messages ≡ old.messages) × (new.extras ≡ old.extras) × (new.records ≡ counted (old.records + 1)))
+    → Takes seen old new (top 3 content ∷ [])
+schema_put seen old new content id f shown going fresh grows same =
+    takes_by seen old new (top 3 content) (schema_of id f) (refl, shown)
+    (adds_put seen old new (schema_of id f) going (schema_fresh old id f false fresh) grows
+    (λ after extras history c. let (a, b, d, e, g) = same after in schema_counts extras history id f old new c fresh a b d e g))
+
+pub schema_left : {L : Type 0} (seen : L → LiveState) (old new : Keeping L) (content : List ℕ) (id : ℕ) (f : SchemaFields) → ShowsSchema content id f → phase_of old.scribe ≡ phases.Going → is_declared old.schemas.keys id ≡ true
+    → new.scribe ≡ old.scribe → new.schemas.keys ≡ declared_with old.schemas.keys id → new.channels.keys ≡ old.channels.keys → new.messages ≡ old.messages → new.extras ≡ old.extras → new.records ≡ old.records
+    → Takes seen old new (top 3 content ∷ [])
+schema_left seen old new content id f shown going known same schemas channels messages others records =
+    takes_by seen old new (top 3 content) (schema_of id f) (refl, shown)
+    (adds_left seen old new (schema_of id f) going (schema_fresh old id f true known) same
+    (λ extras history c. record {
+      schema_ids = schemas ∙ ap (λ (b : Bool). if b then old.schemas.keys else old.schemas.keys ++ id ∷ []) known ∙ c.schema_ids;
+      channel_ids = channels ∙ c.channel_ids;
+      messages = messages ∙ c.messages;
+      records = records ∙ c.records;
+      extras_are = others ∙ c.extras_are;
+    }))
+
+-- ---- channels
+
+channel_fresh : {L : Type 0} (old : Keeping L) (id : ℕ) (f : ChannelFields) (b : Bool) → is_declared old.channels.keys id ≡ b → (extras : List Top) (history : List Rec) → CountsSo extras history old → list_any (declare_same (channel_of id f)) history ≡ b
+channel_fresh old id f b is extras history c = channel_known id f history ∙ ap (λ (ids : List ℕ). is_declared ids id) (sym c.channel_ids) ∙ is
+
+pub channel_put : {L : Type 0} (seen : L → LiveState) (old new : Keeping L) (content : List ℕ) (id : ℕ) (f : ChannelFields) → ShowsChannel content id f → phase_of old.scribe ≡ phases.Going → is_declared old.channels.keys id ≡ false
+    → Grows seen old.scribe new.scribe (channel_of id f ∷ [])
+    → (phase_of new.scribe ≡ phases.Going → (new.channels.keys ≡ declared_with old.channels.keys id) × (new.schemas.keys ≡ old.schemas.keys) × (new.messages ≡ old.messages) × (new.extras ≡ old.extras) × (new.records ≡ counted (old.records + 1)))
+    → Takes seen old new (top 4 content ∷ [])
+channel_put seen old new content id f shown going fresh grows same =
+    takes_by seen old new (top 4 content) (channel_of id f) (refl, shown)
+    (adds_put seen old new (channel_of id f) going (channel_fresh old id f false fresh) grows
+    (λ after extras history c. let (a, b, d, e, g) = same after in channel_counts extras history id f old new c fresh a b d e g))
+
+pub channel_left : {L : Type 0} (seen : L → LiveState) (old new : Keeping L) (content : List ℕ) (id : ℕ) (f : ChannelFields) → ShowsChannel content id f → phase_of old.scribe ≡ phases.Going → is_declared old.channels.keys id ≡ true
+    → new.scribe ≡ old.scribe → new.channels.keys ≡ declared_with old.channels.keys id → new.schemas.keys ≡ old.schemas.keys → new.messages ≡ old.messages → new.extras ≡ old.extras → new.records ≡ old.records
+    → Takes seen old new (top 4 content ∷ [])
+channel_left seen old new content id f shown going known same channels schemas messages others records =
+    takes_by seen old new (top 4 content) (channel_of id f) (refl, shown)
+    (adds_left seen old new (channel_of id f) going (channel_fresh old id f true known) same
+    (λ extras history c. record {
+      schema_ids = schemas ∙ c.schema_ids;
+      channel_ids = channels ∙ ap (λ (b : Bool). if b then old.channels.keys else old.channels.keys ++ id ∷ []) known ∙ c.channel_ids;
+      messages = messages ∙ c.messages;
+      records = records ∙ c.records;
+      extras_are = others ∙ c.extras_are;
+    }))
+
+-- ---- the walk
+
+-- it has come to these
+pub record Walked (records : List ℕ) (at : ℕ) (rest : List ℕ) (done : List Top) : Type 0 where
+  pub split : records ≡ spelled done ++ rest
+  pub place : at ≡ length (spelled done)
+  pub parts : records_in records ≡ done ++ records_in rest
+
+pub walk_begins : (records : List ℕ) (at : ℕ) (rest : List ℕ) → at ≡ 0 → rest ≡ records → Walked records at rest []
+walk_begins records at rest is all = record { split = sym all; place = is; parts = ap records_in (sym all) }
+
+spelled_more : (done : List Top) (t : Top) → spelled (done ++ t ∷ []) ≡ spelled done ++ top_bytes t
+spelled_more done t = flat_map-append top_bytes done (t ∷ []) ∙ ap (λ (l : List ℕ). spelled done ++ l) (append-nil (top_bytes t))
+
+pub walk_on : (records : List ℕ) (at at_new : ℕ) (rest rest_new : List ℕ) (inner : Inner) (done : List Top) → Walked records at rest done → StepsOver at rest at_new rest_new inner → Walked records at_new rest_new (done ++ inner_top inner ∷ [])
+walk_on records at at_new rest rest_new inner done was steps =
+    let t = inner_top inner in
+    record {
+      split = was.split ∙ ap (λ (l : List ℕ). spelled done ++ l) steps.split ∙ sym (append_assoc (spelled done) (top_bytes t) rest_new) ∙ ap (λ (l : List ℕ). l ++ rest_new) (sym (spelled_more done t));
+      place =
+          let size = ap (λ (l : List ℕ). length l) (spelled_more done t) in
+          let behind = steps.behind in
+          let place = was.place in
+          omega (arith, size, behind, place, length-append (spelled done) (top_bytes t));
+      parts = was.parts ∙ ap (λ (l : List Top). done ++ l) steps.first ∙ sym (append_assoc done (t ∷ []) (records_in rest_new));
+    }
+
+-- where the record in front stands
+pub stands_there : (records : List ℕ) (at at_new : ℕ) (rest rest_new : List ℕ) (inner : Inner) (done : List Top) → Walked records at rest done → StepsOver at rest at_new rest_new inner
+    → take (9 + length inner.content.now) (drop inner.offset records) ≡ framed inner.op inner.content.now
+stands_there records at at_new rest rest_new inner done was steps =
+    let t = inner_top inner in
+    let size : length (top_bytes t) ≡ 9 + length inner.content.now = length-framed inner.op inner.content.now in
+    ap (λ (n : ℕ). take (9 + length inner.content.now) (drop n records)) (steps.offset ∙ was.place)
+    ∙ ap (λ (l : List ℕ). take (9 + length inner.content.now) (drop (length (spelled done)) l)) was.split
+    ∙ ap (take (9 + length inner.content.now)) (drop_at (spelled done) rest (length (spelled done)) refl)
+    ∙ ap (take (9 + length inner.content.now)) steps.split
+    ∙ take_at (top_bytes t) rest_new (9 + length inner.content.now) size
+
+pub room_there : (records : List ℕ) (at at_new : ℕ) (rest rest_new : List ℕ) (inner : Inner) (done : List Top) → Walked records at rest done → StepsOver at rest at_new rest_new inner
+    → inner.offset + (9 + length inner.content.now) ≤ length records
+room_there records at at_new rest rest_new inner done was steps =
+    let t = inner_top inner in
+    let size = length-framed inner.op inner.content.now in
+    let all = ap (λ (l : List ℕ). length l) was.split in
+    let front = ap (λ (l : List ℕ). length l) steps.split in
+    let place = was.place in
+    let offset = steps.offset in
+    omega (arith, size, all, front, place, offset, length-append (spelled done) rest, length-append (top_bytes t) rest_new)
+
+pub walked_all : (records : List ℕ) (at : ℕ) (rest : List ℕ) (done : List Top) → Walked records at rest done → records_in rest ≡ [] → filter is_flat_kind done ≡ filter is_flat_kind (records_in records)
+walked_all records at rest done was none = ap (filter is_flat_kind) (sym (was.parts ∙ ap (λ (l : List Top). done ++ l) none ∙ append-nil done))
+
+pub flat_more : (done : List Top) (t : Top) → filter is_flat_kind (done ++ t ∷ []) ≡ filter is_flat_kind done ++ filter is_flat_kind (t ∷ [])
+flat_more done t = filter-append is_flat_kind done (t ∷ [])
+
+pub flat_split : (records : List ℕ) (at : ℕ) (rest : List ℕ) (done : List Top) → Walked records at rest done → filter is_flat_kind (records_in records) ≡ filter is_flat_kind done ++ filter is_flat_kind (records_in rest)
+flat_split records at rest done was = ap (filter is_flat_kind) was.parts ∙ filter-append is_flat_kind done (records_in rest)
+
+-- ---- a record of the top level
+
+pub extra_of : (op : ℕ) (content : List ℕ) → V6 (top op content) → V10 (top op content) → (op ≡ 9) ⊎ (op ≡ 12) → IsExtra (top op content)
+extra_of op content v6 v10 kind = record { kind = kind; v6 = v6; v10 = v10 }
+
+pub chunk_taken : {L : Type 0} (seen : L → LiveState) (old new : Keeping L) (op : ℕ) (content : List ℕ) (f : ChunkFields) → op ≡ 6 → IsChunk (top 6 content) f
+    → Takes seen old new (filter is_flat_kind (records_in f.records)) → TakesTop seen old new (top op content)
+chunk_taken seen old new op content f is shown takes =
+    subst (λ (n : ℕ). TakesTop seen old new (top n content)) (sym is)
+    (subst (λ (l : List ℕ). Takes seen old new (filter is_flat_kind (records_in l))) (sym (chunks_are_opened (top 6 content) f shown)) takes)
+
+pub one_taken : {L : Type 0} (seen : L → LiveState) (old new : Keeping L) (op : ℕ) (content : List ℕ) → ((op ≡ 3) ⊎ ((op ≡ 4) ⊎ (op ≡ 5))) → Takes seen old new (top op content ∷ []) → TakesTop seen old new (top op content)
+one_taken seen old new op content (inl is) takes = subst (λ (n : ℕ). Takes seen old new (top n content ∷ []) → TakesTop seen old new (top n content)) (sym is) (λ it. it) takes
+one_taken seen old new op content (inr (inl is)) takes = subst (λ (n : ℕ). Takes seen old new (top n content ∷ []) → TakesTop seen old new (top n content)) (sym is) (λ it. it) takes
+one_taken seen old new op content (inr (inr is)) takes = subst (λ (n : ℕ). Takes seen old new (top n content ∷ []) → TakesTop seen old new (top n content)) (sym is) (λ it. it) takes
+
+pub one_taken_at : {L : Type 0} (seen : L → LiveState) (old new : Keeping L) (op n : ℕ) (content : List ℕ) → ((op ≡ 3) ⊎ ((op ≡ 4) ⊎ (op ≡ 5))) → op ≡ n → Takes seen old new (top n content ∷ []) → TakesTop seen old new (top op content)
+one_taken_at seen old new op n content kind is takes = one_taken seen old new op content kind (subst (λ (k : ℕ). Takes seen old new (top k content ∷ [])) (sym is) takes)
+
+none_left : (records : List Rec) → AllZip IsRec [] records → records ≡ []
+none_left [] zip = refl
+none_left (r ∷ rs) zip = absurd zip
+
+pub extra_taken : {L : Type 0} (seen : L → LiveState) (old new : Keeping L) (op : ℕ) (content : List ℕ) → ((op ≡ 9) ⊎ (op ≡ 12)) → Adds seen old new (top op content ∷ []) [] → TakesTop seen old new (top op content)
+extra_taken seen old new op content (inl is) adds =
+    subst (λ (n : ℕ). Adds seen old new (top n content ∷ []) [] → TakesTop seen old new (top n content)) (sym is) (λ it records zip. subst (λ (l : List Rec). Adds seen old new (top 9 content ∷ []) l) (sym (none_left records zip)) it) adds
+extra_taken seen old new op content (inr is) adds =
+    subst (λ (n : ℕ). Adds seen old new (top n content ∷ []) [] → TakesTop seen old new (top n content)) (sym is) (λ it records zip. subst (λ (l : List Rec). Adds seen old new (top 12 content ∷ []) l) (sym (none_left records zip)) it) adds
+
+-- no other kind shows or is anything that is kept
+pub other_taken : {L : Type 0} (seen : L → LiveState) (old : Keeping L) (op : ℕ) (content : List ℕ) → (op ≡ 3 → ⊥) → (op ≡ 4 → ⊥) → (op ≡ 5 → ⊥) → (op ≡ 6 → ⊥) → (op ≡ 9 → ⊥) → (op ≡ 12 → ⊥)
+    → Adds seen old old [] [] → TakesTop seen old old (top op content)
+other_taken seen old op content no3 no4 no5 no6 no9 no12 none records zip =
+    let t = top op content in
+    let alone : opened t ≡ t ∷ [] = ap (λ (b : Bool). if b then inner_tops t else t ∷ []) (ne_eqb op 6 no6) in
+    let kind : is_flat_kind t ≡ false = flat_not op content no3 no4 no5 in
+    let empty : flattened t ≡ [] = ap (filter is_flat_kind) alone ∙ ap (λ (b : Bool). if b then t ∷ [] else []) kind in
+    let silent : filter is_extra (t ∷ []) ≡ [] = ap (λ (b : Bool). if b then t ∷ [] else []) (extra_not op content no9 no12) in
+    subst (λ (l : List Top). Adds seen old old l records) (sym silent)
+    (subst (λ (l : List Rec). Adds seen old old [] l) (sym (none_left records (subst (λ (l : List Top). AllZip IsRec l records) empty zip))) none)
+  where
+    flat_not : (n : ℕ) (c : List ℕ) → (n ≡ 3 → ⊥) → (n ≡ 4 → ⊥) → (n ≡ 5 → ⊥) → is_flat_kind (top n c) ≡ false
+    flat_not n c a b d = let x = ne_eqb 3 n (λ e. a (sym e)) in let y = ne_eqb 4 n (λ e. b (sym e)) in let z = ne_eqb 5 n (λ e. d (sym e)) in cc
+
+    extra_not : (n : ℕ) (c : List ℕ) → (n ≡ 9 → ⊥) → (n ≡ 12 → ⊥) → is_extra (top n c) ≡ false
+    extra_not n c a b = let x = ne_eqb n 9 a in let y = ne_eqb n 12 b in cc

@@ -1,0 +1,4 @@
+mod Keepings
+mod Inners
+mod Reading
+mod Ending

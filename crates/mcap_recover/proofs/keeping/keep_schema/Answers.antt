@@ -1,0 +1,46 @@
+use Rattle.std.proofs.Common.{sym, ap, refl, ◌∙◌, ◌++◌, List, [], ℕ}
+use Rattle.rec_data.specs.Parsed.{schema_fields}
+use Rattle.mcap_model.specs.declared.ends.Stop.TheVariants as stops
+use Rattle.mcap_model.specs.History.{schema_of}
+use Rattle.mcap_model.specs.Made.{top}
+use Rattle.mcap_recover.specs.Keeping.{is_declared}
+use Rattle.mcap_recover.proofs.Keepings.{from_none, going_apart, takes_absurd, not_so, so}
+use Rattle.mcap_recover.proofs.Inners.{schema_framed, schema_put, schema_left, shown_no_schema}
+use Rattle.mcap_recover.proofs.keeping.keep_schema.Goals as goal
+
+pub returns-in-Err-clause-takes : goal.returns-in-Err-clause-takes
+returns-in-Err-clause-takes g c = takes_absurd g.L.LiveStore.state c.args.k.now c.args.k.now (top 3 c.args.content.now) (shown_no_schema c.args.content.now c.in-Err.ensures.none)
+
+pub returns-in-Ok-false-clause-takes : goal.returns-in-Ok-false-clause-takes
+returns-in-Ok-false-clause-takes g c =
+    let r = c.in-Ok.schema in
+    schema_left g.L.LiveStore.state c.args.k.now _ c.args.content.now r.id (schema_fields r) c.in-Ok.ensures.shown c.requires.going
+    (so (is_declared c.args.k.now.schemas.keys r.id) (sym c.in-Ok-false.field-0-test ∙ c.in-Ok-false.ensures.first)) refl c.in-Ok-false.ensures.keys refl refl refl refl
+
+pub returns-in-Err-declare-clause-takes : goal.returns-in-Err-declare-clause-takes
+returns-in-Err-declare-clause-takes g c =
+    let r = c.in-Ok.schema in
+    schema_put g.L.LiveStore.state c.args.k.now _ c.args.content.now r.id (schema_fields r) c.in-Ok.ensures.shown c.requires.going c.in-Err-declare.ensures.lacks (c.stop_for_memory.ensures.grows (schema_of r.id (schema_fields r)))
+    (λ going. absurd (going_apart c.stop_for_memory.new.self.plan.phase stops.Memory c.stop_for_memory.ensures.stopped.phase going))
+
+pub returns-in-Err-frame-clause-takes : goal.returns-in-Err-frame-clause-takes
+returns-in-Err-frame-clause-takes g c =
+    let r = c.in-Ok.schema in
+    schema_put g.L.LiveStore.state c.args.k.now _ c.args.content.now r.id (schema_fields r) c.in-Ok.ensures.shown c.requires.going
+    (not_so (is_declared c.args.k.now.schemas.keys r.id) (sym c.in-Ok-true.field-0-test ∙ c.in-Ok-true.ensures.first)) (c.stop_for_memory-in-Err-frame.ensures.grows (schema_of r.id (schema_fields r)))
+    (λ going. absurd (going_apart c.stop_for_memory-in-Err-frame.new.self.plan.phase stops.Memory c.stop_for_memory-in-Err-frame.ensures.stopped.phase going))
+
+pub put-requires-clause-framed : goal.put-requires-clause-framed
+put-requires-clause-framed g c =
+    let r = c.in-Ok.schema in
+    (schema_of r.id (schema_fields r), schema_framed c.as_slice.result.now c.args.content.now r.id (schema_fields r) (c.as_slice.ensures.value ∙ from_none c.new-bytes.ensures.items c.in-Ok-frame.ensures.ok) c.in-Ok.ensures.shown)
+
+pub returns-clause-takes : goal.returns-clause-takes
+returns-clause-takes g c =
+    let r = c.in-Ok.schema in
+    let framed = schema_framed c.as_slice.result.now c.args.content.now r.id (schema_fields r) (c.as_slice.ensures.value ∙ from_none c.new-bytes.ensures.items c.in-Ok-frame.ensures.ok) c.in-Ok.ensures.shown in
+    let (schemas, channels, messages, others) = c.put.ensures.same in
+    schema_put g.L.LiveStore.state c.args.k.now c.put.new.k c.args.content.now r.id (schema_fields r) c.in-Ok.ensures.shown c.requires.going
+    (not_so (is_declared c.args.k.now.schemas.keys r.id) (sym c.in-Ok-true.field-0-test ∙ c.in-Ok-true.ensures.first))
+    (c.put.ensures.grows (schema_of r.id (schema_fields r)) framed)
+    (λ going. (ap (λ v. v.keys) schemas ∙ c.in-Ok-true.ensures.keys, ap (λ v. v.keys) channels, messages, others, c.put.ensures.counts going))

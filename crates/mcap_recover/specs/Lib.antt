@@ -1,0 +1,3 @@
+pub mod Keeping
+pub mod Readings
+pub mod Recovering

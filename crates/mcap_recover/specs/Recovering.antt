@@ -1,0 +1,102 @@
+-- What a recovery leaves, and what it answers.
+use Rattle.std.specs.Prelude.{◌≡◌, ◌⊎◌, ℕ, ◌+◌, List, [], ◌++◌, length, filter, Option, Some, None, Result, Ok, Err}
+use Rattle.rec_data.specs.declared.owned.Rec.{Rec}
+use Rattle.mcap_io.specs.Outside.{SourceState, LiveState, RisesOnce, Adds}
+use Rattle.mcap_model.specs.declared.options.FileOptions.{FileOptions}
+use Rattle.mcap_model.specs.declared.ends.Stop.{Stop}
+use Rattle.mcap_model.specs.declared.ends.Stop.TheVariants as stops
+use Rattle.mcap_model.specs.Tops.{Top, offset_behind}
+use Rattle.mcap_model.specs.Rules.{V1}
+use Rattle.mcap_model.specs.Kept.{Halt, at_end, grammar, compressed, beyond}
+use Rattle.mcap_model.specs.History.{is_message}
+use Rattle.mcap_model.specs.Blocks.{pieces_of, blocks_in}
+use Rattle.mcap_model.specs.File.{file_of, IsPrefix}
+use Rattle.mcap_model.specs.Repaired.{Repairs, Repaired}
+use Rattle.mcap_scan.specs.Scanning.{HaltsSo}
+use Rattle.chunk_writer.specs.Limits.{Holds}
+use Rattle.chunk_writer.specs.Stops.{StopsAt, StopCause}
+use Rattle.mcap_recover.specs.Keeping.{counted, Keeps}
+use Rattle.mcap_recover.specs.Readings.{RefusedBy, HasMagic}
+use Rattle.mcap_recover.specs.declared.keeping.Keeping.{Keeping}
+use Rattle.mcap_recover.specs.declared.answers.Why.{Why}
+use Rattle.mcap_recover.specs.declared.answers.Why.TheVariants as whys
+use Rattle.mcap_recover.specs.declared.answers.Recovered.{Recovered}
+use Rattle.mcap_recover.specs.declared.answers.RecoverRefused.{RecoverRefused}
+use Rattle.mcap_recover.specs.declared.answers.RecoverRefused.TheVariants as refusals
+
+-- how a recovered file is written: in chunks of that size
+abbrev pub recovered_options : List ℕ → ℕ → FileOptions
+recovered_options profile chunk = record { profile = profile; chunk = Some chunk }
+
+-- the reason that is answered is that of the halt
+abbrev pub TellsHalt : ℕ → Why → Halt → Type 0
+TellsHalt at whys.Complete halt = halt ≡ at_end at
+TellsHalt at whys.Short halt = halt ≡ grammar at 4
+TellsHalt at whys.Grammar halt = (rule : ℕ) × (halt ≡ grammar at rule) × (rule ≡ 4 → ⊥)
+TellsHalt at whys.Compressed halt = (name : List ℕ) × (halt ≡ compressed at name)
+TellsHalt at whys.Limit halt = halt ≡ beyond at
+
+-- The source was read to where a reading of it halts. Behind what the store held stands the file of what repairing makes of
+-- the records that the reading keeps, and the counts are theirs.
+pub record IsRecovered (chunk : ℕ) (before now : SourceState) (opened stored : LiveState) (r : Recovered) : Type 0 where
+  pub tops : List Top
+  pub halt : Halt
+  pub halts : HaltsSo before now tops halt
+  pub magic : HasMagic before
+  pub told : TellsHalt r.at r.why halt
+  pub profile : List ℕ
+  pub extras : List Top
+  pub history : List Rec
+  pub repairs : Repairs tops profile extras history
+  pub file : Adds opened.held stored.held (file_of (recovered_options profile chunk) extras history)
+  pub within : Holds (length (blocks_in (pieces_of (Some chunk) history))) (length (file_of (recovered_options profile chunk) extras history))
+  pub messages : r.messages ≡ length (filter is_message history)
+  pub records : r.records ≡ length history
+  pub extras_are : r.extras ≡ length extras
+  pub still : stored.faults ≡ opened.faults
+
+-- the numbers that are answered
+abbrev pub AnswersSo : List Top → List Rec → ℕ → Why → Recovered → Type 0
+AnswersSo extras history at why r = (r.at ≡ at) × (r.why ≡ why) × (r.messages ≡ counted (length (filter is_message history))) × (r.records ≡ counted (length history)) × (r.extras ≡ counted (length extras))
+
+abbrev pub Finished : LiveState → FileOptions → List Top → LiveState → List Rec → LiveState → ℕ → Why → Result Recovered RecoverRefused → Type 0
+Finished last options extras opened history stored at why (Ok r) = Adds opened.held stored.held (file_of options extras history) × AnswersSo extras history at why r
+    × Holds (length (blocks_in (pieces_of options.chunk history))) (length (file_of options extras history)) × (stored.faults ≡ last.faults)
+Finished last options extras opened history stored at why (Err refusal) = (stop : Stop) × (blocks : ℕ) × (bytes : ℕ) × RefusedBy stop refusal × StopsAt options extras history opened.held stored.held stop blocks bytes
+    × StopCause last.faults stored.faults stop
+
+-- The new file was ended behind extras and a history for which the writer stands, and this is answered; or the writer stopped.
+abbrev pub Finishes : {L : Type 0} → (L → LiveState) → Keeping L → LiveState → ℕ → Why → Result Recovered RecoverRefused → Type 0
+Finishes seen k stored at why result = (options : FileOptions) (extras : List Top) (opened : LiveState) (history : List Rec) → Keeps seen options extras opened history k
+    → Finished (seen k.scribe.store) options extras opened history stored at why result
+
+-- of each file that repairing makes of the source's bytes: this holds of its options, extras and history
+abbrev pub OfRepaired : ℕ → SourceState → (FileOptions → List Top → List Rec → Type 0) → Type 0
+OfRepaired chunk before holds = (bytes : List ℕ) → before.left ≡ Some bytes → (profile : List ℕ) (extras : List Top) (history : List Rec)
+    → Repaired bytes profile extras history → holds (recovered_options profile chunk) extras history
+
+-- behind what the store held stands a first part of the file
+abbrev pub StandsPart : LiveState → LiveState → FileOptions → List Top → List Rec → Type 0
+StandsPart opened stored options extras history = (start : List ℕ) → opened.held ≡ Some start → (text : List ℕ) × (stored.held ≡ Some (start ++ text)) × IsPrefix text (file_of options extras history)
+
+-- the source doesn't begin with the magic, or it does so
+abbrev pub LacksMagic : SourceState → Type 0
+LacksMagic before = (bytes : List ℕ) → before.left ≡ Some bytes → V1 bytes → ⊥
+
+-- the count of the source rose by one, or that of the store, and it is the one which is told
+abbrev pub FaultRose : ℕ → SourceState → SourceState → LiveState → LiveState → Type 0
+FaultRose faults before now opened stored = (RisesOnce before.faults now.faults × (faults ≡ now.faults) × (stored.faults ≡ opened.faults))
+    ⊎ (RisesOnce opened.faults stored.faults × (faults ≡ stored.faults) × (now.faults ≡ before.faults))
+
+-- both stand still
+pub record FaultsStill (before now : SourceState) (opened stored : LiveState) : Type 0 where
+  pub source : now.faults ≡ before.faults
+  pub store : stored.faults ≡ opened.faults
+
+abbrev pub Recovers : ℕ → SourceState → SourceState → LiveState → LiveState → Result Recovered RecoverRefused → Type 0
+Recovers chunk before now opened stored (Ok r) = IsRecovered chunk before now opened stored r
+Recovers chunk before now opened stored (Err (refusals.Fault faults)) = FaultRose faults before now opened stored × OfRepaired chunk before (StandsPart opened stored)
+Recovers chunk before now opened stored (Err refusals.NoMagic) = LacksMagic before × FaultsStill before now opened stored × (stored ≡ opened)
+Recovers chunk before now opened stored (Err (refusals.Limit blocks bytes)) = FaultsStill before now opened stored
+    × OfRepaired chunk before (λ options extras history. StopsAt options extras history opened.held stored.held (stops.Limit blocks bytes) blocks bytes)
+Recovers chunk before now opened stored (Err refusals.Memory) = FaultsStill before now opened stored × OfRepaired chunk before (StandsPart opened stored)

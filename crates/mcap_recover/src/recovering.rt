@@ -1,0 +1,243 @@
+//! Recovery, from a source to a live store.
+ghost use Rattle.std.specs.Prelude.{◌≡◌, ◌≤◌, ℕ, [], IfOk, IfErr, OnOk};
+ghost use Rattle.mcap_wire.specs.Limits.{chunk_size_limit};
+ghost use Rattle.mcap_io.specs.Outside.{SourceState, LiveState};
+ghost use Rattle.rec_data.specs.Fields.{HeaderFields};
+ghost use Rattle.rec_data.specs.Records.{ShowsHeader};
+ghost use Rattle.mcap_scan.specs.Scanning.{Advanced};
+ghost use Rattle.chunk_writer.specs.declared.phase.Phase.TheVariants as phases;
+ghost use Rattle.chunk_writer.specs.Stops.{Cause};
+ghost use Rattle.chunk_writer.specs.Scribes.{store_of, phase_of};
+ghost use Rattle.mcap_recover.specs.Recovering.{Recovers};
+ghost use Rattle.mcap_recover.specs.Readings.{Begun, StartsSo, GrammarTold, HaltTold, Repairing, ReadsOn, RefusedBy};
+ghost use Rattle.mcap_recover.specs.Keeping.{CountsSo};
+ghost use Rattle.mcap_recover.specs.declared.answers.RecoverRefused.TheVariants as refusals;
+ghost use Rattle.mcap_recover.specs.Recovering.{Finishes};
+ghost use Rattle.mcap_model.specs.declared.options.FileOptions.{FileOptions as Options};
+
+use crate::answers::{RecoverRefused, Recovered, Why};
+use crate::keeping::{Keeping, keep_record};
+use chunk_writer::Scribe;
+use indexmap::IndexSet;
+use mcap_io::{LiveStore, Source};
+use mcap_model::{FileOptions, Stop};
+use mcap_scan::{Reader, ScanRefused, Step};
+use mcap_wire::{Memory, Text};
+use rec_data::Header;
+use std::alloc::Global;
+
+/// Where the reading came to its end: behind the Data End, or at a refusal that the reader keeps.
+#[derive(Clone, Copy)]
+pub(crate) enum Over {
+    Ended { at: u64 },
+    Refused,
+}
+
+// Why the writer stopped, as a recovery answers it.
+fn refused_by(stop: Stop) -> RecoverRefused
+    ensures { RefusedBy stop result }
+{
+    match stop {
+        Stop::Fault { faults } => return RecoverRefused::Fault { faults },
+        Stop::Limit { blocks, bytes } => return RecoverRefused::Limit { blocks, bytes },
+        Stop::Memory => return RecoverRefused::Memory,
+    }
+}
+
+// Where and why the reading halted, or that it failed.
+fn ending_of(reader: Reader, over: Over) -> Result<(u64, Why), RecoverRefused>
+    ensures { HaltTold reader over result }
+{
+    match over {
+        Over::Ended { at } => return Ok((at, Why::Complete)),
+        Over::Refused => {}
+    }
+    match reader.into_refusal() {
+        Some(ScanRefused::Fault { faults }) => return Err(RecoverRefused::Fault { faults }),
+        Some(ScanRefused::Grammar { offset, rule }) => return Ok((offset, why_of(rule))),
+        Some(ScanRefused::Compressed { offset, name: _ }) => return Ok((offset, Why::Compressed)),
+        Some(ScanRefused::Limit { offset }) => return Ok((offset, Why::Limit)),
+        Some(ScanRefused::Memory) => return Err(RecoverRefused::Memory),
+        None => return Err(RecoverRefused::Memory),
+    }
+}
+
+// Whether the bytes are cut short, where that rule is broken.
+fn why_of(rule: u8) -> Why
+    ensures { GrammarTold rule result }
+{
+    if rule == 4 {
+        return Why::Short;
+    }
+    return Why::Grammar;
+}
+
+// Reads a source on to where its reading ends, and keeps what its records show.
+fn read_on<S: Source, L: LiveStore>(
+    alloc: Global,
+    source: &mut S,
+    reader: &mut Reader,
+    k: &mut Keeping<L>,
+) -> Result<Over, Stop>
+    requires going { phase_of k.old.scribe ≡ phases.Going }
+    requires some { (options : Options) × (before : SourceState) × (opened : LiveState) × Repairing L.state options before (S.state source.old) opened reader.old k.old }
+    ensures reads { (options : Options) (before : SourceState) (opened : LiveState) → Repairing L.state options before (S.state source.old) opened reader.old k.old
+        → ReadsOn L.state options before (S.state source.new) opened reader.new k.new result }
+    ensures goes_on { OnOk result (phase_of k.new.scribe ≡ phases.Going) }
+    ensures cause { Cause (L.state (store_of k.old.scribe)).faults (L.state (store_of k.new.scribe)).faults result }
+    ensures stays { S.stays source.old source.new }
+{
+    'records: loop {
+        match reader.advance(source) {
+            Step::Record { op, offset: _ } => match keep_record(alloc, k, op, reader.content()) {
+                Ok(()) => {}
+                Err(stop) => return Err(stop),
+            },
+            Step::End { offset } => return Ok(Over::Ended { at: offset }),
+            Step::Refused => return Ok(Over::Refused),
+        }
+    }
+}
+
+// The profile of a Header.
+fn profile_in(alloc: Global, content: &[u8]) -> Result<Text, Memory>
+    ensures { (f : HeaderFields) → ShowsHeader content.now f → IfOk result (λ profile. profile ≡ f.profile) }
+{
+    match Header::parse(content) {
+        Ok(header) => return Text::copied(alloc, header.profile),
+        Err(_) => return Text::copied(alloc, ""),
+    }
+}
+
+// The profile of the new file: that of the Header, or an empty one; or why there is no new file.
+fn profile_of(alloc: Global, reader: &Reader, first: Step) -> Result<Text, RecoverRefused>
+    ensures { (before now : SourceState) → Advanced reader.now before now [] first → Begun before now reader.now result }
+{
+    match first {
+        Step::Record { .. } => match profile_in(alloc, reader.content()) {
+            Ok(profile) => return Ok(profile),
+            Err(_) => return Err(RecoverRefused::Memory),
+        },
+        Step::End { .. } => return Err(RecoverRefused::Memory),
+        Step::Refused => match reader.refusal() {
+            Some(why) => return profile_behind(alloc, why),
+            None => return Err(RecoverRefused::Memory),
+        },
+    }
+}
+
+// An empty profile, where the reading was refused at the first record; or why there is no new file.
+fn profile_behind(alloc: Global, why: &ScanRefused) -> Result<Text, RecoverRefused>
+    ensures { StartsSo why.now result }
+{
+    match why {
+        ScanRefused::Fault { faults } => return Err(RecoverRefused::Fault { faults: *faults }),
+        ScanRefused::Grammar { offset, rule: _ } => {
+            if *offset == 0 {
+                return Err(RecoverRefused::NoMagic);
+            }
+            return no_profile(alloc);
+        }
+        ScanRefused::Compressed { .. } => return no_profile(alloc),
+        ScanRefused::Limit { .. } => return no_profile(alloc),
+        ScanRefused::Memory => return Err(RecoverRefused::Memory),
+    }
+}
+
+// An empty profile.
+fn no_profile(alloc: Global) -> Result<Text, RecoverRefused>
+    ensures ok { IfOk result (λ profile. profile ≡ []) }
+    ensures err { IfErr result (λ refusal. refusal ≡ refusals.Memory) }
+{
+    match Text::copied(alloc, "") {
+        Ok(profile) => return Ok(profile),
+        Err(_) => return Err(RecoverRefused::Memory),
+    }
+}
+
+// Ends the new file, and says what was recovered.
+fn finish<L: LiveStore>(k: Keeping<L>, at: u64, why: Why) -> (L, Result<Recovered, RecoverRefused>)
+    requires going { phase_of k.scribe ≡ phases.Going }
+    ensures ends { Finishes L.state k (L.state result.0) at why result.1 }
+{
+    let mut k = k;
+    let finished = k.scribe.finish();
+    let Keeping {
+        scribe,
+        schemas: _,
+        channels: _,
+        messages,
+        records,
+        extras,
+    } = k;
+    let store = scribe.into_store();
+    match finished.end {
+        Ok(()) => {
+            let recovered = Recovered {
+                messages,
+                records,
+                extras,
+                at,
+                why,
+            };
+            return (store, Ok(recovered));
+        }
+        Err(stop) => return (store, Err(refused_by(stop))),
+    }
+}
+
+// Nothing is kept yet.
+fn keeping_of<L>(alloc: Global, scribe: Scribe<L>) -> Keeping<L>
+    ensures scribe { result.scribe ≡ scribe }
+    ensures counts { CountsSo [] [] result }
+{
+    Keeping {
+        scribe,
+        schemas: IndexSet::new(alloc),
+        channels: IndexSet::new(alloc),
+        messages: 0,
+        records: 0,
+        extras: 0,
+    }
+}
+
+/// Writes the records that a reading of the source keeps as a new file into the store, which is empty where the file is to be read
+/// back: its Schemas, Channels and Messages in chunks of that size, but for what declares an id again, and its Attachments and
+/// Metadata behind them. The source is read once.
+pub fn recover<S: Source, L: LiveStore>(
+    alloc: Global,
+    source: &mut S,
+    store: L,
+    chunk: u64,
+) -> (L, Result<Recovered, RecoverRefused>)
+    requires some { 1 ≤ chunk }
+    requires within { chunk ≤ chunk_size_limit }
+    ensures recovers { Recovers chunk (S.state source.old) (S.state source.new) (L.state store) (L.state result.0) result.1 }
+    ensures stays { S.stays source.old source.new }
+{
+    let mut reader = match Reader::new(alloc) {
+        Ok(reader) => reader,
+        Err(_) => return (store, Err(RecoverRefused::Memory)),
+    };
+    let first = reader.advance(source);
+    let profile = match profile_of(alloc, &reader, first) {
+        Ok(profile) => profile,
+        Err(refusal) => return (store, Err(refusal)),
+    };
+    let options = FileOptions {
+        profile,
+        chunk: Some(chunk),
+    };
+    let scribe = match Scribe::open(alloc, store, &options) {
+        Ok(scribe) => scribe,
+        Err((store, stop)) => return (store, Err(refused_by(stop))),
+    };
+    let mut k = keeping_of(alloc, scribe);
+    match read_on(alloc, source, &mut reader, &mut k) {
+        Ok(over) => match ending_of(reader, over) {
+            Ok((at, why)) => return finish(k, at, why),
+            Err(refusal) => return (k.scribe.into_store(), Err(refusal)),
+        },
+        Err(stop) => return (k.scribe.into_store(), Err(refused_by(stop))),
+    }
+}
