@@ -4,7 +4,7 @@ mod Refusing
 mod Accepting
 mod Declaring
 mod Calls
-mod Definitions
+pub mod Definitions
 mod AtHand
 mod Walking
 mod Feeding

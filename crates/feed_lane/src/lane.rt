@@ -8,7 +8,7 @@ ghost use Rattle.feed_lane.specs.Lanes.{messages, IsOn, Describes};
 ghost use Rattle.record_core.specs.Sights.{DefFits};
 ghost use Rattle.feed_lane.specs.Steps.{lists_of, LaneStands, ListsStand, Roomy, AreKnown, AtHand, IsDue, HasId, ThenShows, ChannelFound, MessageTaken, goes_on as goes_on_behind, publish_cause as cause_of_publishing, declare_cause as cause_of_declaring, full_cause as cause_of_full, fields_of};
 
-use crate::definition::definition;
+use crate::describing::definition;
 use crate::ids::Ids;
 use crate::pass::Pass;
 use crate::report::{Accepted, Cause, DeclaredAt, Refused};

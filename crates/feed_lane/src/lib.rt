@@ -2,7 +2,7 @@
 //! became of each message.
 #![tactic(auto)]
 
-mod definition;
+mod describing;
 mod feed;
 mod ids;
 mod lane;
@@ -11,6 +11,7 @@ mod pass;
 mod report;
 mod section;
 
+pub use describing::definition;
 pub use feed::publish_feed;
 pub use pass::Pass;
 pub use report::{Accepted, Cause, DeclaredAt, FeedEnd, FeedReport, Refused};

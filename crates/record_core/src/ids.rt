@@ -1,5 +1,6 @@
 //! The ids of a desk: a table of contents, seen as the ids of a history.
-ghost use Rattle.std.specs.Prelude.{◌≡◌, None, OnErr};
+ghost use Rattle.std.specs.Prelude.{◌≡◌, None, IfOk, OnErr};
+ghost use Rattle.id_table.specs.Given.{Declares};
 ghost use Rattle.record_core.specs.Ids.{channel_place};
 ghost use Rattle.record_core.specs.Tables.{ids_in, HasSchemas, IsIdAt, IdsDeclared, number_of, id_of};
 
@@ -7,7 +8,7 @@ use id_table::{Given, GivenIds, IdRefused, IdTable};
 use rec_data::ChannelDef;
 
 /// The id of a channel's content.
-pub(crate) fn id_of_channel(table: &IdTable, channel: &ChannelDef) -> Option<u16>
+pub fn id_of_channel(table: &IdTable, channel: &ChannelDef) -> Option<u16>
     requires { HasSchemas table.now }
     ensures { IsIdAt (channel_place (ids_in table.now) channel.now) result }
 {
@@ -15,11 +16,12 @@ pub(crate) fn id_of_channel(table: &IdTable, channel: &ChannelDef) -> Option<u16
 }
 
 /// Gives ids to a channel that is new and to its schema. Where it is refused, nothing changes.
-pub(crate) fn give_ids(table: &mut IdTable, channel: &ChannelDef) -> Result<GivenIds, IdRefused>
+pub fn give_ids(table: &mut IdTable, channel: &ChannelDef) -> Result<GivenIds, IdRefused>
     requires schemas { HasSchemas table.old }
     requires is_new { channel_place (ids_in table.old) channel.now ≡ None }
     ensures given { IdsDeclared (ids_in table.old) channel.now result (ids_in table.new) }
     ensures schemas { HasSchemas table.new }
+    ensures last { IfOk result (λ given. Declares table.old channel.now given table.new) }
     ensures err { OnErr result (table.new ≡ table.old) }
 {
     let _before = table.schemas();
@@ -30,7 +32,7 @@ pub(crate) fn give_ids(table: &mut IdTable, channel: &ChannelDef) -> Result<Give
 }
 
 /// The id of a schema, or 0 where there is none.
-pub(crate) fn id_of(given: &Option<Given>) -> u16
+pub fn id_of(given: &Option<Given>) -> u16
     ensures { result ≡ id_of given.now }
 {
     match given {
@@ -41,7 +43,7 @@ pub(crate) fn id_of(given: &Option<Given>) -> u16
 }
 
 /// The id.
-pub(crate) fn number_of(given: &Given) -> u16
+pub fn number_of(given: &Given) -> u16
     ensures { result ≡ number_of given.now }
 {
     match given {

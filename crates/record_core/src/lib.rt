@@ -11,3 +11,4 @@ pub mod laws;
 pub use answers::{DeclareRefused, Declared, Empty, Found, NewMessage, PublishRefused};
 pub use desk::Desk;
 pub use framing::declared_size;
+pub use ids::{give_ids, id_of, id_of_channel, number_of};

@@ -1,9 +1,9 @@
 mod Appended
 mod Asked
-mod Chosen
+pub mod Chosen
 mod Digits
 mod Named
-mod Parts
-mod Played
+pub mod Parts
+pub mod Played
 mod Printed
 mod Quoted

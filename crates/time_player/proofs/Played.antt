@@ -127,6 +127,16 @@ plays_on range topic reader reader_new before now now_new old new op offset was 
           ∙ sym (kept_joined range topic was.messages on.more);
     }
 
+-- the records that it stands for then
+pub plays_begin_tops : (range : Range) (topic : Option (List ℕ)) (reader : Reader) (before : SourceState) (shown : List Shown) (stands : Stands reader before before []) (none : shown ≡ []) → (plays_begin range topic reader before shown stands none).tops ≡ []
+unfolding plays_begin
+plays_begin_tops range topic reader before shown stands none = refl
+
+pub plays_on_tops : (range : Range) (topic : Option (List ℕ)) (reader reader_new : Reader) (before now now_new : SourceState) (old new : List Shown) (op offset : ℕ) (was : PlaysSoFar range topic reader before now old) (gives : Gives reader_new before now_new was.tops op offset)
+    (keeps : KeepsRecord range topic reader_new.tables offset (top op (content_of reader_new)) old new) → (plays_on range topic reader reader_new before now now_new old new op offset was gives keeps).tops ≡ was.tops ++ top op (content_of reader_new) ∷ []
+unfolding plays_on
+plays_on_tops range topic reader reader_new before now now_new old new op offset was gives keeps = refl
+
 -- the Data End was given
 pub told_at_end : (range : Range) (topic : Option (List ℕ)) (reader reader_new : Reader) (before now now_new : SourceState) (shown : List Shown) (offset : ℕ) (was : PlaysSoFar range topic reader before now shown) → Finds reader_new before now_new was.tops offset → IsTold was.tops reader_new.tables was.messages
 told_at_end range topic reader reader_new before now now_new shown offset was finds =

@@ -67,7 +67,7 @@ fn keep_inside(
 }
 
 /// Keeps those Messages that the record which was read last is or holds and that are asked for.
-pub(crate) fn keep_messages(
+pub fn keep_messages(
     kept: &mut Kept,
     reader: &Reader,
     range: Range,

@@ -17,6 +17,7 @@ mod replaying;
 mod store_part;
 mod topics;
 
+pub use keeping::keep_messages;
 pub use kept::Kept;
 pub use lent::{Lent, lend};
 pub use line::add_line;

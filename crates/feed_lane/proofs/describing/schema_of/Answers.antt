@@ -1,5 +1,5 @@
 use Rattle.feed_lane.proofs.Definitions.{shows_def}
-use Rattle.feed_lane.proofs.definition.schema_of.Goals as goal
+use Rattle.feed_lane.proofs.describing.schema_of.Goals as goal
 
 pub returns-clause-shows : goal.returns-clause-shows
 returns-clause-shows c = λ records are.

@@ -42,7 +42,7 @@ fn schema_of(alloc: Global, tables: &Tables, id: u16) -> Result<Option<SchemaDef
 }
 
 /// The channel of that id with its schema, its metadata in order. The channel of a message is always there.
-pub(crate) fn definition(alloc: Global, tables: &Tables, source: u16) -> Result<ChannelDef, Memory>
+pub fn definition(alloc: Global, tables: &Tables, source: u16) -> Result<ChannelDef, Memory>
     ensures describes { IfOk result (λ d. (records : List Top) → TablesOf records tables.now → Describes records source d) }
     ensures fits { IfOk result DefFits }
 {

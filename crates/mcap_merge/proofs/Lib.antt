@@ -1,0 +1,12 @@
+mod Held
+mod Rising
+mod Ordered
+mod Joined
+mod Contents
+mod Written
+mod Merging
+mod InTurn
+mod Stores
+mod Profiles
+mod Used
+mod Filing

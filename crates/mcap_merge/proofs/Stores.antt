@@ -1,0 +1,151 @@
+-- What reading a store whole comes to, and reading one after the other.
+use Rattle.std.proofs.Common.{◌≡◌, ℕ, zero, suc, ◌+◌, ◌<◌, ◌≤◌, List, [], ◌∷◌, ◌++◌, length, get_or, take, drop, map, set, Option, Some, None, refl, sym, ap, subst, ◌∙◌, arith}
+use Rattle.std.specs.Prelude.{Result, Ok, Err}
+use Rattle.std.specs.List.{AllZip}
+use Rattle.std.specs.Option.{option_map}
+use Rattle.std.proofs.lemmas.List.{take_all}
+use Rattle.std.proofs.lemmas.Option.{same_Some}
+use Rattle.mcap_io.specs.declared.outside.Failed.{Failed}
+use Rattle.mcap_io.specs.Outside.{SourceState, RisesOnce}
+use Rattle.mcap_io.specs.Stores.{StoreState, Measures}
+use Rattle.mcap_io.specs.StoreSources.{front_left}
+use Rattle.mcap_model.specs.Places.{At}
+use Rattle.mcap_model.specs.Tops.{Top}
+use Rattle.mcap_model.specs.Kept.{reading_limits, Halts, at_end}
+use Rattle.mcap_model.proofs.Places.{at_none, at_one, at_within, at_kept, at_read, at_set_same, at_set_other}
+use Rattle.mcap_model.proofs.Lists.{at_taken}
+use Rattle.mcap_model.proofs.NamedTopics.{zip_front}
+use Rattle.mcap_model.proofs.OneMore.{taken_more, zip_push}
+use Rattle.mcap_scan.specs.declared.answers.ScanRefused.{ScanRefused}
+use Rattle.mcap_scan.specs.declared.answers.ScanRefused.TheVariants as refusals
+use Rattle.mcap_merge.specs.declared.answers.MergeRefused.{MergeRefused}
+use Rattle.mcap_merge.specs.declared.answers.MergeRefused.TheVariants as merges
+use Rattle.mcap_merge.specs.declared.input.Input.{Input}
+use Rattle.mcap_merge.specs.Inputs.{Read, HoldsInput, HoldInputs, ReadsInput}
+use Rattle.mcap_merge.specs.Reading.{front_of, StoreReads, StoreKeeps, IsReadOf, StoreRefused, ReadsWhole, IsRefusalAt, AreHeld, AreReadBefore, InputRefused}
+use Rattle.mcap_merge.proofs.Joined.{set_either}
+
+-- the first bytes of a store are all where the length is theirs
+all_left : (mid : StoreState) (len : ℕ) (bytes : List ℕ) → mid.bytes ≡ Some bytes → len ≡ length bytes → front_left mid.bytes 0 len ≡ Some bytes
+all_left mid len bytes is long =
+    ap (λ (o : Option (List ℕ)). front_left o 0 len) is ∙ ap (λ (l : List ℕ). Some l) (take_all len bytes (omega (arith, long)))
+
+told_left : (old mid : StoreState) (len : ℕ) (bytes : List ℕ) → Measures old mid (Ok len) → old.bytes ≡ Some bytes → (front_of mid len).left ≡ Some bytes
+told_left old mid len bytes measures is = all_left mid len bytes (measures.bytes ∙ is) (let tells = measures.tells in tells bytes is)
+
+pub reads_whole : (old mid new : StoreState) (len : ℕ) (result : Result Input ScanRefused) → Measures old mid (Ok len) → StoreReads mid len new result → ReadsWhole old new result
+reads_whole old mid new len (Ok input) measures (now, same, (r, end, halts, holds)) =
+    let all = halts.halts in (
+      r,
+      holds,
+      λ bytes is. (end, all bytes (told_left old mid len bytes measures is)),
+      sym same ∙ halts.still ∙ measures.cause.still,
+    )
+reads_whole old mid new len (Err (refusals.Fault faults)) measures (now, same, (tops, stands)) =
+    let rises = stands.rises in
+    let before : mid.faults ≡ old.faults = measures.cause.still in
+    (subst (λ (n : ℕ). RisesOnce n new.faults) before (subst (λ (n : ℕ). RisesOnce mid.faults n) same rises), stands.carried ∙ same)
+reads_whole old mid new len (Err (refusals.Grammar offset rule)) measures (now, same, (tops, halts)) =
+    let all = halts.halts in (sym same ∙ halts.still ∙ measures.cause.still, λ bytes is. (tops, all bytes (told_left old mid len bytes measures is)))
+reads_whole old mid new len (Err (refusals.Compressed offset name)) measures (now, same, (tops, halts)) =
+    let all = halts.halts in (sym same ∙ halts.still ∙ measures.cause.still, λ bytes is. (tops, all bytes (told_left old mid len bytes measures is)))
+reads_whole old mid new len (Err (refusals.Limit offset)) measures (now, same, (tops, halts)) =
+    let all = halts.halts in (sym same ∙ halts.still ∙ measures.cause.still, λ bytes is. (tops, all bytes (told_left old mid len bytes measures is)))
+reads_whole old mid new len (Err refusals.Memory) measures (now, same, (tops, stands)) = sym same ∙ stands.still ∙ measures.cause.still
+
+-- ---- one after the other
+
+-- so many stores were read; those behind are as they were
+pub record ReadSoFar {T : Type 0} (state : T → StoreState) (olds nows : List T) (i : ℕ) (inputs : List Input) : Type 0 where
+  pub size : length nows ≡ length olds
+  pub keeps : AllZip StoreKeeps (map state olds) (map state nows)
+  pub behind : (k : ℕ) (x : T) → i ≤ k → At olds k x → At nows k x
+  pub reads : List Read
+  pub hold : HoldInputs reads inputs
+  pub are : AllZip IsReadOf (take i (map state olds)) reads
+
+module _ {T : Type 0} (state : T → StoreState) where
+  keeps_self : (xs : List T) → AllZip StoreKeeps (map state xs) (map state xs)
+  keeps_self [] = tt
+  keeps_self (x ∷ xs) = (record { bytes = refl; known = omega arith; faults = omega arith }, keeps_self xs)
+
+  pub read_begin : (olds : List T) (inputs : List Input) → inputs ≡ [] → ReadSoFar state olds olds 0 inputs
+  read_begin olds inputs none = record {
+    size = refl;
+    keeps = keeps_self olds;
+    behind = λ k x later at. at;
+    reads = [];
+    hold = subst (HoldInputs []) (sym none) tt;
+    are = tt;
+  }
+
+  keeps_trans : (a b c : StoreState) → StoreKeeps a b → StoreKeeps b c → StoreKeeps a c
+  keeps_trans a b c one other = record { bytes = other.bytes ∙ one.bytes; known = omega (arith, one.known, other.known); faults = omega (arith, one.faults, other.faults) }
+
+  keeps_set : (olds : List StoreState) (nows : List T) (i : ℕ) (x y : T) → AllZip StoreKeeps olds (map state nows) → At nows i x → StoreKeeps (state x) (state y) → AllZip StoreKeeps olds (map state (set nows i y))
+  keeps_set [] [] i x y all at one = absurd (at_none i x at)
+  keeps_set [] (z ∷ zs) i x y all at one = absurd all
+  keeps_set (o ∷ os) [] i x y all at one = absurd all
+  keeps_set (o ∷ os) (z ∷ zs) zero x y all at one =
+      let same : z ≡ x = at_one (z ∷ zs) zero z x refl at in
+      (keeps_trans o (state z) (state y) all.0 (subst (λ (w : T). StoreKeeps (state w) (state y)) (sym same) one), all.1)
+  keeps_set (o ∷ os) (z ∷ zs) (suc i) x y all at one = (all.0, keeps_set os zs i x y all.1 at one)
+
+  length_set : (xs : List T) (i : ℕ) (y : T) → length (set xs i y) ≡ length xs
+  length_set [] i y = refl
+  length_set (x ∷ xs) zero y = refl
+  length_set (x ∷ xs) (suc i) y = ap suc (length_set xs i y)
+
+  at_mapped : (xs : List T) (i : ℕ) (x : T) → At xs i x → At (map state xs) i (state x)
+  at_mapped [] i x at = absurd (at_none i x at)
+  at_mapped (z ∷ zs) zero x at = ap (λ (w : T). Some (state w)) (at_one (z ∷ zs) zero z x refl at)
+  at_mapped (z ∷ zs) (suc i) x at = at_mapped zs i x at
+
+  -- the store of that number is as it was
+  old_at : (olds nows : List T) (i : ℕ) (inputs : List Input) (x : T) → ReadSoFar state olds nows i inputs → At nows i x → At olds i x
+  old_at olds nows i inputs x was at =
+      let behind = was.behind in
+      let within : i < length olds = omega (arith, at_within nows i x at, was.size) in
+      let first = at_read olds i x within in
+      let same : get_or olds i x ≡ x = at_one nows i (get_or olds i x) x (behind i (get_or olds i x) (omega arith) first) at in
+      subst (At olds i) same first
+
+  -- a store more
+  pub read_on : (olds nows : List T) (i : ℕ) (inputs more : List Input) (x y : T) (input : Input) → ReadSoFar state olds nows i inputs → At nows i x → StoreKeeps (state x) (state y) → ReadsWhole (state x) (state y) (Ok input) → more ≡ inputs ++ input ∷ []
+      → ReadSoFar state olds (set nows i y) (i + 1) more
+  read_on olds nows i inputs more x y input was at keeps (r, holds, is, still) grown = record {
+    size = length_set nows i y ∙ was.size;
+    keeps = keeps_set (map state olds) nows i x y was.keeps at keeps;
+    behind = λ k z later there. let behind = was.behind in at_set_other nows i k z y (λ e. omega (arith, later, e)) (behind k z (omega (arith, later)) there);
+    reads = was.reads ++ r ∷ [];
+    hold = subst (HoldInputs (was.reads ++ r ∷ [])) (sym grown) (zip_push HoldsInput was.reads inputs r input was.hold holds);
+    are = subst (λ (l : List StoreState). AllZip IsReadOf l (was.reads ++ r ∷ [])) (sym (taken_more (map state olds) i (state x) (at_mapped olds i x (old_at olds nows i inputs x was at)))) (zip_push IsReadOf (take i (map state olds)) was.reads (state x) r was.are is);
+  }
+
+  read_before : (olds nows : List T) (i : ℕ) (inputs : List Input) → ReadSoFar state olds nows i inputs → AreReadBefore (map state olds) i
+  read_before olds nows i inputs was k s below at =
+      let found = zip_front IsReadOf (take i (map state olds)) was.reads k s was.are (at_taken (map state olds) i k s below at) in
+      (found.0, found.2)
+
+  pub keeps_all : (olds nows : List T) (i : ℕ) (inputs : List Input) (x y : T) → ReadSoFar state olds nows i inputs → At nows i x → StoreKeeps (state x) (state y) → AllZip StoreKeeps (map state olds) (map state (set nows i y))
+  keeps_all olds nows i inputs x y was at keeps = keeps_set (map state olds) nows i x y was.keeps at keeps
+
+  -- a store that was refused
+  pub refused_at : (olds nows : List T) (i : ℕ) (inputs : List Input) (x y : T) (scan : ScanRefused) (why : MergeRefused) → ReadSoFar state olds nows i inputs → At nows i x → StoreRefused (state x) (state y) scan → IsRefusalAt i scan why
+      → InputRefused (map state olds) (map state (set nows i y)) why
+  refused_at olds nows i inputs x y (refusals.Fault faults) why was at refused is =
+      let within : i < length nows = at_within nows i x at in
+      subst (InputRefused (map state olds) (map state (set nows i y))) (sym is)
+      (i, state x, state y, at_mapped olds i x (old_at olds nows i inputs x was at), at_mapped (set nows i y) i y (at_set_same nows i y within), refused.0, refused.1)
+  refused_at olds nows i inputs x y (refusals.Grammar offset rule) why was at refused is =
+      let halts = refused.1 in
+      subst (InputRefused (map state olds) (map state (set nows i y))) (sym is)
+      (read_before olds nows i inputs was, state x, at_mapped olds i x (old_at olds nows i inputs x was at), λ bytes told. let there = halts bytes told in (there.0, rule, there.1))
+  refused_at olds nows i inputs x y (refusals.Compressed offset name) why was at refused is =
+      subst (InputRefused (map state olds) (map state (set nows i y))) (sym is) (read_before olds nows i inputs was, state x, at_mapped olds i x (old_at olds nows i inputs x was at), refused.1)
+  refused_at olds nows i inputs x y (refusals.Limit offset) why was at refused is =
+      subst (InputRefused (map state olds) (map state (set nows i y))) (sym is) (read_before olds nows i inputs was, state x, at_mapped olds i x (old_at olds nows i inputs x was at), refused.1)
+  refused_at olds nows i inputs x y refusals.Memory why was at refused is = subst (InputRefused (map state olds) (map state (set nows i y))) (sym is) tt
+
+  pub all_held : (olds nows : List T) (i : ℕ) (inputs : List Input) → ReadSoFar state olds nows i inputs → length (map state olds) ≤ i → AreHeld (map state olds) inputs
+  all_held olds nows i inputs was all = (was.reads, was.hold, subst (λ (l : List StoreState). AllZip IsReadOf l was.reads) (take_all i (map state olds) all) was.are)

@@ -1,0 +1,63 @@
+-- What a merge comes to.
+use Rattle.std.specs.Prelude.{◌≡◌, ◌⊎◌, ℕ, List, ◌++◌, Some, Result, Ok, Err}
+use Rattle.std.specs.List.{AllZip}
+use Rattle.rec_data.specs.declared.owned.Rec.{Rec}
+use Rattle.mcap_io.specs.Outside.{LiveState, Adds}
+use Rattle.mcap_io.specs.Stores.{StoreState}
+use Rattle.mcap_model.specs.declared.options.FileOptions.{FileOptions}
+use Rattle.mcap_model.specs.declared.ends.Stop.{Stop}
+use Rattle.mcap_model.specs.declared.ends.Stop.TheVariants as stops
+use Rattle.mcap_model.specs.Tops.{Top}
+use Rattle.mcap_model.specs.File.{file_of}
+use Rattle.chunk_writer.specs.Stops.{StopsAt, StopCause}
+use Rattle.mcap_merge.specs.declared.answers.MergeRefused.{MergeRefused}
+use Rattle.mcap_merge.specs.declared.answers.MergeRefused.TheVariants as merges
+use Rattle.mcap_merge.specs.declared.answers.Merged.{Merged}
+use Rattle.mcap_merge.specs.Merged.{MergeOf}
+use Rattle.mcap_merge.specs.Inputs.{Read, tops_of}
+use Rattle.mcap_merge.specs.Reading.{IsReadOf}
+use Rattle.mcap_merge.specs.Gathering.{GatherRefused, Counts}
+
+abbrev pub merged_options : List ℕ → ℕ → FileOptions
+merged_options profile chunk = record { profile = profile; chunk = Some chunk }
+
+-- the merge of stores: where they tell, they are read to their Data Ends, and this is made of their records
+pub record MergeIs (stores : List StoreState) (profile : List ℕ) (extras : List Top) (history : List Rec) : Type 0 where
+  pub reads : List Read
+  pub are : AllZip IsReadOf stores reads
+  pub merge : MergeOf (tops_of reads) profile extras history
+
+-- the file of the merge stands behind what the store held
+pub record MergesInto (stores : List StoreState) (opened now : LiveState) (chunk : ℕ) (m : Merged) : Type 0 where
+  pub profile : List ℕ
+  pub extras : List Top
+  pub history : List Rec
+  pub is : MergeIs stores profile extras history
+  pub counts : Counts history m
+  pub file : Adds opened.held now.held (file_of (merged_options profile chunk) extras history)
+
+-- The file stands behind what the store held, or the writer stopped at a piece of it.
+abbrev pub FileStands : FileOptions → List Top → List Rec → LiveState → LiveState → Result Unit Stop → Type 0
+FileStands options extras history opened now (Ok it) = Adds opened.held now.held (file_of options extras history)
+FileStands options extras history opened now (Err stop) = (blocks : ℕ) × (bytes : ℕ) × StopsAt options extras history opened.held now.held stop blocks bytes
+
+-- why the writer stopped, as a merge answers it
+abbrev pub IsWriterRefusal : Stop → MergeRefused → Type 0
+IsWriterRefusal (stops.Fault faults) why = why ≡ merges.Fault faults
+IsWriterRefusal (stops.Limit blocks bytes) why = why ≡ merges.FileLimit blocks bytes
+IsWriterRefusal stops.Memory why = why ≡ merges.Memory
+
+-- the writer stopped at a piece of the file of the merge
+pub record MergeStops (stores : List StoreState) (opened now : LiveState) (chunk : ℕ) (why : MergeRefused) : Type 0 where
+  pub profile : List ℕ
+  pub extras : List Top
+  pub history : List Rec
+  pub is : MergeIs stores profile extras history
+  pub stop : Stop
+  pub answer : IsWriterRefusal stop why
+  pub stands : FileStands (merged_options profile chunk) extras history opened now (Err stop)
+  pub cause : StopCause opened.faults now.faults stop
+
+-- nothing was written, or the writer stopped
+abbrev pub MergeFails : List StoreState → List StoreState → LiveState → LiveState → ℕ → MergeRefused → Type 0
+MergeFails olds news opened now chunk why = ((now ≡ opened) × GatherRefused olds news why) ⊎ MergeStops olds opened now chunk why

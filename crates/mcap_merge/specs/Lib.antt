@@ -1,0 +1,10 @@
+pub mod Merged
+pub mod Uses
+pub mod Inputs
+pub mod Turns
+pub mod Joining
+pub mod Writing
+pub mod Reading
+pub mod Gathering
+pub mod Pens
+pub mod Filed

@@ -1,0 +1,80 @@
+-- Inputs that are read.
+use Rattle.std.specs.Prelude.{◌≡◌, ◌⊎◌, ℕ, ◌<◌, ◌≤◌, List, length, map, Option, Some, Result, Ok, Err}
+use Rattle.std.specs.List.{AllZip}
+use Rattle.mcap_io.specs.Outside.{SourceState, RisesOnce}
+use Rattle.mcap_io.specs.Stores.{StoreState}
+use Rattle.mcap_io.specs.StoreSources.{front_left}
+use Rattle.mcap_model.specs.Places.{At}
+use Rattle.mcap_model.specs.Tops.{Top}
+use Rattle.mcap_model.specs.Kept.{reading_limits, Halts, at_end, grammar, compressed, beyond}
+use Rattle.mcap_scan.specs.declared.answers.ScanRefused.{ScanRefused}
+use Rattle.mcap_scan.specs.declared.answers.ScanRefused.TheVariants as refusals
+use Rattle.mcap_merge.specs.declared.answers.MergeRefused.{MergeRefused}
+use Rattle.mcap_merge.specs.declared.answers.MergeRefused.TheVariants as merges
+use Rattle.mcap_merge.specs.declared.input.Input.{Input}
+use Rattle.mcap_merge.specs.Inputs.{Read, tops_of, HoldsInput, HoldInputs, ReadsInput}
+
+abbrev pub front_of : StoreState → ℕ → SourceState
+front_of store len = record { left = front_left store.bytes 0 len; faults = store.faults }
+
+-- the first so many bytes of a store were read
+abbrev pub StoreReads : StoreState → ℕ → StoreState → Result Input ScanRefused → Type 0
+StoreReads old len new result = (now : SourceState) × (now.faults ≡ new.faults) × ReadsInput (front_of old len) now result
+
+-- the store tells the same bytes, and its count hasn't fallen
+pub record StoreKeeps (old new : StoreState) : Type 0 where
+  pub bytes : new.bytes ≡ old.bytes
+  pub known : old.known ≤ new.known
+  pub faults : old.faults ≤ new.faults
+
+-- where the store tells, a reading of its bytes comes to its Data End, and these are its records
+abbrev pub IsReadOf : StoreState → Read → Type 0
+IsReadOf store r = (bytes : List ℕ) → store.bytes ≡ Some bytes → (end : ℕ) × Halts reading_limits bytes r.tops (at_end end)
+
+-- why a store wasn't read to its Data End
+abbrev pub StoreRefused : StoreState → StoreState → ScanRefused → Type 0
+StoreRefused old new (refusals.Fault faults) = RisesOnce old.faults new.faults × (faults ≡ new.faults)
+StoreRefused old new (refusals.Grammar offset rule) = (new.faults ≡ old.faults) × ((bytes : List ℕ) → old.bytes ≡ Some bytes → (tops : List Top) × Halts reading_limits bytes tops (grammar offset rule))
+StoreRefused old new (refusals.Compressed offset name) = (new.faults ≡ old.faults) × ((bytes : List ℕ) → old.bytes ≡ Some bytes → (tops : List Top) × Halts reading_limits bytes tops (compressed offset name))
+StoreRefused old new (refusals.Limit offset) = (new.faults ≡ old.faults) × ((bytes : List ℕ) → old.bytes ≡ Some bytes → (tops : List Top) × Halts reading_limits bytes tops (beyond offset))
+StoreRefused old new refusals.Memory = new.faults ≡ old.faults
+
+-- a store was read whole
+abbrev pub ReadsWhole : StoreState → StoreState → Result Input ScanRefused → Type 0
+ReadsWhole old new (Ok input) = (r : Read) × HoldsInput r input × IsReadOf old r × (new.faults ≡ old.faults)
+ReadsWhole old new (Err why) = StoreRefused old new why
+
+-- what is answered for that
+abbrev pub IsRefusalAt : ℕ → ScanRefused → MergeRefused → Type 0
+IsRefusalAt input (refusals.Fault faults) why = why ≡ merges.Fault faults
+IsRefusalAt input (refusals.Grammar offset rule) why = why ≡ merges.Grammar input offset
+IsRefusalAt input (refusals.Compressed offset name) why = why ≡ merges.Compressed input offset name
+IsRefusalAt input (refusals.Limit offset) why = why ≡ merges.Limit input offset
+IsRefusalAt input refusals.Memory why = why ≡ merges.Memory
+
+-- all stores were read to their Data Ends, and this is held of them
+abbrev pub AreHeld : List StoreState → List Input → Type 0
+AreHeld stores inputs = (reads : List Read) × HoldInputs reads inputs × AllZip IsReadOf stores reads
+
+-- those before that number can be read to their Data Ends
+abbrev pub AreReadBefore : List StoreState → ℕ → Type 0
+AreReadBefore stores n = (k : ℕ) (s : StoreState) → k < n → At stores k s → (r : Read) × IsReadOf s r
+
+-- where the store of that number tells, a reading of its bytes halts so, and it is the first for which that is so
+abbrev pub HaltsFirst : List StoreState → ℕ → (List ℕ → Type 0) → Type 0
+HaltsFirst stores n halts = AreReadBefore stores n × (s : StoreState) × At stores n s × ((bytes : List ℕ) → s.bytes ≡ Some bytes → halts bytes)
+
+-- the count of one of them has risen, to this
+abbrev pub OneRose : List StoreState → List StoreState → ℕ → Type 0
+OneRose olds news faults = (k : ℕ) × (old new : StoreState) × At olds k old × At news k new × RisesOnce old.faults new.faults × (faults ≡ new.faults)
+
+-- why the inputs weren't all read
+abbrev pub InputRefused : List StoreState → List StoreState → MergeRefused → Type 0
+InputRefused olds news (merges.Fault faults) = OneRose olds news faults
+InputRefused olds news (merges.Grammar input offset) = HaltsFirst olds input (λ bytes. (tops : List Top) × (rule : ℕ) × Halts reading_limits bytes tops (grammar offset rule))
+InputRefused olds news (merges.Compressed input offset name) = HaltsFirst olds input (λ bytes. (tops : List Top) × Halts reading_limits bytes tops (compressed offset name))
+InputRefused olds news (merges.Limit input offset) = HaltsFirst olds input (λ bytes. (tops : List Top) × Halts reading_limits bytes tops (beyond offset))
+InputRefused olds news merges.TooManySchemas = ⊥
+InputRefused olds news merges.TooManyChannels = ⊥
+InputRefused olds news (merges.FileLimit blocks bytes) = ⊥
+InputRefused olds news merges.Memory = Unit {0}

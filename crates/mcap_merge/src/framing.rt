@@ -1,0 +1,68 @@
+//! Records of a merge by their framed bytes.
+ghost use Rattle.std.specs.Prelude.{◌≡◌, Some, OnOk};
+ghost use Rattle.mcap_model.specs.History.{schema_of, channel_of, message_of};
+ghost use Rattle.rec_data.specs.Owned.{RecFits};
+ghost use Rattle.chunk_build.specs.Chunker.{AreFramed};
+ghost use Rattle.record_core.specs.Ids.{fields_of_schema, fields_with};
+ghost use Rattle.record_core.specs.Sights.{SchemaFits, DefFits};
+ghost use Rattle.mcap_merge.specs.Writing.{message_fields_of};
+
+use mcap_wire::{Memory, PairsRef};
+use rec_data::{Channel, ChannelDef, Message, Schema, SchemaDef};
+use time_player::Lent;
+
+/// The Schema of that content, in place of what the vector held.
+pub(crate) fn frame_schema(framed: &mut Vec<u8>, schema: &SchemaDef, id: u16) -> Result<(), Memory>
+    requires { SchemaFits (Some schema.now) }
+    ensures { OnOk result (AreFramed framed.new.items (schema_of id (fields_of_schema schema.now))) }
+{
+    framed.clear();
+    Schema {
+        id,
+        name: schema.name.as_str(),
+        encoding: schema.encoding.as_str(),
+        payload: schema.payload.as_slice(),
+    }
+    .frame(framed)
+}
+
+/// The Channel of that content, in place of what the vector held.
+pub(crate) fn frame_channel(
+    framed: &mut Vec<u8>,
+    channel: &ChannelDef,
+    id: u16,
+    schema_id: u16,
+) -> Result<(), Memory>
+    requires { DefFits channel.now }
+    ensures { OnOk result (AreFramed framed.new.items (channel_of id (fields_with channel.now schema_id))) }
+{
+    framed.clear();
+    Channel {
+        id,
+        schema_id,
+        topic: channel.topic.as_str(),
+        message_encoding: channel.message_encoding.as_str(),
+        metadata: PairsRef::of(channel.metadata.as_slice()),
+    }
+    .frame(framed)
+}
+
+/// The message on that channel, in place of what the vector held.
+#[inline(always)]
+pub(crate) fn frame_message(
+    framed: &mut Vec<u8>,
+    channel: u16,
+    lent: &Lent<'_>,
+) -> Result<(), Memory>
+    ensures { OnOk result (AreFramed framed.new.items (message_of channel (message_fields_of lent.now))) }
+{
+    framed.clear();
+    Message {
+        channel_id: channel,
+        sequence: lent.sequence,
+        log_time: lent.log_time,
+        publish_time: lent.publish_time,
+        payload: lent.payload,
+    }
+    .frame(framed)
+}

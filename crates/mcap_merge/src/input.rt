@@ -1,0 +1,187 @@
+//! What is held of an input: its profile, its declarations, its Attachments and Metadata, and its messages.
+ghost use Rattle.std.specs.Prelude.{◌≡◌, ◌++◌, ◌∷◌, [], List, map, OnOk, IfOk};
+ghost use Rattle.mcap_model.specs.Tops.{Top};
+ghost use Rattle.mcap_model.specs.Made.{top};
+ghost use Rattle.mcap_scan.specs.declared.answers.ScanRefused.{ScanRefused as Refusal};
+ghost use Rattle.mcap_scan.specs.declared.reader.Stage.TheVariants as stages;
+ghost use Rattle.mcap_scan.specs.Scanning.{content_of, tables_of};
+ghost use Rattle.mcap_merge.specs.Inputs.{extra_top, extra_tops, ReadsInput, KeepsExtra, ReadsProfile, KeepsProfile, HoldsRecord, HoldsNothing, IsInputOf};
+
+use mcap_io::Source;
+use mcap_model::{Range, Tables};
+use mcap_scan::{Reader, ScanRefused, Step};
+use mcap_wire::{Bytes, Memory, Text};
+use rec_data::{ATTACHMENT, Header, METADATA};
+use std::alloc::Global;
+use time_player::{Kept, keep_messages};
+
+// All times.
+const WHOLE: Range = Range {
+    start: 0,
+    end: None,
+};
+
+/// An Attachment or a Metadata, as it stands in a file.
+#[derive(Drop)]
+pub(crate) struct Extra {
+    pub op: u8,
+    pub content: Bytes,
+}
+
+/// What is held of an input that was read to its Data End.
+#[derive(Drop)]
+pub(crate) struct Input {
+    pub profile: Text,
+    pub tables: Tables,
+    pub extras: Vec<Extra>,
+    pub kept: Kept,
+}
+
+// Keeps the record, if it is an Attachment or a Metadata.
+fn keep_extra(alloc: Global, extras: &mut Vec<Extra>, op: u8, content: &[u8]) -> Result<(), Memory>
+    ensures { OnOk result (KeepsExtra (top op content.now) extras.old.items extras.new.items) }
+{
+    if op != ATTACHMENT && op != METADATA {
+        return Ok(());
+    }
+    let content = match Bytes::copied(alloc, content) {
+        Ok(content) => content,
+        Err(memory) => return Err(memory),
+    };
+    match extras.push(Extra { op, content }) {
+        Ok(()) => return Ok(()),
+        Err(_) => return Err(Memory),
+    }
+}
+
+// The profile of the first record, which is a Header.
+fn profile_of(alloc: Global, content: &[u8]) -> Result<Text, Memory>
+    ensures { ReadsProfile content.now result }
+{
+    let header = match Header::parse(content) {
+        Ok(header) => header,
+        Err(_) => return Err(Memory),
+    };
+    Text::copied(alloc, header.profile)
+}
+
+// Why a reading was refused.
+fn refusal_of(reader: Reader) -> ScanRefused
+    ensures { (why : Refusal) → reader.stage ≡ stages.Stopped why → result ≡ why }
+{
+    match reader.into_refusal() {
+        Some(why) => return why,
+        None => return ScanRefused::Memory,
+    }
+}
+
+// What is held of the records so far.
+#[derive(Drop)]
+struct Holding {
+    profile: Text,
+    extras: Vec<Extra>,
+    kept: Kept,
+}
+
+// Keeps the profile of the first record.
+fn keep_profile(
+    alloc: Global,
+    profile: &mut Text,
+    offset: u64,
+    content: &[u8],
+) -> Result<(), Memory>
+    ensures { OnOk result (KeepsProfile offset content.now profile.old profile.new) }
+{
+    if offset != 8 {
+        return Ok(());
+    }
+    match profile_of(alloc, content) {
+        Ok(first) => {
+            *profile = first;
+            return Ok(());
+        }
+        Err(memory) => return Err(memory),
+    }
+}
+
+// Holds what there is of the record that was read last, which stands at that offset.
+fn hold(
+    alloc: Global,
+    held: &mut Holding,
+    reader: &Reader,
+    op: u8,
+    offset: u64,
+) -> Result<(), Memory>
+    ensures { OnOk result (HoldsRecord (tables_of reader.now) offset (top op (content_of reader.now)) held.old held.new) }
+{
+    match keep_messages(&mut held.kept, reader, WHOLE, None, op, offset) {
+        Ok(()) => {}
+        Err(memory) => return Err(memory),
+    }
+    match keep_extra(alloc, &mut held.extras, op, reader.content()) {
+        Ok(()) => {}
+        Err(memory) => return Err(memory),
+    }
+    match keep_profile(alloc, &mut held.profile, offset, reader.content()) {
+        Ok(()) => return Ok(()),
+        Err(memory) => return Err(memory),
+    }
+}
+
+// Nothing is held yet.
+fn hold_nothing(alloc: Global) -> Result<Holding, Memory>
+    ensures { IfOk result HoldsNothing }
+{
+    match Text::copied(alloc, "") {
+        Ok(profile) => {
+            return Ok(Holding {
+                profile,
+                extras: Vec::new(alloc),
+                kept: Kept::new(alloc),
+            });
+        }
+        Err(memory) => return Err(memory),
+    }
+}
+
+// What is held at the end, with the declarations.
+fn input_of(held: Holding, reader: Reader) -> Input
+    ensures { IsInputOf held (tables_of reader) result }
+{
+    let Holding {
+        profile,
+        extras,
+        kept,
+    } = held;
+    Input {
+        profile,
+        tables: reader.into_tables(),
+        extras,
+        kept,
+    }
+}
+
+/// Reads a source to its Data End, and holds what it has.
+pub(crate) fn read_input<S: Source>(alloc: Global, source: &mut S) -> Result<Input, ScanRefused>
+    ensures reads { ReadsInput (S.state source.old) (S.state source.new) result }
+    ensures stays { S.stays source.old source.new }
+{
+    let mut reader = match Reader::new(alloc) {
+        Ok(reader) => reader,
+        Err(_) => return Err(ScanRefused::Memory),
+    };
+    let mut held = match hold_nothing(alloc) {
+        Ok(held) => held,
+        Err(_) => return Err(ScanRefused::Memory),
+    };
+    'records: loop {
+        match reader.advance(source) {
+            Step::Record { op, offset } => match hold(alloc, &mut held, &reader, op, offset) {
+                Ok(()) => {}
+                Err(_) => return Err(ScanRefused::Memory),
+            },
+            Step::End { offset: _ } => return Ok(input_of(held, reader)),
+            Step::Refused => return Err(refusal_of(reader)),
+        }
+    }
+}

@@ -1,0 +1,26 @@
+//! Merging files: the messages of all inputs in the order of log time, on channels that are numbered by content.
+#![tactic(auto)]
+
+mod answers;
+mod checking;
+mod extras;
+mod framing;
+mod gathering;
+mod input;
+mod joining;
+mod merge_stores;
+mod pen;
+mod profile;
+mod reading;
+mod scribe_pen;
+mod turns;
+mod writing;
+
+pub use answers::{MergeRefused, Merged};
+pub use gathering::{Gathered, gather};
+pub use merge_stores::merge;
+pub use pen::Pen;
+pub use writing::write_all;
+
+#[cfg(test)]
+mod tests;
