@@ -4,6 +4,8 @@ pub mod Framing
 pub mod TextMaps
 mod MapWalks
 pub mod PairWalks
+mod KeyPassLemmas
+mod DoubleKeys
 mod PlaceLemmas
 pub mod ArrayLemmas
 mod ArrayPlaceLemmas

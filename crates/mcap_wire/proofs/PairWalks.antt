@@ -14,8 +14,8 @@ use Rattle.mcap_wire.specs.declared.faults.Why.{Why}
 use Rattle.mcap_wire.specs.declared.faults.Why.TheVariants.{Short, BadText, BadLength, DoubleKey}
 use Rattle.mcap_wire.specs.Layout.{string}
 use Rattle.mcap_wire.specs.Reading.{FieldAt, TextAt, text_length, text_bytes}
-use Rattle.mcap_wire.specs.Maps.{IsText, a_string, IsTextPair, LacksKey, IsTextMap, pair_text, pair_texts, ItemFails, MapStops}
-use Rattle.mcap_wire.specs.PairBytes.{behind_text, pairs_in, HoldsMap, NoneAbove, PartFails, TextStands}
+use Rattle.mcap_wire.specs.Maps.{IsText, a_string, IsTextPair, LacksKey, KeysDiffer, IsTextMap, pair_text, pair_texts, ItemFails, MapStops}
+use Rattle.mcap_wire.specs.PairBytes.{behind_text, pairs_in, SpellsPairs, HoldsMap, NoneAbove, PartFails, TextStands}
 use Rattle.mcap_wire.proofs.Framing.{length-string, length_found, bytes_found, stands_within, text_decided}
 use Rattle.mcap_wire.proofs.TextMaps.{Pair, IsTextMap-nil, IsTextMap-push, pair_texts-push, pair_parts, texts_fit}
 
@@ -98,6 +98,24 @@ one_more bytes count at middle end key value held key_there value_there new =
     let is_map : IsTextMap (before ++ (key, value) ∷ []) = IsTextMap-push before (key, value) held.is_map (pair_of_texts bytes at middle end key value key_there value_there) new in
     let size : count + 1 ≡ length (before ++ (key, value) ∷ []) = omega (arith, length-append before ((key, value) ∷ []), length-pairs_in count (take at bytes)) in
     (map_is_held (take end bytes) (before ++ (key, value) ∷ []) (count + 1) spelled is_map size, pairs_are (take end bytes) (before ++ (key, value) ∷ []) (count + 1) spelled is_map.texts size)
+
+-- the same where keys may be equal
+pub one_more_spelled : (bytes : List ℕ) (count at middle end : ℕ) (key value : List ℕ) → SpellsPairs (take at bytes) count → TextAt bytes at key middle → TextAt bytes middle value end → SpellsPairs (take end bytes) (count + 1)
+one_more_spelled bytes count at middle end key value spells key_there value_there =
+    let before = pairs_in count (take at bytes) in
+    let spelled : take end bytes ≡ pair_texts (before ++ (key, value) ∷ []) =
+    pair_spelled bytes at middle end key value (pair_texts before) spells.spelled key_there value_there ∙ sym (pair_texts-push before (key, value)) in
+    let texts : All IsTextPair (before ++ (key, value) ∷ []) = All-push IsTextPair before (key, value) spells.texts (pair_of_texts bytes at middle end key value key_there value_there) in
+    let size : count + 1 ≡ length (before ++ (key, value) ∷ []) = omega (arith, length-append before ((key, value) ∷ []), length-pairs_in count (take at bytes)) in
+    let same = pairs_are (take end bytes) (before ++ (key, value) ∷ []) (count + 1) spelled texts size in
+    record { spelled = spelled ∙ ap pair_texts (sym same); texts = subst (All IsTextPair) (sym same) texts }
+
+pub empty_is_spelled : (bytes : List ℕ) → SpellsPairs (take 0 bytes) 0
+empty_is_spelled bytes = let held = empty_is_held bytes in record { spelled = held.spelled; texts = held.is_map.texts }
+
+-- pairs whose keys differ are a map
+pub spelled_is_held : (bytes : List ℕ) (count : ℕ) → SpellsPairs bytes count → KeysDiffer (pairs_in count bytes) → HoldsMap bytes count
+spelled_is_held bytes count spells differ = record { spelled = spells.spelled; is_map = record { texts = spells.texts; keys_differ = differ } }
 
 -- the pairs that were read so far stand from the front up to an offset
 pub stands_before : (bytes : List ℕ) (count at : ℕ) → at ≤ length bytes → HoldsMap (take at bytes) count → FieldAt bytes 0 at (pair_texts (pairs_in count (take at bytes)))

@@ -7,6 +7,7 @@ pub mod Contents
 pub mod Writing
 pub mod Laws
 pub mod PairBytes
+pub mod KeyPasses
 pub mod PairsPlace
 pub mod ArrayBytes
 pub mod ArrayPlaces

@@ -1,12 +1,14 @@
 -- The pairs of a map that is kept as its bytes.
-use Rattle.std.specs.Prelude.{◌≡◌, ℕ, zero, suc, ◌+◌, List, [], ◌∷◌, drop, false, Result, Ok, Err, All}
+use Rattle.std.specs.Prelude.{◌≡◌, ◌⊎◌, ℕ, zero, suc, ◌+◌, ◌<◌, List, [], ◌∷◌, length, take, drop, slice_index_or, ⊤, false, Result, Ok, Err, All}
 use Rattle.std.specs.Ordering.{nat_cmp, is_gt}
 use Rattle.std.specs.Cmp.Lexicographic.{slice_cmp}
 use denote.Ref.{Bor}
 use Rattle.mcap_wire.specs.declared.faults.Why.{Why}
 use Rattle.mcap_wire.specs.declared.faults.Why.TheVariants.{Short, BadText, BadLength, DoubleKey}
+use Rattle.mcap_wire.specs.declared.pair_bytes.Place.{Place}
+use Rattle.mcap_wire.specs.declared.pair_bytes.Place.TheVariants.{New, Double, Unordered}
 use Rattle.mcap_wire.specs.Reading.{TextAt, TextIsShort, TextIsBad, text_length, text_bytes}
-use Rattle.mcap_wire.specs.Maps.{a_string, IsTextMap, pair_texts, MapStops}
+use Rattle.mcap_wire.specs.Maps.{a_string, IsTextPair, HasKey, LacksKey, KeysDiffer, IsTextMap, pair_texts, MapStops}
 
 -- what stands behind the first text
 abbrev pub behind_text : List ℕ → List ℕ
@@ -17,6 +19,11 @@ unfoldable pub pairs_in : ℕ → List ℕ → List (List ℕ × List ℕ)
 pairs_in zero bytes = []
 pairs_in (suc n) bytes = (text_bytes bytes 0, text_bytes (behind_text bytes) 0) ∷ pairs_in n (behind_text (behind_text bytes))
 
+-- these bytes are n pairs, whose keys may be equal
+pub record SpellsPairs (bytes : List ℕ) (n : ℕ) : Type 0 where
+  pub spelled : bytes ≡ pair_texts (pairs_in n bytes)
+  pub texts : All IsTextPair (pairs_in n bytes)
+
 -- these bytes are a map of n pairs
 pub record HoldsMap (bytes : List ℕ) (n : ℕ) : Type 0 where
   pub spelled : bytes ≡ pair_texts (pairs_in n bytes)
@@ -25,6 +32,24 @@ pub record HoldsMap (bytes : List ℕ) (n : ℕ) : Type 0 where
 abbrev pub CountsPairs : List ℕ → Result ℕ Why → Type 0
 CountsPairs bytes (Ok n) = HoldsMap bytes n
 CountsPairs bytes (Err why) = MapStops a_string a_string bytes why
+
+-- a pair has the key of an earlier one
+abbrev pub KeyTwice : List (List ℕ × List ℕ) → Type 0
+KeyTwice pairs = (i : ℕ) × (i < length pairs) × HasKey (take i pairs) (slice_index_or pairs i ([], [])).0
+
+-- the first of two faults: a key stands twice among these pairs, or their keys differ and there is another
+abbrev pub IsFirstFault : List (List ℕ × List ℕ) → Why → Why → Type 0
+IsFirstFault pairs why first = ((first ≡ DoubleKey) × KeyTwice pairs) ⊎ ((first ≡ why) × KeysDiffer pairs)
+
+-- the same where a key was read behind them
+abbrev pub IsFirstFaultBehind : List (List ℕ × List ℕ) → List ℕ → Why → Why → Type 0
+IsFirstFaultBehind pairs key why first = ((first ≡ DoubleKey) × KeyTwice pairs) ⊎ (KeysDiffer pairs × (((first ≡ DoubleKey) × HasKey pairs key) ⊎ ((first ≡ why) × LacksKey pairs key)))
+
+-- where a key stands behind these pairs
+abbrev pub IsPlaceOf : List (List ℕ × List ℕ) → List ℕ → Place → Type 0
+IsPlaceOf pairs key New = LacksKey pairs key
+IsPlaceOf pairs key Double = HasKey pairs key
+IsPlaceOf pairs key Unordered = ⊤
 
 -- no key is above this one
 abbrev pub NoneAbove : List (List ℕ × List ℕ) → List ℕ → Type 0

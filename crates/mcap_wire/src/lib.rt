@@ -6,6 +6,7 @@ mod blobs;
 mod counts;
 mod faults;
 mod heads;
+mod key_passes;
 pub mod laws;
 mod maps;
 mod marks;

@@ -1,18 +1,22 @@
 //! The pairs of a map, read from its bytes.
-ghost use Rattle.std.specs.Prelude.{◌≡◌, ◌+◌, ◌<◌, ◌≤◌, false, length, slice_get, Some, IfOk, MatchBool};
+ghost use Rattle.std.specs.Prelude.{◌≡◌, ◌+◌, ◌^◌, ◌<◌, ◌≤◌, false, length, slice_get, Some, IfOk, MatchBool};
 ghost use Rattle.std.specs.Cmp.Lexicographic.{slice_cmp};
 ghost use Rattle.std.specs.Ordering.{nat_cmp, is_gt};
 ghost use Rattle.mcap_wire.specs.Reading.{TextAt, text_length, text_bytes};
 ghost use Rattle.mcap_wire.specs.Maps.{HasKey, LacksKey};
-ghost use Rattle.mcap_wire.specs.PairBytes.{pairs_in, HoldsMap, NoneAbove, TextStands, CountsPairs, ReadsPart};
+ghost use Rattle.mcap_wire.specs.PairBytes.{pairs_in, SpellsPairs, HoldsMap, NoneAbove, TextStands, CountsPairs, ReadsPart, IsFirstFault, IsFirstFaultBehind, IsPlaceOf};
 
 use crate::faults::{Memory, Why};
+use crate::key_passes::has_double;
 use crate::reading::{take_text, take_u32};
 use crate::texts::{Text, copy_pair};
 use std::alloc::Global;
 
+// Up to how many pairs are looked up in place.
+const FEW: usize = 16;
+
 // The bytes of a text that stands there, and where it ends.
-fn bytes_there(bytes: &[u8], at: usize) -> (&[u8], usize)
+pub(crate) fn bytes_there(bytes: &[u8], at: usize) -> (&[u8], usize)
     requires head { at + 4 ≤ length bytes.now }
     requires whole { at + 4 + text_length bytes.now at ≤ length bytes.now }
     ensures text { result.0.now ≡ text_bytes bytes.now at }
@@ -44,16 +48,30 @@ fn has_key(bytes: &[u8], count: usize, key: &[u8]) -> bool
     false
 }
 
-// Whether no pair has this key. A key above all others is new, and isn't looked up.
-fn is_new(bytes: &[u8], count: usize, largest: &[u8], key: &[u8]) -> bool
+// Where a key stands that is read behind others: none of them has it, or one has; or it doesn't ascend, and isn't looked up.
+#[derive(Drop)]
+enum Place {
+    New,
+    Double,
+    Unordered,
+}
+
+// Looks for a key among the pairs before it. One above all others is new. Any other is looked up among a few.
+fn place_of(bytes: &[u8], count: usize, largest: &[u8], key: &[u8]) -> Place
     requires map { HoldsMap bytes.now count }
     requires order { NoneAbove (pairs_in count bytes.now) largest.now }
-    ensures { MatchBool result (LacksKey (pairs_in count bytes.now) key.now) (HasKey (pairs_in count bytes.now) key.now) }
+    ensures { IsPlaceOf (pairs_in count bytes.now) key.now result }
 {
     if key > largest {
-        return true;
+        return Place::New;
     }
-    !has_key(bytes, count, key)
+    if count >= FEW {
+        return Place::Unordered;
+    }
+    if has_key(bytes, count, key) {
+        return Place::Double;
+    }
+    Place::New
 }
 
 // The larger of two texts.
@@ -76,8 +94,60 @@ fn take_part(bytes: &[u8], at: usize) -> Result<(&str, usize), Why>
     }
 }
 
-// Counts the pairs.
+// Why a map is refused whose next key can't be read: a double key stands before it, or this.
+fn key_fault(before: &[u8], count: usize, why: Why) -> Why
+    requires size { length before.now < 2 ^ 32 }
+    requires pairs { SpellsPairs before.now count }
+    ensures { IsFirstFault (pairs_in count before.now) why result }
+{
+    if has_double(before, count) {
+        Why::DoubleKey
+    } else {
+        why
+    }
+}
+
+// Why a map is refused whose next key is read, and its value can't be.
+fn value_fault(before: &[u8], count: usize, key: &[u8], why: Why) -> Why
+    requires size { length before.now < 2 ^ 32 }
+    requires pairs { SpellsPairs before.now count }
+    ensures { IsFirstFaultBehind (pairs_in count before.now) key.now why result }
+{
+    if has_double(before, count) || has_key(before, count, key) {
+        Why::DoubleKey
+    } else {
+        why
+    }
+}
+
+// Counts the pairs of a map in any order.
+fn count_unordered(bytes: &[u8]) -> Result<usize, Why>
+    requires { length bytes.now < 2 ^ 32 }
+    ensures { CountsPairs bytes.now result }
+{
+    let mut at = 0;
+    let mut count = 0;
+    while at < bytes.len() {
+        let (key, middle) = match take_part(bytes, at) {
+            Ok(read) => read,
+            Err(why) => return Err(key_fault(&bytes[..at], count, why)),
+        };
+        let (_value, end) = match take_part(bytes, middle) {
+            Ok(read) => read,
+            Err(why) => return Err(value_fault(&bytes[..at], count, key.as_bytes(), why)),
+        };
+        at = end;
+        count += 1;
+    }
+    if has_double(bytes, count) {
+        return Err(Why::DoubleKey);
+    }
+    Ok(count)
+}
+
+// Counts the pairs. At the first key that doesn't ascend behind some others the map is begun anew.
 pub(crate) fn count_pairs(bytes: &[u8]) -> Result<usize, Why>
+    requires { length bytes.now < 2 ^ 32 }
     ensures { CountsPairs bytes.now result }
 {
     let mut at = 0;
@@ -88,8 +158,10 @@ pub(crate) fn count_pairs(bytes: &[u8]) -> Result<usize, Why>
             Ok(read) => read,
             Err(why) => return Err(why),
         };
-        if !is_new(&bytes[..at], count, largest, key.as_bytes()) {
-            return Err(Why::DoubleKey);
+        match place_of(&bytes[..at], count, largest, key.as_bytes()) {
+            Place::New => {}
+            Place::Double => return Err(Why::DoubleKey),
+            Place::Unordered => return count_unordered(bytes),
         }
         let (_value, end) = match take_part(bytes, middle) {
             Ok(read) => read,

@@ -27,4 +27,6 @@ mod scans;
 #[cfg(test)]
 mod sources;
 #[cfg(test)]
+mod text_maps;
+#[cfg(test)]
 mod wire;

@@ -18,11 +18,11 @@ returns-in-Err c =
     pairs_stop bytes c.loop-at.count c.loop-at.at c.in-Err.why c.loop-at-test.true c.loop-at.invariant.2
     (key_fails (pairs_in c.loop-at.count (take c.loop-at.at bytes)) bytes c.loop-at.at c.in-Err.why c.in-Err.ensures)
 
-pub returns-then-not-is_new : goal.returns-then-not-is_new
-returns-then-not-is_new c =
+pub returns-in-Double : goal.returns-in-Double
+returns-in-Double c =
     let bytes = c.args.bytes.now in
     let before = pairs_in c.loop-at.count (take c.loop-at.at bytes) in
-    let double : HasKey before c.in-Ok.read.0.now = subst (λ (key : List ℕ). HasKey before key) c.as_bytes.ensures.value c.if-not-is_new.ensures in
+    let double : HasKey before c.in-Ok.read.0.now = subst (λ (key : List ℕ). HasKey before key) c.as_bytes.ensures.value c.in-Double.ensures in
     pairs_stop bytes c.loop-at.count c.loop-at.at DoubleKey c.loop-at-test.true c.loop-at.invariant.2
     (c.in-Ok.read.0.now, c.in-Ok.read.1, c.in-Ok.ensures, double)
 
@@ -30,7 +30,7 @@ pub returns-in-Err-take_part : goal.returns-in-Err-take_part
 returns-in-Err-take_part c =
     let bytes = c.args.bytes.now in
     let before = pairs_in c.loop-at.count (take c.loop-at.at bytes) in
-    let new : LacksKey before c.in-Ok.read.0.now = subst (λ (key : List ℕ). LacksKey before key) c.as_bytes.ensures.value c.if-not-is_new.ensures in
+    let new : LacksKey before c.in-Ok.read.0.now = subst (λ (key : List ℕ). LacksKey before key) c.as_bytes.ensures.value c.in-New.ensures in
     pairs_stop bytes c.loop-at.count c.loop-at.at c.in-Err-take_part.why c.loop-at-test.true c.loop-at.invariant.2
     (value_fails before bytes c.loop-at.at c.in-Ok.read.0.now c.in-Ok.read.1 c.in-Err-take_part.why c.in-Ok.ensures new c.in-Err-take_part.ensures)
 
@@ -42,7 +42,7 @@ loop-at-preserved c =
     let value = c.in-Ok-take_part.read.0.now in
     let end = c.in-Ok-take_part.read.1 in
     let top = c.larger-largest.result.now in
-    let new : LacksKey before key = subst (λ (k : List ℕ). LacksKey before k) c.as_bytes.ensures.value c.if-not-is_new.ensures in
+    let new : LacksKey before key = subst (λ (k : List ℕ). LacksKey before k) c.as_bytes.ensures.value c.in-New.ensures in
     let more = one_more bytes c.loop-at.count c.loop-at.at c.in-Ok.read.1 end key value c.loop-at.invariant.2 c.in-Ok.ensures c.in-Ok-take_part.ensures new in
     let below : is_gt (slice_cmp nat_cmp key top) ≡ false = subst (λ (k : List ℕ). is_gt (slice_cmp nat_cmp k top) ≡ false) c.as_bytes-in-loop-at.ensures.value c.larger-largest.ensures.other in (
       c.in-Ok-take_part.ensures.field.ends,

@@ -1,6 +1,6 @@
 use Rattle.mcap_wire.specs.PairBytes.{pairs_in}
 use Rattle.mcap_wire.proofs.PairWalks.{above_answers, above_is_new}
-use Rattle.mcap_wire.proofs.pair_bytes.is_new.Goals as goal
+use Rattle.mcap_wire.proofs.pair_bytes.place_of.Goals as goal
 
 pub returns-then-gt : goal.returns-then-gt
 returns-then-gt c =
