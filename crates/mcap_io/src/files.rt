@@ -148,18 +148,21 @@ impl<F: FileExt + Drop> LiveView<Stretch> for FileView<F> {
 }
 
 /// A live store over a file. Pieces wait in a buffer of 262,144 bytes until it is full or the store is kept; a
-/// larger piece goes past it. Once a write has failed, each append fails.
+/// larger piece goes past it. Once a write has failed, each append fails. A view can be made of a file that may be read
+/// too, and of no pipe or device.
 pub struct FileLive<F> {
     gather: Gather<WriterSink<F>>,
+    // The same file, opened once more to be read.
+    reader: Option<F>,
     len: u64,
     faults: u64,
 }
 
 impl<F: Write + OpenFile + FileExt + Drop> FileLive<F> {
     // The room is an empty buffer. It is taken before the file is opened, since opening empties the file.
-    fn new(room: Vec<u8>, file: F) -> Self
+    fn new(room: Vec<u8>, file: F, reader: Option<F>) -> Self
         requires { room.items ≡ [] }
-        ensures unused { (⟦<FileLive<F> as LiveStore>⟧.state result).faults ≡ 0 }
+        ensures unused { result.faults ≡ 0 }
         ensures len { result.len ≡ 0 }
         ensures written { F.contents result.gather.sink.writer ≡ F.contents file }
         ensures room { result.gather.waiting ≡ room }
@@ -167,6 +170,7 @@ impl<F: Write + OpenFile + FileExt + Drop> FileLive<F> {
     {
         FileLive {
             gather: Gather::new(WriterSink::new(file), room),
+            reader,
             len: 0,
             faults: 0,
         }
@@ -179,6 +183,7 @@ impl<F: Write + OpenFile + FileExt + Drop> FileLive<F> {
     {
         let FileLive {
             mut gather,
+            reader: _,
             len: _,
             faults: _,
         } = self;
@@ -211,7 +216,7 @@ impl<F: Write + OpenFile + FileExt + Drop> FileLive<F> {
     }
 }
 
-impl<F: Write + OpenFile + FileExt + Drop> LiveStore for FileLive<F> {
+impl<F: Write + OpenFile + FileExt + Drop + Send> LiveStore for FileLive<F> {
     type Extent = Stretch;
 
     type View = FileView<F>;
@@ -287,7 +292,7 @@ impl<F: Write + OpenFile + FileExt + Drop> LiveStore for FileLive<F> {
         ensures cause { HasCause self.old.faults self.new.faults result }
         ensures rest { self.new ≡ record self.old { faults = self.new.faults } }
     {
-        match self.gather.another() {
+        match again(&self.reader) {
             Ok(file) => return Ok(FileView { file, faults: 0 }),
             Err(Failed) => {
                 self.faults = self.faults.saturating_add(1);
@@ -298,6 +303,17 @@ impl<F: Write + OpenFile + FileExt + Drop> LiveStore for FileLive<F> {
 
     fn faults(&self) -> u64 {
         self.faults
+    }
+}
+
+// Another handle to the file, if there is one.
+fn again<F: OpenFile>(file: &Option<F>) -> Result<F, Failed> {
+    let Some(file) = file else {
+        return Err(Failed);
+    };
+    match file.try_clone() {
+        Ok(file) => return Ok(file),
+        Err(_) => return Err(Failed),
     }
 }
 
@@ -333,23 +349,11 @@ where
     }
 }
 
-// Opens the file to be written, and to be read by a view where that is allowed.
-fn open_to_write<R: Files>(runtime: &R, name: &str) -> Result<R::File, Failed> {
-    let mut options = OpenOptions::new();
-    options.read(true).write(true).create(true);
-    if let Ok(file) = runtime.open_file(&options, name) {
-        return Ok(file);
-    }
-    options.read(false);
-    match runtime.open_file(&options, name) {
-        Ok(file) => return Ok(file),
-        Err(_) => return Err(Failed),
-    }
-}
-
 // Opens the file and empties it. One that is read as an input is refused and stays as it was.
 fn open_output<R: Files>(runtime: &R, inputs: &[FileId], name: &str) -> Result<R::File, Failed> {
-    let Ok(file) = open_to_write(runtime, name) else {
+    let mut options = OpenOptions::new();
+    options.write(true).create(true);
+    let Ok(file) = runtime.open_file(&options, name) else {
         return Err(Failed);
     };
     let Ok(metadata) = file.metadata() else {
@@ -380,6 +384,24 @@ fn open_to_read<R: Files>(runtime: &R, name: &str) -> Result<(R::File, Metadata)
         Ok(metadata) => return Ok((file, metadata)),
         Err(_) => return Err(Failed),
     }
+}
+
+// Opens an output once more, to be read by views. A pipe isn't: a reader of our own would keep one alive that nobody
+// else reads any more. Nor is another file, which stands under the name by now.
+fn open_to_view<R: Files>(runtime: &R, file: &R::File, name: &str) -> Option<R::File> {
+    let Ok(metadata) = file.metadata() else {
+        return None;
+    };
+    if !metadata.is_file() {
+        return None;
+    }
+    let Ok((reader, found)) = open_to_read(runtime, name) else {
+        return None;
+    };
+    if FileId::of(&found) == FileId::of(&metadata) {
+        return Some(reader);
+    }
+    None
 }
 
 // Opens the file, and says which it is. A folder, which would fail at its first read alone, is refused.
@@ -474,7 +496,10 @@ where
             return Err(OpenRefused::Memory);
         };
         match open_output(&self.runtime, &self.inputs, name) {
-            Ok(file) => return Ok(FileLive::new(room, file)),
+            Ok(file) => {
+                let reader = open_to_view(&self.runtime, &file, name);
+                return Ok(FileLive::new(room, file, reader));
+            }
             Err(Failed) => {
                 self.faults = self.faults.saturating_add(1);
                 return Err(OpenRefused::Failed);

@@ -3,10 +3,8 @@ ghost use Rattle.std.specs.Prelude.{◌≡◌, [], false, IsTrue, IsErr, OnOk, O
 ghost use Rattle.mcap_io.specs.Outside.{Adds, AddsPart, RisesOnce};
 ghost use Rattle.mcap_io.specs.Gathered.{Puts};
 
-use crate::outside::{Failed, Short, Sink};
+use crate::outside::{Short, Sink};
 use crate::stretch::write_all_of;
-use crate::writer::WriterSink;
-use std::fs::OpenFile;
 
 // The pieces that wait go to the sink before any later one. Once the sink has failed, nothing more goes to it.
 #[derive(Drop)]
@@ -123,12 +121,5 @@ impl<K: Sink + Drop> Gather<K> {
                 return Err(short);
             }
         }
-    }
-}
-
-impl<F: OpenFile> Gather<WriterSink<F>> {
-    // Another handle to the file that the pieces go to.
-    pub(crate) fn another(&self) -> Result<F, Failed> {
-        self.sink.another()
     }
 }

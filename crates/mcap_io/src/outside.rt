@@ -135,7 +135,7 @@ pub trait LiveView<X: Extent> {
 pub trait LiveStore {
     type Extent: Extent;
 
-    type View: LiveView<Self::Extent>;
+    type View: LiveView<Self::Extent> + Send;
 
     /// What it holds, where it tells that, and how often it has failed.
     ghost state: { Self → LiveState };

@@ -3,7 +3,6 @@ ghost use Rattle.std.specs.Prelude.{◌≡◌, ◌≤◌, ◌<◌, length, IfOk}
 ghost use Rattle.mcap_io.specs.Outside.{Writes};
 
 use crate::outside::{Failed, Sink};
-use std::fs::OpenFile;
 use std::io::{ErrorKind, Write};
 
 /// A sink over a writer, such as standard output. It tells its bytes where the writer does. A write that takes
@@ -28,16 +27,6 @@ impl<W: Write> WriterSink<W> {
     {
         let WriterSink { writer, faults: _ } = self;
         writer
-    }
-}
-
-impl<F: OpenFile> WriterSink<F> {
-    // Another handle to the file.
-    pub(crate) fn another(&self) -> Result<F, Failed> {
-        match self.writer.try_clone() {
-            Ok(file) => return Ok(file),
-            Err(_) => return Err(Failed),
-        }
     }
 }
 
