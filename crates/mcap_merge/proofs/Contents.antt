@@ -14,7 +14,7 @@ use Rattle.mcap_model.specs.declared.table.Declared.{Declared}
 use Rattle.mcap_model.specs.declared.tables.Tables.{Tables}
 use Rattle.mcap_model.specs.Declarations.{FirstOf, TablesOf}
 use Rattle.mcap_model.proofs.Maps.{sorted_same, schema_once, shows_once, same_trans}
-use Rattle.mcap_merge.specs.Merged.{SchemaContent, IsContent}
+use Rattle.mcap_model.specs.Merged.{SchemaContent, IsContent}
 
 abbrev Pair : Type 0
 Pair = List ℕ × List ℕ

@@ -15,7 +15,7 @@ use Rattle.mcap_io.specs.Stores.{StoreState}
 use Rattle.mcap_merge.specs.declared.answers.MergeRefused.{MergeRefused}
 use Rattle.mcap_merge.specs.declared.answers.Merged.{Merged}
 use Rattle.mcap_merge.specs.declared.gathering.Gathered.{Gathered}
-use Rattle.mcap_merge.specs.Merged.{Sent}
+use Rattle.mcap_model.specs.Merged.{Sent}
 use Rattle.mcap_merge.specs.Uses.{Use, history_of, AreUses}
 use Rattle.mcap_merge.specs.Inputs.{Read, tops_of, HoldInputs}
 use Rattle.mcap_merge.specs.Turns.{AreTurnsOf}

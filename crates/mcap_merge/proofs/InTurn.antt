@@ -16,7 +16,7 @@ use Rattle.mcap_model.proofs.Flat.{at_mapped, good_lists_are_scanned}
 use Rattle.time_player.specs.Keeping.{kept_in}
 use Rattle.mcap_merge.specs.declared.input.Input.{Input}
 use Rattle.mcap_merge.specs.declared.turns.Turn.{Turn}
-use Rattle.mcap_merge.specs.Merged.{Sent, IsFrom, MergesBefore, AreInTurn, CommonProfile, MergeOf}
+use Rattle.mcap_model.specs.Merged.{Sent, IsFrom, MergesBefore, AreInTurn, CommonProfile, MergeOf}
 use Rattle.mcap_merge.specs.Uses.{Use, history_of, AreUses}
 use Rattle.mcap_merge.specs.Inputs.{Read, tops_of, extra_tops, HoldsInput, HoldInputs}
 use Rattle.mcap_merge.specs.Turns.{kept_lists, TurnsOf, IsTurnOf, AreTurnsOf}

@@ -20,7 +20,7 @@ use Rattle.record_core.proofs.TableIds.{id_found, channel_missed}
 use Rattle.record_core.proofs.Giving.{given_id, given_records}
 use Rattle.mcap_merge.specs.declared.joining.Joiner.{Joiner}
 use Rattle.mcap_merge.specs.declared.joining.Declared.{Declared}
-use Rattle.mcap_merge.specs.Merged.{IsContent}
+use Rattle.mcap_model.specs.Merged.{IsContent}
 use Rattle.mcap_merge.specs.Joining.{IsGiven, JoinerStands, IsChosen, declared_records}
 
 -- ---- ids of histories

@@ -21,7 +21,7 @@ use Rattle.mcap_model.proofs.ReadBack.{schema_id_below}
 use Rattle.record_core.specs.Ids.{Ids, ids_of, schemas_in, channels_in, same_schema, same_channel, fields_of_schema, fields_of_channel, schema_place, id_at, schema_id, channel_place, channel_id, new_schema_at, new_schema, new_at, new_records}
 use Rattle.record_core.proofs.Searches.{found, schema_same, channel_same, schemas_counted}
 use Rattle.record_core.proofs.Numbering.{schema_at, channel_at, declared_numbered}
-use Rattle.mcap_merge.specs.Merged.{Sent, IsMerged, HasThatSchema, IsOnChannel, IsUseOf, StandBeforeUse, SchemaContent, IsContent}
+use Rattle.mcap_model.specs.Merged.{Sent, IsMerged, HasThatSchema, IsOnChannel, IsUseOf, StandBeforeUse, SchemaContent, IsContent}
 use Rattle.mcap_merge.specs.Uses.{Use, added_by, with_use, history_of, IsUse, AreUses}
 
 -- ---- where contents stand

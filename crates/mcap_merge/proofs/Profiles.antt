@@ -20,7 +20,7 @@ use Rattle.mcap_model.proofs.Flat.{at_mapped, map-append}
 use Rattle.mcap_model.proofs.OneMore.{taken_more}
 use Rattle.mcap_merge.specs.declared.input.Extra.{Extra}
 use Rattle.mcap_merge.specs.declared.input.Input.{Input}
-use Rattle.mcap_merge.specs.Merged.{CommonProfile}
+use Rattle.mcap_model.specs.Merged.{CommonProfile}
 use Rattle.mcap_merge.specs.Inputs.{Read, tops_of, extra_top, extra_tops, HoldsInput, HoldInputs}
 use Rattle.mcap_io.specs.Stores.{StoreState}
 use Rattle.mcap_merge.specs.Reading.{IsReadOf, AreHeld}

@@ -24,7 +24,7 @@ use Rattle.record_core.specs.declared.answers.DeclareRefused.TheVariants as decl
 use Rattle.record_core.specs.Ids.{Ids, fields_of_schema, schema_place, new_schema_at, new_schema, channel_place}
 use Rattle.record_core.specs.Tables.{content_in, ids_in, schemas_lack, ids_lack, IdsDeclared}
 use Rattle.record_core.proofs.TableIds.{schema_missed, channel_missed}
-use Rattle.mcap_merge.specs.Merged.{Sent, IsContent, IsUsed, SchemaIsUsed, MoreThan}
+use Rattle.mcap_model.specs.Merged.{Sent, IsContent, IsUsed, SchemaIsUsed, MoreThan}
 use Rattle.mcap_merge.specs.Joining.{TableIsUsed, IsAskedFor, WhyLacks}
 
 -- the content of an asked channel is used

@@ -28,7 +28,7 @@ use Rattle.mcap_merge.specs.declared.turns.Turn.{Turn}
 use Rattle.mcap_merge.specs.declared.joining.Joiner.{Joiner}
 use Rattle.mcap_merge.specs.declared.joining.Declared.{Declared}
 use Rattle.mcap_merge.specs.declared.joining.Choice.{Choice}
-use Rattle.mcap_merge.specs.Merged.{Sent, IsContent}
+use Rattle.mcap_model.specs.Merged.{Sent, IsContent}
 use Rattle.mcap_merge.specs.Uses.{Use, added_by, with_use, history_of, IsUse, AreUses}
 use Rattle.mcap_merge.specs.Inputs.{Read, tops_of, HoldsInput, HoldInputs}
 use Rattle.mcap_merge.specs.Turns.{IsTurnOf, AreTurnsOf}

@@ -13,7 +13,7 @@ use Rattle.chunk_writer.specs.Stops.{StopsAt, StopCause}
 use Rattle.mcap_merge.specs.declared.answers.MergeRefused.{MergeRefused}
 use Rattle.mcap_merge.specs.declared.answers.MergeRefused.TheVariants as merges
 use Rattle.mcap_merge.specs.declared.answers.Merged.{Merged}
-use Rattle.mcap_merge.specs.Merged.{MergeOf}
+use Rattle.mcap_model.specs.Merged.{MergeOf}
 use Rattle.mcap_merge.specs.Inputs.{Read, tops_of}
 use Rattle.mcap_merge.specs.Reading.{IsReadOf}
 use Rattle.mcap_merge.specs.Gathering.{GatherRefused, Counts}

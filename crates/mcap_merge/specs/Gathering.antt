@@ -12,7 +12,7 @@ use Rattle.mcap_merge.specs.declared.gathering.Order.{Order}
 use Rattle.mcap_merge.specs.declared.answers.Merged.{Merged}
 use Rattle.rec_data.specs.declared.owned.Rec.{Rec}
 use Rattle.mcap_model.specs.History.{is_message}
-use Rattle.mcap_merge.specs.Merged.{Sent, MergeOf, IsUsed, SchemaIsUsed, MoreThan}
+use Rattle.mcap_model.specs.Merged.{Sent, MergeOf, IsUsed, SchemaIsUsed, MoreThan}
 use Rattle.mcap_merge.specs.Uses.{Use, history_of, AreUses, DeclaresSoMany}
 use Rattle.mcap_merge.specs.Inputs.{Read, tops_of, HoldInputs}
 use Rattle.mcap_merge.specs.Turns.{AreTurnsOf}

@@ -18,7 +18,7 @@ use Rattle.record_core.specs.Sights.{DefFits}
 use Rattle.mcap_merge.specs.declared.joining.Joiner.{Joiner}
 use Rattle.mcap_merge.specs.declared.joining.Declared.{Declared}
 use Rattle.mcap_merge.specs.declared.joining.Choice.{Choice}
-use Rattle.mcap_merge.specs.Merged.{Sent, IsFrom, IsContent, IsUsed, SchemaIsUsed, MoreThan}
+use Rattle.mcap_model.specs.Merged.{Sent, IsFrom, IsContent, IsUsed, SchemaIsUsed, MoreThan}
 
 -- a place for each id that a channel of so many inputs may have
 abbrev pub IsSized : ℕ → Joiner → Type 0

@@ -1,4 +1,3 @@
-pub mod Merged
 pub mod Uses
 pub mod Inputs
 pub mod Turns

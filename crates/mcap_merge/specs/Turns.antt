@@ -9,7 +9,7 @@ use Rattle.mcap_model.specs.Showing.{shown_as}
 use Rattle.time_player.specs.Keeping.{kept_in}
 use Rattle.mcap_merge.specs.declared.input.Input.{Input}
 use Rattle.mcap_merge.specs.declared.turns.Turn.{Turn}
-use Rattle.mcap_merge.specs.Merged.{Sent}
+use Rattle.mcap_model.specs.Merged.{Sent}
 use Rattle.mcap_merge.specs.Inputs.{Read}
 
 -- what is kept of each input

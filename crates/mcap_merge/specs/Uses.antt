@@ -8,7 +8,7 @@ use Rattle.mcap_model.specs.Tops.{Top, flat}
 use Rattle.mcap_model.specs.Fields.{MessageFields}
 use Rattle.mcap_model.specs.History.{message_of}
 use Rattle.record_core.specs.Ids.{ids_of, schemas_in, channels_in, channel_id, new_records}
-use Rattle.mcap_merge.specs.Merged.{Sent, IsContent}
+use Rattle.mcap_model.specs.Merged.{Sent, IsContent}
 
 -- a message, and the content of its channel
 pub record Use : Type 0 where

@@ -17,7 +17,7 @@ use Rattle.time_player.specs.declared.lent.Lent.{Lent}
 use Rattle.mcap_merge.specs.declared.input.Input.{Input}
 use Rattle.mcap_merge.specs.declared.turns.Turn.{Turn}
 use Rattle.mcap_merge.specs.declared.joining.Joiner.{Joiner}
-use Rattle.mcap_merge.specs.Merged.{Sent, IsContent}
+use Rattle.mcap_model.specs.Merged.{Sent, IsContent}
 use Rattle.mcap_merge.specs.Uses.{Use}
 use Rattle.mcap_merge.specs.Inputs.{Read, extra_top, extra_tops, HoldInputs}
 use Rattle.mcap_merge.specs.Turns.{AreTurnsOf}

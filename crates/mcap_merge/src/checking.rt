@@ -2,7 +2,7 @@
 ghost use Rattle.std.specs.Prelude.{◌≡◌, ◌≤◌, ◌*◌, List, [], length, IfOk, IfErr};
 ghost use Rattle.mcap_model.specs.Tops.{Top};
 ghost use Rattle.record_core.specs.Tables.{HasSchemas};
-ghost use Rattle.mcap_merge.specs.Merged.{Sent};
+ghost use Rattle.mcap_model.specs.Merged.{Sent};
 ghost use Rattle.mcap_merge.specs.Uses.{Use, AreUses, DeclaresSoMany};
 ghost use Rattle.mcap_merge.specs.Inputs.{Read, tops_of, HoldInputs};
 ghost use Rattle.mcap_merge.specs.Turns.{AreTurnsOf};

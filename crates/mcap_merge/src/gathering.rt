@@ -1,7 +1,7 @@
 //! All that is known of a merge before anything is written.
 ghost use Rattle.std.specs.Prelude.{◌≡◌, ◌<◌, ◌≤◌, List, length, map, IfOk, IfErr};
 ghost use Rattle.std.specs.List.{AllZip};
-ghost use Rattle.mcap_merge.specs.Merged.{Sent};
+ghost use Rattle.mcap_model.specs.Merged.{Sent};
 ghost use Rattle.mcap_merge.specs.Uses.{Use, AreUses, DeclaresSoMany, history_of};
 ghost use Rattle.mcap_merge.specs.Turns.{AreTurnsOf};
 ghost use Rattle.mcap_model.specs.Tops.{Top};

@@ -6,7 +6,7 @@ ghost use Rattle.mcap_model.specs.Tops.{Top, flat};
 ghost use Rattle.mcap_model.specs.Declarations.{TablesOf};
 ghost use Rattle.record_core.specs.Tables.{HasSchemas};
 ghost use Rattle.record_core.specs.Sights.{DefFits};
-ghost use Rattle.mcap_merge.specs.Merged.{Sent, IsContent};
+ghost use Rattle.mcap_model.specs.Merged.{Sent, IsContent};
 ghost use Rattle.mcap_merge.specs.Joining.{JoinerStands, IsChosen, FitsChoice, IsSized, TableIsUsed, IsAskedFor, AfterChoice};
 
 use crate::input::Input;

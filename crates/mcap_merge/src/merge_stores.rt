@@ -4,7 +4,7 @@ ghost use Rattle.std.specs.List.{AllZip};
 ghost use Rattle.mcap_wire.specs.Layout.{content_limit};
 ghost use Rattle.mcap_wire.specs.Limits.{chunk_size_limit};
 ghost use Rattle.chunk_writer.specs.Stops.{Cause};
-ghost use Rattle.mcap_merge.specs.Merged.{Sent};
+ghost use Rattle.mcap_model.specs.Merged.{Sent};
 ghost use Rattle.mcap_merge.specs.Uses.{Use, history_of, AreUses};
 ghost use Rattle.mcap_merge.specs.Inputs.{Read, tops_of, HoldInputs};
 ghost use Rattle.mcap_merge.specs.Turns.{AreTurnsOf};

@@ -1,6 +1,6 @@
 //! The profile that all inputs have.
 ghost use Rattle.std.specs.Prelude.{◌<◌, ◌≤◌, List, length, IfOk};
-ghost use Rattle.mcap_merge.specs.Merged.{CommonProfile};
+ghost use Rattle.mcap_model.specs.Merged.{CommonProfile};
 ghost use Rattle.mcap_merge.specs.Inputs.{Read, tops_of, HoldInputs};
 
 use crate::input::Input;

@@ -8,7 +8,7 @@ ghost use Rattle.chunk_writer.specs.Stops.{Cause};
 ghost use Rattle.record_core.specs.Tables.{HasSchemas, schema_with};
 ghost use Rattle.record_core.specs.Sights.{SchemaFits, DefFits};
 ghost use Rattle.time_player.specs.Keeping.{kept_in};
-ghost use Rattle.mcap_merge.specs.Merged.{Sent};
+ghost use Rattle.mcap_model.specs.Merged.{Sent};
 ghost use Rattle.mcap_merge.specs.Uses.{Use, added_by, with_use, history_of, AreUses};
 ghost use Rattle.mcap_merge.specs.Inputs.{Read, tops_of, HoldInputs};
 ghost use Rattle.mcap_merge.specs.Turns.{AreTurnsOf};

@@ -15,6 +15,7 @@ pub mod Whole
 pub mod Valid
 pub mod Laws
 pub mod Recovery
+pub mod Merged
 pub mod Built
 pub mod Made
 pub mod Found

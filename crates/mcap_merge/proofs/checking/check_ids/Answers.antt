@@ -1,6 +1,6 @@
 use Rattle.std.proofs.Common.{ℕ, ◌≡◌, ◌+◌, ◌*◌, ◌<◌, ◌≤◌, List, [], length, take, refl, sym, subst, ◌∙◌, arith}
 use Rattle.mcap_model.proofs.NamedTopics.{take_past}
-use Rattle.mcap_merge.specs.Merged.{Sent}
+use Rattle.mcap_model.specs.Merged.{Sent}
 use Rattle.mcap_merge.specs.Uses.{history_of, AreUses}
 use Rattle.mcap_merge.specs.Inputs.{Read, tops_of, HoldInputs}
 use Rattle.mcap_merge.specs.Turns.{IsTurnOf, AreTurnsOf}

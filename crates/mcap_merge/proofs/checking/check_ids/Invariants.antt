@@ -1,6 +1,6 @@
 use Rattle.std.proofs.Common.{◌≡◌, ◌*◌, List, length, take}
 use Rattle.record_core.specs.Tables.{HasSchemas}
-use Rattle.mcap_merge.specs.Merged.{Sent}
+use Rattle.mcap_model.specs.Merged.{Sent}
 use Rattle.mcap_merge.specs.Uses.{Use, history_of, AreUses}
 use Rattle.mcap_merge.specs.Inputs.{Read, tops_of, HoldInputs}
 use Rattle.mcap_merge.specs.Turns.{AreTurnsOf}

@@ -4,7 +4,7 @@ use Rattle.std.proofs.lemmas.Result.{IfOk-weaker}
 use Rattle.mcap_model.specs.Places.{At}
 use Rattle.mcap_model.proofs.Places.{at_within, at_read, at_one}
 use Rattle.mcap_merge.specs.declared.input.Input.{Input}
-use Rattle.mcap_merge.specs.Merged.{CommonProfile}
+use Rattle.mcap_model.specs.Merged.{CommonProfile}
 use Rattle.mcap_merge.specs.Inputs.{tops_of}
 use Rattle.mcap_merge.proofs.Profiles.{profiles_differ, profiles_same}
 use Rattle.mcap_merge.proofs.profile.common_profile.Goals as goal

@@ -4,7 +4,7 @@ use Rattle.mcap_model.specs.Places.{At}
 use Rattle.mcap_model.proofs.Places.{at_one}
 use Rattle.mcap_model.proofs.NamedTopics.{zip_front, take_past}
 use Rattle.mcap_merge.specs.declared.input.Input.{Input}
-use Rattle.mcap_merge.specs.Merged.{Sent}
+use Rattle.mcap_model.specs.Merged.{Sent}
 use Rattle.mcap_merge.specs.Uses.{Use, added_by, with_use, history_of, IsUse, AreUses}
 use Rattle.mcap_merge.specs.Inputs.{Read, tops_of, HoldInputs}
 use Rattle.mcap_merge.specs.Turns.{IsTurnOf, AreTurnsOf}

@@ -1,7 +1,7 @@
 use Rattle.std.proofs.Common.{ℕ, ◌≡◌, ◌+◌, length, sym, ◌∙◌, ap, arith}
 use Rattle.std.specs.Prelude.{filter, min, ◌-◌, ◌^◌}
 use Rattle.mcap_model.specs.History.{is_message}
-use Rattle.mcap_merge.specs.Merged.{IsMerged}
+use Rattle.mcap_model.specs.Merged.{IsMerged}
 use Rattle.mcap_merge.specs.Inputs.{tops_of}
 use Rattle.mcap_merge.specs.Turns.{IsTurnOf}
 use Rattle.mcap_merge.specs.Uses.{history_of}
