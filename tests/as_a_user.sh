@@ -110,8 +110,8 @@ usage: mcaprec
   check FILE
   cat [--indexed] [--start N] [--end N] [--topic T] FILE'
 
-"$root/mcaprec" >/dev/null </dev/null
-compare 'the status without words' 2 $?
+"$root/mcaprec" info "$one" >/dev/null </dev/null
+compare 'the status of the first run' 0 $?
 
 mkdir -- "$room/work" "$room/a folder" "$disk"
 ln -s -- "$root/mcaprec" "$room/a folder/a link"
@@ -503,12 +503,12 @@ compare 'what was recorded of large.mcap' "$(mcaprec cat large.mcap | cksum)" "$
 { head -c 50000000 large.mcap && exec sleep 30; } >pipe &
 feeder=$!
 mcaprec record killed.mcap pipe >/dev/null 2>&1 &
-program=$!
+launcher=$!
 for _ in 1 2 3 4 5 6 7 8 9 10 11 12 13 14 15 16 17 18 19 20; do
     if [ -e killed.mcap ] && [ "$(($(wc -c <killed.mcap)))" -gt 10000000 ]; then break; fi
     sleep 0.5
 done
-kill -9 "$program"
+kill -9 "$(pgrep -P "$launcher" mcap_cli)"
 kill "$feeder"
 wait
 [ "$(($(wc -c <killed.mcap)))" -gt 10000000 ] || say_wrong 'killed.mcap holds too little'
@@ -517,6 +517,47 @@ mcaprec cat killed.mcap >"$room/stdout" 2>"$room/stderr"
 compare 'the status of an ended recording' 1 $?
 compare 'what cat says of it' 'mcaprec: "killed.mcap": grammar at N' "$(sed 's/at [0-9]*/at N/' "$room/stderr")"
 rm -f large.mcap large-out.mcap killed.mcap
+
+# ---- interrupts, from a terminal
+
+# Types these characters into a terminal in which the command runs, each after a while, and then waits for the command.
+typing() {
+    keys=$1
+    shift
+    { for key in $keys; do sleep 2; printf "$key"; done; sleep 2; } | timeout 60 script -qec "$*" /dev/null >"$room/terminal" 2>&1
+}
+if command -v script >/dev/null; then
+    # A publisher that sends three messages and then waits; the interrupt ends it, and the file is closed.
+    typing '\003' "sh -c 'trap : INT; { head -c 292 \"$session\"; exec sleep 50; } | \"$root/mcaprec\" record interrupted.mcap /dev/stdin; echo status \$?'"
+    tr -d '\r' <"$room/terminal"
+    grep -q 'feed 1 accepted=3 refused=0 passed=0 grammar 292' "$room/terminal" || say_wrong 'an interrupted recording says no report'
+    grep -q '^status 1' "$room/terminal" || say_wrong 'an interrupted recording has another status'
+    expect 0 'ok indexed messages=3 channels=2 schemas=1 chunks=1 attachments=0 metadata=0' '' mcaprec check interrupted.mcap
+    # One whose feed goes on is ended by the second interrupt.
+    mkfifo endless
+    sleep 50 >endless &
+    publisher=$!
+    typing '\003 \003' "sh -c 'trap : INT; \"$root/mcaprec\" record ended.mcap endless; echo status \$?'"
+    kill "$publisher"
+    wait
+    tr -d '\r' <"$room/terminal"
+    grep -q '^status 143' "$room/terminal" || say_wrong 'a second interrupt does not end a recording'
+else
+    skip 'interrupts, since there is no script'
+fi
+
+# ---- an output pipe whose reader goes away, and a limit of the system on sizes
+
+mkfifo short-pipe
+head -c 10 short-pipe >/dev/null &
+filter='sed s/[0-9][0-9]*/N/g'
+expect 3 "feed N accepted=N refused=N passed=N ended
+file records=N blocks=N bytes=N stopped fault" 'mcaprec: "short-pipe": fault' timeout 60 mcaprec record --plain short-pipe many.mcap
+wait
+# shellcheck disable=SC2016  # the inner shell is to expand them
+expect 3 "feed N accepted=N refused=N passed=N ended
+file records=N blocks=N bytes=N stopped fault" 'mcaprec: "limited.mcap": fault' sh -c 'ulimit -f 128; mcaprec record --plain "$1" "$2"' sh limited.mcap many.mcap
+filter='cat'
 
 # shellcheck disable=SC2016  # the inner shell is to expand them
 expect 3 '' 'mcaprec: output: fault' sh -c 'mcaprec record --plain "$1" "$2" >/dev/full' sh printed.mcap "$sample"
