@@ -1,4 +1,4 @@
--- The places of the messages of a scan differ.
+-- The places of the messages of a scan rise, so they differ.
 use Rattle.std.proofs.Common.{◌≡◌, ℕ, ◌+◌, ◌≤◌, Bool, true, false, List, [], ◌∷◌, ◌++◌, length, refl, ap, subst, inl, inr, arith}
 use Rattle.std.specs.Prelude.{AllPairs, filter, if◌then◌else◌}
 use Rattle.std.specs.List.{AllZip}
@@ -7,7 +7,7 @@ use Rattle.mcap_model.specs.declared.replay.Place.{Place}
 use Rattle.mcap_model.specs.declared.replay.Shown.{Shown}
 use Rattle.mcap_model.specs.Places.{Has, Each}
 use Rattle.mcap_model.specs.Tops.{Top, top_bytes, inner_tops, is_chunk, is_flat_kind, Placed, placed, placed_from, placed_inside, placed_one}
-use Rattle.mcap_model.specs.Scan.{is_message_top, PlaceBefore}
+use Rattle.mcap_model.specs.Scan.{Seen, IsSeen, Scan, is_message_top, PlaceBefore, tops_of}
 use Rattle.mcap_model.specs.Plain.{IsShown, PlacesDiffer}
 use Rattle.mcap_model.proofs.Places.{at_none, at_within}
 use Rattle.mcap_model.proofs.Lists.{at_either, each_cons, each_joined, filter_passed, pairs_at, pairs_from, pairs_cons}
@@ -17,7 +17,7 @@ use Rattle.mcap_model.proofs.NamedTopics.{zip_back}
 abbrev IsBefore : Placed → Placed → Type 0
 IsBefore p q = PlaceBefore p.place q.place
 
-pairs_joined : {X : Type 0} (R : X → X → Type 0) (xs ys : List X) → AllPairs R xs → AllPairs R ys → ((x y : X) → Has xs x → Has ys y → R x y) → AllPairs R (xs ++ ys)
+pub pairs_joined : {X : Type 0} (R : X → X → Type 0) (xs ys : List X) → AllPairs R xs → AllPairs R ys → ((x y : X) → Has xs x → Has ys y → R x y) → AllPairs R (xs ++ ys)
 pairs_joined R xs ys one other cross = pairs_from R (xs ++ ys) (λ i j x y less at_x at_y. elim (at_either xs ys i x at_x) [
   | inl x_in ↦ elim (at_either xs ys j y at_y) [
     | inl y_in ↦ pairs_at R xs one i j x y less x_in y_in
@@ -29,10 +29,10 @@ pairs_joined R xs ys one other cross = pairs_from R (xs ++ ys) (λ i j x y less 
   ]
 ])
 
-none_each : {X : Type 0} (P : X → Type 0) → Each P []
+pub none_each : {X : Type 0} (P : X → Type 0) → Each P []
 none_each P n x at = absurd (at_none n x at)
 
-none_pairs : {X : Type 0} (R : X → X → Type 0) → AllPairs R []
+pub none_pairs : {X : Type 0} (R : X → X → Type 0) → AllPairs R []
 none_pairs R i j d less within = absurd (omega (arith, within))
 
 one_pairs : {X : Type 0} (R : X → X → Type 0) (x : X) → AllPairs R (x ∷ [])
@@ -112,3 +112,15 @@ places_differ tops shown zip =
     let second = b.2 in
     let before = pairs_at IsBefore messages (AllPairs-filter IsBefore (λ p. is_message_top p.top) (placed tops) (from_rises 8 tops)) i j a.0 b.0 less a.1 b.1 in
     before_differs s.place r.place (subst (λ (p : Place). PlaceBefore p r.place) first.place (subst (PlaceBefore a.0.place) second.place before)) same)
+
+pub scan_rises : (tops : List Top) (messages : List Seen) → Scan tops messages → AllPairs (λ (s : Seen) (r : Seen). PlaceBefore s.place r.place) messages
+scan_rises tops messages scan =
+    let all = filter (λ (p : Placed). is_message_top p.top) (placed tops) in
+    let zip : AllZip (IsSeen (tops_of (placed tops))) all messages = scan in
+    pairs_from (λ (s : Seen) (r : Seen). PlaceBefore s.place r.place) messages (λ i j s r less at_s at_r.
+    let a = zip_back (IsSeen (tops_of (placed tops))) all messages i s zip at_s in
+    let b = zip_back (IsSeen (tops_of (placed tops))) all messages j r zip at_r in
+    let first = a.2 in
+    let second = b.2 in
+    let before = pairs_at IsBefore all (AllPairs-filter IsBefore (λ p. is_message_top p.top) (placed tops) (from_rises 8 tops)) i j a.0 b.0 less a.1 b.1 in
+    subst (λ p. PlaceBefore p r.place) first.place (subst (PlaceBefore a.0.place) second.place before))
