@@ -17,7 +17,8 @@ use Rattle.mcap_model.proofs.Lists.{pairs_at, has_taken, take_second, each_taken
 use Rattle.mcap_model.proofs.Cutting.{last_of}
 use Rattle.mcap_model.proofs.Places.{at_within, at_last, last_apart}
 use Rattle.mcap_model.proofs.Shape.{whole}
-use Rattle.mcap_model.proofs.Section.{piece_recs, piece_tops, PieceIsSound, written_chunk, indexes_spelled}
+use Rattle.mcap_model.specs.Recovery.{piece_records}
+use Rattle.mcap_model.proofs.Section.{piece_tops, PieceIsSound, written_chunk, indexes_spelled}
 use Rattle.mcap_model.proofs.Logged.{channels_ascend, written_entries, message_channel}
 use Rattle.mcap_model.proofs.ShownBack.{index_shown, index_shows, offset_is, is_offset}
 use Rattle.mcap_model.proofs.Groups.{in_front}
@@ -156,7 +157,7 @@ belongs_by all before chunk earlier t front kind each right = by earlier front e
           right = right_for;
         }
 
-module _ (header : Top) (ps : List Piece) (extras summary : List Top) (foot : Top) (are : Each IsExtra extras) (back : (n : ℕ) (p : Piece) → At ps n p → Each IsReadBack (piece_recs p)) (numbered : (n : ℕ) (p : Piece) → At ps n p → Each IsNumberedRec (piece_recs p)) (sound : (n : ℕ) (p : Piece) → At ps n p → PieceIsSound p) where
+module _ (header : Top) (ps : List Piece) (extras summary : List Top) (foot : Top) (are : Each IsExtra extras) (back : (n : ℕ) (p : Piece) → At ps n p → Each IsReadBack (piece_records p)) (numbered : (n : ℕ) (p : Piece) → At ps n p → Each IsNumberedRec (piece_records p)) (sound : (n : ℕ) (p : Piece) → At ps n p → PieceIsSound p) where
   pub index_belongs : (j : ℕ) (t : Top) → At (flat_map piece_tops ps ++ extras) j t → t.op ≡ 7 → BelongsTo (take (suc j) (whole (header ∷ (flat_map piece_tops ps ++ extras)) summary foot)) t
   index_belongs j t at kind =
       let b = in_block ps extras j t are at (inr kind) in

@@ -26,7 +26,8 @@ use Rattle.mcap_model.proofs.WrittenChunks.{each_map}
 use Rattle.mcap_model.proofs.Lists.{each_cons, each_joined, at_second, take_second, has_taken, filter_passed, pairs_at}
 use Rattle.mcap_model.proofs.Edges.{end_top}
 use Rattle.mcap_model.proofs.Shape.{whole, summary_there, within_summary}
-use Rattle.mcap_model.proofs.Section.{piece_recs, piece_tops, PieceIsSound, IsRight, pieces_spelled, each_flat}
+use Rattle.mcap_model.specs.Recovery.{piece_records}
+use Rattle.mcap_model.proofs.Section.{piece_tops, PieceIsSound, IsRight, pieces_spelled, each_flat}
 use Rattle.mcap_model.proofs.Files.{groups_tops, group_tops, offset_tops, footer_top, length-spelled_append}
 use Rattle.mcap_model.proofs.Logged.{logs_channel}
 use Rattle.mcap_model.proofs.ShownBack.{length-offsets, is_offset, chunk_index_shown, chunk_index_shows}
@@ -52,7 +53,7 @@ noted_of header ps extras history = record { records = history; blocks = blocks_
 
 module _ (header : Top) (ps : List Piece) (extras : List Top) (history : List Rec) (at : ℕ)
     (is_header : IsHeader header) (right : Each IsRight (flat_map piece_tops ps ++ extras)) (fits : NotedFits (noted_of header ps extras history) at) (at_is : at ≡ offset_behind ((header ∷ (flat_map piece_tops ps ++ extras)) ++ end_top ∷ []))
-    (are : Each IsExtra extras) (back : (n : ℕ) (p : Piece) → At ps n p → Each IsReadBack (piece_recs p)) (numbered : (n : ℕ) (p : Piece) → At ps n p → Each IsNumberedRec (piece_recs p)) (sound : (n : ℕ) (p : Piece) → At ps n p → PieceIsSound p) where
+    (are : Each IsExtra extras) (back : (n : ℕ) (p : Piece) → At ps n p → Each IsReadBack (piece_records p)) (numbered : (n : ℕ) (p : Piece) → At ps n p → Each IsNumberedRec (piece_records p)) (sound : (n : ℕ) (p : Piece) → At ps n p → PieceIsSound p) where
   abbrev n : Noted
   n = noted_of header ps extras history
 

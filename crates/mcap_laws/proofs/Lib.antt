@@ -18,4 +18,5 @@ mod Recovered
 mod Premises
 pub mod Leading
 mod Repairing
+mod CutFiles
 mod Rewriting

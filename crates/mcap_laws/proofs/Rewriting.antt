@@ -1,21 +1,19 @@
 -- Of what repairing makes of good records a file can be written.
-use Rattle.std.proofs.Common.{◌≡◌, ◌⊎◌, ℕ, zero, suc, ◌+◌, ◌^◌, ◌<◌, ◌≤◌, Bool, true, false, List, [], ◌∷◌, ◌++◌, length, map, take, Option, Some, refl, sym, ap, subst, inl, inr, ◌∙◌, arith}
+use Rattle.std.proofs.Common.{◌≡◌, ◌⊎◌, ℕ, zero, suc, ◌^◌, ◌<◌, Bool, true, false, List, [], ◌∷◌, length, map, take, Option, refl, sym, ap, subst, inl, inr, ◌∙◌, arith}
 use Rattle.std.specs.Prelude.{filter, IsUtf8, if◌then◌else◌, ◌==◌, ◌||◌}
 use Rattle.std.specs.List.{AllZip}
 use Rattle.rec_data.specs.declared.owned.Rec.{Rec}
 use Rattle.rec_data.specs.declared.owned.Rec.TheVariants.{Schema, Channel, Message}
-use Rattle.rec_data.specs.Owned.{ShowsRec}
 use Rattle.rec_data.proofs.OwnedReading.{rec_shown, shown_once}
-use Rattle.mcap_model.specs.declared.options.FileOptions.{FileOptions}
 use Rattle.mcap_model.specs.Places.{At, Each, EachBehind}
 use Rattle.mcap_model.specs.Tops.{Top, flat}
 use Rattle.mcap_model.specs.Fields.{SchemaFields, ChannelFields, MessageFields, IsSchema, IsChannel, IsMessage}
-use Rattle.mcap_model.specs.Rules.{V6, Agrees, HasSchema, HasChannel}
+use Rattle.mcap_model.specs.Rules.{V6, Agrees}
 use Rattle.mcap_model.specs.Kept.{Good, reading_limits}
-use Rattle.mcap_model.specs.History.{rec_top, schema_of, channel_of, message_of, flat_history, without_repeats}
+use Rattle.mcap_model.specs.History.{rec_top, schema_of, channel_of, message_of}
 use Rattle.mcap_model.specs.Blocks.{blocks_in, pieces_of}
 use Rattle.mcap_model.specs.Written.{IsRec, IdsAgree}
-use Rattle.mcap_model.specs.Repaired.{is_extra, ProfileIs, Repairs}
+use Rattle.mcap_model.specs.Repaired.{is_extra, ProfileIs}
 use Rattle.mcap_model.specs.Laws.{IsReadBack, IsNumberedRec, IsExtra, EntriesFit}
 use Rattle.mcap_model.specs.Recovery.{RepairsCanBeWritten}
 use Rattle.mcap_model.proofs.Places.{at_none}

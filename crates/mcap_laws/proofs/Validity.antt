@@ -27,7 +27,8 @@ use Rattle.mcap_model.proofs.Histories.{recs_agree}
 use Rattle.mcap_model.proofs.Lists.{cut_flat, cut_at}
 use Rattle.mcap_model.proofs.Edges.{header_top, end_top}
 use Rattle.mcap_model.proofs.Shape.{whole, ends_never, before_end, end_there, length-whole, is_section, behind_end}
-use Rattle.mcap_model.proofs.Section.{piece_recs, piece_tops, held, pieces_hold, PieceIsSound, IsRight, block_within, pieces_spelled, piece_spelled, IsBlock, pieces_are_blocks, block_of}
+use Rattle.mcap_model.specs.Recovery.{piece_records}
+use Rattle.mcap_model.proofs.Section.{piece_tops, held, pieces_hold, PieceIsSound, IsRight, block_within, pieces_spelled, piece_spelled, IsBlock, pieces_are_blocks, block_of}
 use Rattle.mcap_model.proofs.Files.{body_tops, section_tops, summary_at, summary_tops, summary_foot, file_spelled, length-spelled_append, length-file, whole_of, magics_of, groups_tops, offset_tops, footer_top, summary_crc, groups_spelled, footer_once}
 use Rattle.mcap_model.proofs.Body.{standing, header_is, section_within, pieces_sound, pieces_back, pieces_numbered, body_right, section_flat}
 use Rattle.mcap_model.proofs.Groups.{of_kind_there}
@@ -47,7 +48,7 @@ use Rattle.mcap_model.proofs.FewRecords.{logged_few}
 
 module _ (header : Top) (ps : List Piece) (extras summary : List Top) (foot : Top) (s o c : ℕ)
     (is_header : IsHeader header) (right : Each IsRight (flat_map piece_tops ps ++ extras)) (tail : Each IsTail summary) (is_foot : IsFooter foot s o c)
-    (are : Each IsExtra extras) (back : (n : ℕ) (p : Piece) → At ps n p → Each IsReadBack (piece_recs p)) (numbered : (n : ℕ) (p : Piece) → At ps n p → Each IsNumberedRec (piece_recs p)) (sound : (n : ℕ) (p : Piece) → At ps n p → PieceIsSound p) where
+    (are : Each IsExtra extras) (back : (n : ℕ) (p : Piece) → At ps n p → Each IsReadBack (piece_records p)) (numbered : (n : ℕ) (p : Piece) → At ps n p → Each IsNumberedRec (piece_records p)) (sound : (n : ℕ) (p : Piece) → At ps n p → PieceIsSound p) where
   abbrev body : List Top
   body = flat_map piece_tops ps ++ extras
 
@@ -90,7 +91,7 @@ module _ (header : Top) (ps : List Piece) (extras summary : List Top) (foot : To
 
 -- ---- bounds
 
-piece_holds : (p : Piece) → length (history_bytes (piece_recs p)) ≤ length (spelled (piece_tops p))
+piece_holds : (p : Piece) → length (history_bytes (piece_records p)) ≤ length (spelled (piece_tops p))
 piece_holds (block records) = omega (arith, block_within records, length-append (chunk_bytes records) (spelled (map (index_top records) (logged_channels records))))
 piece_holds (alone r) = omega arith
 
@@ -99,8 +100,8 @@ pieces_holds [] = omega arith
 pieces_holds (p ∷ ps) =
     let more = pieces_holds ps in
     let own = piece_holds p in
-    let all : length (history_bytes (held (p ∷ ps))) ≡ length (history_bytes (piece_recs p) ++ history_bytes (held ps)) = ap length (flat_map-append rec_bytes (piece_recs p) (held ps)) in
-    omega (arith, more, own, all, length-append (history_bytes (piece_recs p)) (history_bytes (held ps)), length-spelled_append (piece_tops p) (flat_map piece_tops ps))
+    let all : length (history_bytes (held (p ∷ ps))) ≡ length (history_bytes (piece_records p) ++ history_bytes (held ps)) = ap length (flat_map-append rec_bytes (piece_records p) (held ps)) in
+    omega (arith, more, own, all, length-append (history_bytes (piece_records p)) (history_bytes (held ps)), length-spelled_append (piece_tops p) (flat_map piece_tops ps))
 
 length-front : (profile : List ℕ) → length (front profile) ≡ body_at (header_top profile)
 unfolding front

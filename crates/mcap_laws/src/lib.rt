@@ -175,7 +175,7 @@ pub fn files_are_repaired()
     ensures { FilesAreRepaired }
 {}
 
-/// Of a first part of a file repairing makes first parts of what the file was written of.
+/// Of a first part of a file just what is whole there is kept, and the reading says where and why it ends.
 pub fn fronts_are_repaired()
     ensures { FrontsAreRepaired }
 {}

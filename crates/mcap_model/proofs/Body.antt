@@ -15,7 +15,8 @@ use Rattle.mcap_model.specs.File.{library, noted, file_of}
 use Rattle.mcap_model.specs.Laws.{IsReadBack, IsNumberedRec, index_top, IsExtra, EntriesFit, CanBeWritten}
 use Rattle.mcap_model.proofs.Lists.{each_joined, cut_flat}
 use Rattle.mcap_model.proofs.Edges.{header_top, end_top, ascii}
-use Rattle.mcap_model.proofs.Section.{piece_recs, piece_tops, pieces_hold, PieceIsSound, IsRight, piece_flat, extra_right, piece_right, each_parts, each_flat, pieces_flat, extras_flat, block_has, block_within}
+use Rattle.mcap_model.specs.Recovery.{piece_records}
+use Rattle.mcap_model.proofs.Section.{piece_tops, pieces_hold, PieceIsSound, IsRight, piece_flat, extra_right, piece_right, each_parts, each_flat, pieces_flat, extras_flat, block_has, block_within}
 use Rattle.mcap_model.proofs.Files.{body_tops, section_tops, summary_at, summary_tops, summary_foot, written_tops, file_spelled, length-spelled_append, length-file}
 use Rattle.mcap_wire.proofs.Contents.{row_shown}
 use Rattle.rec_data.specs.Records.{header_kinds}
@@ -82,11 +83,11 @@ module _ (options : FileOptions) (extras : List Top) (history : List Rec) (writt
       let room = piece_within n (block records) at in
       (omega (arith, room, block_within records, length-append (chunk_bytes records) (spelled (map (index_top records) (logged_channels records)))), (let fit = written.entries_fit in fit n records at))
 
-  pub pieces_back : (n : ℕ) (p : Piece) → At (pieces_of options.chunk history) n p → Each IsReadBack (piece_recs p)
-  pieces_back = each_parts IsReadBack piece_recs (pieces_of options.chunk history) (subst (Each IsReadBack) (sym (pieces_hold options.chunk history)) written.records_fit)
+  pub pieces_back : (n : ℕ) (p : Piece) → At (pieces_of options.chunk history) n p → Each IsReadBack (piece_records p)
+  pieces_back = each_parts IsReadBack piece_records (pieces_of options.chunk history) (subst (Each IsReadBack) (sym (pieces_hold options.chunk history)) written.records_fit)
 
-  pub pieces_numbered : (n : ℕ) (p : Piece) → At (pieces_of options.chunk history) n p → Each IsNumberedRec (piece_recs p)
-  pieces_numbered = each_parts IsNumberedRec piece_recs (pieces_of options.chunk history) (subst (Each IsNumberedRec) (sym (pieces_hold options.chunk history)) written.numbered)
+  pub pieces_numbered : (n : ℕ) (p : Piece) → At (pieces_of options.chunk history) n p → Each IsNumberedRec (piece_records p)
+  pieces_numbered = each_parts IsNumberedRec piece_records (pieces_of options.chunk history) (subst (Each IsNumberedRec) (sym (pieces_hold options.chunk history)) written.numbered)
 
   pub body_right : Each IsRight (body_tops options extras history)
   body_right = each_joined IsRight (flat_map piece_tops (pieces_of options.chunk history)) extras

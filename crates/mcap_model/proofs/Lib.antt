@@ -48,3 +48,4 @@ pub mod OneMore
 pub mod Once
 pub mod FewRecords
 pub mod ExtraIndexes
+pub mod Repairs

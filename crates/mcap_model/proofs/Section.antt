@@ -17,6 +17,7 @@ use Rattle.mcap_model.specs.Kept.{NamesCompression}
 use Rattle.mcap_model.specs.History.{rec_top, history_bytes}
 use Rattle.mcap_model.specs.Blocks.{Piece, block, alone, Cuts, no_cuts, cut_behind, put_behind, cuts, last_piece, pieces_of, reaches, chunk_content, chunk_bytes, index_bytes, indexes_bytes, logged_channels, piece_bytes, pieces_bytes, blocks_in, written_fields}
 use Rattle.mcap_model.specs.Laws.{IsReadBack, IsNumberedRec, chunk_top, index_top, IsExtra, EntriesFit}
+use Rattle.mcap_model.specs.Recovery.{piece_records}
 use Rattle.mcap_model.proofs.Places.{at_none, at_kept}
 use Rattle.mcap_model.proofs.Readings.{length-top}
 use Rattle.mcap_model.proofs.Lists.{at_second, each_cons, each_joined}
@@ -30,20 +31,16 @@ use Rattle.std.proofs.lemmas.Option.{same_Some}
 
 -- ---- pieces
 
-abbrev pub piece_recs : Piece → List Rec
-piece_recs (block records) = records
-piece_recs (alone r) = r ∷ []
-
 abbrev pub piece_tops : Piece → List Top
 piece_tops (block records) = chunk_top records ∷ map (index_top records) (logged_channels records)
 piece_tops (alone r) = rec_top r ∷ []
 
 abbrev pub held : List Piece → List Rec
-held pieces = flat_map piece_recs pieces
+held pieces = flat_map piece_records pieces
 
 -- the pieces hold the history
-held_more : (pieces : List Piece) (p : Piece) → held (pieces ++ p ∷ []) ≡ held pieces ++ piece_recs p
-held_more pieces p = flat_map-append piece_recs pieces (p ∷ []) ∙ ap (λ (l : List Rec). held pieces ++ l) (append-nil (piece_recs p))
+held_more : (pieces : List Piece) (p : Piece) → held (pieces ++ p ∷ []) ≡ held pieces ++ piece_records p
+held_more pieces p = flat_map-append piece_records pieces (p ∷ []) ∙ ap (λ (l : List Rec). held pieces ++ l) (append-nil (piece_records p))
 
 cut_holds : (ripe : Bool) (c : Cuts) (r : Rec) → let n : Cuts = if ripe then record { pieces = c.pieces ++ block (c.waiting ++ r ∷ []) ∷ []; waiting = [] } else record { pieces = c.pieces; waiting = c.waiting ++ r ∷ [] } in held n.pieces ++ n.waiting ≡ (held c.pieces ++ c.waiting) ++ r ∷ []
 cut_holds true c r = append-nil (held (c.pieces ++ block (c.waiting ++ r ∷ []) ∷ [])) ∙ held_more c.pieces (block (c.waiting ++ r ∷ [])) ∙ sym (append_assoc (held c.pieces) c.waiting (r ∷ []))
@@ -113,7 +110,7 @@ pub indexes_flat : (records : List Rec) (ids : List ℕ) → flat (map (index_to
 indexes_flat records [] = refl
 indexes_flat records (id ∷ ids) = indexes_flat records ids
 
-pub piece_flat : (p : Piece) → Each IsReadBack (piece_recs p) → Each IsNumberedRec (piece_recs p) → PieceIsSound p → flat (piece_tops p) ≡ map rec_top (piece_recs p)
+pub piece_flat : (p : Piece) → Each IsReadBack (piece_records p) → Each IsNumberedRec (piece_records p) → PieceIsSound p → flat (piece_tops p) ≡ map rec_top (piece_records p)
 piece_flat (block records) back some fits =
     let inner = (written_chunk records back some fits.0).0 in
     ap (λ (l : List Top). filter is_flat_kind l ++ flat (map (index_top records) (logged_channels records))) inner
@@ -198,7 +195,7 @@ extra_flat t fits = elim fits.kind [
   | inr e ↦ subst (λ (k : ℕ). flattened (record { op = k; content = t.content }) ≡ []) (sym e) refl
 ]
 
-pub piece_right : (p : Piece) → Each IsReadBack (piece_recs p) → Each IsNumberedRec (piece_recs p) → PieceIsSound p → Each IsRight (piece_tops p)
+pub piece_right : (p : Piece) → Each IsReadBack (piece_records p) → Each IsNumberedRec (piece_records p) → PieceIsSound p → Each IsRight (piece_tops p)
 piece_right (block records) back some fits =
     let chunk = written_chunk records back some fits.0 in
     let is = written_shows records back fits.0 in
@@ -217,13 +214,13 @@ pub each_flat : {X Y : Type 0} (P : Y → Type 0) (f : X → List Y) (xs : List 
 each_flat P f [] each = λ k y at. absurd (at_none k y at)
 each_flat P f (z ∷ xs) each = each_joined P (f z) (flat_map f xs) (each 0 z refl) (each_flat P f xs (λ n x at. each (suc n) x at))
 
-pub pieces_flat : (ps : List Piece) → ((n : ℕ) (p : Piece) → At ps n p → flat (piece_tops p) ≡ map rec_top (piece_recs p)) → flat (flat_map piece_tops ps) ≡ map rec_top (held ps)
+pub pieces_flat : (ps : List Piece) → ((n : ℕ) (p : Piece) → At ps n p → flat (piece_tops p) ≡ map rec_top (piece_records p)) → flat (flat_map piece_tops ps) ≡ map rec_top (held ps)
 pieces_flat [] each = refl
 pieces_flat (p ∷ ps) each =
     flat_map-append flattened (piece_tops p) (flat_map piece_tops ps)
     ∙ ap (λ (l : List Top). l ++ flat (flat_map piece_tops ps)) (each 0 p refl)
-    ∙ ap (λ (l : List Top). map rec_top (piece_recs p) ++ l) (pieces_flat ps (λ n q at. each (suc n) q at))
-    ∙ sym (map-append rec_top (piece_recs p) (held ps))
+    ∙ ap (λ (l : List Top). map rec_top (piece_records p) ++ l) (pieces_flat ps (λ n q at. each (suc n) q at))
+    ∙ sym (map-append rec_top (piece_records p) (held ps))
 
 pub extras_flat : (extras : List Top) → Each IsExtra extras → flat extras ≡ []
 extras_flat [] each = refl

@@ -1,12 +1,16 @@
 -- The records inside a chunk, one after the other.
-use Rattle.std.proofs.Common.{◌≡◌, ◌≢◌, ℕ, zero, suc, ◌+◌, ◌-◌, ◌^◌, ◌<◌, ◌≤◌, Bool, false, not, eqb, List, [], ◌∷◌, ◌++◌, length, take, drop, refl, sym, ap, ◌∙◌, arith}
+use Rattle.std.proofs.Common.{◌≡◌, ◌≢◌, ℕ, zero, suc, ◌+◌, ◌-◌, ◌^◌, ◌<◌, ◌≤◌, Bool, false, not, eqb, List, [], ◌∷◌, ◌++◌, length, take, drop, refl, sym, ap, ◌∙◌, append_assoc, append-nil, arith}
 use Rattle.std.specs.Prelude.{if◌then◌else◌}
 use Rattle.std.proofs.lemmas.Bool.{lt-leb}
-use Rattle.std.proofs.lemmas.List.{drop-drop, length-append, length-drop, length-take}
-use Rattle.mcap_wire.specs.Layout.{number, part}
+use Rattle.std.proofs.lemmas.List.{drop-drop, length-append, length-drop, length-take, drop_at, take_at}
+use Rattle.std.proofs.lemmas.Grind.{flat_map-append}
+use Rattle.mcap_wire.specs.Layout.{number, part, framed}
 use Rattle.mcap_wire.specs.Reading.{NumberAt, RecordStands}
 use Rattle.mcap_wire.proofs.Fields.{number_there}
-use Rattle.mcap_model.specs.Tops.{Top, top_bytes, opcode, declared_length, has_head, is_whole, first_top, behind_first, begins_record, first_records, records_in}
+use Rattle.mcap_wire.proofs.Framing.{length-framed}
+use Rattle.mcap_model.specs.declared.inner.Inner.{Inner}
+use Rattle.mcap_model.specs.Walk.{inner_top, StepsOver}
+use Rattle.mcap_model.specs.Tops.{Top, top_bytes, spelled, opcode, declared_length, has_head, is_whole, first_top, behind_first, begins_record, first_records, records_in}
 use Rattle.mcap_model.specs.Laws.{IsFound}
 use Rattle.mcap_model.proofs.Readings.{begun, length-top}
 use Rattle.mcap_model.specs.Made.{top}
@@ -69,3 +73,58 @@ stands_next bytes at op from to stands valid small =
       first = found_next (drop at bytes) t (drop to bytes) stands.framed_there found;
       behind = omega (arith, length-top t, size, stands.head, stands.begins);
     }
+
+-- ---- a walk over them
+
+-- it has come to these
+pub record WalkedSoFar (records : List ℕ) (at : ℕ) (rest : List ℕ) (done : List Top) : Type 0 where
+  pub split : records ≡ spelled done ++ rest
+  pub place : at ≡ length (spelled done)
+  pub parts : records_in records ≡ done ++ records_in rest
+
+pub walk_begins : (records : List ℕ) (at : ℕ) (rest : List ℕ) → at ≡ 0 → rest ≡ records → WalkedSoFar records at rest []
+walk_begins records at rest is all = record { split = sym all; place = is; parts = ap records_in (sym all) }
+
+spelled_more : (done : List Top) (t : Top) → spelled (done ++ t ∷ []) ≡ spelled done ++ top_bytes t
+spelled_more done t = flat_map-append top_bytes done (t ∷ []) ∙ ap (λ (l : List ℕ). spelled done ++ l) (append-nil (top_bytes t))
+
+pub walk_goes_on : (records : List ℕ) (at at_new : ℕ) (rest rest_new : List ℕ) (inner : Inner) (done : List Top) → WalkedSoFar records at rest done → StepsOver at rest at_new rest_new inner
+    → WalkedSoFar records at_new rest_new (done ++ inner_top inner ∷ [])
+walk_goes_on records at at_new rest rest_new inner done was steps =
+    let t = inner_top inner in
+    record {
+      split = was.split ∙ ap (λ (l : List ℕ). spelled done ++ l) steps.split ∙ sym (append_assoc (spelled done) (top_bytes t) rest_new) ∙ ap (λ (l : List ℕ). l ++ rest_new) (sym (spelled_more done t));
+      place =
+          let size = ap (λ (l : List ℕ). length l) (spelled_more done t) in
+          let behind = steps.behind in
+          let place = was.place in
+          omega (arith, size, behind, place, length-append (spelled done) (top_bytes t));
+      parts = was.parts ∙ ap (λ (l : List Top). done ++ l) steps.first ∙ sym (append_assoc done (t ∷ []) (records_in rest_new));
+    }
+
+-- where the record in front stands
+pub stands_there : (records : List ℕ) (at at_new : ℕ) (rest rest_new : List ℕ) (inner : Inner) (done : List Top) → WalkedSoFar records at rest done → StepsOver at rest at_new rest_new inner
+    → take (9 + length inner.content.now) (drop inner.offset records) ≡ framed inner.op inner.content.now
+stands_there records at at_new rest rest_new inner done was steps =
+    let t = inner_top inner in
+    let size : length (top_bytes t) ≡ 9 + length inner.content.now = length-framed inner.op inner.content.now in
+    ap (λ (n : ℕ). take (9 + length inner.content.now) (drop n records)) (steps.offset ∙ was.place)
+    ∙ ap (λ (l : List ℕ). take (9 + length inner.content.now) (drop (length (spelled done)) l)) was.split
+    ∙ ap (take (9 + length inner.content.now)) (drop_at (spelled done) rest (length (spelled done)) refl)
+    ∙ ap (take (9 + length inner.content.now)) steps.split
+    ∙ take_at (top_bytes t) rest_new (9 + length inner.content.now) size
+
+pub room_there : (records : List ℕ) (at at_new : ℕ) (rest rest_new : List ℕ) (inner : Inner) (done : List Top) → WalkedSoFar records at rest done → StepsOver at rest at_new rest_new inner
+    → inner.offset + (9 + length inner.content.now) ≤ length records
+room_there records at at_new rest rest_new inner done was steps =
+    let t = inner_top inner in
+    let size = length-framed inner.op inner.content.now in
+    let all = ap (λ (l : List ℕ). length l) was.split in
+    let front = ap (λ (l : List ℕ). length l) steps.split in
+    let place = was.place in
+    let offset = steps.offset in
+    omega (arith, size, all, front, place, offset, length-append (spelled done) rest, length-append (top_bytes t) rest_new)
+
+-- it has come to all
+pub walked_all : (records : List ℕ) (at : ℕ) (rest : List ℕ) (done : List Top) → WalkedSoFar records at rest done → records_in rest ≡ [] → done ≡ records_in records
+walked_all records at rest done was none = sym (was.parts ∙ ap (λ (l : List Top). done ++ l) none ∙ append-nil done)

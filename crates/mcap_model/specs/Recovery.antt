@@ -1,20 +1,20 @@
 -- What holds of what repairing makes of a file.
-use Rattle.std.specs.Prelude.{◌≡◌, ℕ, ◌^◌, ◌<◌, ◌≤◌, List, [], ◌++◌, length, filter, Some}
-use Rattle.std.specs.List.{AllZip}
+use Rattle.std.specs.Prelude.{◌≡◌, ◌↔◌, ℕ, ◌^◌, ◌<◌, ◌≤◌, List, [], ◌∷◌, ◌++◌, length, take, filter, Some}
+use Rattle.std.specs.List.{AllZip, flat_map}
 use Rattle.mcap_wire.specs.Limits.{chunk_size_limit, block_limit, file_limit}
 use Rattle.rec_data.specs.declared.owned.Rec.{Rec}
+use Rattle.rec_data.specs.Owned.{rec_bytes}
 use Rattle.mcap_model.specs.declared.options.FileOptions.{FileOptions}
-use Rattle.mcap_model.specs.Places.{Each}
-use Rattle.mcap_model.specs.Tops.{Top, Tops}
+use Rattle.mcap_model.specs.Places.{At}
+use Rattle.mcap_model.specs.Tops.{Top, Tops, offset_behind}
 use Rattle.mcap_model.specs.Rules.{V1}
-use Rattle.mcap_model.specs.Kept.{Good, Kept, Halts, reading_limits, at_end}
+use Rattle.mcap_model.specs.Kept.{Good, Kept, Halts, reading_limits, at_end, grammar}
 use Rattle.mcap_model.specs.Scan.{Seen, Scan}
 use Rattle.mcap_model.specs.History.{is_message, without_repeats}
-use Rattle.mcap_model.specs.Blocks.{pieces_of, blocks_in}
-use Rattle.mcap_model.specs.Written.{IdsAgree}
-use Rattle.mcap_model.specs.File.{file_of, IsPrefix}
+use Rattle.mcap_model.specs.Blocks.{Piece, block, alone, pieces_of, blocks_in, chunk_bytes, pieces_bytes}
+use Rattle.mcap_model.specs.File.{front, section, file_of, IsPrefix}
 use Rattle.mcap_model.specs.Whole.{count_of}
-use Rattle.mcap_model.specs.Laws.{IsReadBack, IsNumberedRec, HoldsSeen, IsExtra, CanBeWritten, CanBeRead}
+use Rattle.mcap_model.specs.Laws.{HoldsSeen, CanBeWritten, CanBeRead}
 use Rattle.mcap_model.specs.Repaired.{Repairs, Repaired}
 
 -- a first part of a list
@@ -51,8 +51,49 @@ FilesAreRepaired = (options : FileOptions) (extras : List Top) (history : List R
     → (tops : List Top) × (end : ℕ) × Halts reading_limits (file_of options extras history) tops (at_end end)
     × Repairs tops options.profile extras (without_repeats history)
 
--- Of a first part of a file that holds the magic repairing makes first parts of what the file was written of.
+-- ---- a first part of a file
+
+-- the records that a piece was made of
+abbrev pub piece_records : Piece → List Rec
+piece_records (block records) = records
+piece_records (alone r) = r ∷ []
+
+-- the bytes of a piece up to the end of its records: its Chunk, or the record itself
+abbrev pub bytes_with_records : Piece → List ℕ
+bytes_with_records (block records) = chunk_bytes records
+bytes_with_records (alone r) = rec_bytes r
+
+-- the offset behind the records of a piece, which stands behind these others
+abbrev pub offset_behind_piece : FileOptions → List Piece → Piece → ℕ
+offset_behind_piece options before p = length (front options.profile ++ (pieces_bytes before ++ bytes_with_records p))
+
+-- What repairing makes of a first part of a file. Its whole records are the first ones of the file's up to the Data End, and
+-- its reading halts behind them: at the Data End if that is there, and else because the bytes are cut short. It has the profile
+-- if the Header is whole there; of the pieces those whose records are whole there, whether or not their Message Indexes are;
+-- and of the extras those that are whole there.
+pub record FrontIsRepaired (options : FileOptions) (extras : List Top) (history : List Rec) (some : List ℕ) : Type 0 where
+  pub whole : List Top
+  pub others : List Top
+  pub read : Halts reading_limits (file_of options extras history) (whole ++ others) (at_end (offset_behind (whole ++ others)))
+  pub within : offset_behind whole ≤ length some
+  pub cut : (t : Top) (more : List Top) → others ≡ t ∷ more → length some < offset_behind (whole ++ t ∷ [])
+  pub complete : others ≡ [] → Halts reading_limits some whole (at_end (offset_behind whole))
+  pub short : (others ≡ [] → ⊥) → Halts reading_limits some whole (grammar (offset_behind whole) 4)
+  pub profile : List ℕ
+  pub kept : List Top
+  pub first : List Rec
+  pub repaired : Repaired some profile kept first
+  pub header : length (front options.profile) ≤ length some → profile ≡ options.profile
+  pub no_header : length some < length (front options.profile) → profile ≡ []
+  pub piece_count : ℕ
+  pub first_is : first ≡ without_repeats (flat_map piece_records (take piece_count (pieces_of options.chunk history)))
+  pub pieces_are : (n : ℕ) (p : Piece) → At (pieces_of options.chunk history) n p
+      → (n < piece_count) ↔ (offset_behind_piece options (take n (pieces_of options.chunk history)) p ≤ length some)
+  pub extra_count : ℕ
+  pub kept_is : kept ≡ take extra_count extras
+  pub extras_are : (n : ℕ) (t : Top) → At extras n t → (n < extra_count) ↔ (length (section options (take n extras ++ t ∷ []) history) ≤ length some)
+
+-- of a first part of a file that holds the magic just what is whole there is kept
 abbrev pub FrontsAreRepaired : Type 0
 FrontsAreRepaired = (options : FileOptions) (some : List ℕ) (extras : List Top) (history : List Rec) → CanBeWritten options extras history → CanBeRead options extras history
-    → IsPrefix some (file_of options extras history) → V1 some
-    → (profile : List ℕ) × (kept : List Top) × (first : List Rec) × Repaired some profile kept first × IsFirstOf kept extras × IsFirstOf first (without_repeats history)
+    → IsPrefix some (file_of options extras history) → V1 some → FrontIsRepaired options extras history some

@@ -1,4 +1,4 @@
-use Rattle.mcap_laws.proofs.Repairing.{good_records_are_kept}
+use Rattle.mcap_model.proofs.Repairs.{good_records_are_kept}
 use Rattle.mcap_laws.proofs.good_records_are_kept.Goals as goal
 
 pub returns : goal.returns

@@ -1,4 +1,4 @@
-use Rattle.mcap_laws.proofs.Repairing.{repairs_go_on}
+use Rattle.mcap_model.proofs.Repairs.{repairs_go_on}
 use Rattle.mcap_laws.proofs.repairs_go_on.Goals as goal
 
 pub returns : goal.returns
