@@ -9,7 +9,7 @@ use Rattle.mcap_io.specs.declared.outside.ObjectKind.{ObjectKind}
 use Rattle.mcap_io.specs.declared.outside.ObjectKind.TheVariants as kinds
 use Rattle.mcap_io.specs.declared.openings.Kept.{Kept}
 use Rattle.mcap_io.specs.declared.openings.Opened.{Opened}
-use Rattle.mcap_io.specs.Outside.{Names, Told, Opening, SourceState, LiveState, WorldState, IsOut, NoneIsOut, Notes, KeepsName, KeepsSource, KeepsLive, went_well, with_opening}
+use Rattle.mcap_io.specs.Outside.{Names, Told, Opening, SourceState, WorldState, IsOut, NoneIsOut, Notes, KeepsName, KeepsSource, KeepsWritten, went_well, with_opening}
 use Rattle.mcap_io.specs.Standing.{shown, shown_keeping}
 use Rattle.mcap_io.specs.Stores.{StoreState, KeepsStore}
 
@@ -64,16 +64,16 @@ keeps-store names names' log log' name it result same notes told told_is =
       subst (λ t. Notes t.log log' kinds.Store name (record { well = went_well result; faults = it.faults; left = None; asked = it.asked })) is noted,
     )
 
-pub keeps-live : (names names' : Names) (log log' : List Opening) (name : List ℕ) (it : LiveState) (result : Result Unit Failed) → KeepsName names names' name it.held result
-    → Notes log log' kinds.Live name (record { well = is_ok result; faults = it.faults; left = None; asked = 0 }) → KeepsLive (telling names log) (telling names' log') name it result
-keeps-live names names' log log' name it result keeps notes told told_is =
+pub keeps-written : (kind : ObjectKind) (names names' : Names) (log log' : List Opening) (name : List ℕ) (bytes : Option (List ℕ)) (faults : ℕ) (result : Result Unit Failed) → KeepsName names names' name bytes result
+    → Notes log log' kind name (record { well = is_ok result; faults = faults; left = None; asked = 0 }) → KeepsWritten kind (telling names log) (telling names' log') name bytes faults result
+keeps-written kind names names' log log' name bytes faults result keeps notes told told_is =
     let was : Told = record { names = names; log = log } in
     let is : was ≡ told = cc in
-    let noted = subst (λ b. Notes log log' kinds.Live name (record { well = b; faults = it.faults; left = None; asked = 0 })) (well_is result) notes in (
+    let noted = subst (λ b. Notes log log' kind name (record { well = b; faults = faults; left = None; asked = 0 })) (well_is result) notes in (
       record { names = names'; log = log' },
       refl,
-      subst (λ t. KeepsName t.names names' name it.held result) is keeps,
-      subst (λ t. Notes t.log log' kinds.Live name (record { well = went_well result; faults = it.faults; left = None; asked = 0 })) is noted,
+      subst (λ t. KeepsName t.names names' name bytes result) is keeps,
+      subst (λ t. Notes t.log log' kind name (record { well = went_well result; faults = faults; left = None; asked = 0 })) is noted,
     )
 
 -- ---- openings

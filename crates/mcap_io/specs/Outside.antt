@@ -226,15 +226,17 @@ abbrev pub KeepsSource : WorldState → WorldState → List ℕ → SourceState 
 KeepsSource old new name it result = (told : Told) → old.told ≡ Some told → (now : Told) × (new.told ≡ Some now) × (now.names ≡ told.names)
     × Notes told.log now.log kinds.Source name (record { well = went_well result; faults = it.faults; left = it.left; asked = 0 })
 
--- a sink that is taken back is noted, and its bytes stand under its name alone
-abbrev pub KeepsSink : WorldState → WorldState → List ℕ → SinkState → Result Unit Failed → Type 0
-KeepsSink old new name it result = (told : Told) → old.told ≡ Some told → (now : Told) × (new.told ≡ Some now) × KeepsName told.names now.names name it.took result
-    × Notes told.log now.log kinds.Sink name (record { well = went_well result; faults = it.faults; left = None; asked = 0 })
+-- an object of that kind, which told these bytes and had failed so often, is taken back: it is noted, and its bytes stand
+-- under its name alone
+abbrev pub KeepsWritten : ObjectKind → WorldState → WorldState → List ℕ → Option (List ℕ) → ℕ → Result Unit Failed → Type 0
+KeepsWritten kind old new name bytes faults result = (told : Told) → old.told ≡ Some told → (now : Told) × (new.told ≡ Some now) × KeepsName told.names now.names name bytes result
+    × Notes told.log now.log kind name (record { well = went_well result; faults = faults; left = None; asked = 0 })
 
--- a live store that is taken back is noted, and its bytes stand under its name alone
+abbrev pub KeepsSink : WorldState → WorldState → List ℕ → SinkState → Result Unit Failed → Type 0
+KeepsSink old new name it result = KeepsWritten kinds.Sink old new name it.took it.faults result
+
 abbrev pub KeepsLive : WorldState → WorldState → List ℕ → LiveState → Result Unit Failed → Type 0
-KeepsLive old new name it result = (told : Told) → old.told ≡ Some told → (now : Told) × (new.told ≡ Some now) × KeepsName told.names now.names name it.held result
-    × Notes told.log now.log kinds.Live name (record { well = went_well result; faults = it.faults; left = None; asked = 0 })
+KeepsLive old new name it result = KeepsWritten kinds.Live old new name it.held it.faults result
 
 -- what an opened source tells: the bytes under its name, which is there
 abbrev pub TellsName : WorldState → List ℕ → SourceState → Type 0

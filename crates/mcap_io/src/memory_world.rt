@@ -437,8 +437,8 @@ impl World for MemoryWorld {
         ensures planned { Contains self.old.keepings.failing.items self.old.keepings.made → IsErr result × (self.new.entries ≡ self.old.entries) }
         ensures rest { self.new ≡ record self.old { log = self.new.log; faults = self.new.faults; watch_faults = self.new.watch_faults; entries = self.new.entries; keepings = record { failing = self.old.keepings.failing; made = next_call self.old.keepings.made } } }
     {
-        self.watch_faults = self.watch_faults.saturating_add(it.faults());
         let faults = it.faults();
+        self.watch_faults = self.watch_faults.saturating_add(faults);
         let put = self.put_back(name, it.into_bytes());
         let kept = Kept {
             well: put.is_ok(),

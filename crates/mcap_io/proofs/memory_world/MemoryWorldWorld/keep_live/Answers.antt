@@ -4,7 +4,7 @@ use Rattle.std.specs.Prelude.{is_ok}
 use Rattle.mcap_io.specs.declared.outside.ObjectKind.TheVariants as kinds
 use Rattle.mcap_io.specs.Outside.{Keeping, KeepsName, Notes}
 use Rattle.mcap_io.specs.Standing.{standing, shown, shown_keeping}
-use Rattle.mcap_io.proofs.Noting.{keeps-live}
+use Rattle.mcap_io.proofs.Noting.{keeps-written}
 use Rattle.mcap_io.proofs.memory_world.MemoryWorldWorld.keep_live.Goals as goal
 
 pub returns-clause-keeps : goal.returns-clause-keeps
@@ -16,5 +16,5 @@ returns-clause-keeps c =
     let names = standing c.args.self.now.entries in
     let names' = standing c.put_back-put.new.self.entries in
     let rest = c.put_back-put.ensures.rest in
-    keeps-live names names' _ _ _ (record { held = Some c.args.it.store.bytes.items; faults = c.args.it.faults }) _ (subst (λ h. KeepsName names names' c.args.name.now h c.put_back-put.result) (sym c.into_bytes.ensures) c.put_back-put.ensures.keeps)
+    keeps-written kinds.Live names names' _ _ _ (Some c.args.it.store.bytes.items) c.args.it.faults _ (subst (λ h. KeepsName names names' c.args.name.now h c.put_back-put.result) (sym c.into_bytes.ensures) c.put_back-put.ensures.keeps)
     (subst (λ l. Notes l log' kinds.Live c.args.name.now keeping) (ap (λ w. map shown w.log.items) rest) (subst (Notes (map shown c.put_back-put.new.self.log.items) log' kinds.Live c.args.name.now) is c.note.ensures))
