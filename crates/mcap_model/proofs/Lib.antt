@@ -49,3 +49,5 @@ pub mod Once
 pub mod FewRecords
 pub mod ExtraIndexes
 pub mod Repairs
+pub mod OpenedChunks
+pub mod Members

@@ -3,9 +3,14 @@ use Rattle.std.proofs.Common.{◌≡◌, ℕ, List, ap}
 use Rattle.mcap_wire.specs.Contents.{Values}
 use Rattle.mcap_wire.proofs.Contents.{shows_decided}
 use Rattle.rec_index.specs.Fields.{ChunkIndexFields, AttachmentIndexFields, MetadataIndexFields, StatisticsFields, SummaryOffsetFields}
-use Rattle.rec_index.specs.Records.{chunk_index_kinds, chunk_index_values, attachment_index_kinds, attachment_index_values, metadata_index_kinds, metadata_index_values, statistics_kinds, statistics_values, summary_offset_kinds, summary_offset_values}
+use Rattle.rec_index.specs.Records.{message_index_kinds, message_index_values, chunk_index_kinds, chunk_index_values, attachment_index_kinds, attachment_index_values, metadata_index_kinds, metadata_index_values, statistics_kinds, statistics_values, summary_offset_kinds, summary_offset_values}
 use Rattle.mcap_model.specs.Tops.{Top}
-use Rattle.mcap_model.specs.Fields.{IsChunkIndex, IsAttachmentIndex, IsMetadataIndex, IsStatistics, IsSummaryOffset}
+use Rattle.mcap_model.specs.Fields.{IsMessageIndex, IsChunkIndex, IsAttachmentIndex, IsMetadataIndex, IsStatistics, IsSummaryOffset}
+
+pub message_index_once : (t : Top) (a b : ℕ) (e f : List (ℕ × ℕ)) → IsMessageIndex t a e → IsMessageIndex t b f → (a ≡ b) × (e ≡ f)
+message_index_once t a b e f one other =
+    let same = shows_decided message_index_kinds t.content (message_index_values a e) (message_index_values b f) one.layout other.layout in
+    (cc same, cc same)
 
 pub chunk_index_once : (t : Top) (f g : ChunkIndexFields) → IsChunkIndex t f → IsChunkIndex t g → f ≡ g
 chunk_index_once t f g one other = ap of (shows_decided chunk_index_kinds t.content (chunk_index_values f) (chunk_index_values g) one.layout other.layout)
