@@ -216,7 +216,7 @@ impl<F: Write + OpenFile + FileExt + Drop> FileLive<F> {
     }
 }
 
-impl<F: Write + OpenFile + FileExt + Drop + Send> LiveStore for FileLive<F> {
+impl<F: Write + OpenFile + FileExt + Drop> LiveStore for FileLive<F> {
     type Extent = Stretch;
 
     type View = FileView<F>;

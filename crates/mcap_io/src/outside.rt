@@ -135,7 +135,7 @@ pub trait LiveView<X: Extent> {
 pub trait LiveStore {
     type Extent: Extent;
 
-    type View: LiveView<Self::Extent> + Send;
+    type View: LiveView<Self::Extent>;
 
     /// What it holds, where it tells that, and how often it has failed.
     ghost state: { Self → LiveState };
