@@ -14,6 +14,7 @@ ghost use Rattle.record_core.specs.Stands.{DeskStandsFor, Steps, Stays, PublishS
 use crate::answers::{DeclareRefused, Declared, Empty, Found, NewMessage, PublishRefused};
 use crate::framing::{declared_size, offer_declared};
 use crate::ids::{give_ids, id_of_channel, number_of};
+use crate::limits::{DATA_LIMIT, DECLARATION_LIMIT, RECORD_COUNT_LIMIT};
 use id_table::{IdRefused, IdTable};
 use mcap_model::{End, Stop};
 use mcap_wire::Memory;
@@ -105,7 +106,7 @@ impl Desk {
     fn publish_refusal(&self, channel: u16, len: u64) -> Option<PublishRefused>
         ensures { result ≡ publish_refusal self.now channel len }
     {
-        if len > 33_554_432 {
+        if len > DATA_LIMIT {
             return Some(PublishRefused::TooLarge { len });
         }
         match self.end {
@@ -117,7 +118,7 @@ impl Desk {
             return Some(PublishRefused::UnknownChannel);
         }
         let count = self.count();
-        if count >= 281_474_976_710_656 {
+        if count >= RECORD_COUNT_LIMIT {
             return Some(PublishRefused::TooManyRecords { count });
         }
         let held = self.held();
@@ -160,7 +161,7 @@ impl Desk {
         ensures { SightOf self.now channel.now result }
     {
         let len = declared_size(channel);
-        if len > 1_048_576 {
+        if len > DECLARATION_LIMIT {
             return Sight::Refused(DeclareRefused::TooLarge { len });
         }
         match self.end {
@@ -175,7 +176,7 @@ impl Desk {
             None => {}
         }
         let count = self.count();
-        if count >= 281_474_976_710_656 {
+        if count >= RECORD_COUNT_LIMIT {
             return Sight::Refused(DeclareRefused::TooManyRecords { count });
         }
         let held = self.held();

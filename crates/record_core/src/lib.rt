@@ -7,8 +7,10 @@ mod desk;
 mod framing;
 mod ids;
 pub mod laws;
+mod limits;
 
 pub use answers::{DeclareRefused, Declared, Empty, Found, NewMessage, PublishRefused};
 pub use desk::Desk;
 pub use framing::declared_size;
 pub use ids::{give_ids, id_of, id_of_channel, number_of};
+pub use limits::{DATA_LIMIT, DECLARATION_LIMIT, RECORD_COUNT_LIMIT};

@@ -11,5 +11,5 @@ returns-then-channel-eq0 c = grind (arith, common_steps)
 pub returns-then-held-limit : goal.returns-then-held-limit
 returns-then-held-limit c = grind (arith, common_steps)
 
-pub returns-then-count-ge281474976710656 : goal.returns-then-count-ge281474976710656
-returns-then-count-ge281474976710656 c = grind (arith, common_steps)
+pub returns-then-count-ge-RECORD_COUNT_LIMIT : goal.returns-then-count-ge-RECORD_COUNT_LIMIT
+returns-then-count-ge-RECORD_COUNT_LIMIT c = grind (arith, common_steps)
