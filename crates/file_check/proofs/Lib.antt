@@ -12,3 +12,4 @@ pub mod Halted
 pub mod Parts
 pub mod Refusing
 pub mod Judged
+pub mod RealLimits

@@ -6,3 +6,4 @@ pub mod Gathering
 pub mod Reading
 pub mod Halting
 pub mod Checking
+pub mod Laws

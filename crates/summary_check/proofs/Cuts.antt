@@ -51,7 +51,7 @@ front_opcode : (rest : List ℕ) → 9 ≤ length rest → opcode (rest ++ magic
 front_opcode [] some = absurd (omega (arith, some))
 front_opcode (b ∷ bytes) some = refl
 
-front_length : (rest : List ℕ) → 9 ≤ length rest → declared_length (rest ++ magic) ≡ declared_length rest
+pub front_length : (rest : List ℕ) → 9 ≤ length rest → declared_length (rest ++ magic) ≡ declared_length rest
 front_length [] some = absurd (omega (arith, some))
 front_length (b ∷ bytes) some = ap number (take-append-le 8 bytes magic (omega (arith, some)))
 

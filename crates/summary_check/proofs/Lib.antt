@@ -17,4 +17,3 @@ pub mod Summing
 pub mod Repeated
 pub mod FullyIndexing
 pub mod Verdicts
-pub mod RealLimits
