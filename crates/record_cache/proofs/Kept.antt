@@ -2,7 +2,7 @@
 use Rattle.std.proofs.Common.{◌≡◌, ◌≢◌, ℕ, zero, suc, ◌+◌, ◌-◌, ◌^◌, ◌<◌, ◌≤◌, List, [], ◌∷◌, ◌++◌, length, take, drop, Some, refl, sym, ap, subst, ◌∙◌, append_assoc, arith}
 use Rattle.std.specs.Prelude.{All, slice_get, Ok}
 use Rattle.std.proofs.lemmas.List.{append-nil, length-append, length-drop, length-take}
-use Rattle.std.proofs.lemmas.List.Elements.{All-append}
+use Rattle.std.proofs.lemmas.List.Elements.{All-nil, All-cons, All-append}
 use Rattle.std.proofs.lemmas.Grind.{flat_map-append}
 use Rattle.std.proofs.lemmas.Option.{get_or_from_slice_get}
 use Rattle.std.proofs.Math.Seq.{take-append_seam, drop-append-add}
@@ -21,28 +21,16 @@ use Rattle.record_cache.specs.Buffers.{IsKept, Buffer, buffer_of, IsBuffer, IsHe
 use Rattle.record_cache.specs.Offers.{Offered, StartsAt, StandsThere}
 use Rattle.record_cache.proofs.Readback.{records_read}
 
-all_none : {X : Type 0} (P : X → Type 0) → All P []
-all_none P k d lt = absurd (omega (arith, lt))
-
-pub all_one : {X : Type 0} (P : X → Type 0) (x : X) → P x → All P (x ∷ [])
-all_one P x here zero d lt = here
-all_one P x here (suc k) d lt = absurd (omega (arith, lt))
-
-pub all_two : {X : Type 0} (P : X → Type 0) (x y : X) → P x → P y → All P (x ∷ y ∷ [])
-all_two P x y one other zero d lt = one
-all_two P x y one other (suc zero) d lt = other
-all_two P x y one other (suc (suc k)) d lt = absurd (omega (arith, lt))
-
 -- ---- no records
 
 pub read_none : records_shown [] ≡ []
-read_none = records_read [] (all_none IsKept)
+read_none = records_read [] (All-nil IsKept)
 
 pub empty_buffer : (limit : ℕ) (items : List ℕ) → limit ≤ 1073741824 → items ≡ [] → IsBuffer limit 0 items
 empty_buffer limit items small none = subst (IsBuffer limit 0) (sym none) (record {
   small = small;
   spelled = ap history_bytes (sym read_none);
-  kept = subst (All IsKept) (sym read_none) (all_none IsKept);
+  kept = subst (All IsKept) (sym read_none) (All-nil IsKept);
   counted = ap length (sym read_none);
   few = omega arith;
   room = omega arith;
@@ -93,7 +81,7 @@ pub grown_one : (limit count : ℕ) (framed items : List ℕ) (r : Rec) → IsBu
     → Grown limit count framed items (r ∷ [])
 grown_one limit count framed items r is below kept same =
     let size : length (history_bytes (r ∷ [])) ≡ length (rec_bytes r) = ap length (append-nil (rec_bytes r)) in
-    grown limit count framed items (r ∷ []) is below (all_one IsKept r kept) (omega (arith, size, kept.short))
+    grown limit count framed items (r ∷ []) is below (All-cons IsKept r [] kept (All-nil IsKept)) (omega (arith, size, kept.short))
     (omega (arith, size, length-framed (rec_opcode r) (rec_text r)))
     (same ∙ ap (λ (l : List ℕ). framed ++ l) (bytes_one r))
 
@@ -102,7 +90,7 @@ pub grown_two : (limit count : ℕ) (framed middle items : List ℕ) (r s : Rec)
 grown_two limit count framed middle items r s is below kept other short same next =
     let size : length (history_bytes (r ∷ s ∷ [])) ≡ length (rec_bytes r) + length (rec_bytes s) =
     length-append (rec_bytes r) (history_bytes (s ∷ [])) ∙ ap (λ (n : ℕ). length (rec_bytes r) + n) (ap length (append-nil (rec_bytes s))) in
-    grown limit count framed items (r ∷ s ∷ []) is below (all_two IsKept r s kept other) (omega (arith, size, short))
+    grown limit count framed items (r ∷ s ∷ []) is below (All-cons IsKept r (s ∷ []) kept (All-cons IsKept s [] other (All-nil IsKept))) (omega (arith, size, short))
     (omega (arith, size, length-framed (rec_opcode r) (rec_text r)))
     (next ∙ ap (λ (l : List ℕ). l ++ rec_bytes s) same ∙ append_assoc framed (rec_bytes r) (rec_bytes s) ∙ ap (λ (l : List ℕ). framed ++ (rec_bytes r ++ l)) (bytes_one s))
 
