@@ -118,7 +118,7 @@ pub record ReadsOne (kind : ObjectKind) (file : List ℕ) (old new : Scene) (ent
   pub three : status ≡ 3 → AskedRose (counts_in old) (counts_in new)
   -- unless a count rises, the file didn't fail, and the ending decides the status, or memory lacked
   pub calm : (AnyRose (counts_in old) (counts_in new) → ⊥) → (failed ≡ false) × ((status ≡ ending_status ending) ⊎ (status ≡ 5))
-  -- memory lacks for saying so only where there is something to say: a file that was read, where no count rises, is answered 0
+  -- of a file that was read, where no count rises, there is nothing to tell, so that no memory can lack for it
   pub read : (text : List ℕ) → ending ≡ was_read text → (AnyRose (counts_in old) (counts_in new) → ⊥) → status ≡ 0
   -- the status 0 says that the file was read without a failure, and that all of the text was taken
   pub whole : status ≡ 0 → (failed ≡ false) × ((text : List ℕ) × (ending ≡ was_read text) × TellsAll old.out new.out text)
