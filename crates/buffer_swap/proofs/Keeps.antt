@@ -32,7 +32,7 @@ use Rattle.buffer_swap.specs.Weights.{total, one_if}
 use Rattle.buffer_swap.specs.Shown.{ChannelStands, IdsLack, HeldThere, FoundThere, ShownTo}
 use Rattle.buffer_swap.specs.Posts.{Post, no_post, first_post, drain_post, publisher_post, note_post}
 use Rattle.buffer_swap.specs.Turns.{view, newcomer, nobody, has_turn, is_drain, ids, weigh, FoundFits, PassFits, IsFront, NoteFits, Fits, World, Wired, Kept}
-use Rattle.buffer_swap.specs.Plays.{Sat, HasDesk, IsIdle, missing, took, fresh, MayCount, counts, counted, hands_over, handed_over, shuts, closes, closed, stop_in, stops, stopped, frees as frees_view, freed, same_pass, with_full_hand, with_name, with_lacking, NamedAt, LacksAt, starts, drainer, hires, hired, gathers, noted, reads, settled, met}
+use Rattle.buffer_swap.specs.Plays.{Sat, HasDesk, IsIdle, Told, TriesTurn, IsEvent, missing, took, fresh, MayCount, counts, counted, hands_over, handed_over, shuts, closes, closed, stop_in, stops, stopped, frees as frees_view, freed, same_pass, with_full_hand, with_name, with_lacking, NamedAt, LacksAt, starts, drainer, hires, hired, gathers, noted, reads, settled, met}
 use Rattle.buffer_swap.specs.declared.view.View.{View}
 use Rattle.buffer_swap.proofs.Sums.{total-append, total-set, term_le, terms_le, total-alone, set_at}
 use Rattle.buffer_swap.proofs.Growing.{placed_at, placed_more}
@@ -97,9 +97,9 @@ looked s d p stands fits = record {
   limit = fits.limit;
 }
 
--- 1 and 2
-pub takes_turn : (n id : ℕ) (m : Sat) → IsIdle m → Allows Kept n id m 0 (λ y. either (eqb y 0) 1 y) (took (step n 0 0 1 none) m)
-takes_turn n id m idle t k wide me _ = let x : ℕ = get_or t.words 0 0 in let long = k.wired.wide in let near = k.wired.homes_one in let off = has_not m.0 idle.holds in let most = k.wired.turn in let f = k.each id m.0 me in
+-- the turn is taken, or found taken
+takes_free : (n id : ℕ) (m : Sat) → IsIdle m → Allows Kept n id m 0 (λ y. either (eqb y 0) 1 y) (took (step n 0 0 1 none) m)
+takes_free n id m idle t k wide me _ = let tries : TriesTurn (step n 0 0 1 none) = record { word = refl; free = refl; taken = refl } in let x : ℕ = get_or t.words 0 0 in let long = k.wired.wide in let near = k.wired.homes_one in let off = has_not m.0 idle.holds in let most = k.wired.turn in let f = k.each id m.0 me in
     exchanged x 0 1 (Goes t 0 id m (took (step n 0 0 1 none) m))
     (λ hit. let d = k.d in let w : View = view true d m.0.missed (with_found m.0.pass (found_of d)) m.0.post in let same = get_or-set_same t.words 0 1 0 (omega arith) in (
       w,
@@ -117,6 +117,7 @@ takes_turn n id m idle t k wide me _ = let x : ℕ = get_or t.words 0 0 in let l
           record { hand = λ _. refl; pass = λ e. looked k.s d m.0.pass k.world.stands (f.pass e); known = f.known; note = f.note; drains = f.drains; idle = f.idle } (λ j u _ e. k.each j u e)
           (heads t k id m.0 me) (λ _. refl) (k.controls id m.0 me) (omega arith) (omega arith) (λ h. refl),
       (
+        tries,
         (λ _. (
           record {
             d = d;
@@ -139,10 +140,17 @@ takes_turn n id m idle t k wide me _ = let x : ℕ = get_or t.words 0 0 in let l
           (omega arith)
           record { hand = λ e. no e; pass = f.pass; known = f.known; note = f.note; drains = f.drains; idle = f.idle } (λ j u _ e. k.each j u e)
           (heads t k id m.0 me) (λ _. refl) (k.controls id m.0 me) (omega arith) (omega arith) (λ h. refl),
-      ((λ hit. absurd (miss hit)), λ _. refl),
+      (tries, (λ hit. absurd (miss hit)), λ _. refl),
     ))
 
--- 8, with what the pass shows then
+-- by whatever step that tries for the turn
+pub takes_turn : (n id : ℕ) (m : Sat) (i old new : ℕ) → TriesTurn (step n i old new none) → IsIdle m → Allows Kept n id m i (λ y. either (eqb y old) new y) (took (step n i old new none) m)
+takes_turn n id m i old new tries idle =
+    subst (λ (j : ℕ). Allows Kept n id m j (λ y. either (eqb y old) new y) (took (step n j old new none) m)) (sym tries.word)
+    (subst (λ (j : ℕ). Allows Kept n id m 0 (λ y. either (eqb y j) new y) (took (step n 0 j new none) m)) (sym tries.free)
+    (subst (λ (j : ℕ). Allows Kept n id m 0 (λ y. either (eqb y 0) j y) (took (step n 0 0 j none) m)) (sym tries.taken) (takes_free n id m idle)))
+
+-- the turn is freed, with what the pass shows then
 frees : (n id : ℕ) (v : View) (d : DeskView) (c : View → PassState) → v.holds ≡ true → d ≡ v.hand
     → ((s : State) → DeskStandsFor v.hand s → PassFits s.history v.hand v.pass → PassFits s.history v.hand (c v)) → (c v).own ≡ v.pass.own
     → Allows Kept n id (v, (0, d) ∷ []) 0 (λ _. 0) (λ _. freed c (step n 0 0 0 none) (v, (0, d) ∷ []) 0)
@@ -172,7 +180,7 @@ frees n id v d c holds is learns own t k wide me _ = let x : ℕ = get_or t.word
           }
           (λ j u _ e. k.each j u e)
           (heads t k id v me) (λ _. refl) (k.controls id v me) (omega arith) (omega arith) (λ h. omega (arith, ap (total h) own)),
-      refl,
+      (record { word = refl; free = refl; alone = refl; holds = holds }, refl),
     )
 
 frees_as : (n id : ℕ) (m : Sat) (c : View → PassState) → HasDesk m
@@ -241,6 +249,18 @@ event t k id v w y s d head halt me holds still world mine others here there con
     (λ j u apart e. others u j apart e (by_bool _ u.holds (λ yes_turn. absurd (omega (arith, has u yes_turn, terms_le has_turn t.views id j v u apart me e))) (λ no_turn. no_turn)) (k.each j u e))
     here there controls made drains pairs
 
+rises : (n : ℕ) → IsEvent (step n 1 1 0 none)
+rises n = record { word = refl; one = refl; alone = refl }
+
+-- what an event tells
+abbrev ByEvent : ℕ → ℕ → Sat → Told → ℕ → ℕ → Type 0
+ByEvent n id m then i more = Allows Kept n id m i (λ y. (y + more) % 2 ^ 64) (then (step n i more 0 none) m)
+
+-- whatever step it is by
+by_event : (n id : ℕ) (m : Sat) (then : Told) (i more : ℕ) → IsEvent (step n i more 0 none) → ByEvent n id m then 1 1 → ByEvent n id m then i more
+by_event n id m then i more event allows =
+    subst (λ (j : ℕ). ByEvent n id m then j more) (sym event.word) (subst (λ (j : ℕ). ByEvent n id m then 1 j) (sym event.one) allows)
+
 -- pairs of records that stand behind a history
 placed_behind : (history records : List Rec) (n : ℕ) → n ≡ length history → Each (λ (pair : ℕ × Rec). At (history ++ records) pair.0 pair.1) (placed_from n records)
 placed_behind history records n same j pair at =
@@ -251,7 +271,7 @@ placed_behind history records n same j pair at =
 none_unended : (d : DeskView) → d.end ≡ None → (e : End) → end_of d ≡ Some e → ⊥
 none_unended d unended e is = none-some e (sym (ap first_of unended) ∙ is)
 
--- 4
+-- records are counted
 counts_records : (n id : ℕ) (v : View) (records : List Rec) → v.holds ≡ true → MayCount v.hand records (added v.hand records) → ids v ≢ 0 → let d = added v.hand records in
     Allows Kept n id (v, (0, d) ∷ []) 1 (λ y. (y + 1) % 2 ^ 64) (counted (step n 1 1 0 none) (v, (0, d) ∷ []))
 counts_records n id v records holds may named t k wide me _ = let hand = v.hand in let d = added hand records in let f = k.each id v me in let is : hand ≡ k.d = f.hand holds in
@@ -304,19 +324,19 @@ counts_records n id v records holds may named t k wide me _ = let hand = v.hand 
           let b : total h (placed_from 0 history) ≡ total h (placed_from 0 k.s.history) + total h (placed_from (length k.s.history) records) =
           ap (total h) (placed_more 0 k.s.history records ∙ ap (λ (z : ℕ). placed_from 0 k.s.history ++ placed_from z records) size) ∙ total-append h (placed_from 0 k.s.history) (placed_from (length k.s.history) records) in
           omega (arith, a, b)),
-      refl,
+      (rises n, refl),
     )
 
-pub counts_as : (n id : ℕ) (m : Sat) (d : DeskView) (records : List Rec) → m.1 ≡ (0, d) ∷ [] → m.0.holds ≡ true → MayCount m.0.hand records d → ids m.0 ≢ 0
-    → Allows Kept n id m 1 (λ y. (y + 1) % 2 ^ 64) (counted (step n 1 1 0 none) m)
-counts_as n id m d records out holds may named = subst (λ (c : List (ℕ × DeskView)). Allows Kept n id (m.0, c) 1 (λ y. (y + 1) % 2 ^ 64) (counted (step n 1 1 0 none) (m.0, c)))
-    (ap (λ (z : DeskView). (0, z) ∷ []) (sym may.is) ∙ sym out) (counts_records n id m.0 records holds (subst (MayCount m.0.hand records) may.is may) named)
+pub counts_as : (n id : ℕ) (m : Sat) (d : DeskView) (records : List Rec) (i more : ℕ) → IsEvent (step n i more 0 none) → m.1 ≡ (0, d) ∷ [] → m.0.holds ≡ true → MayCount m.0.hand records d → ids m.0 ≢ 0
+    → ByEvent n id m counted i more
+counts_as n id m d records i more event out holds may named = by_event n id m counted i more event (subst (λ (c : List (ℕ × DeskView)). Allows Kept n id (m.0, c) 1 (λ y. (y + 1) % 2 ^ 64) (counted (step n 1 1 0 none) (m.0, c)))
+    (ap (λ (z : DeskView). (0, z) ∷ []) (sym may.is) ∙ sym out) (counts_records n id m.0 records holds (subst (MayCount m.0.hand records) may.is may) named))
 
 one_most : (b : Bool) → one_if b ≤ 1
 one_most true = omega arith
 one_most false = omega arith
 
--- 5
+-- the buffer is handed over
 hands_primary : (n id : ℕ) (v : View) → v.holds ≡ true → v.post ≡ drain_post v.post.stop v.post.taken → let d = swapped v.hand in
     Allows Kept n id (v, (0, d) ∷ []) 1 (λ y. (y + 1) % 2 ^ 64) (handed_over (step n 1 1 0 none) (v, (0, d) ∷ []))
 hands_primary n id v holds shape t k wide me _ = let hand = v.hand in let d = swapped hand in let f = k.each id v me in let is : hand ≡ k.d = f.hand holds in
@@ -360,13 +380,13 @@ hands_primary n id v holds shape t k wide me _ = let hand = v.hand in let d = sw
           (λ theirs. let both : is_drain u ≡ 1 = ap one_if theirs in let most = one_most k.head.started in absurd (omega (arith, terms_le is_drain t.views id j v u apart me e, k.drains)))
           (subst (λ (z : DeskView). Fits history z k.halt u) (sym is) h))
           (λ z. absurd (not_first z)) (λ _. refl) (λ e. no e) (omega arith) (omega arith) (λ h. omega (arith, ap (total (λ (x : PassState). total h x.own)) none_known)),
-      (refl, subst Numbered (sym whole) k.world.stands.numbered),
+      (rises n, refl, subst Numbered (sym whole) k.world.stands.numbered),
     )
 
-pub hands_as : (n id : ℕ) (m : Sat) → m.1 ≡ (0, swapped m.0.hand) ∷ [] → m.0.holds ≡ true → m.0.post ≡ drain_post m.0.post.stop m.0.post.taken
-    → Allows Kept n id m 1 (λ y. (y + 1) % 2 ^ 64) (handed_over (step n 1 1 0 none) m)
-hands_as n id m out holds shape = subst (λ (c : List (ℕ × DeskView)). Allows Kept n id (m.0, c) 1 (λ y. (y + 1) % 2 ^ 64) (handed_over (step n 1 1 0 none) (m.0, c)))
-    (sym out) (hands_primary n id m.0 holds shape)
+pub hands_as : (n id : ℕ) (m : Sat) (i more : ℕ) → IsEvent (step n i more 0 none) → m.1 ≡ (0, swapped m.0.hand) ∷ [] → m.0.holds ≡ true → m.0.post ≡ drain_post m.0.post.stop m.0.post.taken
+    → ByEvent n id m handed_over i more
+hands_as n id m i more event out holds shape = by_event n id m handed_over i more event (subst (λ (c : List (ℕ × DeskView)). Allows Kept n id (m.0, c) 1 (λ y. (y + 1) % 2 ^ 64) (handed_over (step n 1 1 0 none) (m.0, c)))
+    (sym out) (hands_primary n id m.0 holds shape))
 
 abbrev placed_end : End → ℕ → End × ℕ
 placed_end end at = (end, at)
@@ -390,7 +410,7 @@ closed_stopped stop e = absurd cc
 stopped_same : (a b : Stop) → Stopped a ≡ Stopped b → a ≡ b
 stopped_same a b e = cc
 
--- 6, by the control
+-- the control closes
 closes_log : (n id : ℕ) (v : View) → v.holds ≡ true → v.hand.end ≡ None → v.post.controls ≡ true → v.post.drains ≡ false → let d = ended v.hand Closed in
     Allows Kept n id (v, (0, d) ∷ []) 1 (λ y. (y + 1) % 2 ^ 64) (closed (step n 1 1 0 none) (v, (0, d) ∷ []))
 closes_log n id v holds unended controls quiet t k wide me _ = let hand = v.hand in let d = ended hand Closed in let f = k.each id v me in let is : hand ≡ k.d = f.hand holds in
@@ -421,15 +441,15 @@ closes_log n id v holds unended controls quiet t k wide me _ = let hand = v.hand
           (λ u j apart e idle h. view_later history hand d k.halt k.halt u go idle (λ theirs. let there = h.drains theirs in (there.0 ∙ ap (λ (z : DeskView). z.taken) (sym is), there.1))
           (subst (λ (z : DeskView). Fits history z k.halt u) (sym is) h))
           (λ _. ap shuts mine) (λ nz. absurd (nz zero_id)) (λ _. zero_id) (omega (arith, ap (λ (x : Post). x.made) mine)) (omega (arith, ap (λ (x : Post). one_if x.started) mine)) (λ h. refl),
-      refl,
+      (rises n, refl),
     )
 
-pub closes_as : (n id : ℕ) (m : Sat) → m.1 ≡ (0, ended m.0.hand Closed) ∷ [] → m.0.holds ≡ true → m.0.hand.end ≡ None → m.0.post.controls ≡ true → m.0.post.drains ≡ false
-    → Allows Kept n id m 1 (λ y. (y + 1) % 2 ^ 64) (closed (step n 1 1 0 none) m)
-closes_as n id m out holds unended controls quiet = subst (λ (c : List (ℕ × DeskView)). Allows Kept n id (m.0, c) 1 (λ y. (y + 1) % 2 ^ 64) (closed (step n 1 1 0 none) (m.0, c)))
-    (sym out) (closes_log n id m.0 holds unended controls quiet)
+pub closes_as : (n id : ℕ) (m : Sat) (i more : ℕ) → IsEvent (step n i more 0 none) → m.1 ≡ (0, ended m.0.hand Closed) ∷ [] → m.0.holds ≡ true → m.0.hand.end ≡ None → m.0.post.controls ≡ true → m.0.post.drains ≡ false
+    → ByEvent n id m closed i more
+closes_as n id m i more event out holds unended controls quiet = by_event n id m closed i more event (subst (λ (c : List (ℕ × DeskView)). Allows Kept n id (m.0, c) 1 (λ y. (y + 1) % 2 ^ 64) (closed (step n 1 1 0 none) (m.0, c)))
+    (sym out) (closes_log n id m.0 holds unended controls quiet))
 
--- 6, by the drain
+-- the drain stops
 stops_log : (n id : ℕ) (v : View) (stop : Stop) → v.holds ≡ true → v.hand.end ≡ None → v.post ≡ drain_post v.post.stop v.post.taken → let d = ended v.hand (Stopped stop) in
     Allows Kept n id (v, (0, d) ∷ []) 1 (λ y. (y + 1) % 2 ^ 64) (stopped (step n 1 1 0 none) (v, (0, d) ∷ []))
 stops_log n id v stop holds unended shape t k wide me _ = let hand = v.hand in let d = ended hand (Stopped stop) in let f = k.each id v me in let is : hand ≡ k.d = f.hand holds in
@@ -468,13 +488,13 @@ stops_log n id v stop holds unended shape t k wide me _ = let hand = v.hand in l
           (λ theirs. let both : is_drain u ≡ 1 = ap one_if theirs in let most = one_most k.head.started in absurd (omega (arith, terms_le is_drain t.views id j v u apart me e, k.drains)))
           (subst (λ (z : DeskView). Fits history z k.halt u) (sym is) h))
           (λ z. absurd (not_first z)) (λ _. refl) (λ e. no e) (omega arith) (omega arith) (λ h. omega (arith, ap (total (λ (x : PassState). total h x.own)) none_known)),
-      refl,
+      (rises n, refl),
     )
 
-pub stops_as : (n id : ℕ) (m : Sat) (stop : Stop) → m.1 ≡ (0, ended m.0.hand (Stopped stop)) ∷ [] → m.0.holds ≡ true → m.0.hand.end ≡ None → m.0.post ≡ drain_post m.0.post.stop m.0.post.taken
-    → Allows Kept n id m 1 (λ y. (y + 1) % 2 ^ 64) (stopped (step n 1 1 0 none) m)
-stops_as n id m stop out holds unended shape = subst (λ (c : List (ℕ × DeskView)). Allows Kept n id (m.0, c) 1 (λ y. (y + 1) % 2 ^ 64) (stopped (step n 1 1 0 none) (m.0, c)))
-    (sym out) (stops_log n id m.0 stop holds unended shape)
+pub stops_as : (n id : ℕ) (m : Sat) (stop : Stop) (i more : ℕ) → IsEvent (step n i more 0 none) → m.1 ≡ (0, ended m.0.hand (Stopped stop)) ∷ [] → m.0.holds ≡ true → m.0.hand.end ≡ None → m.0.post ≡ drain_post m.0.post.stop m.0.post.taken
+    → ByEvent n id m stopped i more
+stops_as n id m stop i more event out holds unended shape = by_event n id m stopped i more event (subst (λ (c : List (ℕ × DeskView)). Allows Kept n id (m.0, c) 1 (λ y. (y + 1) % 2 ^ 64) (stopped (step n 1 1 0 none) (m.0, c)))
+    (sym out) (stops_log n id m.0 stop holds unended shape))
 
 -- ---- seats that are made and spent
 
@@ -530,7 +550,7 @@ fits_post history d halt v p seated known quiet numbers taken told stop f = reco
   idle = λ z. ((f.idle (sym numbers ∙ z)).0, known ∙ (f.idle (sym numbers ∙ z)).1);
 }
 
--- 9, a publisher
+-- a publisher is made
 pub hires_seat : (id : ℕ) (v : View) → v.post.controls ≡ true → v.post.drains ≡ false → v.post.seated ≡ true → Splits Kept id v (hires v) (hired v)
 hires_seat id v controls quiet seated t k me = let z = k.controls id v me controls in let mine = heads t k id v me z in let f = k.each id v me in let w = hires v in
     let head : Post = record k.head { made = k.head.made + 1 } in
@@ -541,7 +561,7 @@ hires_seat id v controls quiet seated t k me = let z = k.controls id v me contro
     (λ _. ap (λ (p : Post). record p { made = p.made + 1 }) mine) (λ nz. absurd (nz z)) (λ _. z) refl
     (omega arith) (omega arith) (λ h. refl) (λ h. refl)
 
--- 9, the drain at the start
+-- the drain is made at the start
 pub starts_drain : (id : ℕ) (v : View) → v.post.controls ≡ true → v.post.drains ≡ false → v.post.seated ≡ true → v.post.started ≡ false → Splits Kept id v (starts v) (drainer v)
 starts_drain id v controls quiet seated fresh_one t k me = let z = k.controls id v me controls in let mine = heads t k id v me z in let f = k.each id v me in let w = starts v in
     let unstarted : k.head.started ≡ false = ap (λ (p : Post). p.started) (sym mine) ∙ fresh_one in
@@ -556,7 +576,7 @@ starts_drain id v controls quiet seated fresh_one t k me = let z = k.controls id
     (λ _. ap (λ (p : Post). record p { started = true }) mine) (λ nz. absurd (nz z)) (λ _. z) refl
     (omega arith) (omega arith) (λ h. refl) (λ h. refl)
 
--- 9, a note
+-- a note is made
 pub notes_drain : (id : ℕ) (v : View) → v.post ≡ drain_post v.post.stop v.post.taken → Splits Kept id v v (noted v)
 notes_drain id v shape t k me = let f = k.each id v me in
     let drains : v.post.drains ≡ true = ap (λ (p : Post). p.drains) shape in
@@ -602,7 +622,7 @@ joined t k id v other u w head me apart them z holds idle world mine here made d
       pairs = λ h. omega (arith, both (weigh h), same h, k.pairs h);
     }
 
--- 10, the control gathers a publisher
+-- the control gathers a publisher
 pub gathers_seat : (id : ℕ) (v : View) (other : ℕ) (u : View) → v.post.controls ≡ true → v.post.drains ≡ false → v.post.seated ≡ true → u.holds ≡ false → u.post ≡ publisher_post → Joins Kept id v other u (gathers v u) nobody
 gathers_seat id v other u controls quiet seated idle shape t k me apart them = let z = k.controls id v me controls in let mine = heads t k id v me z in let f = k.each id v me in let w = gathers v u in
     let there : get_elem? t.views other ≡ some u = sym (set_else t.views id other w apart) ∙ them in let g = k.each other u there in
@@ -625,7 +645,7 @@ gathers_seat id v other u controls quiet seated idle shape t k me apart them = l
     (omega arith) (omega (arith, silent))
     (λ h. omega (arith, total-append (λ (x : PassState). total h x.own) v.post.known (u.pass ∷ []), ap (total (λ (x : PassState). total h x.own)) unknown))
 
--- 10, the control reads a note
+-- the control reads a note
 pub reads_note : (id : ℕ) (v : View) (other : ℕ) (u : View) → v.post.controls ≡ true → v.post.drains ≡ false → v.post.seated ≡ true → u ≡ newcomer 0 (note_post u.post.stop u.post.taken u.post.told) → Joins Kept id v other u (reads v u) nobody
 reads_note id v other u controls quiet seated shape t k me apart them = let z = k.controls id v me controls in let mine = heads t k id v me z in let f = k.each id v me in let w = reads v u in
     let there : get_elem? t.views other ≡ some u = sym (set_else t.views id other w apart) ∙ them in let g = k.each other u there in
@@ -660,7 +680,7 @@ loads t k id v me = let x : ℕ = get_or t.words 1 0 in let f = k.each id v me i
     (omega (arith, ap (λ (ws : List ℕ). get_or ws 0 0) same)) f (λ j u _ e. k.each j u e)
     (heads t k id v me) (λ _. refl) (k.controls id v me) (omega arith) (omega arith) (λ h. refl)
 
--- 11, behind a publisher that was gathered
+-- a look behind a publisher that was gathered
 pub settles : (n id : ℕ) (m : Sat) → Allows Kept n id m 1 (λ y. y) (settled (step n 1 0 0 none) m)
 settles n id m t k wide me _ = let v = m.0 in let f = k.each id v me in (
   v,
@@ -699,7 +719,7 @@ shown_to s d end p stands is fits =
           };
     }
 
--- 11, where all is gathered
+-- a look where all is gathered
 pub meets : (n id : ℕ) (m : Sat) → Allows Kept n id m 1 (λ y. y) (met (step n 1 0 0 none) m)
 meets n id m t k wide me _ = let v = m.0 in let f = k.each id v me in (
   v,

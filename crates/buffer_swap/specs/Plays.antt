@@ -41,6 +41,27 @@ pub record IsIdle (m : Sat) : Type 0 where
   pub holds : m.0.holds ≡ false
   pub out : m.1 ≡ []
 
+-- ---- steps
+
+-- the one step that tries for the turn: it makes the turn word 1 where that was 0
+pub record TriesTurn (st : Step DeskView) : Type 0 where
+  pub word : st.word ≡ 0
+  pub free : st.first ≡ 0
+  pub taken : st.second ≡ 1
+
+-- the step of an event: the event word rises by one
+pub record IsEvent (st : Step DeskView) : Type 0 where
+  pub word : st.word ≡ 1
+  pub one : st.first ≡ 1
+  pub alone : st.second ≡ 0
+
+-- the step that frees the turn: it makes the turn word 0, and is taken by a seat that holds the turn
+pub record FreesTurn (st : Step DeskView) (m : Sat) : Type 0 where
+  pub word : st.word ≡ 0
+  pub free : st.first ≡ 0
+  pub alone : st.second ≡ 0
+  pub holds : m.0.holds ≡ true
+
 -- ---- taking the turn
 
 -- a desk stands for a state in whose history is what the pass showed
@@ -67,7 +88,7 @@ abbrev pub missing : View → View
 missing v = view false v.hand (v.missed + 1) v.pass v.post
 
 abbrev pub took : Told
-took st m r n = (r ≡ 0 → Took m n × (n.0.missed ≡ m.0.missed)) × (r ≢ 0 → n ≡ (missing m.0, m.1))
+took st m r n = TriesTurn st × (r ≡ 0 → Took m n × (n.0.missed ≡ m.0.missed)) × (r ≢ 0 → n ≡ (missing m.0, m.1))
 
 -- ---- events
 
@@ -86,14 +107,14 @@ abbrev pub counts : View → DeskView → View
 counts v d = view true d v.missed (record v.pass { own = v.pass.own ++ placed_from (accepted v.hand) (fresh v.hand d) }) v.post
 
 abbrev pub counted : Told
-counted st m r n = n ≡ (counts m.0 (desk_of m.1), m.1)
+counted st m r n = IsEvent st × (n ≡ (counts m.0 (desk_of m.1), m.1))
 
 -- the primary is handed over
 abbrev pub hands_over : View → DeskView → View
 hands_over v d = view true d v.missed v.pass (drain_post v.post.stop (v.post.taken ++ v.hand.primary))
 
 abbrev pub handed_over : Told
-handed_over st m r n = (n ≡ (hands_over m.0 (desk_of m.1), m.1)) × Numbered (m.0.post.taken ++ m.0.hand.primary)
+handed_over st m r n = IsEvent st × (n ≡ (hands_over m.0 (desk_of m.1), m.1)) × Numbered (m.0.post.taken ++ m.0.hand.primary)
 
 abbrev pub shuts : Post → Post
 shuts p = record p { closed = true }
@@ -102,7 +123,7 @@ abbrev pub closes : View → DeskView → View
 closes v d = view true d v.missed v.pass (shuts v.post)
 
 abbrev pub closed : Told
-closed st m r n = n ≡ (closes m.0 (desk_of m.1), m.1)
+closed st m r n = IsEvent st × (n ≡ (closes m.0 (desk_of m.1), m.1))
 
 -- the stop that is an end
 abbrev pub stop_in : Option (End × ℕ) → Option Stop
@@ -114,7 +135,7 @@ abbrev pub stops : View → DeskView → View
 stops v d = view true d v.missed v.pass (drain_post (stop_in d.end) v.post.taken)
 
 abbrev pub stopped : Told
-stopped st m r n = n ≡ (stops m.0 (desk_of m.1), m.1)
+stopped st m r n = IsEvent st × (n ≡ (stops m.0 (desk_of m.1), m.1))
 
 -- ---- freeing the turn
 
@@ -123,7 +144,7 @@ abbrev pub frees : View → PassState → View
 frees v pass = view false v.hand v.missed pass v.post
 
 abbrev pub freed : (View → PassState) → Told
-freed f st m r n = n ≡ (frees m.0 (f m.0), rest m.1)
+freed f st m r n = FreesTurn st m × (n ≡ (frees m.0 (f m.0), rest m.1))
 
 abbrev pub same_pass : View → PassState
 same_pass v = v.pass

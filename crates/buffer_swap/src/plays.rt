@@ -1,4 +1,5 @@
-//! The rule of the turn, and the kinds of its steps. A turn is told once from how many bytes on its buffer is full.
+//! The rule of the turn, and the kinds of its steps. A turn is told once from how many bytes on its buffer is full. What a
+//! call promises of its steps rests on these kinds: each names the word and the change that it is of.
 ghost use Rattle.buffer_swap.specs.Posts.{first_post};
 ghost use Rattle.buffer_swap.specs.Turns.{Kept, newcomer, nobody};
 ghost use Rattle.buffer_swap.specs.Plays.{took, counted, handed_over, closed, stopped, freed, same_pass, with_full_hand, with_name, with_lacking, starts, drainer, hires, hired, gathers, noted, reads, settled, met};
@@ -16,28 +17,28 @@ impl TableRule<Desk, View, u64> for Order {
     ghost first = { λ limit. newcomer limit first_post };
 }
 
-// 1 and 2: the turn is taken, or found taken.
+// The turn is taken, or found taken.
 pub(crate) struct Take;
 
 impl Play<Desk, View> for Take {
     ghost then = { took };
 }
 
-// 4: records are counted.
+// Records are counted.
 pub(crate) struct Count;
 
 impl Play<Desk, View> for Count {
     ghost then = { counted };
 }
 
-// 5: the buffer is handed over.
+// The buffer is handed over.
 pub(crate) struct HandOver;
 
 impl Play<Desk, View> for HandOver {
     ghost then = { handed_over };
 }
 
-// 6: the intake is closed, or stopped.
+// The intake is closed, or stopped.
 pub(crate) struct Close;
 
 impl Play<Desk, View> for Close {
@@ -50,7 +51,7 @@ impl Play<Desk, View> for Stop {
     ghost then = { stopped };
 }
 
-// 8: the turn is freed, and the pass shows what it was refused or named.
+// The turn is freed, and the pass shows what it was refused or named.
 pub(crate) struct Free;
 
 impl Play<Desk, View> for Free {
@@ -99,7 +100,7 @@ impl<N: Said> Play<Desk, View> for FreeLacking<N> {
     ghost then = { freed (with_lacking N.lacking) };
 }
 
-// 9: seats are split.
+// A seat is made: the drain's, a publisher's, or a note's.
 pub(crate) struct Start;
 
 impl Split<View> for Start {
@@ -124,7 +125,7 @@ impl Split<View> for Note {
     ghost right = { noted };
 }
 
-// 10: seats are joined.
+// The control takes in a publisher's seat, or a note.
 pub(crate) struct Gather;
 
 impl Join<View> for Gather {
@@ -141,7 +142,7 @@ impl Join<View> for Read {
     ghost spent = { nobody };
 }
 
-// 11: looks.
+// Looks that change nothing.
 pub(crate) struct Settle;
 
 impl Play<Desk, View> for Settle {

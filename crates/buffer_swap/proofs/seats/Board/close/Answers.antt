@@ -1,6 +1,6 @@
-use Rattle.std.proofs.Common.{rules}
+use Rattle.std.proofs.Common.{rules, refl}
 use Rattle.buffer_swap.proofs.Keeps.{closes_as}
 use Rattle.buffer_swap.proofs.seats.Board.close.Goals as goal
 
 pub fetch_add-requires : goal.fetch_add-requires
-fetch_add-requires c = (c.requires.id, search rules, closes_as _ _ _ c.requires.desk.1 c.requires.desk.0 c.requires.unended c.requires.control.0 c.requires.control.1)
+fetch_add-requires c = (c.requires.id, search rules, closes_as _ _ _ _ _ (record { word = refl; one = refl; alone = refl }) c.requires.desk.1 c.requires.desk.0 c.requires.unended c.requires.control.0 c.requires.control.1)

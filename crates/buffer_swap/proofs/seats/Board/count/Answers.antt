@@ -1,6 +1,6 @@
-use Rattle.std.proofs.Common.{rules}
+use Rattle.std.proofs.Common.{rules, refl}
 use Rattle.buffer_swap.proofs.Keeps.{counts_as}
 use Rattle.buffer_swap.proofs.seats.Board.count.Goals as goal
 
 pub fetch_add-requires : goal.fetch_add-requires
-fetch_add-requires c = (c.requires.id, search rules, counts_as _ _ _ _ c.requires.counts.0 c.requires.desk.1 c.requires.desk.0 c.requires.counts.1 c.requires.publisher)
+fetch_add-requires c = (c.requires.id, search rules, counts_as _ _ _ _ c.requires.counts.0 _ _ (record { word = refl; one = refl; alone = refl }) c.requires.desk.1 c.requires.desk.0 c.requires.counts.1 c.requires.publisher)
