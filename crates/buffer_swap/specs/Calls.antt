@@ -16,7 +16,7 @@ use Rattle.record_core.specs.declared.answers.PublishRefused.{PublishRefused}
 use Rattle.record_core.specs.declared.answers.PublishRefused.TheVariants as publishing
 use Rattle.record_core.specs.declared.answers.DeclareRefused.{DeclareRefused}
 use Rattle.record_core.specs.declared.answers.DeclareRefused.TheVariants as declaring
-use Rattle.feed_lane.specs.Pass.{PassState, Reason, with_found, IsLater, Finds, PublishedBy, DeclaredInto}
+use Rattle.feed_lane.specs.Pass.{PassState, Reason, with_found, IsLater, Finds, IsShort, PublishedBy, DeclaredInto}
 use Rattle.atomic_table.specs.Seated.{TableId}
 use Rattle.atomic_table.specs.declared.shared.Seat.{Seat}
 use Rattle.buffer_swap.specs.Posts.{Post, first_post, drain_post}
@@ -144,7 +144,7 @@ answer_of (Err (Refused refusal)) = Some (Err refusal)
 
 -- Where the turn was another's, the pass missed it once more and shows nothing else; else it never missed it.
 abbrev pub TriesBy : PassState → ℕ → PassState → ℕ → NewMessage → Option (Result ℕ PublishRefused) → Type 0
-TriesBy before missed after now m None = (now ≡ missed + 1) × (after ≡ before)
+TriesBy before missed after now m None = IsShort m × (now ≡ missed + 1) × (after ≡ before)
 TriesBy before missed after now m (Some answer) = (now ≡ missed) × Publishes before after m answer
 
 -- ---- the drain's calls and the control's
