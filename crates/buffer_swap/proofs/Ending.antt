@@ -1,5 +1,5 @@
 -- Turns of the drain and of the control.
-use Rattle.std.proofs.Common.{◌≡◌, ℕ, ◌<◌, List, [], ◌∷◌, ◌++◌, length, Option, Some, None, true, Result, Ok, Err, refl, sym, ap, subst, ◌∙◌, arith}
+use Rattle.std.proofs.Common.{◌≡◌, ℕ, ◌<◌, List, [], ◌∷◌, ◌++◌, length, Option, Some, None, true, Result, Ok, Err, refl, sym, ap, subst, ◌∙◌, length-append, arith}
 use Rattle.std.specs.Prelude.{OnOk}
 use Rattle.std.proofs.lemmas.Option.{same_Some}
 use Rattle.rec_data.specs.declared.owned.Rec.{Rec}
@@ -20,10 +20,6 @@ use Rattle.buffer_swap.proofs.Publishing.{finds, sees}
 found_so : (d : DeskView) (p : PassState) → Stood d p → FoundSo p (with_found p (found_of d)) (found_of d)
 found_so d p stood = (finds d p p.reasons stood, refl)
 
-some_records : (records : List Rec) → (records ≡ [] → ⊥) → 0 < length records
-some_records [] some = absurd (some refl)
-some_records (r ∷ rs) some = omega arith
-
 -- ---- swaps
 
 swaps : (d : DeskView) (missed : ℕ) (p : PassState) (post : Post) (result : Result Buffer Empty) (after : DeskView) → Stood d p → length post.taken ≡ d.taken
@@ -36,8 +32,8 @@ swaps d missed p post (Ok full) after stood drained is numbered =
       found_so d p stood,
       ap (λ (b : Buffer). b.limit) is.0 ∙ sym limit,
       (λ e. is.1 (sym records ∙ e)),
-      omega (arith, drained, some_records d.primary is.1),
       ap (λ (l : List Rec). drain_post post.stop (post.taken ++ l)) (sym records),
+      omega (arith, drained, length-append post.taken d.primary),
       numbered,
     )
 swaps d missed p post (Err empty) after stood drained is numbered =

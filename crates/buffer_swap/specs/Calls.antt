@@ -153,11 +153,12 @@ TriesBy before missed after now m (Some answer) = (now ≡ missed) × Publishes 
 abbrev pub FoundSo : PassState → PassState → Found → Type 0
 FoundSo before after found = Finds before found × (after ≡ with_found before found)
 
--- The buffer that was taken isn't empty, and what was taken grows by its records and is numbered. Nothing was taken exactly
--- where the intake was found with no more records than were taken; then the empty buffer comes back.
+-- The buffer that was taken isn't empty, and what was taken grows by its records: that is all that was accepted then, and is
+-- numbered. Nothing was taken exactly where the intake was found with no more records than were taken; then the empty buffer
+-- comes back.
 abbrev pub SwapsTo : PassState → Post → PassState → Post → Result Buffer Empty → Type 0
 SwapsTo before post after now (Ok full) = (found : Found) × FoundSo before after found × (full.limit ≡ before.limit) × (full.records ≡ [] → ⊥)
-    × (length post.taken < found.count) × (now ≡ drain_post post.stop (post.taken ++ full.records)) × Numbered now.taken
+    × (now ≡ drain_post post.stop (post.taken ++ full.records)) × (found.count ≡ length now.taken) × Numbered now.taken
 SwapsTo before post after now (Err empty) = (found : Found) × FoundSo before after found × (empty.cache ≡ record { limit = before.limit; records = [] })
     × (found.count ≡ length post.taken) × (empty.at ≡ length post.taken) × (empty.end ≡ found.end) × (now ≡ post)
 
