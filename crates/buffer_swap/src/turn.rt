@@ -1,5 +1,5 @@
 //! A turn, from its opening to its start.
-ghost use Rattle.std.specs.Prelude.{◌≡◌, ℕ, [], IfOk, None};
+ghost use Rattle.std.specs.Prelude.{◌≡◌, ◌≤◌, ℕ, [], IfOk, None};
 ghost use Rattle.record_core.specs.Desk.{new_desk};
 ghost use Rattle.buffer_swap.specs.Posts.{first_post, drain_post};
 ghost use Rattle.buffer_swap.specs.Turns.{newcomer};
@@ -20,9 +20,11 @@ pub struct Turn {
 }
 
 impl Turn {
-    /// A turn at a desk that is new. Where memory lacks, the desk is dropped.
+    /// A turn at a desk that is new and may hold a byte or more: at a limit of 0 each buffer is full, and a call that waits
+    /// for room waits for ever. Where memory lacks, the desk is dropped.
     pub fn open(alloc: Global, desk: Desk) -> Result<Turn, Memory>
-        requires { (limit : ℕ) × (desk ≡ new_desk limit) }
+        requires new { (limit : ℕ) × (desk ≡ new_desk limit) }
+        requires some { 1 ≤ desk.limit }
         ensures new { IfOk result (λ turn. IsNewTurn turn.board.table.shared.table_id turn.first) }
         ensures limit { IfOk result (λ turn. first_limit turn.first ≡ desk.limit) }
     {
