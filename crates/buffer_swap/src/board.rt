@@ -50,7 +50,7 @@ impl Board {
         Ok((Board { table }, seat))
     }
 
-    // ---- 1, 2
+    // ---- taking the turn
 
     /// True where the turn was taken.
     pub(crate) fn take(&self, seat: &mut Seat) -> bool
@@ -79,7 +79,7 @@ impl Board {
         unreachable!()
     }
 
-    // ---- 3, 7: loans of the desk
+    // ---- loans of the desk
 
     /// How the desk came out.
     pub(crate) fn found_out(&self, seat: &mut Seat) -> Found
@@ -170,7 +170,7 @@ impl Board {
         desk.stop(stop)
     }
 
-    // ---- 4, 5, 6: events
+    // ---- events
 
     // Records are counted.
     fn count(&self, seat: &mut Seat)
@@ -220,7 +220,7 @@ impl Board {
         self.table.shared.fetch_add::<Stop>(seat, EVENTS, 1);
     }
 
-    // ---- 8: the turn is freed
+    // ---- freeing the turn
 
     // Shows nothing more.
     fn free(&self, seat: &mut Seat)
@@ -571,12 +571,14 @@ impl Board {
         answer
     }
 
-    /// How many events there were, in the bits on which a thread may sleep.
+    /// How many events there were, in the bits on which a thread may sleep. They are read before the turn is taken, so that no
+    /// swap between a full buffer and the sleep is slept through.
     pub(crate) fn events(&self) -> u32 {
         (self.table.shared.peek(EVENTS) & 0xffff_ffff) as u32
     }
 
-    /// Sleeps until there is an event behind these, and may return early.
+    /// Sleeps until a swap, a close or a stop behind these events, and may return early. Where records were counted since, it
+    /// doesn't sleep; where some are counted while it sleeps, that doesn't wake it.
     pub(crate) fn sleep<R: Wait>(&self, rt: &R, events: u32) {
         self.table.shared.park(rt, EVENTS, events);
     }

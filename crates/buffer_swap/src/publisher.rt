@@ -1,4 +1,5 @@
-//! A publisher's calls. Each is one turn, or was too large or found the turn taken and was none.
+//! A publisher's calls. Each is one turn, or was too large or found the turn taken and was none; those that wait while the
+//! buffer is full take a turn each time.
 ghost use Rattle.std.specs.Prelude.{◌≡◌, ◌≤◌, ℕ, Ok, Err, Some, length, true, false};
 ghost use Rattle.mcap_wire.specs.Limits.{data_limit, declaration_limit};
 ghost use Rattle.record_core.specs.Desk.{declared_size};
