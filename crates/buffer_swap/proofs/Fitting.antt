@@ -159,7 +159,7 @@ pub view_grown : (history records : List Rec) (d : DeskView) (halt : Option Stop
 view_grown history records d halt u unended spares idle fits = record {
   hand = λ e. no (sym idle ∙ e);
   pass = λ e. pass_grown history records d u.pass unended spares (fits.pass e);
-  known = λ n p at. pass_grown history records d p unended spares (fits.known n p at);
+  known = λ n p at. pass_grown history records d p.pass unended spares (fits.known n p at);
   note = note_grown history records d u.post unended fits.note;
   drains = fits.drains;
   idle = fits.idle;
@@ -171,7 +171,7 @@ pub view_later : (history : List Rec) (d after : DeskView) (halt other : Option 
 view_later history d after halt other u go idle drains fits = record {
   hand = λ e. no (sym idle ∙ e);
   pass = λ e. pass_later history d after u.pass go (fits.pass e);
-  known = λ n p at. pass_later history d after p go (fits.known n p at);
+  known = λ n p at. pass_later history d after p.pass go (fits.known n p at);
   note = note_later history d after u.post go fits.note;
   drains = drains;
   idle = fits.idle;

@@ -1,12 +1,12 @@
 -- Each step keeps the rule.
-use Rattle.std.proofs.Common.{◌≡◌, ◌≢◌, ℕ, zero, suc, ◌+◌, ◌%◌, ◌^◌, ◌≤◌, eqb, Bool, true, false, List, [], ◌∷◌, ◌++◌, length, get_or, set, take, Option, Some, None, sym, refl, ap, ◌∙◌, subst, ⊎_elim, arith, length-set, get_or-set_other, get_or-set_same, true≢false}
+use Rattle.std.proofs.Common.{◌≡◌, ◌≢◌, ℕ, zero, suc, ◌+◌, ◌%◌, ◌^◌, ◌≤◌, eqb, Bool, true, false, cond, List, [], ◌∷◌, ◌++◌, length, get_or, set, take, Option, Some, None, sym, refl, ap, ◌∙◌, subst, ⊎_elim, arith, length-set, get_or-set_other, get_or-set_same, true≢false}
 use mathlib.Core.Option.{some, none, some-injective, some-ne-none}
 use mathlib.Core.Logic.{dite}
 use native.Mathlib.Decide.{ℕ_discrete}
 use lib.ListN.{get_elem?}
 use lib.Seq.{set-get_or}
 use prog.Atomic.{either}
-use Rattle.std.proofs.lemmas.List.{take_all, take-append-drop}
+use Rattle.std.proofs.lemmas.List.{take_all, take-append-drop, nil_from_length}
 use Rattle.std.proofs.lemmas.Option.{same_Some, none-some}
 use Rattle.std.proofs.Math.Seq.{drop-append_seam}
 use Rattle.atomic_table.specs.Table.{State as TableState, step, keeps, takes, gives, carried_after, stepped, Act, Valid, Allows, Splits, Joins, opening}
@@ -28,13 +28,13 @@ use Rattle.record_core.specs.Stands.{DeskStandsFor}
 use Rattle.record_core.specs.declared.answers.DeclareRefused.{DeclareRefused}
 use Rattle.record_core.proofs.Searches.{schemas_counted, channels_counted}
 use Rattle.feed_lane.specs.Pass.{PassState, placed_from, with_found, full_at}
-use Rattle.buffer_swap.specs.Weights.{total, one_if}
+use Rattle.buffer_swap.specs.Weights.{total, one_if, below}
 use Rattle.buffer_swap.specs.Shown.{ChannelStands, IdsLack, HeldThere, FoundThere, ShownTo}
-use Rattle.buffer_swap.specs.Posts.{Post, no_post, first_post, drain_post, publisher_post, note_post}
-use Rattle.buffer_swap.specs.Turns.{view, newcomer, nobody, has_turn, is_drain, ids, weigh, FoundFits, PassFits, IsFront, NoteFits, Fits, World, Wired, Kept}
-use Rattle.buffer_swap.specs.Plays.{Sat, HasDesk, IsIdle, Told, TriesTurn, IsEvent, missing, took, fresh, MayCount, counts, counted, hands_over, handed_over, shuts, closes, closed, stop_in, stops, stopped, frees as frees_view, freed, same_pass, with_full_hand, with_name, with_lacking, NamedAt, LacksAt, starts, drainer, hires, hired, gathers, noted, reads, settled, met}
+use Rattle.buffer_swap.specs.Posts.{Gathered, Post, no_post, first_post, drain_post, publisher_post, note_post}
+use Rattle.buffer_swap.specs.Turns.{view, newcomer, nobody, has_turn, is_drain, numbers_in, numbers, weigh, FoundFits, PassFits, IsFront, NoteFits, Fits, World, Wired, Kept}
+use Rattle.buffer_swap.specs.Plays.{Sat, HasDesk, IsIdle, Told, TriesTurn, IsEvent, missing, took, fresh, MayCount, counts, counted, hands_over, handed_over, shuts, closes, closed, stop_in, stops, stopped, frees as frees_view, freed, same_pass, with_full_hand, with_name, with_lacking, NamedAt, LacksAt, starts, drainer, hires, hired, gathered, gathers, noted, reads, settled, met}
 use Rattle.buffer_swap.specs.declared.view.View.{View}
-use Rattle.buffer_swap.proofs.Sums.{total-append, total-set, term_le, terms_le, total-alone, set_at}
+use Rattle.buffer_swap.proofs.Sums.{total-append, total-set, term_le, terms_le, total-alone, set_at, one, total-ones, below-ones, below-more}
 use Rattle.buffer_swap.proofs.Growing.{placed_at, placed_more}
 use Rattle.buffer_swap.proofs.Desks.{parts, full_there, found_there, all_taken, swapped_stands, ended_stands}
 use Rattle.buffer_swap.proofs.Fitting.{no, later_swapped, later_ended, found_self, pass_later, fits_none, note_later, note_none, view_grown, view_later}
@@ -60,7 +60,7 @@ moved : (t : St) (k : Kept t) (id : ℕ) (v w : View) (ws : List ℕ) (hs : List
     → World s d head halt → Wired ws hs d → has_turn w + get_or t.words 0 0 ≡ has_turn v + get_or ws 0 0
     → Fits s.history d halt w → ((j : ℕ) (u : View) → j ≢ id → get_elem? t.views j ≡ some u → Fits s.history d halt u)
     → (id ≡ 0 → w.post ≡ head) → (id ≢ 0 → k.head ≡ head) → (w.post.controls ≡ true → id ≡ 0)
-    → ids w + k.head.made ≡ ids v + head.made → is_drain w + one_if k.head.started ≡ is_drain v + one_if head.started
+    → ((h : ℕ → ℕ) → numbers h w + total h (below k.head.made) ≡ numbers h v + total h (below head.made)) → is_drain w + one_if k.head.started ≡ is_drain v + one_if head.started
     → ((h : ℕ × Rec → ℕ) → weigh h w + total h (placed_from 0 k.s.history) ≡ weigh h v + total h (placed_from 0 s.history))
     → Kept (board ws hs (set t.views id w))
 moved t k id v w ws hs s d head halt me world wired holds mine others here there controls made drains pairs = record {
@@ -76,7 +76,7 @@ moved t k id v w ws hs s d head halt me world wired holds mine others here there
       (λ z. (w, ap (λ (i : ℕ). get_elem? (set t.views id w) i) z ∙ set_at t.views id v w me, here (sym z)))
       (λ nz. (k.first.0, set_else t.views id 0 w nz ∙ k.first.1, k.first.2 ∙ there (λ z. nz (sym z))));
   controls = λ j u e c. ⊎_elim (λ (x : (j ≡ id) × (w ≡ u)). x.0 ∙ controls (ap (λ (y : View). y.post.controls) x.1 ∙ c)) (λ x. k.controls j u x.1 c) (at_set t.views id j w u e);
-  made = omega (arith, total-set ids t.views id v w me, k.made, made);
+  made = λ h. omega (arith, total-set (numbers h) t.views id v w me, k.made h, made h);
   drains = omega (arith, total-set is_drain t.views id v w me, k.drains, drains);
   pairs = λ h. omega (arith, total-set (weigh h) t.views id v w me, k.pairs h, pairs h);
 }
@@ -115,7 +115,7 @@ takes_free n id m idle t k wide me _ = let tries : TriesTurn (step n 0 0 1 none)
           }
           (omega arith)
           record { hand = λ _. refl; pass = λ e. looked k.s d m.0.pass k.world.stands (f.pass e); known = f.known; note = f.note; drains = f.drains; idle = f.idle } (λ j u _ e. k.each j u e)
-          (heads t k id m.0 me) (λ _. refl) (k.controls id m.0 me) (omega arith) (omega arith) (λ h. refl),
+          (heads t k id m.0 me) (λ _. refl) (k.controls id m.0 me) (λ h. refl) (omega arith) (λ h. refl),
       (
         tries,
         (λ _. (
@@ -139,7 +139,7 @@ takes_free n id m idle t k wide me _ = let tries : TriesTurn (step n 0 0 1 none)
           record { wide = length-set t.words 0 x ∙ long; homes_one = near; turn = omega arith; free = λ e. absurd (miss (sym at ∙ e)); out = λ e. k.wired.out (sym at ∙ e) }
           (omega arith)
           record { hand = λ e. no e; pass = f.pass; known = f.known; note = f.note; drains = f.drains; idle = f.idle } (λ j u _ e. k.each j u e)
-          (heads t k id m.0 me) (λ _. refl) (k.controls id m.0 me) (omega arith) (omega arith) (λ h. refl),
+          (heads t k id m.0 me) (λ _. refl) (k.controls id m.0 me) (λ h. refl) (omega arith) (λ h. refl),
       (tries, (λ hit. absurd (miss hit)), λ _. refl),
     ))
 
@@ -176,10 +176,10 @@ frees n id v d c holds is learns own t k wide me _ = let x : ℕ = get_or t.word
             known = f.known;
             note = f.note;
             drains = f.drains;
-            idle = λ z. (own ∙ (f.idle z).0, (f.idle z).1);
+            idle = λ z. own ∙ f.idle z;
           }
           (λ j u _ e. k.each j u e)
-          (heads t k id v me) (λ _. refl) (k.controls id v me) (omega arith) (omega arith) (λ h. omega (arith, ap (total h) own)),
+          (heads t k id v me) (λ _. refl) (k.controls id v me) (λ h. refl) (omega arith) (λ h. omega (arith, ap (total h) own)),
       (record { word = refl; free = refl; alone = refl; holds = holds }, refl),
     )
 
@@ -238,7 +238,7 @@ by_bool X false f g = g refl
 event : (t : St) (k : Kept t) (id : ℕ) (v w : View) (y : ℕ) (s : State) (d : DeskView) (head : Post) (halt : Option Stop) → get_elem? t.views id ≡ some v → v.holds ≡ true → w.holds ≡ true
     → World s d head halt → Fits s.history d halt w → ((u : View) (j : ℕ) → j ≢ id → get_elem? t.views j ≡ some u → u.holds ≡ false → Fits k.s.history k.d k.halt u → Fits s.history d halt u)
     → (id ≡ 0 → w.post ≡ head) → (id ≢ 0 → k.head ≡ head) → (w.post.controls ≡ true → id ≡ 0)
-    → ids w + k.head.made ≡ ids v + head.made → is_drain w + one_if k.head.started ≡ is_drain v + one_if head.started
+    → ((h : ℕ → ℕ) → numbers h w + total h (below k.head.made) ≡ numbers h v + total h (below head.made)) → is_drain w + one_if k.head.started ≡ is_drain v + one_if head.started
     → ((h : ℕ × Rec → ℕ) → weigh h w + total h (placed_from 0 k.s.history) ≡ weigh h v + total h (placed_from 0 s.history))
     → Kept (board (set t.words 1 y) t.homes (set t.views id w))
 event t k id v w y s d head halt me holds still world mine others here there controls made drains pairs =
@@ -272,7 +272,7 @@ none_unended : (d : DeskView) → d.end ≡ None → (e : End) → end_of d ≡ 
 none_unended d unended e is = none-some e (sym (ap first_of unended) ∙ is)
 
 -- records are counted
-counts_records : (n id : ℕ) (v : View) (records : List Rec) → v.holds ≡ true → MayCount v.hand records (added v.hand records) → ids v ≢ 0 → let d = added v.hand records in
+counts_records : (n id : ℕ) (v : View) (records : List Rec) → v.holds ≡ true → MayCount v.hand records (added v.hand records) → v.post.publishes ≡ true → let d = added v.hand records in
     Allows Kept n id (v, (0, d) ∷ []) 1 (λ y. (y + 1) % 2 ^ 64) (counted (step n 1 1 0 none) (v, (0, d) ∷ []))
 counts_records n id v records holds may named t k wide me _ = let hand = v.hand in let d = added hand records in let f = k.each id v me in let is : hand ≡ k.d = f.hand holds in
     let history = k.s.history ++ records in let s : State = accept 0 records k.s in let w : View = counts v d in
@@ -313,10 +313,10 @@ counts_records n id v records holds may named t k wide me _ = let hand = v.hand 
             known = g.known;
             note = g.note;
             drains = g.drains;
-            idle = λ z. absurd (named z);
+            idle = λ z. absurd (true≢false (sym named ∙ z));
           }
           (λ u j _ _ idle h. view_grown k.s.history records hand k.halt u unended spares idle (subst (λ (z : DeskView). Fits k.s.history z k.halt u) (sym is) h))
-          (heads t k id v me) (λ _. refl) (k.controls id v me) (omega arith) (omega arith)
+          (heads t k id v me) (λ _. refl) (k.controls id v me) (λ h. refl) (omega arith)
           (λ h.
           let a : total h (v.pass.own ++ placed_from (accepted hand) (fresh hand d)) ≡ total h v.pass.own + total h (placed_from (length k.s.history) records) =
           total-append h v.pass.own (placed_from (accepted hand) (fresh hand d)) ∙ ap (λ (z : ℕ × List Rec). total h v.pass.own + total h (placed_from z.0 z.1)) (λ i. (p.count i, new i)) in
@@ -327,7 +327,7 @@ counts_records n id v records holds may named t k wide me _ = let hand = v.hand 
       (rises n, refl),
     )
 
-pub counts_as : (n id : ℕ) (m : Sat) (d : DeskView) (records : List Rec) (i more : ℕ) → IsEvent (step n i more 0 none) → m.1 ≡ (0, d) ∷ [] → m.0.holds ≡ true → MayCount m.0.hand records d → ids m.0 ≢ 0
+pub counts_as : (n id : ℕ) (m : Sat) (d : DeskView) (records : List Rec) (i more : ℕ) → IsEvent (step n i more 0 none) → m.1 ≡ (0, d) ∷ [] → m.0.holds ≡ true → MayCount m.0.hand records d → m.0.post.publishes ≡ true
     → ByEvent n id m counted i more
 counts_as n id m d records i more event out holds may named = by_event n id m counted i more event (subst (λ (c : List (ℕ × DeskView)). Allows Kept n id (m.0, c) 1 (λ y. (y + 1) % 2 ^ 64) (counted (step n 1 1 0 none) (m.0, c)))
     (ap (λ (z : DeskView). (0, z) ∷ []) (sym may.is) ∙ sym out) (counts_records n id m.0 records holds (subst (MayCount m.0.hand records) may.is may) named))
@@ -345,7 +345,7 @@ hands_primary n id v holds shape t k wide me _ = let hand = v.hand in let d = sw
     let drains : v.post.drains ≡ true = ap (λ (x : Post). x.drains) shape in
     let seated : v.post.seated ≡ true = ap (λ (x : Post). x.seated) shape in
     let kind : v.post.controls ≡ false = ap (λ (x : Post). x.controls) shape in
-    let none_made : ids v ≡ 0 = ap (λ (x : Post). x.ids) shape in
+    let none_made : v.post.publishes ≡ false = ap (λ (x : Post). x.publishes) shape in
     let none_known : v.post.known ≡ [] = ap (λ (x : Post). x.known) shape in
     let had : length v.post.taken ≡ k.s.taken = (f.drains drains).0 ∙ ap (λ (z : DeskView). z.taken) (sym is) ∙ p.taken in
     let whole : v.post.taken ++ hand.primary ≡ history =
@@ -374,12 +374,12 @@ hands_primary n id v holds shape t k wide me _ = let hand = v.hand in let d = sw
               cause = λ g stop e. absurd (none-some _ e);
             };
             drains = λ _. (ap length whole ∙ sym p.count, (f.drains drains).1);
-            idle = λ z. ((f.idle none_made).0, refl);
+            idle = λ _. f.idle none_made;
           }
           (λ u j apart e idle h. view_later history hand d k.halt k.halt u (later_swapped hand) idle
           (λ theirs. let both : is_drain u ≡ 1 = ap one_if theirs in let most = one_most k.head.started in absurd (omega (arith, terms_le is_drain t.views id j v u apart me e, k.drains)))
           (subst (λ (z : DeskView). Fits history z k.halt u) (sym is) h))
-          (λ z. absurd (not_first z)) (λ _. refl) (λ e. no e) (omega arith) (omega arith) (λ h. omega (arith, ap (total (λ (x : PassState). total h x.own)) none_known)),
+          (λ z. absurd (not_first z)) (λ _. refl) (λ e. no e) (λ h. omega (arith, ap (numbers_in h) shape)) (omega arith) (λ h. omega (arith, ap (total (λ (x : Gathered). total h x.pass.own)) none_known)),
       (rises n, refl, subst Numbered (sym whole) k.world.stands.numbered),
     )
 
@@ -433,14 +433,14 @@ closes_log n id v holds unended controls quiet t k wide me _ = let hand = v.hand
           record {
             hand = λ _. refl;
             pass = λ e. pass_later history hand d v.pass go (subst (λ (z : DeskView). PassFits history z v.pass) (sym is) (f.pass e));
-            known = λ j x at. pass_later history hand d x go (subst (λ (z : DeskView). PassFits history z x) (sym is) (f.known j x at));
+            known = λ j x at. pass_later history hand d x.pass go (subst (λ (z : DeskView). PassFits history z x.pass) (sym is) (f.known j x at));
             note = note_later history hand d (shuts v.post) go (subst (λ (z : DeskView). NoteFits history z (shuts v.post)) (sym is) (record { taken = f.note.taken; told = f.note.told; cause = f.note.cause }));
             drains = λ e. no (sym quiet ∙ e);
             idle = f.idle;
           }
           (λ u j apart e idle h. view_later history hand d k.halt k.halt u go idle (λ theirs. let there = h.drains theirs in (there.0 ∙ ap (λ (z : DeskView). z.taken) (sym is), there.1))
           (subst (λ (z : DeskView). Fits history z k.halt u) (sym is) h))
-          (λ _. ap shuts mine) (λ nz. absurd (nz zero_id)) (λ _. zero_id) (omega (arith, ap (λ (x : Post). x.made) mine)) (omega (arith, ap (λ (x : Post). one_if x.started) mine)) (λ h. refl),
+          (λ _. ap shuts mine) (λ nz. absurd (nz zero_id)) (λ _. zero_id) (λ h. refl) (omega (arith, ap (λ (x : Post). one_if x.started) mine)) (λ h. refl),
       (rises n, refl),
     )
 
@@ -458,7 +458,7 @@ stops_log n id v stop holds unended shape t k wide me _ = let hand = v.hand in l
     let drains : v.post.drains ≡ true = ap (λ (x : Post). x.drains) shape in
     let seated : v.post.seated ≡ true = ap (λ (x : Post). x.seated) shape in
     let kind : v.post.controls ≡ false = ap (λ (x : Post). x.controls) shape in
-    let none_made : ids v ≡ 0 = ap (λ (x : Post). x.ids) shape in
+    let none_made : v.post.publishes ≡ false = ap (λ (x : Post). x.publishes) shape in
     let none_known : v.post.known ≡ [] = ap (λ (x : Post). x.known) shape in
     let mine : is_drain v ≡ 1 = ap one_if drains in
     let not_first : id ≢ 0 = λ z. true≢false (sym (k.world.controls) ∙ ap (λ (x : Post). x.controls) (sym (heads t k id v me z)) ∙ kind) in
@@ -482,12 +482,12 @@ stops_log n id v stop holds unended shape t k wide me _ = let hand = v.hand in l
             known = λ j x at. absurd (at_none j x at);
             note = record { taken = f.note.taken; told = λ g e. absurd (none-some _ e); cause = λ g other e. absurd (none-some _ e) };
             drains = λ _. ((f.drains drains).0 ∙ ap (λ (z : DeskView). z.taken) (sym is), set_to);
-            idle = λ z. ((f.idle none_made).0, refl);
+            idle = λ _. f.idle none_made;
           }
           (λ u j apart e idle h. view_later history hand d k.halt (Some stop) u go idle
           (λ theirs. let both : is_drain u ≡ 1 = ap one_if theirs in let most = one_most k.head.started in absurd (omega (arith, terms_le is_drain t.views id j v u apart me e, k.drains)))
           (subst (λ (z : DeskView). Fits history z k.halt u) (sym is) h))
-          (λ z. absurd (not_first z)) (λ _. refl) (λ e. no e) (omega arith) (omega arith) (λ h. omega (arith, ap (total (λ (x : PassState). total h x.own)) none_known)),
+          (λ z. absurd (not_first z)) (λ _. refl) (λ e. no e) (λ h. omega (arith, ap (numbers_in h) shape)) (omega arith) (λ h. omega (arith, ap (total (λ (x : Gathered). total h x.pass.own)) none_known)),
       (rises n, refl),
     )
 
@@ -501,7 +501,7 @@ stops_as n id m stop i more event out holds unended shape = by_event n id m stop
 -- a seat is cut in two
 split : (t : St) (k : Kept t) (id : ℕ) (v w r : View) (head : Post) → get_elem? t.views id ≡ some v → w.holds ≡ v.holds → r.holds ≡ false
     → World k.s k.d head k.halt → Fits k.s.history k.d k.halt w → Fits k.s.history k.d k.halt r → (id ≡ 0 → w.post ≡ head) → (id ≢ 0 → k.head ≡ head) → (w.post.controls ≡ true → id ≡ 0) → r.post.controls ≡ false
-    → ids w + ids r + k.head.made ≡ ids v + head.made → is_drain w + is_drain r + one_if k.head.started ≡ is_drain v + one_if head.started
+    → ((h : ℕ → ℕ) → numbers h w + numbers h r + total h (below k.head.made) ≡ numbers h v + total h (below head.made)) → is_drain w + is_drain r + one_if k.head.started ≡ is_drain v + one_if head.started
     → ((h : ℕ × Rec → ℕ) → weigh h w ≡ weigh h v) → ((h : ℕ × Rec → ℕ) → weigh h r ≡ 0) → Kept (board t.words t.homes (set t.views id w ++ r ∷ []))
 split t k id v w r head me holds idle world mine new here there controls not_control made drains same none_yet = let vs : List View = set t.views id w in record {
   s = k.s;
@@ -517,7 +517,7 @@ split t k id v w r head me holds idle world mine new here there controls not_con
       (λ nz. (k.first.0, at_longer vs (r ∷ []) 0 k.first.0 (set_else t.views id 0 w nz ∙ k.first.1), k.first.2 ∙ there (λ z. nz (sym z))));
   controls = λ j u e c. ⊎_elim (λ old. ⊎_elim (λ (x : (j ≡ id) × (w ≡ u)). x.0 ∙ controls (ap (λ (y : View). y.post.controls) x.1 ∙ c)) (λ x. k.controls j u x.1 c) (at_set t.views id j w u old))
       (λ (x : r ≡ u). no (sym not_control ∙ (ap (λ (y : View). y.post.controls) x ∙ c))) (at_snoc vs r u j e);
-  made = omega (arith, total-append ids vs (r ∷ []), total-set ids t.views id v w me, k.made, made);
+  made = λ h. omega (arith, total-append (numbers h) vs (r ∷ []), total-set (numbers h) t.views id v w me, k.made h, made h);
   drains = omega (arith, total-append is_drain vs (r ∷ []), total-set is_drain t.views id v w me, k.drains, drains);
   pairs = λ h. omega (arith, total-append (weigh h) vs (r ∷ []), total-set (weigh h) t.views id v w me, same h, none_yet h, k.pairs h);
 }
@@ -528,26 +528,26 @@ fits_new : (history : List Rec) (d : DeskView) (halt : Option Stop) (limit : ℕ
 fits_new history d halt limit p limited unknown untaken untold drains = record {
   hand = λ e. no e;
   pass = λ e. fits_none history d limit (limited e);
-  known = subst (Each (PassFits history d)) (sym unknown) (λ n x at. absurd (at_none n x at));
+  known = subst (Each (λ (g : Gathered). PassFits history d g.pass)) (sym unknown) (λ n x at. absurd (at_none n x at));
   note = note_none history d p untaken untold;
   drains = λ e. (omega (arith, ap length untaken, (drains e).0), (drains e).1);
-  idle = λ z. (refl, unknown);
+  idle = λ _. refl;
 }
 
 -- the same view with another post, which tells as much
-fits_post : (history : List Rec) (d : DeskView) (halt : Option Stop) (v : View) (p : Post) → v.post.seated ≡ true → p.known ≡ v.post.known → p.drains ≡ false → p.ids ≡ v.post.ids
+fits_post : (history : List Rec) (d : DeskView) (halt : Option Stop) (v : View) (p : Post) → v.post.seated ≡ true → p.known ≡ v.post.known → p.drains ≡ false → p.publishes ≡ v.post.publishes
     → p.taken ≡ v.post.taken → p.told ≡ v.post.told → p.stop ≡ v.post.stop → Fits history d halt v → Fits history d halt (view v.holds v.hand v.missed v.pass p)
-fits_post history d halt v p seated known quiet numbers taken told stop f = record {
+fits_post history d halt v p seated known quiet publishing taken told stop f = record {
   hand = f.hand;
   pass = λ e. f.pass seated;
-  known = subst (Each (PassFits history d)) (sym known) f.known;
+  known = subst (Each (λ (g : Gathered). PassFits history d g.pass)) (sym known) f.known;
   note = record {
     taken = subst (λ (l : List Rec). IsFront l history) (sym taken) f.note.taken;
     told = λ g is. f.note.told g (sym told ∙ is);
     cause = λ g other is end. stop ∙ f.note.cause g other (sym told ∙ is) end;
   };
   drains = λ e. no (sym quiet ∙ e);
-  idle = λ z. ((f.idle (sym numbers ∙ z)).0, known ∙ (f.idle (sym numbers ∙ z)).1);
+  idle = λ z. f.idle (sym publishing ∙ z);
 }
 
 -- a publisher is made
@@ -557,9 +557,9 @@ hires_seat id v controls quiet seated t k me = let z = k.controls id v me contro
     split t k id v w (hired v) head me refl refl
     record { stands = k.world.stands; last = k.world.last; controls = k.world.controls; unstarted = k.world.unstarted; closed = k.world.closed; halted = k.world.halted }
     (fits_post k.s.history k.d k.halt v w.post seated refl quiet refl refl refl refl f)
-    (fits_new k.s.history k.d k.halt v.pass.limit publisher_post (λ _. (f.pass seated).limit) refl refl refl (λ e. no e))
+    (fits_new k.s.history k.d k.halt v.pass.limit (publisher_post v.post.made) (λ _. (f.pass seated).limit) refl refl refl (λ e. no e))
     (λ _. ap (λ (p : Post). record p { made = p.made + 1 }) mine) (λ nz. absurd (nz z)) (λ _. z) refl
-    (omega arith) (omega arith) (λ h. refl) (λ h. refl)
+    (λ h. omega (arith, ap (λ (p : Post). h p.made) mine, below-more h k.head.made)) (omega arith) (λ h. refl) (λ h. refl)
 
 -- the drain is made at the start
 pub starts_drain : (id : ℕ) (v : View) → v.post.controls ≡ true → v.post.drains ≡ false → v.post.seated ≡ true → v.post.started ≡ false → Splits Kept id v (starts v) (drainer v)
@@ -574,7 +574,7 @@ starts_drain id v controls quiet seated fresh_one t k me = let z = k.controls id
     (fits_post k.s.history k.d k.halt v w.post seated refl quiet refl refl refl refl f)
     (fits_new k.s.history k.d k.halt v.pass.limit (drain_post None []) (λ _. (f.pass seated).limit) refl refl refl (λ _. (before.0, sym before.1)))
     (λ _. ap (λ (p : Post). record p { started = true }) mine) (λ nz. absurd (nz z)) (λ _. z) refl
-    (omega arith) (omega arith) (λ h. refl) (λ h. refl)
+    (λ h. omega arith) (omega arith) (λ h. refl) (λ h. refl)
 
 -- a note is made
 pub notes_drain : (id : ℕ) (v : View) → v.post ≡ drain_post v.post.stop v.post.taken → Splits Kept id v v (noted v)
@@ -592,14 +592,14 @@ notes_drain id v shape t k me = let f = k.each id v me in
         cause = λ g stop is end. (f.drains drains).1 ∙ k.world.halted stop (((f.pass seated).found g is).later.end (Stopped stop) end);
       };
       drains = λ e. no e;
-      idle = λ _. (refl, refl);
+      idle = λ _. refl;
     }
-    (heads t k id v me) (λ _. refl) (k.controls id v me) refl (omega arith) (omega arith) (λ h. refl) (λ h. refl)
+    (heads t k id v me) (λ _. refl) (k.controls id v me) refl (λ h. omega arith) (omega arith) (λ h. refl) (λ h. refl)
 
 -- two seats become one
 joined : (t : St) (k : Kept t) (id : ℕ) (v : View) (other : ℕ) (u w : View) (head : Post) → get_elem? t.views id ≡ some v → ¬ (other ≡ id) → get_elem? (set t.views id w) other ≡ some u → id ≡ 0
     → w.holds ≡ v.holds → u.holds ≡ false → World k.s k.d head k.halt → Fits k.s.history k.d k.halt w → w.post ≡ head
-    → ids w + k.head.made ≡ ids v + ids u + head.made → is_drain w + one_if k.head.started ≡ is_drain v + is_drain u + one_if head.started
+    → ((h : ℕ → ℕ) → numbers h w + total h (below k.head.made) ≡ numbers h v + numbers h u + total h (below head.made)) → is_drain w + one_if k.head.started ≡ is_drain v + is_drain u + one_if head.started
     → ((h : ℕ × Rec → ℕ) → weigh h w ≡ weigh h v + weigh h u)
     → Kept (board t.words t.homes (set (set t.views id w) other nobody))
 joined t k id v other u w head me apart them z holds idle world mine here made drains same = let vs : List View = set t.views id w in
@@ -617,33 +617,32 @@ joined t k id v other u w head me apart them z holds idle world mine here made d
       first = (w, set_else vs other 0 nobody (λ e. apart (sym e ∙ sym z)) ∙ (ap (λ (i : ℕ). get_elem? vs i) (sym z) ∙ set_at t.views id v w me), here);
       controls = λ j x e c. ⊎_elim (λ (y : (j ≡ other) × (nobody ≡ x)). no (ap (λ (q : View). q.post.controls) y.1 ∙ c))
           (λ y. ⊎_elim (λ (q : (j ≡ id) × (w ≡ x)). q.0 ∙ z) (λ q. k.controls j x q.1 c) (at_set t.views id j w x y.1)) (at_set vs other j nobody x e);
-      made = omega (arith, both ids, k.made, made);
+      made = λ h. omega (arith, both (numbers h), k.made h, made h);
       drains = omega (arith, both is_drain, k.drains, drains);
       pairs = λ h. omega (arith, both (weigh h), same h, k.pairs h);
     }
 
 -- the control gathers a publisher
-pub gathers_seat : (id : ℕ) (v : View) (other : ℕ) (u : View) → v.post.controls ≡ true → v.post.drains ≡ false → v.post.seated ≡ true → u.holds ≡ false → u.post ≡ publisher_post → Joins Kept id v other u (gathers v u) nobody
-gathers_seat id v other u controls quiet seated idle shape t k me apart them = let z = k.controls id v me controls in let mine = heads t k id v me z in let f = k.each id v me in let w = gathers v u in
+pub gathers_seat : (id : ℕ) (v : View) (other : ℕ) (u : View) (number : ℕ) → v.post.controls ≡ true → v.post.drains ≡ false → v.post.seated ≡ true → u.holds ≡ false → u.post ≡ publisher_post number → Joins Kept id v other u (gathers v u) nobody
+gathers_seat id v other u number controls quiet seated idle shape t k me apart them = let z = k.controls id v me controls in let mine = heads t k id v me z in let f = k.each id v me in let w = gathers v u in
     let there : get_elem? t.views other ≡ some u = sym (set_else t.views id other w apart) ∙ them in let g = k.each other u there in
-    let one : ids u ≡ 1 = ap (λ (p : Post). p.ids) shape in
     let silent : is_drain u ≡ 0 = ap (λ (p : Post). one_if p.drains) shape in
     let unknown : u.post.known ≡ [] = ap (λ (p : Post). p.known) shape in
     let shown : PassFits k.s.history k.d u.pass = g.pass (ap (λ (p : Post). p.seated) shape) in
-    let head : Post = record k.head { ids = k.head.ids + u.post.ids; known = k.head.known ++ u.pass ∷ [] } in
+    let head : Post = record k.head { known = k.head.known ++ gathered u ∷ [] } in
     joined t k id v other u w head me apart them z refl idle
     record { stands = k.world.stands; last = k.world.last; controls = k.world.controls; unstarted = k.world.unstarted; closed = k.world.closed; halted = k.world.halted }
     record {
       hand = f.hand;
       pass = f.pass;
-      known = each_last (PassFits k.s.history k.d) v.post.known u.pass f.known shown;
+      known = each_last (λ (g : Gathered). PassFits k.s.history k.d g.pass) v.post.known (gathered u) f.known shown;
       note = record { taken = f.note.taken; told = f.note.told; cause = f.note.cause };
       drains = λ e. no (sym quiet ∙ e);
-      idle = λ none_left. absurd (omega (arith, none_left, one));
+      idle = f.idle;
     }
-    (ap (λ (p : Post). record p { ids = p.ids + u.post.ids; known = p.known ++ u.pass ∷ [] }) mine)
-    (omega arith) (omega (arith, silent))
-    (λ h. omega (arith, total-append (λ (x : PassState). total h x.own) v.post.known (u.pass ∷ []), ap (total (λ (x : PassState). total h x.own)) unknown))
+    (ap (λ (p : Post). record p { known = p.known ++ gathered u ∷ [] }) mine)
+    (λ h. omega (arith, total-append (λ (x : Gathered). h x.number) v.post.known (gathered u ∷ []), ap (numbers_in h) shape, ap (λ (p : Post). h p.number) shape)) (omega (arith, silent))
+    (λ h. omega (arith, total-append (λ (x : Gathered). total h x.pass.own) v.post.known (gathered u ∷ []), ap (total (λ (x : Gathered). total h x.pass.own)) unknown))
 
 -- the control reads a note
 pub reads_note : (id : ℕ) (v : View) (other : ℕ) (u : View) → v.post.controls ≡ true → v.post.drains ≡ false → v.post.seated ≡ true → u ≡ newcomer 0 (note_post u.post.stop u.post.taken u.post.told) → Joins Kept id v other u (reads v u) nobody
@@ -661,7 +660,7 @@ reads_note id v other u controls quiet seated shape t k me apart them = let z = 
       idle = f.idle;
     }
     (ap (λ (p : Post). record p { stop = u.post.stop; taken = u.post.taken; told = u.post.told }) mine)
-    (omega (arith, ap ids shape)) (omega (arith, ap is_drain shape))
+    (λ h. omega (arith, ap (numbers h) shape)) (omega (arith, ap is_drain shape))
     (λ h. omega (arith, ap (weigh h) shape))
 
 -- ---- looks
@@ -678,7 +677,7 @@ loads t k id v me = let x : ℕ = get_or t.words 1 0 in let f = k.each id v me i
       out = λ e. k.wired.out (ap (λ (ws : List ℕ). get_or ws 0 0) (sym same) ∙ e);
     }
     (omega (arith, ap (λ (ws : List ℕ). get_or ws 0 0) same)) f (λ j u _ e. k.each j u e)
-    (heads t k id v me) (λ _. refl) (k.controls id v me) (omega arith) (omega arith) (λ h. refl)
+    (heads t k id v me) (λ _. refl) (k.controls id v me) (λ h. refl) (omega arith) (λ h. refl)
 
 -- a look behind a publisher that was gathered
 pub settles : (n id : ℕ) (m : Sat) → Allows Kept n id m 1 (λ y. y) (settled (step n 1 0 0 none) m)
@@ -719,6 +718,12 @@ shown_to s d end p stands is fits =
           };
     }
 
+-- a view without a number of a publisher
+silent : (u : View) → numbers one u ≡ 0 → (u.post.publishes ≡ false) × (u.post.known ≡ [])
+silent u nothing = by_bool ((u.post.publishes ≡ false) × (u.post.known ≡ [])) u.post.publishes
+    (λ publishing. absurd (omega (arith, nothing, ap one_if publishing)))
+    (λ quiet. (quiet, nil_from_length u.post.known (omega (arith, nothing, total-ones u.post.known))))
+
 -- a look where all is gathered
 pub meets : (n id : ℕ) (m : Sat) → Allows Kept n id m 1 (λ y. y) (met (step n 1 0 0 none) m)
 meets n id m t k wide me _ = let v = m.0 in let f = k.each id v me in (
@@ -737,14 +742,19 @@ meets n id m t k wide me _ = let v = m.0 in let f = k.each id v me in (
         let stood : end_of k.d ≡ Some end = told.later.end end all.ended in
         let size : length v.post.taken ≡ length history = sym all.count ∙ (told.all end all.ended ∙ p.count) in
         let whole : v.post.taken ≡ history = f.note.taken.same ∙ take_all (length v.post.taken) history (omega (arith, size)) in
-        let everyone : total ids t.views ≡ ids v = k.made ∙ (ap (λ (x : Post). x.made) (sym mine) ∙ sym all.all) in
+        let own_none : (h : ℕ → ℕ) → numbers h v ≡ total (λ (x : Gathered). h x.number) v.post.known = λ h. omega (arith, ap (λ (b : Bool). cond b (h v.post.number) 0) all.quiet) in
+        let everyone : total (numbers one) t.views ≡ numbers one v =
+        omega (arith, k.made one, below-ones k.head.made, ap (λ (x : Post). x.made) mine, all.all, total-ones v.post.known, own_none one) in
         record {
+          publishers = λ h.
+              let alone = total-alone (numbers one) (numbers h) t.views id v me everyone (λ i u e none_there. let quiet = silent u none_there in omega (arith, ap (λ (b : Bool). cond b (h u.post.number) 0) quiet.0, ap (total (λ (x : Gathered). h x.number)) quiet.1)) in
+              omega (arith, alone, k.made h, own_none h, ap (λ (x : Post). total h (below x.made)) mine);
           numbered = subst Numbered (sym whole) k.world.stands.numbered;
           pairs = λ h.
-              let alone = total-alone ids (weigh h) t.views id v me everyone
-              (λ i u e none_there. let idle = (k.each i u e).idle none_there in omega (arith, ap (total h) idle.0, ap (total (λ (x : PassState). total h x.own)) idle.1)) in
+              let alone = total-alone (numbers one) (weigh h) t.views id v me everyone
+              (λ i u e none_there. let quiet = silent u none_there in omega (arith, ap (total h) ((k.each i u e).idle quiet.0), ap (total (λ (x : Gathered). total h x.pass.own)) quiet.1)) in
               omega (arith, alone, k.pairs h, ap (total h) all.own, ap (λ (l : List Rec). total h (placed_from 0 l)) whole);
-          shown = λ j x at. subst (λ (l : List Rec). ShownTo l end x) (sym whole) (shown_to k.s k.d end x k.world.stands stood (f.known j x at));
+          shown = λ j x at. subst (λ (l : List Rec). ShownTo l end x.pass) (sym whole) (shown_to k.s k.d end x.pass k.world.stands stood (f.known j x at));
           closes = λ is. ap (λ (x : Post). x.closed) mine ∙ k.world.closed (stood ∙ ap Some is);
           stops = λ stop is. f.note.cause all.found stop all.told (all.ended ∙ ap Some is);
         },
@@ -775,7 +785,7 @@ opens limit = let d = new_desk limit in let v = newcomer limit first_post in rec
   each = λ j u e. ⊎_elim (λ (x : get_elem? [] j ≡ some u). absurd (some-ne-none u (sym x))) (λ (x : v ≡ u). subst (Fits [] d None) x (fits_new [] d None limit first_post (λ _. refl) refl refl refl (λ e'. no e'))) (at_snoc [] v u j e);
   first = (v, refl, refl);
   controls = λ j u e _. at_zero v j u e;
-  made = refl;
+  made = λ h. refl;
   drains = refl;
   pairs = λ h. refl;
 }

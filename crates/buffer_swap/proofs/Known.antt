@@ -8,8 +8,9 @@ use Rattle.std.proofs.lemmas.Option.{same_Some}
 use Rattle.rec_data.specs.declared.owned.Rec.{Rec}
 use Rattle.mcap_model.specs.Places.{At, Has}
 use Rattle.mcap_model.proofs.Places.{at_none}
-use Rattle.feed_lane.specs.Pass.{PassState, placed_from}
+use Rattle.feed_lane.specs.Pass.{placed_from}
 use Rattle.buffer_swap.specs.Weights.{total, one_if}
+use Rattle.buffer_swap.specs.Posts.{Gathered}
 use Rattle.buffer_swap.specs.Plays.{WeighAlike}
 use Rattle.buffer_swap.specs.Laws.{PlacesKnown, PlacesAreKnown}
 
@@ -68,23 +69,23 @@ module _ {X : Type 0} (g : X → ℕ) where
   terms_at (z ∷ zs) (suc j) zero x y apart one other = omega (arith, ap g (same_Some y z (sym other)), term_at zs j x one)
   terms_at (z ∷ zs) (suc j) (suc k) x y apart one other = omega (arith, terms_at zs j k x y (λ e. apart (ap suc e)) one other)
 
-abbrev own_here : ℕ → PassState → ℕ
-own_here place p = total (here place) p.own
+abbrev own_here : ℕ → Gathered → ℕ
+own_here place p = total (here place) p.pass.own
 
-has_here : (p : PassState) (place : ℕ) (pair : ℕ × Rec) → Has p.own pair → pair.0 ≡ place → 1 ≤ own_here place p
-has_here p place pair (n, at) is = omega (arith, term_at (here place) p.own n pair at, here_is place pair is)
+has_here : (p : Gathered) (place : ℕ) (pair : ℕ × Rec) → Has p.pass.own pair → pair.0 ≡ place → 1 ≤ own_here place p
+has_here p place pair (n, at) is = omega (arith, term_at (here place) p.pass.own n pair at, here_is place pair is)
 
 pub places_are_known : PlacesAreKnown
 places_are_known known taken alike = record {
   given = λ place lt.
       let some : 1 ≤ total (own_here place) known = omega (arith, alike (here place), one_there taken 0 place (omega arith) (omega (arith, lt))) in
       let (k, p, at, mine) = some_term (own_here place) known some in
-      let (n, pair, there, is) = some_term (here place) p.own mine in
+      let (n, pair, there, is) = some_term (here place) p.pass.own mine in
       (k, p, pair, at, (n, there), is_here place pair is);
   one_pass = λ j k p q one other at_j at_k has_p has_q same. dite (ℕ_discrete j k) (λ is. is)
       (λ apart. let place = other.0 in
       absurd (omega (arith, alike (here place), at_most_one taken 0 place, terms_at (own_here place) known j k p q apart at_j at_k, has_here p place one has_p same, has_here q place other has_q refl)));
   one_pair = λ k m n p one other at at_m at_n same. dite (ℕ_discrete m n) (λ is. is)
       (λ apart. let place = other.0 in
-      absurd (omega (arith, alike (here place), at_most_one taken 0 place, term_at (own_here place) known k p at, terms_at (here place) p.own m n one other apart at_m at_n, here_is place one same, here_is place other refl)));
+      absurd (omega (arith, alike (here place), at_most_one taken 0 place, term_at (own_here place) known k p at, terms_at (here place) p.pass.own m n one other apart at_m at_n, here_is place one same, here_is place other refl)));
 }

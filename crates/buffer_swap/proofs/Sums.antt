@@ -1,8 +1,8 @@
 -- Sums over lists that change at one place.
-use Rattle.std.proofs.Common.{◌≡◌, ℕ, zero, suc, ◌+◌, ◌≤◌, ◌≢◌, List, [], ◌∷◌, ◌++◌, set, sym, refl, ap, arith}
+use Rattle.std.proofs.Common.{◌≡◌, ℕ, zero, suc, ◌+◌, ◌≤◌, ◌≢◌, List, [], ◌∷◌, ◌++◌, length, set, sym, refl, ap, arith}
 use mathlib.Core.Option.{some, some-injective, some-ne-none}
 use lib.ListN.{get_elem?}
-use Rattle.buffer_swap.specs.Weights.{total}
+use Rattle.buffer_swap.specs.Weights.{total, below}
 
 module _ {A : Type 0} where
   module _ (g : A → ℕ) where
@@ -42,3 +42,18 @@ module _ {A : Type 0} where
       total-none [] z h = refl
       total-none (y ∷ ys) z h = omega (arith, h 0 y refl (omega arith), total-none ys (omega arith) (λ i u at. h (suc i) u at))
   total-alone g f (x ∷ xs) (suc j) v e all none-there = omega (arith, none-there 0 x refl (omega (arith, term_le g xs j v e)), total-alone g f xs j v e (omega (arith, term_le g xs j v e)) (λ i u at. none-there (suc i) u at))
+
+-- each member counts once
+abbrev pub one : {A : Type 0} → A → ℕ
+one x = 1
+
+pub total-ones : {A : Type 0} (l : List A) → total one l ≡ length l
+total-ones [] = refl
+total-ones (x ∷ xs) = omega (arith, total-ones xs)
+
+pub below-ones : (n : ℕ) → total one (below n) ≡ n
+below-ones zero = refl
+below-ones (suc n) = omega (arith, below-ones n)
+
+pub below-more : (h : ℕ → ℕ) (n : ℕ) → total h (below (n + 1)) ≡ h n + total h (below n)
+below-more h n = let next : n + 1 ≡ suc n = omega arith in ap (λ (k : ℕ). total h (below k)) next

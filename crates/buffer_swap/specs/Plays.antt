@@ -14,9 +14,9 @@ use Rattle.record_core.specs.Stands.{DeskStandsFor}
 use Rattle.record_core.specs.declared.answers.DeclareRefused.{DeclareRefused}
 use Rattle.record_core.specs.declared.answers.Found.{Found}
 use Rattle.feed_lane.specs.Pass.{PassState, placed_from, full_at, with_found}
-use Rattle.buffer_swap.specs.Weights.{total}
+use Rattle.buffer_swap.specs.Weights.{total, below}
 use Rattle.buffer_swap.specs.Shown.{ChannelStands, IdsLack, Spares, ShownTo}
-use Rattle.buffer_swap.specs.Posts.{Post, drain_post, publisher_post, note_post}
+use Rattle.buffer_swap.specs.Posts.{Gathered, Post, drain_post, publisher_post, note_post}
 use Rattle.buffer_swap.specs.Turns.{view, newcomer, PassFits}
 use Rattle.buffer_swap.specs.declared.view.View.{View}
 
@@ -182,11 +182,15 @@ abbrev pub hires : View → View
 hires v = view v.holds v.hand v.missed v.pass (record v.post { made = v.post.made + 1 })
 
 abbrev pub hired : View → View
-hired v = newcomer v.pass.limit publisher_post
+hired v = newcomer v.pass.limit (publisher_post v.post.made)
 
--- it knows what a publisher's pass showed
+-- what a publisher has shown
+abbrev pub gathered : View → Gathered
+gathered w = record { number = w.post.number; missed = w.missed; pass = w.pass }
+
+-- it knows all that a publisher has shown
 abbrev pub gathers : View → View → View
-gathers v w = view v.holds v.hand v.missed v.pass (record v.post { ids = v.post.ids + w.post.ids; known = v.post.known ++ w.pass ∷ [] })
+gathers v w = view v.holds v.hand v.missed v.pass (record v.post { known = v.post.known ++ gathered w ∷ [] })
 
 -- a note of what the drain took and found
 abbrev pub noted : View → View
@@ -203,31 +207,37 @@ Unclosed p = (f : Found) → p.found ≡ Some f → f.end ≡ Some Closed → �
 
 -- where the control hasn't closed, no pass that it knows found that
 abbrev pub settled : Told
-settled st m r n = (n ≡ m) × (m.0.post.controls ≡ true → m.0.post.closed ≡ false → Each Unclosed m.0.post.known)
+settled st m r n = (n ≡ m) × (m.0.post.controls ≡ true → m.0.post.closed ≡ false → Each (λ g. Unclosed g.pass) m.0.post.known)
 
 -- All publishers were gathered, and the drain that is noted took all and found the end.
 pub record IsMet (v : View) (end : End) : Type 0 where
   pub controls : v.post.controls ≡ true
+  pub quiet : v.post.publishes ≡ false
   pub own : v.pass.own ≡ []
-  pub all : v.post.ids ≡ v.post.made
+  pub all : length v.post.known ≡ v.post.made
   pub found : Found
   pub told : v.post.told ≡ Some found
   pub ended : found.end ≡ Some end
   pub count : found.count ≡ length v.post.taken
 
 -- However pairs of a place and a record are weighed, those of the passes weigh what the records weigh at their places.
-abbrev pub WeighAlike : List PassState → List Rec → Type 0
-WeighAlike known taken = (h : ℕ × Rec → ℕ) → total (λ (p : PassState). total h p.own) known ≡ total h (placed_from 0 taken)
+abbrev pub WeighAlike : List Gathered → List Rec → Type 0
+WeighAlike known taken = (h : ℕ × Rec → ℕ) → total (λ (g : Gathered). total h g.pass.own) known ≡ total h (placed_from 0 taken)
 
--- What a control knows and what a drain took are one history, which came to this end: what each pass showed is so of the
--- records that were taken, their places with their records are those of the passes, each once, and the end is that of the
--- control or of the drain.
-pub record Met (known : List PassState) (closed : Bool) (stop : Option Stop) (taken : List Rec) (end : End) : Type 0 where
+-- the publishers that are known are all that were made, each once
+abbrev pub AreAll : List Gathered → ℕ → Type 0
+AreAll known made = (h : ℕ → ℕ) → total (λ (g : Gathered). h g.number) known ≡ total h (below made)
+
+-- What a control, which has made so many publishers, knows and what a drain took are one history, which came to this end: what
+-- each publisher showed is so of the records that were taken, their places with their records are those of the publishers,
+-- each once, and the end is that of the control or of the drain.
+pub record Met (made : ℕ) (known : List Gathered) (closed : Bool) (stop : Option Stop) (taken : List Rec) (end : End) : Type 0 where
+  pub publishers : AreAll known made
   pub numbered : Numbered taken
   pub pairs : WeighAlike known taken
-  pub shown : Each (ShownTo taken end) known
+  pub shown : Each (λ g. ShownTo taken end g.pass) known
   pub closes : end ≡ Closed → closed ≡ true
   pub stops : (s : Stop) → end ≡ Stopped s → stop ≡ Some s
 
 abbrev pub met : Told
-met st m r n = (n ≡ m) × ((end : End) → IsMet m.0 end → Met m.0.post.known m.0.post.closed m.0.post.stop m.0.post.taken end)
+met st m r n = (n ≡ m) × ((end : End) → IsMet m.0 end → Met m.0.post.made m.0.post.known m.0.post.closed m.0.post.stop m.0.post.taken end)

@@ -1,5 +1,5 @@
 -- The rule of a turn. Word 0 is 1 where a seat holds the turn, word 1 rises with each event, and slot 0 has the desk.
-use Rattle.std.specs.Prelude.{◌≡◌, ℕ, ◌+◌, ◌≤◌, List, [], length, take, slice_index, Bool, true, false, Option, Some, None}
+use Rattle.std.specs.Prelude.{◌≡◌, ℕ, ◌+◌, ◌≤◌, List, [], length, take, slice_index, Bool, true, false, cond, Option, Some, None}
 use mathlib.Core.Option.{none, some}
 use lib.ListN.{get_elem?}
 use Rattle.atomic_table.specs.Table.{State as TableState}
@@ -14,9 +14,9 @@ use Rattle.record_core.specs.Machine.{State}
 use Rattle.record_core.specs.Stands.{DeskStandsFor}
 use Rattle.record_core.specs.declared.answers.Found.{Found}
 use Rattle.feed_lane.specs.Pass.{PassState, no_calls, placed_from, IsLater}
-use Rattle.buffer_swap.specs.Weights.{total, one_if}
+use Rattle.buffer_swap.specs.Weights.{total, one_if, below}
 use Rattle.buffer_swap.specs.Shown.{ChannelStands, IdsLack, HeldThere, FoundThere}
-use Rattle.buffer_swap.specs.Posts.{Post, no_post}
+use Rattle.buffer_swap.specs.Posts.{Gathered, Post, no_post}
 use Rattle.buffer_swap.specs.declared.view.View.{View}
 
 abbrev pub view : Bool → DeskView → ℕ → PassState → Post → View
@@ -35,12 +35,16 @@ has_turn v = one_if v.holds
 abbrev pub is_drain : View → ℕ
 is_drain v = one_if v.post.drains
 
-abbrev pub ids : View → ℕ
-ids v = v.post.ids
+-- the numbers of publishers in a post: its own, and those of the publishers that it knows
+abbrev pub numbers_in : (ℕ → ℕ) → Post → ℕ
+numbers_in h p = cond p.publishes (h p.number) 0 + total (λ (g : Gathered). h g.number) p.known
+
+abbrev pub numbers : (ℕ → ℕ) → View → ℕ
+numbers h v = numbers_in h v.post
 
 -- the pairs of a view: those of its pass, and those of the passes that it knows
 abbrev pub weigh : (ℕ × Rec → ℕ) → View → ℕ
-weigh h v = total h v.pass.own + total (λ (p : PassState). total h p.own) v.post.known
+weigh h v = total h v.pass.own + total (λ (g : Gathered). total h g.pass.own) v.post.known
 
 -- ---- what one view says
 
@@ -75,10 +79,10 @@ pub record NoteFits (history : List Rec) (d : DeskView) (p : Post) : Type 0 wher
 pub record Fits (history : List Rec) (d : DeskView) (halt : Option Stop) (v : View) : Type 0 where
   pub hand : v.holds ≡ true → v.hand ≡ d
   pub pass : v.post.seated ≡ true → PassFits history d v.pass
-  pub known : Each (PassFits history d) v.post.known
+  pub known : Each (λ g. PassFits history d g.pass) v.post.known
   pub note : NoteFits history d v.post
   pub drains : v.post.drains ≡ true → (length v.post.taken ≡ d.taken) × (v.post.stop ≡ halt)
-  pub idle : v.post.ids ≡ 0 → (v.pass.own ≡ []) × (v.post.known ≡ [])
+  pub idle : v.post.publishes ≡ false → v.pass.own ≡ []
 
 -- ---- the rule
 
@@ -113,8 +117,9 @@ pub record Kept (t : TableState DeskView View) : Type 0 where
   -- the first seat is the control's
   pub first : (c : View) × (get_elem? t.views 0 ≡ some c) × (c.post ≡ head)
   pub controls : (j : ℕ) (v : View) → get_elem? t.views j ≡ some v → v.post.controls ≡ true → j ≡ 0
-  -- each number of a publisher that the control made stands in one view, and there is one drain once that was given out
-  pub made : total ids t.views ≡ head.made
+  -- the numbers of publishers in all views are those that the control gave out, each once, and there is one drain once that
+  -- was given out
+  pub made : (h : ℕ → ℕ) → total (numbers h) t.views ≡ total h (below head.made)
   pub drains : total is_drain t.views ≡ one_if head.started
   -- the pairs of all views are the places of the history with their records, each once
   pub pairs : (h : ℕ × Rec → ℕ) → total (weigh h) t.views ≡ total h (placed_from 0 s.history)

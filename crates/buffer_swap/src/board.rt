@@ -1,5 +1,5 @@
 //! The steps of a turn.
-ghost use Rattle.std.specs.Prelude.{◌≡◌, ◌≢◌, ℕ, ◌+◌, ◌≤◌, [], ◌∷◌, ◌++◌, true, false, IfOk, OnOk, OnErr, List, length, Some, None, Err};
+ghost use Rattle.std.specs.Prelude.{◌≡◌, ℕ, ◌+◌, ◌≤◌, [], ◌∷◌, ◌++◌, true, false, IfOk, OnOk, OnErr, List, length, Some, None, Err};
 ghost use Rattle.rec_data.specs.declared.owned.Rec.{Rec};
 ghost use Rattle.mcap_model.specs.declared.ends.End.TheVariants.{Closed, Stopped};
 ghost use Rattle.mcap_model.specs.History.{Numbered};
@@ -10,7 +10,7 @@ ghost use Rattle.record_core.specs.declared.answers.DeclareRefused.TheVariants.{
 ghost use Rattle.record_core.specs.Desk.{DeskView, new_desk, found_of, swapped, ended, end_of, fields_of_message, Published, DeclaredBy, SwapAnswered, EndsAt, IsCause, EndIsLast};
 ghost use Rattle.feed_lane.specs.Pass.{message_record, with_found};
 ghost use Rattle.buffer_swap.specs.Posts.{first_post, drain_post};
-ghost use Rattle.buffer_swap.specs.Turns.{newcomer, ids};
+ghost use Rattle.buffer_swap.specs.Turns.{newcomer};
 ghost use Rattle.buffer_swap.specs.Plays.{desk_of, HasDesk, IsIdle, Took, MayCount, NamedAt, LacksAt, missing, counts, hands_over, closes, stops, frees, same_pass, with_full_hand, with_name, with_lacking};
 ghost use Rattle.buffer_swap.specs.Calls.{counts_message, pass_published, counts_declared, pass_declared, PublishedInTurn, DeclaredInTurn, TriedInTurn, pass_named, NamedInTurn, hands_if, SwappedInTurn, closes_if, ClosedInTurn, stops_if, StoppedInTurn};
 
@@ -176,7 +176,7 @@ impl Board {
     fn count(&self, seat: &mut Seat)
         requires id { seat.old.table_id ≡ self.now.table.shared.table_id }
         requires desk { (seat.old.me.0.holds ≡ true) × (seat.old.me.1 ≡ (0, desk_of seat.old.me.1) ∷ []) }
-        requires publisher { ids seat.old.me.0 ≢ 0 }
+        requires publisher { seat.old.me.0.post.publishes ≡ true }
         requires counts { (records : List Rec) × MayCount seat.old.me.0.hand records (desk_of seat.old.me.1) }
         ensures id { seat.new.table_id ≡ seat.old.table_id }
         ensures me { seat.new.me ≡ (counts seat.old.me.0 (desk_of seat.old.me.1), seat.old.me.1) }
@@ -281,7 +281,7 @@ impl Board {
     )
         requires id { seat.old.table_id ≡ self.now.table.shared.table_id }
         requires desk { (seat.old.me.0.holds ≡ true) × (seat.old.me.1 ≡ (0, desk_of seat.old.me.1) ∷ []) }
-        requires publisher { ids seat.old.me.0 ≢ 0 }
+        requires publisher { seat.old.me.0.post.publishes ≡ true }
         requires counts { OnOk answer.now (MayCount seat.old.me.0.hand (message_record _m.now ∷ []) (desk_of seat.old.me.1)) }
         requires refused { OnErr answer.now (desk_of seat.old.me.1 ≡ seat.old.me.0.hand) }
         ensures id { seat.new.table_id ≡ seat.old.table_id }
@@ -315,7 +315,7 @@ impl Board {
     ) -> Result<u64, PublishRefused>
         requires id { seat.old.table_id ≡ self.now.table.shared.table_id }
         requires desk { HasDesk seat.old.me }
-        requires publisher { ids seat.old.me.0 ≢ 0 }
+        requires publisher { seat.old.me.0.post.publishes ≡ true }
         ensures id { seat.new.table_id ≡ seat.old.table_id }
         ensures published { PublishedInTurn seat.old.me m.now result seat.new.me }
     {
@@ -334,7 +334,7 @@ impl Board {
     )
         requires id { seat.old.table_id ≡ self.now.table.shared.table_id }
         requires desk { (seat.old.me.0.holds ≡ true) × (seat.old.me.1 ≡ (0, desk_of seat.old.me.1) ∷ []) }
-        requires publisher { ids seat.old.me.0 ≢ 0 }
+        requires publisher { seat.old.me.0.post.publishes ≡ true }
         requires counts { OnOk answer.now (MayCount seat.old.me.0.hand (new_records seat.old.me.0.hand.ids _channel.now) (desk_of seat.old.me.1)) }
         requires known { IfOk answer.now (λ given. given.count ≡ 0 → desk_of seat.old.me.1 ≡ seat.old.me.0.hand) }
         requires refused { OnErr answer.now (desk_of seat.old.me.1 ≡ seat.old.me.0.hand) }
@@ -352,7 +352,7 @@ impl Board {
     fn count_some(&self, seat: &mut Seat, count: u8, _channel: &ChannelDef)
         requires id { seat.old.table_id ≡ self.now.table.shared.table_id }
         requires desk { (seat.old.me.0.holds ≡ true) × (seat.old.me.1 ≡ (0, desk_of seat.old.me.1) ∷ []) }
-        requires publisher { ids seat.old.me.0 ≢ 0 }
+        requires publisher { seat.old.me.0.post.publishes ≡ true }
         requires counts { MayCount seat.old.me.0.hand (new_records seat.old.me.0.hand.ids _channel.now) (desk_of seat.old.me.1) }
         requires known { count ≡ 0 → desk_of seat.old.me.1 ≡ seat.old.me.0.hand }
         ensures id { seat.new.table_id ≡ seat.old.table_id }
@@ -400,7 +400,7 @@ impl Board {
     ) -> Result<Declared, DeclareRefused>
         requires id { seat.old.table_id ≡ self.now.table.shared.table_id }
         requires desk { HasDesk seat.old.me }
-        requires publisher { ids seat.old.me.0 ≢ 0 }
+        requires publisher { seat.old.me.0.post.publishes ≡ true }
         requires fits { DefFits channel.now }
         ensures id { seat.new.table_id ≡ seat.old.table_id }
         ensures declared { DeclaredInTurn seat.old.me channel.now result seat.new.me }
@@ -521,7 +521,7 @@ impl Board {
     ) -> Result<u64, PublishRefused>
         requires id { seat.old.table_id ≡ self.now.table.shared.table_id }
         requires desk { HasDesk seat.old.me }
-        requires publisher { ids seat.old.me.0 ≢ 0 }
+        requires publisher { seat.old.me.0.post.publishes ≡ true }
         ensures id { seat.new.table_id ≡ seat.old.table_id }
         ensures tried { TriedInTurn seat.old.me m.now result seat.new.me }
     {
@@ -560,7 +560,7 @@ impl Board {
     ) -> Result<Declared, DeclareRefused>
         requires id { seat.old.table_id ≡ self.now.table.shared.table_id }
         requires desk { HasDesk seat.old.me }
-        requires publisher { ids seat.old.me.0 ≢ 0 }
+        requires publisher { seat.old.me.0.post.publishes ≡ true }
         requires fits { DefFits channel.now }
         ensures id { seat.new.table_id ≡ seat.old.table_id }
         ensures declared { NamedInTurn seat.old.me channel.now result seat.new.me }

@@ -33,7 +33,7 @@ impl<'t> Control<'t> {
         }
     }
 
-    /// Makes the control know all calls of that publisher.
+    /// Makes the control know all that this publisher has shown.
     pub fn gather(&mut self, ended: EndedPass<'_>)
         requires { ended.publisher.seat.table_id ≡ self.old.seat.table_id }
         ensures turn { self.new.seat.table_id ≡ self.old.seat.table_id }

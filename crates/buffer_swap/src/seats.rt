@@ -1,5 +1,5 @@
 //! The table of a turn, and those who sit at it.
-ghost use Rattle.std.specs.Prelude.{◌≡◌, ◌+◌, ℕ, [], true, false, length};
+ghost use Rattle.std.specs.Prelude.{◌≡◌, ℕ, [], true, false};
 ghost use Rattle.buffer_swap.specs.Posts.{publisher_post, drain_post};
 ghost use Rattle.buffer_swap.specs.Plays.{IsIdle};
 
@@ -28,7 +28,7 @@ pub struct Publisher<'t> {
     pub(crate) found: Option<Found>,
     ghost fits: { seat.table_id ≡ board.now.table.shared.table_id },
     ghost idle: { IsIdle seat.me },
-    ghost kind: { seat.me.0.post ≡ publisher_post },
+    ghost kind: { seat.me.0.post ≡ publisher_post number },
     ghost found_is: { found ≡ seat.me.0.pass.found },
 }
 
@@ -49,9 +49,9 @@ pub struct Control<'t> {
     ghost controls: { seat.me.0.post.controls ≡ true },
     ghost drains: { seat.me.0.post.drains ≡ false },
     ghost seated: { seat.me.0.post.seated ≡ true },
+    ghost publishes: { seat.me.0.post.publishes ≡ false },
     ghost own: { seat.me.0.pass.own ≡ [] },
     ghost made_is: { made ≡ seat.me.0.post.made },
-    ghost ids: { seat.me.0.post.ids ≡ length seat.me.0.post.known },
 }
 
 /// It takes what was accepted, buffer by buffer, and may stop the intake.

@@ -27,11 +27,12 @@ pub returns-clause-met : goal.returns-clause-met
 returns-clause-met c = λ end over.
     let v = c.args.control.now.seat.me.0 in
     let read = ap (λ m. m.0) c.join_seat.ensures.2 ∙ ap (λ m. reads v m.0) c.split_seat-note.ensures.4 in
-    subst (λ (x : View). (e : End) → IsMet x e → Met x.post.known x.post.closed x.post.stop x.post.taken e) read c.load.ensures.2.1 end
+    subst (λ (x : View). (e : End) → IsMet x e → Met x.post.made x.post.known x.post.closed x.post.stop x.post.taken e) read c.load.ensures.2.1 end
     (record {
       controls = c.args.control.now.controls;
+      quiet = c.args.control.now.publishes;
       own = c.args.control.now.own;
-      all = c.args.control.now.ids ∙ c.requires.gathered;
+      all = c.requires.gathered;
       found = over.found;
       told = over.shown;
       ended = over.ended;
