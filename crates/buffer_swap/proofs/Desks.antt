@@ -1,6 +1,7 @@
 -- A desk that stands for a state of the machine, behind each of its calls.
-use Rattle.std.proofs.Common.{◌≡◌, ℕ, ◌+◌, ◌-◌, ◌≤◌, List, [], ◌∷◌, ◌++◌, length, take, drop, Option, Some, None, Result, Ok, Err, refl, sym, ap, subst, ◌∙◌, append-nil, append_assoc, length-append, arith}
-use Rattle.std.specs.Prelude.{OnOk, IfOk}
+use Rattle.std.proofs.Common.{◌≡◌, ◌⊎◌, ℕ, ◌+◌, ◌-◌, ◌<◌, ◌≤◌, Bool, true, false, List, [], ◌∷◌, ◌++◌, length, take, drop, Option, Some, None, Result, Ok, Err, refl, sym, ap, subst, inl, inr, ◌∙◌, append-nil, append_assoc, length-append, arith}
+use Rattle.std.specs.Prelude.{OnOk, IfOk, nat_lt, nat_le, ◌&&◌}
+use Rattle.std.proofs.lemmas.Bool.{and_parts, ltb-true, leb-true}
 use Rattle.std.proofs.lemmas.List.{length-drop, drop_all, take_all, nil_from_length, take-append-drop, append_cancel_right, length-take-le}
 use Rattle.std.proofs.Math.Seq.{drop-append_seam}
 use Rattle.rec_data.specs.declared.owned.Rec.{Rec}
@@ -10,7 +11,7 @@ use Rattle.mcap_model.specs.declared.options.FileOptions.{FileOptions}
 use Rattle.mcap_model.specs.Fields.{SchemaFields, ChannelFields, MessageFields}
 use Rattle.mcap_model.proofs.Places.{each_front}
 use Rattle.mcap_model.specs.History.{Follows, Numbered, message_of, schema_count, channel_count, history_bytes}
-use Rattle.record_core.specs.Ids.{Ids, schemas_in, channels_in, ids_of, with_ids, channel_id, new_records}
+use Rattle.record_core.specs.Ids.{Ids, schemas_in, channels_in, is_known, ids_of, with_ids, channel_id, new_records}
 use Rattle.record_core.specs.Tables.{IsTable}
 use Rattle.record_core.specs.Desk.{DeskView, accepted, added, swapped, ended, end_or, found_of, publish_refusal, declare_refusal, Published, DeclaredBy}
 use Rattle.record_core.specs.Machine.{State, desk_of, publish, declare, accept, end_with, unless}
@@ -77,18 +78,33 @@ found_there d s stands =
       channels = ap length p.contents.channels ∙ sym (channels_counted s.history) ∙ ap channel_count (sym all);
     }
 
+-- ---- ids that a desk has
+
+pub known_id : (ids : Ids) (channel : ℕ) → is_known ids channel ≡ true → (1 ≤ channel) × (channel ≤ length ids.channels)
+known_id ids channel known =
+    let both = and_parts (nat_lt 0 channel) (nat_le channel (length ids.channels)) known in
+    (let some = ltb-true 0 channel both.0 in omega (arith, some), leb-true channel (length ids.channels) both.1)
+
+unknown_by : (ids : Ids) (channel : ℕ) (some known : Bool) → nat_lt 0 channel ≡ some → nat_le channel (length ids.channels) ≡ known → (some && known) ≡ false → (channel ≡ 0) ⊎ (length ids.channels < channel)
+unknown_by ids channel false known is all no_more = let le : channel ≤ 0 = grind arith in inl (omega (arith, le))
+unknown_by ids channel true false is all no_more = inr (grind arith)
+unknown_by ids channel true true is all no_more = cc
+
+pub unknown_id : (ids : Ids) (channel : ℕ) → is_known ids channel ≡ false → (channel ≡ 0) ⊎ (length ids.channels < channel)
+unknown_id ids channel unknown = unknown_by ids channel (nat_lt 0 channel) (nat_le channel (length ids.channels)) refl refl unknown
+
 -- ---- records that are counted
 
 some_options : FileOptions
 some_options = record { profile = []; chunk = None }
 
-published_state : (d after : DeskView) (s : State) (channel : ℕ) (m : MessageFields) → publish_refusal d channel (length m.payload) ≡ None → Steps d (publish 0 channel m) after → DeskStandsFor d s
+pub published_state : (d after : DeskView) (s : State) (channel : ℕ) (m : MessageFields) → publish_refusal d channel (length m.payload) ≡ None → Steps d (publish 0 channel m) after → DeskStandsFor d s
     → DeskStandsFor after (accept 0 (message_of channel m ∷ []) s)
 published_state d after s channel m none steps stands =
     let open_there : publish_refusal (desk_of d.limit s) channel (length m.payload) ≡ None = ap (λ (x : DeskView). publish_refusal x channel (length m.payload)) stands.desk ∙ none in
     subst (λ (r : Option PublishRefused). DeskStandsFor after (unless r 0 (message_of channel m ∷ []) s)) open_there (steps some_options s stands)
 
-declared_state : (d after : DeskView) (s : State) (c : ChannelDef) → declare_refusal d c ≡ None → Steps d (declare 0 c) after → DeskStandsFor d s
+pub declared_state : (d after : DeskView) (s : State) (c : ChannelDef) → declare_refusal d c ≡ None → Steps d (declare 0 c) after → DeskStandsFor d s
     → DeskStandsFor after (accept 0 (new_records d.ids c) s)
 declared_state d after s c none steps stands =
     let open_there : declare_refusal (desk_of d.limit s) c ≡ None = ap (λ (x : DeskView). declare_refusal x c) stands.desk ∙ none in

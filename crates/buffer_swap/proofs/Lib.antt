@@ -3,7 +3,8 @@ pub mod Reasons
 pub mod NumberedOnce
 pub mod Numbers
 mod Sums
-mod Desks
+pub mod Desks
+pub mod Fulls
 mod Fitting
 mod Keeps
 mod Answering

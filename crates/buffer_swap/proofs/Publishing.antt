@@ -23,7 +23,7 @@ use Rattle.buffer_swap.specs.Turns.{view}
 use Rattle.buffer_swap.specs.Plays.{Sat, Stood, Took, fresh}
 use Rattle.buffer_swap.specs.Calls.{counts_message, pass_published, counts_declared, pass_declared, PublishedInTurn, DeclaredInTurn, reasoned, Publishes, Declares, TriesBy}
 use Rattle.buffer_swap.specs.declared.view.View.{View}
-use Rattle.buffer_swap.proofs.Desks.{parts}
+use Rattle.buffer_swap.proofs.Desks.{parts, known_id, unknown_id}
 use Rattle.buffer_swap.proofs.Reasons.{PublishReason, HasRecords, publish_reason, declare_reason}
 use Rattle.buffer_swap.proofs.Numbers.{are_added, lacking_schemas, stands_nowhere, gets_id}
 
@@ -37,19 +37,6 @@ finds d p reasons stood =
       later = λ last is. (stood.fits.found last is).later;
       within = q.held;
     }
-
-known_id : (ids : Ids) (channel : ℕ) → is_known ids channel ≡ true → (1 ≤ channel) × (channel ≤ length ids.channels)
-known_id ids channel known =
-    let both = and_parts (nat_lt 0 channel) (nat_le channel (length ids.channels)) known in
-    (let some = ltb-true 0 channel both.0 in omega (arith, some), leb-true channel (length ids.channels) both.1)
-
-unknown_by : (ids : Ids) (channel : ℕ) (some known : Bool) → nat_lt 0 channel ≡ some → nat_le channel (length ids.channels) ≡ known → (some && known) ≡ false → (channel ≡ 0) ⊎ (length ids.channels < channel)
-unknown_by ids channel false known is all no_more = let le : channel ≤ 0 = grind arith in inl (omega (arith, le))
-unknown_by ids channel true false is all no_more = inr (grind arith)
-unknown_by ids channel true true is all no_more = cc
-
-unknown_id : (ids : Ids) (channel : ℕ) → is_known ids channel ≡ false → (channel ≡ 0) ⊎ (length ids.channels < channel)
-unknown_id ids channel unknown = unknown_by ids channel (nat_lt 0 channel) (nat_le channel (length ids.channels)) refl refl unknown
 
 -- nothing refuses the message
 may_take : (d : DeskView) (p : PassState) (reasons : List Reason) (channel : ℕ) {len : ℕ} → Stood d p → PublishReason d channel len None → MayTake (reasoned p reasons) (found_of d) channel

@@ -1,5 +1,5 @@
 //! A publisher as the pass of a lane: its calls wait for the turn.
-ghost use Rattle.std.specs.Prelude.{◌≡◌};
+ghost use Rattle.std.specs.Prelude.{◌≡◌, [], true};
 ghost use Rattle.buffer_swap.specs.Calls.{reasoned};
 
 use crate::seats::Publisher;
@@ -8,24 +8,33 @@ use rec_data::ChannelDef;
 use record_core::{DeclareRefused, Declared, Found, NewMessage, PublishRefused};
 use std::sync::Wait;
 
-/// A publisher, and the runtime by which it waits.
+/// A publisher, the runtime by which it waits, and whether its calls wait for room too, so that none meets a full buffer.
 #[derive(Drop)]
 pub struct LanePass<'r, 't, R: Wait> {
     pub rt: &'r R,
     pub publisher: Publisher<'t>,
+    pub lossless: bool,
 }
 
 impl<R: Wait> Pass for LanePass<'_, '_, R> {
-    ghost use Rattle.std.specs.Prelude.{◌≡◌};
+    ghost use Rattle.std.specs.Prelude.{◌≡◌, [], true};
     ghost use Rattle.buffer_swap.specs.Calls.{reasoned};
 
-    ghost since = { λ begun now shown. shown ≡ reasoned now.publisher.seat.me.0.pass shown.reasons };
+    // It is the same publisher, of the same turn, waits for room as before, and shows what that publisher shows.
+    ghost since = { λ begun now shown. (now.publisher.seat.table_id ≡ begun.publisher.seat.table_id) × (now.publisher.number ≡ begun.publisher.number) × (now.lossless ≡ begun.lossless)
+        × (shown ≡ reasoned now.publisher.seat.me.0.pass shown.reasons) × (now.lossless ≡ true → shown.fulls ≡ []) };
 
     fn declare(&mut self, channel: &ChannelDef) -> Result<Declared, DeclareRefused> {
+        if self.lossless {
+            return self.publisher.declare_lossless(self.rt, channel);
+        }
         self.publisher.declare(self.rt, channel)
     }
 
     fn publish(&mut self, m: &NewMessage<'_>) -> Result<u64, PublishRefused> {
+        if self.lossless {
+            return self.publisher.publish_lossless(self.rt, m);
+        }
         self.publisher.publish(self.rt, m)
     }
 
