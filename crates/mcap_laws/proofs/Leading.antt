@@ -29,6 +29,7 @@ use Rattle.mcap_model.proofs.Places.{at_none, at_within, at_one, at_kept, at_las
 use Rattle.mcap_model.proofs.Lists.{at_either, at_second, cut_flat, take_first, take_second, each_cons, filter_passed, filter_has}
 use Rattle.mcap_model.proofs.Readings.{top_of, all_short, short_there, one_follows, length-top}
 use Rattle.mcap_model.proofs.Unpacking.{chunks_are_opened}
+use Rattle.mcap_model.proofs.OpenedChunks.{stands_inside, placed_at, inside_at, inside_back}
 use Rattle.mcap_model.proofs.Flat.{named_or, agree_more, topic_once, placed_tops, at_mapped}
 use Rattle.mcap_model.proofs.Flaws.{none_spelled}
 use Rattle.mcap_model.proofs.TakenRecords.{ended_front}
@@ -271,31 +272,6 @@ pub record Opened (file : List ℕ) (tops : List Top) (c : ℕ) (chunk : Top) (g
   pub behind : (j : ℕ) (u : Top) → At (inner_tops chunk) j u → (rest : List ℕ) × (drop (offset_of tops c + 49 + offset_among (inner_tops chunk) j) file ≡ top_bytes u ++ rest)
   pub short : AreShort (inner_tops chunk)
 
--- what stands in a chunk without a compression in front of its records
-chunk_head : ChunkFields → List ℕ
-chunk_head g = le 8 g.start ++ (le 8 g.end ++ (le 8 g.size ++ (le 4 g.crc ++ (string [] ++ le 8 (length g.records)))))
-
-length-chunk_head : (g : ChunkFields) → length (chunk_head g) ≡ 40
-unfolding chunk_head
-length-chunk_head g = simp (length-append, length-le) refl
-
-grouped : (g : ChunkFields) (rest : List ℕ) → le 8 g.start ++ (le 8 g.end ++ (le 8 g.size ++ (le 4 g.crc ++ (string [] ++ (prefixed 8 g.records ++ rest))))) ≡ chunk_head g ++ (g.records ++ rest)
-unfolding chunk_head
-grouped g rest = simp append_assoc refl
-
-chunk_split : (chunk : Top) (g : ChunkFields) → IsChunk chunk g → g.compression ≡ [] → (rest : List ℕ) × (chunk.content ≡ chunk_head g ++ (g.records ++ rest))
-chunk_split chunk g is plain =
-    let rest = is.layout.0 in
-    let row = is.layout.1 in (
-      rest,
-      row.spelled_there
-          ∙ ap (λ (name : List ℕ). le 8 g.start ++ (le 8 g.end ++ (le 8 g.size ++ (le 4 g.crc ++ (string name ++ (prefixed 8 g.records ++ rest)))))) plain
-          ∙ grouped g rest,
-    )
-
-regroup_chunk : (h a b s e f : List ℕ) → (h ++ ((a ++ (b ++ s)) ++ e)) ++ f ≡ (h ++ a) ++ (b ++ (s ++ (e ++ f)))
-regroup_chunk h a b s e f = simp append_assoc refl
-
 pub opened : (file : List ℕ) (tops : List Top) (c : ℕ) (chunk : Top) (g : ChunkFields) → Valid file tops → At tops c chunk → IsChunk chunk g → Opened file tops c chunk g
 opened file tops c chunk g valid at is =
     let v8 = valid.v8 in
@@ -304,60 +280,24 @@ opened file tops c chunk g valid at is =
     let plain : g.compression ≡ [] = named_or chunk g g.compression is refl (all_plain c chunk at) in
     let right : ChunkIsRight g = v8 c chunk at g is plain in
     let found : records_in g.records ≡ inner_tops chunk = ap records_in (sym (chunks_are_opened chunk g is)) in
-    let framed : spelled (inner_tops chunk) ≡ g.records = ap spelled (sym found) ∙ right.framed in
-    let (rest, split) = chunk_split chunk g is plain in
     let (more, there) = from_there file tops c chunk whole at in
-    let head = chunk.op ∷ (le 8 (length chunk.content) ++ chunk_head g) in
-    let head_size : length head ≡ 49 = omega (arith, length-append (le 8 (length chunk.content)) (chunk_head g), length-le 8 (length chunk.content), length-chunk_head g) in
-    let spelled_there : top_bytes chunk ≡ head ++ (spelled (inner_tops chunk) ++ rest) =
-    ap (λ (l : List ℕ). chunk.op ∷ (le 8 (length chunk.content) ++ l)) (split ∙ ap (λ (l : List ℕ). chunk_head g ++ (l ++ rest)) (sym framed))
-    ∙ ap (λ (l : List ℕ). chunk.op ∷ l) (sym (append_assoc (le 8 (length chunk.content)) (chunk_head g) (spelled (inner_tops chunk) ++ rest))) in
     let all_short = whole.short in
-    let size : length chunk.content ≡ 40 + (length g.records + length rest) = omega (arith, ap length split, length-append (chunk_head g) (g.records ++ rest), length-append g.records rest, length-chunk_head g) in
     record {
       times = subst (λ (l : List Top). TimesAre l g.start g.end) found right.times;
       behind = λ j u at_j.
-          let (others, cut) = cut_flat top_bytes (inner_tops chunk) j u at_j in
-          let front = spelled (take j (inner_tops chunk)) in
+          let inside = stands_inside chunk g is plain right j u at_j in
           let o = offset_among (inner_tops chunk) j in
-          let from : drop (offset_of tops c) file ≡ (head ++ front) ++ (top_bytes u ++ (spelled others ++ (rest ++ more))) =
-          there ∙ ap (λ (l : List ℕ). l ++ more) (spelled_there ∙ ap (λ (l : List ℕ). head ++ (l ++ rest)) cut) ∙ regroup_chunk head front (top_bytes u) (spelled others) rest more in
-          let same : offset_of tops c + 49 + o ≡ offset_of tops c + (49 + o) = omega arith in (
-            spelled others ++ (rest ++ more),
-            ap (λ (n : ℕ). drop n file) same ∙ sym (drop-drop (49 + o) (offset_of tops c) file) ∙ ap (drop (49 + o)) from
-                ∙ drop_at (head ++ front) (top_bytes u ++ (spelled others ++ (rest ++ more))) (49 + o) (omega (arith, length-append head front, head_size)),
+          let same : offset_of tops c + 49 + o ≡ offset_of tops c + (49 + o) = omega arith in
+          let stands = inside.there in (
+            inside.rest ++ more,
+            ap (λ (n : ℕ). drop n file) same ∙ sym (drop-drop (49 + o) (offset_of tops c) file) ∙ ap (drop (49 + o)) there ∙ stands more,
           );
       short = λ j u at_j.
-          let (others, cut) = cut_flat top_bytes (inner_tops chunk) j u at_j in
-          let front = spelled (take j (inner_tops chunk)) in
-          let fits = all_short c chunk at in
-          omega (arith, fits, size, ap length framed, ap length cut, length-append front (top_bytes u ++ spelled others), length-append (top_bytes u) (spelled others), length-top u);
+          let inside = stands_inside chunk g is plain right j u at_j in
+          omega (arith, all_short c chunk at, inside.within, length-top u, length-top chunk);
     }
 
 -- ---- places of records
-
-abbrev placed_at : ℕ → ℕ → Top → Placed
-placed_at chunk n u = record { place = record { top = chunk; inner = n }; top = u }
-
-inside_at : (chunk at : ℕ) (ts : List Top) (j : ℕ) (u : Top) → At ts j u → (n : ℕ) → n ≡ at + offset_among ts j → At (placed_inside chunk at ts) j (placed_at chunk n u)
-inside_at chunk at [] j u here n is = absurd (at_none j u here)
-inside_at chunk at (t ∷ ts) zero u here n is =
-    let same : at ≡ n = omega (arith, is) in
-    ap (λ (m : ℕ). Some (placed_at chunk m t)) same ∙ ap (λ (x : Top). Some (placed_at chunk n x)) (same_Some t u here)
-inside_at chunk at (t ∷ ts) (suc j) u here n is = inside_at chunk (at + length (top_bytes t)) ts j u here n (omega (arith, is, length-append (top_bytes t) (spelled (take j ts))))
-
-inside_back : (chunk at : ℕ) (ts : List Top) (j : ℕ) (p : Placed) → At (placed_inside chunk at ts) j p → At ts j p.top × (p.place.top ≡ chunk) × (p.place.inner ≡ at + offset_among ts j)
-inside_back chunk at [] j p here = absurd (at_none j p here)
-inside_back chunk at (t ∷ ts) zero p here =
-    let same = same_Some (placed_at chunk at t) p here in (
-      ap (λ (q : Placed). Some q.top) same,
-      sym (ap (λ (q : Placed). q.place.top) same),
-      (let inner = ap (λ (q : Placed). q.place.inner) same in omega (arith, inner)),
-    )
-inside_back chunk at (t ∷ ts) (suc j) p here =
-    let more = inside_back chunk (at + length (top_bytes t)) ts j p here in
-    let inner = more.2 in
-    (more.0, more.1, omega (arith, inner, length-append (top_bytes t) (spelled (take j ts))))
 
 abbrev all_of : ℕ → Top → Bool → List Placed
 all_of at t b = if b then placed_inside at 0 (inner_tops t) else placed_at at 0 t ∷ []
