@@ -20,7 +20,8 @@ use Rattle.mcap_model.proofs.Lists.{at_either, at_second, has_taken, at_taken}
 use Rattle.mcap_model.proofs.Maps.{message_once}
 use Rattle.mcap_model.proofs.Replays.{range_decided}
 use Rattle.indexed_replay.specs.declared.spots.Spot.{Spot}
-use Rattle.indexed_replay.specs.Steps.{Adds, IsFound, IsListed, place_in, led_as, message_cost, entry_cost, entries_cost}
+use Rattle.time_player.specs.Ordering.{led_as}
+use Rattle.indexed_replay.specs.Steps.{Adds, IsFound, IsListed, place_in, message_cost, entry_cost, entries_cost}
 use Rattle.indexed_replay.proofs.Headed.{there_begun}
 
 -- ---- lists

@@ -20,7 +20,7 @@ use Rattle.indexed_replay.specs.Reaching.{HasChunkIndex}
 use Rattle.indexed_replay.specs.Chunks.{NamesCost, ChunkCost}
 use Rattle.indexed_replay.specs.Gathering.{CostsUpTo}
 use Rattle.indexed_replay.proofs.Naming.{sum_is}
-use Rattle.indexed_replay.proofs.Counted.{chunk_index_once}
+use Rattle.mcap_model.proofs.Once.{chunk_index_once}
 use Rattle.indexed_replay.proofs.Weighed.{weights_fit}
 use Rattle.indexed_replay.proofs.Full.{OfChunk, of_chunk}
 use Rattle.indexed_replay.proofs.Costing.{names_differ, top_size, timely_size, spelled_size, timely_sum, entry_places, OneSpent, spent}

@@ -6,9 +6,7 @@ use Rattle.std.proofs.lemmas.List.{length-append, take_at, drop_at}
 use Rattle.std.proofs.lemmas.List.Sums.{sum_by-append, sum_by-cons}
 use Rattle.mcap_wire.specs.Layout.{le, number, part}
 use Rattle.mcap_wire.specs.Maps.{KeysDiffer}
-use Rattle.mcap_wire.proofs.Contents.{shows_decided}
 use Rattle.mcap_wire.proofs.Numbers.{length-le, number-le}
-use Rattle.rec_index.specs.Records.{message_index_kinds, message_index_values}
 use Rattle.mcap_model.specs.declared.replay.Range.{Range}
 use Rattle.mcap_model.specs.Places.{At, Has, Each}
 use Rattle.mcap_model.specs.Tops.{Top, top_bytes, spelled}
@@ -22,15 +20,13 @@ use Rattle.mcap_model.proofs.Places.{at_none, at_one}
 use Rattle.mcap_model.proofs.Lists.{each_cons, each_joined, pairs_at, pairs_from}
 use Rattle.mcap_model.proofs.Readings.{length-top}
 use Rattle.mcap_model.proofs.Maps.{message_once, message_long}
+use Rattle.mcap_model.proofs.Once.{message_index_once}
 use Rattle.indexed_replay.specs.Steps.{message_cost, entry_cost, entries_cost}
 use Rattle.indexed_replay.specs.Chunks.{NamesCost}
 use Rattle.indexed_replay.proofs.Headed.{there_begun}
 use Rattle.indexed_replay.proofs.Weighed.{AreApart, apart_joined, weight_at, weight_is}
 
 -- ---- fields
-
-index_once : (t : Top) (a b : ℕ) (e f : List (ℕ × ℕ)) → IsMessageIndex t a e → IsMessageIndex t b f → a ≡ b
-index_once t a b e f one other = cc (shows_decided message_index_kinds t.content (message_index_values a e) (message_index_values b f) one.layout other.layout)
 
 pub names_differ : (t : Top) (f : ChunkIndexFields) → IsChunkIndex t f → KeysDiffer f.indexes
 names_differ t f is = let layout = is.layout in let row = layout.1 in let fit = row.fit in fit.1.1.1.1.0.2
@@ -187,7 +183,7 @@ message_later records x xs j of = record { name = of.name; has = (let has = of.h
 lists_differ : (indexes : List Top) (x : ℕ × ℕ) (xs : List (ℕ × ℕ)) (p q : ℕ) → KeysDiffer (x ∷ xs) → (one : ListOf indexes (x ∷ xs) p) → one.name ≡ x → ListOf indexes xs q → p ≢ q
 lists_differ indexes x xs p q differ one first other same =
     let tops = at_one indexes q one.top other.top (subst (λ (n : ℕ). At indexes n one.top) same one.at) other.at in
-    let keys : (one.name).0 ≡ (other.name).0 = index_once other.top (one.name).0 (other.name).0 one.entries other.entries (subst (λ (t : Top). IsMessageIndex t (one.name).0 one.entries) tops one.is) other.is in
+    let keys : (one.name).0 ≡ (other.name).0 = (message_index_once other.top (one.name).0 (other.name).0 one.entries other.entries (subst (λ (t : Top). IsMessageIndex t (one.name).0 one.entries) tops one.is) other.is).0 in
     let has = other.has in
     let apart : x.0 ≢ (other.name).0 = pairs_at {X = ℕ × ℕ} KeysApart (x ∷ xs) differ 0 (suc has.0) x other.name (omega arith) refl has.1 in
     apart (sym (ap (λ (y : ℕ × ℕ). y.0) first) ∙ keys)

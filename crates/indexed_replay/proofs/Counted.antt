@@ -11,8 +11,6 @@ use Rattle.std.proofs.lemmas.Map.Made.{length-le_from_is_member, IsDistinct-from
 use Rattle.std.proofs.lemmas.Option.{same_Some}
 use Rattle.std.proofs.lemmas.Slice.Zip.{AllZip-long}
 use Rattle.std.specs.Cmp.{nat_eq_equiv}
-use Rattle.mcap_wire.proofs.Contents.{shows_decided}
-use Rattle.rec_index.specs.Records.{chunk_index_kinds, chunk_index_values}
 use Rattle.mcap_model.specs.Places.{At, Has, Each}
 use Rattle.mcap_model.specs.Tops.{Top, top_bytes, spelled, is_chunk, offset_behind}
 use Rattle.mcap_model.specs.Fields.{ChunkIndexFields, IsChunkIndex, StatisticsFields, IsStatistics}
@@ -24,6 +22,7 @@ use Rattle.mcap_model.proofs.Lists.{at_either, take_first, take_second, each_con
 use Rattle.mcap_model.proofs.Readings.{length-top}
 use Rattle.mcap_model.proofs.Distinct.{any_has}
 use Rattle.mcap_model.proofs.NamedTopics.{zip_front, zip_back}
+use Rattle.mcap_model.proofs.Once.{chunk_index_once}
 use Rattle.mcap_laws.proofs.Leading.{Ends, ends_of, summary_of, in_before, in_summary, at_dropped, ended_before}
 use Rattle.summary_read.specs.Parts.{of_kind}
 
@@ -110,18 +109,6 @@ index_offsets (t ∷ ts) each =
     let (f, is) = each 0 t refl in
     let (os, zip) = index_offsets ts (λ n u at. each (suc n) u at) in
     (f.offset ∷ os, ((f, is, refl), zip))
-
-abbrev index_made : ℕ → ℕ → ℕ → ℕ → List (ℕ × ℕ) → ℕ → List ℕ → ℕ → ℕ → ChunkIndexFields
-index_made start end offset size indexes indexes_size compression compressed uncompressed = record { start = start; end = end; offset = offset; size = size; indexes = indexes; indexes_size = indexes_size; compression = compression; compressed = compressed; uncompressed = uncompressed }
-
-index_by : (f g : ChunkIndexFields) → f.start ≡ g.start → f.end ≡ g.end → f.offset ≡ g.offset → f.size ≡ g.size → f.indexes ≡ g.indexes → f.indexes_size ≡ g.indexes_size → f.compression ≡ g.compression → f.compressed ≡ g.compressed → f.uncompressed ≡ g.uncompressed
-    → index_made f.start f.end f.offset f.size f.indexes f.indexes_size f.compression f.compressed f.uncompressed ≡ index_made g.start g.end g.offset g.size g.indexes g.indexes_size g.compression g.compressed g.uncompressed
-index_by f g start end offset size indexes indexes_size compression compressed uncompressed = cc
-
-pub chunk_index_once : (t : Top) (f g : ChunkIndexFields) → IsChunkIndex t f → IsChunkIndex t g → f ≡ g
-chunk_index_once t f g one other =
-    let same = shows_decided chunk_index_kinds t.content (chunk_index_values f) (chunk_index_values g) one.layout other.layout in
-    index_by f g (cc same) (cc same) (cc same) (cc same) (cc same) (cc same) (cc same) (cc same) (cc same)
 
 -- the second is of another chunk
 abbrev Differ : Top → Top → Type 0

@@ -7,7 +7,6 @@ pub mod Chunking
 pub mod Naming
 pub mod Gathered
 pub mod Firsts
-pub mod Ordering
 pub mod Summed
 pub mod Playing
 pub mod Counted

@@ -23,7 +23,7 @@ use Rattle.indexed_replay.specs.Steps.{Adds, IsListed, EntryRefused, EntriesShow
 use Rattle.indexed_replay.specs.Lists.{Wanted, Undeclared, Knows, HasTimely, IsShownBy, ContentRefused, at_entry, no_channel, ContentShown, IsLedBy, ListRefused, ListShown, ListCost}
 use Rattle.indexed_replay.proofs.Headed.{there_begun}
 use Rattle.indexed_replay.proofs.Adding.{adds_none, adds_same, same_there}
-use Rattle.indexed_replay.proofs.Wanting.{list_once}
+use Rattle.mcap_model.proofs.Once.{message_index_once}
 
 -- ---- a content
 
@@ -70,7 +70,7 @@ module _ (file : List ℕ) (request : Request) (at : ℕ) (spot : Spot) (content
   listed s is =
       let by = is.led in
       let same = same_there file spot.list by.list (top 7 content) by.there there in
-      let once = list_once (top 7 content) s.channel spot.channel by.entries entries (subst (λ (t : Top). IsMessageIndex t s.channel by.entries) same by.is) is_index in
+      let once = message_index_once (top 7 content) s.channel spot.channel by.entries entries (subst (λ (t : Top). IsMessageIndex t s.channel by.entries) same by.is) is_index in
       record {
         listed = record {
           entry = subst (λ (l : List (ℕ × ℕ)). Has {X = ℕ × ℕ} l (s.log_time, s.place.inner)) once.1 by.entry;

@@ -22,13 +22,13 @@ use Rattle.indexed_replay.specs.declared.spots.Request.{Request}
 use Rattle.summary_read.specs.Parts.{of_kind, offsets_of_kind}
 use Rattle.summary_read.proofs.Listing.{offset_at}
 use Rattle.indexed_replay.specs.Replaying.{IsLed}
-use Rattle.indexed_replay.specs.Steps.{Adds, led_as}
+use Rattle.indexed_replay.specs.Steps.{Adds}
 use Rattle.indexed_replay.specs.Lists.{Wanted, Knows}
 use Rattle.indexed_replay.specs.Gathering.{IsLedFrom, AreIndexed}
-use Rattle.indexed_replay.specs.Finishing.{IsOrdered}
+use Rattle.time_player.specs.Ordering.{led_as, IsOrdered}
 use Rattle.indexed_replay.proofs.Adding.{in_chunk_once}
 use Rattle.indexed_replay.proofs.Naming.{zip_all}
-use Rattle.indexed_replay.proofs.Ordering.{same_decided}
+use Rattle.time_player.proofs.Ordering.{same_decided}
 use Rattle.indexed_replay.proofs.Summed.{summary_once, first_once}
 
 -- a message with the topic of its channel

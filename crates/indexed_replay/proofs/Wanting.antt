@@ -2,16 +2,15 @@
 use Rattle.std.proofs.Common.{◌≡◌, ℕ, List, Option, refl, sym, subst, ◌∙◌}
 use Rattle.rec_data.specs.Fields.{ChannelFields}
 use Rattle.rec_data.specs.Records.{ShowsChannel}
-use Rattle.rec_index.specs.Records.{ShowsMessageIndex, message_index_kinds, message_index_values}
-use Rattle.mcap_wire.proofs.Contents.{shows_decided}
+use Rattle.rec_index.specs.Records.{ShowsMessageIndex}
 use Rattle.mcap_model.specs.declared.table.Declared.{Declared}
 use Rattle.mcap_model.specs.Places.{At}
-use Rattle.mcap_model.specs.Fields.{IsChannel, IsMessageIndex}
-use Rattle.mcap_model.specs.Tops.{Top}
+use Rattle.mcap_model.specs.Fields.{IsChannel}
 use Rattle.mcap_model.specs.Made.{top}
 use Rattle.mcap_model.specs.Plain.{DeclareChannels}
 use Rattle.mcap_model.specs.Scan.{OnTopic}
 use Rattle.mcap_model.proofs.Maps.{shows_once}
+use Rattle.mcap_model.proofs.Once.{message_index_once}
 use Rattle.indexed_replay.specs.Lists.{Wanted}
 
 module _ (channels : List Declared) (channel : ℕ) (topic : Option (List ℕ)) (declare : DeclareChannels channels) (k : ℕ) (d : Declared) (at : At channels k d) (id_is : d.id ≡ channel) (content : List ℕ) (same : d.content ≡ content) where
@@ -41,9 +40,4 @@ module _ (channels : List Declared) (channel : ℕ) (topic : Option (List ℕ)) 
 -- ---- Message Indexes
 
 pub index_once : (content : List ℕ) (a b : ℕ) (e f : List (ℕ × ℕ)) → ShowsMessageIndex content a e → ShowsMessageIndex content b f → (a ≡ b) × (e ≡ f)
-index_once content a b e f one other =
-    let same = shows_decided message_index_kinds content (message_index_values a e) (message_index_values b f) one other in
-    (cc same, cc same)
-
-pub list_once : (t : Top) (a b : ℕ) (e f : List (ℕ × ℕ)) → IsMessageIndex t a e → IsMessageIndex t b f → (a ≡ b) × (e ≡ f)
-list_once t a b e f one other = index_once t.content a b e f one.layout other.layout
+index_once content a b e f one other = message_index_once (top 7 content) a b e f (record { kind = refl; layout = one }) (record { kind = refl; layout = other })

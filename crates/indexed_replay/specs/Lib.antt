@@ -4,5 +4,4 @@ pub mod Steps
 pub mod Lists
 pub mod Chunks
 pub mod Gathering
-pub mod Finishing
 pub mod Played

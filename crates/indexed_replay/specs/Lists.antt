@@ -19,7 +19,8 @@ use Rattle.indexed_replay.specs.declared.spots.Spot.{Spot}
 use Rattle.indexed_replay.specs.declared.spots.Request.{Request}
 use Rattle.indexed_replay.specs.Reaching.{Names}
 use Rattle.indexed_replay.specs.Replaying.{IsReason}
-use Rattle.indexed_replay.specs.Steps.{Adds, led_as, IsListed, EntryRefused, entries_cost}
+use Rattle.time_player.specs.Ordering.{led_as}
+use Rattle.indexed_replay.specs.Steps.{Adds, IsListed, EntryRefused, entries_cost}
 
 -- ---- channels
 

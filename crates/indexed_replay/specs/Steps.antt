@@ -10,8 +10,9 @@ use Rattle.mcap_model.specs.Places.{Has}
 use Rattle.mcap_model.specs.Tops.{Top, top_bytes, opcode, declared_length, first_top}
 use Rattle.mcap_model.specs.Made.{top}
 use Rattle.mcap_model.specs.Plain.{is_within}
-use Rattle.mcap_model.specs.Scan.{Seen, InRange}
+use Rattle.mcap_model.specs.Scan.{InRange}
 use Rattle.mcap_model.specs.Led.{IsThere, IsInChunk}
+use Rattle.time_player.specs.Ordering.{led_as}
 use Rattle.summary_read.specs.Reached.{DeclaresPast}
 use Rattle.indexed_replay.specs.declared.answers.ReplayRefused.{ReplayRefused}
 use Rattle.indexed_replay.specs.declared.answers.ReplayRefused.TheVariants as refusals
@@ -63,10 +64,6 @@ abbrev pub TellsFront : Option (List ℕ) → ℕ → ℕ → List ℕ → Resul
 TellsFront told len at out result = (file : List ℕ) → told ≡ Some file → length file ≡ len → FrontIs file at out result
 
 -- ---- a message
-
--- a message that is shown, without a topic
-abbrev pub led_as : Shown → Seen
-led_as s = record { place = s.place; channel = s.channel; topic = []; message = record { sequence = s.sequence; log_time = s.log_time; publish_time = s.publish_time; payload = s.payload } }
 
 abbrev pub place_in : ℕ → ℕ → Place
 place_in chunk inner = record { top = chunk; inner = inner }

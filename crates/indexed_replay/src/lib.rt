@@ -6,7 +6,6 @@ mod answers;
 mod channels;
 mod chunks;
 mod entries;
-mod finishing;
 mod fronts;
 mod gathering;
 mod lists;

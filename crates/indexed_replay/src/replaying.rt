@@ -7,7 +7,6 @@ ghost use Rattle.indexed_replay.specs.Replaying.{Plays, PlaysScan, ReplayCause, 
 
 use crate::answers::{NotIndexed, ReplayRefused};
 use crate::channels::take_channels;
-use crate::finishing::finish;
 use crate::gathering::gather;
 use crate::spots::Request;
 use mcap_io::{Failed, Store};
@@ -82,7 +81,7 @@ fn play<T: Store>(
         Ok(()) => {}
         Err(why) => return Err(why),
     }
-    finish(&mut shown);
+    shown.put_in_order_without_doubles();
     match topics_of_kept(alloc, &tables, &shown) {
         Ok(topics) => return Ok(KeptReplay::new(topics, shown)),
         Err(Memory) => return Err(ReplayRefused::Memory),

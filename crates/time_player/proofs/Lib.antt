@@ -3,6 +3,7 @@ mod Asked
 pub mod Chosen
 mod Digits
 mod Named
+pub mod Ordering
 pub mod Parts
 pub mod Played
 mod Printed

@@ -4,6 +4,7 @@ pub mod Keeping
 pub mod Lent
 pub mod Lines
 pub mod Messages
+pub mod Ordering
 pub mod Reading
 pub mod Replaying
 pub mod Text

@@ -100,6 +100,7 @@ impl Kept {
     ghost use Rattle.time_player.specs.Lent.{shown_of};
     ghost use Rattle.std.specs.List.{dedup};
     ghost use Rattle.time_player.specs.Heads.{same_place};
+    ghost use Rattle.time_player.specs.Ordering.{IsOrdered};
     ghost use Rattle.time_player.specs.Keeping.{kept_in, shown_at, shown_with, KeepsPart};
     ghost use Rattle.time_player.specs.Reading.{ReadsFrom};
 
@@ -193,8 +194,8 @@ impl Kept {
         }
     }
 
-    /// Drops each message that has the time and the place of the one before it.
-    pub fn drop_doubles(&mut self)
+    // Drops each message that has the time and the place of the one before it.
+    fn drop_doubles(&mut self)
         ensures { kept_in self.new ≡ dedup same_place (kept_in self.old) }
     {
         self.heads
@@ -211,6 +212,14 @@ impl Kept {
         }
         self.heads
             .sort_unstable_by_key(|h| (h.log_time, h.place.top, h.place.inner));
+    }
+
+    /// Puts the messages in the order of log time and place. Of those with one time and place one stays.
+    pub fn put_in_order_without_doubles(&mut self)
+        ensures { IsOrdered (kept_in self.old) (kept_in self.new) }
+    {
+        self.put_in_order();
+        self.drop_doubles();
     }
 
     /// One message of each channel that the messages are on, without its payload.

@@ -3,7 +3,7 @@ use Rattle.mcap_model.specs.declared.replay.Shown.{Shown}
 use Rattle.mcap_model.specs.declared.replay.Topic.{Topic}
 use Rattle.mcap_model.specs.Plain.{AreNamed}
 use Rattle.time_player.specs.Keeping.{kept_in}
-use Rattle.indexed_replay.specs.Finishing.{IsOrdered}
+use Rattle.time_player.specs.Ordering.{IsOrdered}
 use Rattle.indexed_replay.proofs.Summed.{knows, loaded_summary}
 use Rattle.indexed_replay.proofs.Playing.{are_indexed, added_led}
 use Rattle.indexed_replay.proofs.replaying.play.Goals as goal
@@ -24,4 +24,4 @@ returns-in-Ok-topics_of_kept-clause-plays g c = λ file told loaded.
     let shown = sym c.new.ensures.shown in
     let named = subst (λ (l : List Topic). AreNamed c.in-Ok.tables.channels c.new.result.shown.items l) (sym (ap (λ v. v.items) c.new.ensures.topics)) (subst (λ (l : List Shown). AreNamed c.in-Ok.tables.channels l c.in-Ok-topics_of_kept.topics.items) shown c.in-Ok-topics_of_kept.ensures) in
     added_led file _ ((c.args.loaded.now).footer).summary_start loaded.tops (c.args.loaded.now).chunk_indexes (kept_in c.new-shown.result) (kept_in c.gather.new.shown) c.new.result adds c.new-shown.ensures (loaded_summary file c.args.loaded.now loaded) listed.chunk_indexes known
-    (subst (λ (l : List Shown). IsOrdered (kept_in c.gather.new.shown) l) shown c.finish.ensures) named
+    (subst (λ (l : List Shown). IsOrdered (kept_in c.gather.new.shown) l) shown c.put_in_order_without_doubles.ensures) named

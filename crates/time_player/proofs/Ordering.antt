@@ -15,9 +15,8 @@ use Rattle.mcap_model.proofs.Places.{at_none}
 use Rattle.mcap_model.proofs.Lists.{pairs_at, pairs_from, pairs_cons}
 use Rattle.mcap_model.proofs.NamedTopics.{contained, has_there}
 use Rattle.mcap_model.proofs.Replays.{order_pairs}
-use Rattle.indexed_replay.specs.Steps.{led_as}
 use Rattle.time_player.specs.Heads.{same_place}
-use Rattle.indexed_replay.specs.Finishing.{IsOrdered}
+use Rattle.time_player.specs.Ordering.{led_as, IsOrdered}
 
 abbrev Before : Shown → Shown → Type 0
 Before s r = ComesBefore (led_as s) (led_as r)
