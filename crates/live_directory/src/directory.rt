@@ -155,7 +155,8 @@ impl<X: Extent, J: Naming> Directory<X, J> {
         }
     }
 
-    /// Waits for the readers that are inside. From then on none is let in.
+    /// Waits for the readers that are inside. From then on none is let in, so a `refresh` would try for ever: it is closed once
+    /// no reader refreshes any more. Fronts and entries may still be asked for.
     pub fn close<R: Wait>(self, rt: &R) {
         let Directory { outbox, short: _ } = self;
         outbox.close(rt);

@@ -22,12 +22,14 @@ impl Naming for Brand {
 /// An empty history that has no name yet.
 pub struct Opened<X: Extent> {
     head: Word<Added<X>, u64, Law>,
+    /// What is seen of it, which is nothing yet, and its book.
     pub seen: Seen<Added<X>, u64, Law>,
     ghost empty: { seen.log ≡ [] },
     ghost head_is: { head ≡ head_of seen.book },
 }
 
 impl<X: Extent> Opened<X> {
+    /// A history of its own. The name of a directory that is opened over it has the book of `seen`.
     pub fn new() -> Opened<X> {
         let (seen, mut first, _second) = Seen::open(Start::alone(), 0, 0);
         Opened {

@@ -206,7 +206,7 @@ impl<X: Extent, J: Naming> Reader<X, J> {
     }
 
     /// Enters, copies the entries that are new, and answers the front that it found. Where memory lacks for them it holds what
-    /// it held.
+    /// it held. It tries until it is let in, so it isn't called once the directory may be closed.
     pub fn refresh<R: Wait>(&mut self, rt: &R) -> Result<Front, Memory>
         ensures { MatchResult result
             (λ front. Refreshes self.old self.new front)
