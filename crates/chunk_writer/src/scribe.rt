@@ -38,8 +38,8 @@ use record_cache::Cache;
 use std::alloc::Global;
 
 /// Writes the file of a history into a store, record by record. A scribe stands for each history (`Writes`) whose sure pieces
-/// stand in its store and whose other records wait in its plan; the extras wait, framed, for the end of the file. Once an append was refused it keeps the refusal: it answers
-/// that at every call, and appends nothing.
+/// stand in its store and whose other records wait in its plan; the extras wait, framed, for the end of the file. Once an append
+/// was refused it keeps the refusal: it answers that at every call, and appends nothing.
 #[derive(Drop)]
 pub struct Scribe<L> {
     store: L,
@@ -212,9 +212,14 @@ impl<L: LiveStore> Scribe<L> {
         requires framed { (r : Rec) × AreFramed framed.now r }
         requires unended { phase_of self.old ≡ phases.Ended → ⊥ }
         ensures stands { (r : Rec) → AreFramed framed.now r → Grows L.state self.old self.new (r ∷ []) }
+        ensures entry { IfOk result (λ entry. (r : Rec) → AreFramed framed.now r → OfEach L.state self.old (λ options history. GivesEntry (seen_before (λ e. L.Extent.tells e) (λ e. L.Extent.size e) (L.state (store_of self.old))) options history r entry)) }
+        ensures counted { IfOk result (λ entry. CountsLast (blocks_of self.old) (blocks_of self.new) entry) }
         ensures keeps { KeepsOn (L.state (store_of self.old)).held (L.state (store_of self.new)).held }
         ensures goes_on { OnOk result ((phase_of self.old ≡ phases.Going) × (phase_of self.new ≡ phases.Going)) }
+        ensures within { OnOk result (Holds (blocks_of self.new) (bytes_of self.new)) }
         ensures stopped { IfErr result (λ stop. phase_of self.new ≡ phases.Stopped stop) }
+        // What stopped it isn't counted.
+        ensures uncounted { OnErr result ((blocks_of self.new ≡ blocks_of self.old) × (bytes_of self.new ≡ bytes_of self.old)) }
         ensures kept { (stop : Stop) → phase_of self.old ≡ phases.Stopped stop → (result ≡ Err stop) × (self.new ≡ self.old) }
         ensures cause { phase_of self.old ≡ phases.Going → Cause (L.state (store_of self.old)).faults (L.state (store_of self.new)).faults result }
     {
@@ -223,7 +228,7 @@ impl<L: LiveStore> Scribe<L> {
             Phase::Stopped { stop } => return Err(stop),
             Phase::Ended => unreachable!(),
         }
-        self.put_framed(framed)
+        return self.put_framed(framed);
     }
 
     /// Adds an Attachment or a Metadata, which waits for the end of the file. Only memory may lack for it.
