@@ -13,7 +13,7 @@ use Rattle.mcap_io.specs.Outside.{SourceState, LiveState, RisesOnce, Adds}
 use Rattle.mcap_model.specs.declared.options.FileOptions.{FileOptions}
 use Rattle.mcap_model.specs.declared.ends.Stop.{Stop}
 use Rattle.mcap_model.specs.declared.ends.Stop.TheVariants as stops
-use Rattle.mcap_model.specs.Tops.{Top, Tops, top_bytes, spelled, offset_behind, flat, flattened, is_flat_kind, is_chunk, inner_tops, chunk_records, records_in, first_records, begins_record, behind_first, first_top}
+use Rattle.mcap_model.specs.Tops.{Top, Tops, Begins, top_bytes, spelled, offset_behind, flat, flattened, is_flat_kind, is_chunk, inner_tops, chunk_records, records_in, first_records, begins_record, behind_first, first_top}
 use Rattle.mcap_wire.specs.Reading.{text_length, bytes_length}
 use Rattle.mcap_wire.proofs.Framing.{length-framed}
 use Rattle.mcap_scan.proofs.Scanning.{good_stand}
@@ -26,13 +26,15 @@ use Rattle.mcap_model.specs.Pieces.{file_pieces, joined}
 use Rattle.mcap_model.specs.File.{file_of, IsPrefix}
 use Rattle.mcap_model.specs.Written.{IsRec, AreFlatRecords}
 use Rattle.mcap_model.specs.Repaired.{is_extra, ProfileIs, Repairs, Repaired}
-use Rattle.mcap_model.proofs.Readings.{readings_follow, kept_once}
+use Rattle.mcap_model.proofs.Readings.{kept_once}
+use Rattle.mcap_model.proofs.Places.{at_none}
+use Rattle.mcap_model.proofs.Repairs.{profile_once, repairs_once, repairs_go_on, good_records_are_kept}
 use Rattle.mcap_model.proofs.Pieces.{pieces_make_files, stops_leave_prefixes}
 use Rattle.mcap_scan.specs.declared.reader.Reader.{Reader}
 use Rattle.mcap_scan.specs.declared.reader.Stage.TheVariants as stages
 use Rattle.mcap_scan.specs.declared.answers.ScanRefused.{ScanRefused}
 use Rattle.mcap_scan.specs.declared.answers.ScanRefused.TheVariants as scans
-use Rattle.mcap_scan.specs.Scanning.{HaltsSo, FaultStands, MemoryStands, RefusalStands, IsGoing}
+use Rattle.mcap_scan.specs.Scanning.{Stands, IsDone, HaltsSo, FaultStands, MemoryStands, RefusalStands, IsGoing}
 use Rattle.chunk_writer.specs.Stops.{StopsAt, StopCause}
 use Rattle.chunk_writer.specs.Scribes.{ScribeStands, phase_of, blocks_of, bytes_of, store_of}
 use Rattle.chunk_writer.specs.declared.phase.Phase.TheVariants as phases
@@ -46,37 +48,10 @@ use Rattle.mcap_recover.specs.declared.answers.Why.TheVariants as whys
 use Rattle.mcap_recover.specs.declared.answers.RecoverRefused.{RecoverRefused}
 use Rattle.mcap_recover.specs.declared.answers.RecoverRefused.TheVariants as refusals
 use Rattle.mcap_recover.specs.Keeping.{Keeps, counted}
-use Rattle.mcap_recover.specs.Readings.{RefusedBy, GrammarTold, RefusalTold, HaltTold, OverSo, KeepsNone, Repairing, IsOver, IsStopped, Begun}
-use Rattle.mcap_recover.specs.Recovering.{recovered_options, TellsHalt, OfRepaired, StandsPart, LacksMagic, FaultRose, FaultsStill, Finishes, Recovers}
-use Rattle.mcap_recover.proofs.Keepings.{fold_grows}
+use Rattle.mcap_recover.specs.Readings.{HasMagic, RefusedBy, GrammarTold, RefusalTold, HaltTold, OverSo, KeepsNone, Repairing, IsOver, IsStopped, Begun}
+use Rattle.mcap_recover.specs.Recovering.{recovered_options, TellsHalt, OfRead, OfBoth, OfRepaired, StandsPart, LacksMagic, FaultRose, FaultsStill, Finishes, Recovers}
 
 -- ---- the first ones of some records
-
-zip_parts : {X Y : Type 0} (R : X → Y → Type 0) (xs us : List X) (zs : List Y) → AllZip R (xs ++ us) zs → (ys : List Y) × (vs : List Y) × (zs ≡ ys ++ vs) × AllZip R xs ys × AllZip R us vs
-zip_parts R [] us zs zip = ([], zs, refl, tt, zip)
-zip_parts R (x ∷ xs) us [] zip = absurd zip
-zip_parts {X} {Y} R (x ∷ xs) us (z ∷ zs) zip =
-    let rest = zip_parts R xs us zs zip.1 in
-    (z ∷ rest.0, rest.1, ap (λ (l : List Y). z ∷ l) rest.2, (zip.0, rest.3), rest.4)
-
-flat_once : (tops : List Top) (one two : List Rec) → AllZip IsRec tops one → AllZip IsRec tops two → one ≡ two
-flat_once [] [] [] a b = refl
-flat_once [] [] (s ∷ ss) a b = absurd b
-flat_once [] (r ∷ rs) two a b = absurd a
-flat_once (t ∷ ts) [] two a b = absurd a
-flat_once (t ∷ ts) (r ∷ rs) [] a b = absurd b
-flat_once (t ∷ ts) (r ∷ rs) (s ∷ ss) a b =
-    ap (λ (x : Rec). x ∷ rs) (shown_once t.op t.content r s a.0 b.0) ∙ ap (λ (l : List Rec). s ∷ l) (flat_once ts rs ss a.1 b.1)
-
-fold_more : (history rs ss : List Rec) → fold kept_with history (rs ++ ss) ≡ fold kept_with (fold kept_with history rs) ss
-fold_more history [] ss = refl
-fold_more history (r ∷ rs) ss = fold_more (kept_with history r) rs ss
-
-same_profile : (tops more : List Top) (p q : List ℕ) → (tops ≡ [] → more ≡ []) → ProfileIs tops p → ProfileIs (tops ++ more) q → p ≡ q
-same_profile [] more p q none one two = one ∙ sym (subst (λ (l : List Top). ProfileIs l q) (none refl) two)
-same_profile (t ∷ ts) more p q none (a, a_is) (b, b_is) =
-    let same = shows_decided header_kinds t.content (a.profile, (a.library, tt)) (b.profile, (b.library, tt)) a.layout b.layout in
-    sym a_is ∙ ap (λ v. v.0) same ∙ b_is
 
 -- of the first ones the first ones are repaired, with the same profile
 record GoesOn (profile other : List ℕ) (history later : List Rec) : Type 0 where
@@ -86,58 +61,72 @@ record GoesOn (profile other : List ℕ) (history later : List Rec) : Type 0 whe
 
 goes_on : (tops more extras others : List Top) (profile other : List ℕ) (history later : List Rec) → (tops ≡ [] → more ≡ []) → Repairs tops profile extras history → Repairs (tops ++ more) other others later → GoesOn profile other history later
 goes_on tops more extras others profile other history later none one two =
-    let split : flat (tops ++ more) ≡ flat tops ++ flat more = flat_map-append flattened tops more in
-    let (ys, vs, is, first, second) = zip_parts IsRec (flat tops) (flat more) two.flattened (subst (λ (l : List Top). AllZip IsRec l two.flattened) split two.are_flattened) in
-    let front : ys ≡ one.flattened = flat_once (flat tops) ys one.flattened first one.are_flattened in
-    let (behind, grown) = fold_grows history vs in
-    record {
-      same = same_profile tops more profile other none one.profile_is two.profile_is;
-      behind = behind;
-      longer = two.history_is ∙ ap without_repeats is ∙ fold_more [] ys vs ∙ ap (λ (l : List Rec). fold kept_with (without_repeats l) vs) front ∙ ap (λ (l : List Rec). fold kept_with l vs) (sym one.history_is) ∙ grown;
-    }
-
-empty_by : {X : Type 0} (xs : List X) → length xs ≤ 0 → xs ≡ []
-empty_by [] less = refl
-empty_by (x ∷ xs) less = absurd (omega (arith, less))
-
--- good records with which bytes begin are the first that are kept
-first_kept : (bytes : List ℕ) (tops kept : List Top) (rest : List ℕ) → Tops bytes tops rest → Good reading_limits tops → Kept reading_limits bytes kept → (more : List Top) × (kept ≡ tops ++ more)
-first_kept bytes tops kept rest there good it = by it.stands
+    let (firsts, (behind, longer), same) = repairs_go_on tops more extras others profile other history later one two in
+    record { same = same_profile tops none same one.profile_is two.profile_is; behind = behind; longer = sym longer }
   where
-    most : length tops ≤ length kept
-    most = it.longest tops (inr (rest, there)) good
-
-    by : (kept ≡ []) ⊎ ((behind : List ℕ) × Tops bytes kept behind) → (more : List Top) × (kept ≡ tops ++ more)
-    by (inl none) = let size = ap (λ (l : List Top). length l) none in let empty = empty_by tops (omega (arith, most, size)) in ([], none ∙ sym (append-nil tops ∙ empty))
-    by (inr (behind, stands)) = elim (readings_follow bytes tops kept rest behind there good stands it.good) [
-      | inl follows ↦ (follows.more, follows.longer)
-      | inr follows ↦
-          let size = ap (λ (l : List Top). length l) follows.longer in
-          let none = empty_by follows.more (omega (arith, most, size, length-append kept follows.more)) in
-          ([], sym (append-nil tops ∙ follows.longer ∙ ap (λ (l : List Top). kept ++ l) none ∙ append-nil kept))
-    ]
+    same_profile : (ts : List Top) → (ts ≡ [] → more ≡ []) → ((ts ≡ [] → ⊥) → profile ≡ other) → ProfileIs ts profile → ProfileIs (ts ++ more) other → profile ≡ other
+    same_profile [] nothing some first second = profile_once [] profile other first (subst (λ (l : List Top). ProfileIs l other) (nothing refl) second)
+    same_profile (t ∷ ts) nothing some first second = some (λ e. cc)
 
 -- what is said of each longer history of the same options is said of what repairing makes of the bytes
 pub of_longer : (chunk : ℕ) (before : SourceState) (tops extras : List Top) (profile : List ℕ) (history : List Rec) (holds : FileOptions → List Top → List Rec → Type 0)
-    → ((bytes : List ℕ) → before.left ≡ Some bytes → (tops ≡ []) ⊎ ((rest : List ℕ) × Tops bytes tops rest × Good reading_limits tops)) → (tops ≡ [] → KeepsNone before)
-    → Repairs tops profile extras history → ((others : List Top) (behind : List Rec) → holds (recovered_options profile chunk) others (history ++ behind)) → OfRepaired chunk before holds
-of_longer chunk before tops extras profile history holds read none repairs each bytes told other others later repaired =
-    let (more, longer, nothing) = found (read bytes told) in
-    let on = goes_on tops more extras others profile other history later nothing repairs (subst (λ (l : List Top). Repairs l other others later) longer repaired.repairs) in
-    subst (λ (l : List Rec). holds (recovered_options other chunk) others l) (sym on.longer)
-    (subst (λ (p : List ℕ). holds (recovered_options p chunk) others (history ++ on.behind)) on.same (each others on.behind))
+    → Good reading_limits tops → ((bytes : List ℕ) → before.left ≡ Some bytes → Begins bytes tops) → (tops ≡ [] → KeepsNone before)
+    → Repairs tops profile extras history → ((others : List Top) (behind : List Rec) → holds (recovered_options profile chunk) others (history ++ behind)) → OfBoth chunk before holds
+of_longer chunk before tops extras profile history holds good read none repairs each = record {
+  of_read = record {
+    tops = tops;
+    good = good;
+    read = read;
+    profile = profile;
+    extras = extras;
+    history = history;
+    repairs = repairs;
+    stands = subst (λ (l : List Rec). holds (recovered_options profile chunk) extras l) (append-nil history) (each extras []);
+  };
+  of_repaired = λ bytes told other others later repaired.
+      let (more, longer, nothing) = found bytes told repaired.tops repaired.kept (read bytes told) in
+      let on = goes_on tops more extras others profile other history later nothing repairs (subst (λ (l : List Top). Repairs l other others later) longer repaired.repairs) in
+      subst (λ (l : List Rec). holds (recovered_options other chunk) others l) (sym on.longer)
+      (subst (λ (p : List ℕ). holds (recovered_options p chunk) others (history ++ on.behind)) on.same (each others on.behind));
+}
   where
-    empty : tops ≡ [] → (more : List Top) × (repaired.tops ≡ tops ++ more) × (tops ≡ [] → more ≡ [])
-    empty is = ([], kept_once bytes repaired.tops [] repaired.kept (none is bytes told) ∙ sym (append-nil tops ∙ is), λ it. refl)
+    found : (bytes : List ℕ) → before.left ≡ Some bytes → (kept : List Top) → Kept reading_limits bytes kept → Begins bytes tops → (more : List Top) × (kept ≡ tops ++ more) × (tops ≡ [] → more ≡ [])
+    found bytes told kept it (inl is) = ([], kept_once bytes kept [] it (none is bytes told) ∙ sym (append-nil tops ∙ is), λ e. refl)
+    found bytes told kept it (inr (rest, there)) =
+        let (more, is) = good_records_are_kept bytes tops kept rest there good it in
+        (more, sym is, λ empty. let all = kept_once bytes kept [] it (none empty bytes told) in ap (λ (l : List Top). l ++ more) (sym empty) ∙ is ∙ all)
 
-    some : (rest : List ℕ) → Tops bytes tops rest → Good reading_limits tops → (more : List Top) × (repaired.tops ≡ tops ++ more) × (tops ≡ [] → more ≡ [])
-    some rest there good =
-        let (more, is) = first_kept bytes tops repaired.tops rest there good repaired.kept in
-        (more, is, λ empty_is. let all = kept_once bytes repaired.tops [] repaired.kept (none empty_is bytes told) in ap (λ (l : List Top). l ++ more) (sym empty_is) ∙ sym is ∙ all)
+-- of no record
+pub of_none : (chunk : ℕ) (before : SourceState) (holds : FileOptions → List Top → List Rec → Type 0) → ((options : FileOptions) (extras : List Top) (history : List Rec) → holds options extras history) → OfBoth chunk before holds
+of_none chunk before holds each = record {
+  of_read = record {
+    tops = [];
+    good = λ n t at. absurd (at_none n t at);
+    read = λ bytes told. inl refl;
+    profile = [];
+    extras = [];
+    history = [];
+    repairs = record { profile_is = refl; extras_are = refl; flattened = []; are_flattened = tt; history_is = refl };
+    stands = each (recovered_options [] chunk) [] [];
+  };
+  of_repaired = λ bytes told profile extras history repaired. each (recovered_options profile chunk) extras history;
+}
 
-    found : (tops ≡ []) ⊎ ((rest : List ℕ) × Tops bytes tops rest × Good reading_limits tops) → (more : List Top) × (repaired.tops ≡ tops ++ more) × (tops ≡ [] → more ≡ [])
-    found (inl is) = empty is
-    found (inr (rest, there, good)) = some rest there good
+of_part : (chunk : ℕ) (before : SourceState) (holds others : FileOptions → List Top → List Rec → Type 0) → ((options : FileOptions) (extras : List Top) (history : List Rec) → holds options extras history → others options extras history)
+    → OfBoth chunk before holds → OfBoth chunk before others
+of_part chunk before holds others weaker both = record {
+  of_read = let it = both.of_read in record {
+    tops = it.tops;
+    good = it.good;
+    read = it.read;
+    profile = it.profile;
+    extras = it.extras;
+    history = it.history;
+    repairs = it.repairs;
+    stands = weaker (recovered_options it.profile chunk) it.extras it.history it.stands;
+  };
+  of_repaired = λ bytes told profile extras history repaired. let each = both.of_repaired in weaker (recovered_options profile chunk) extras history (each bytes told profile extras history repaired);
+}
 
 -- ---- first parts of files
 
@@ -151,30 +140,34 @@ nothing_stands opened options extras history start told = ([], told ∙ ap Some 
 
 -- ---- where the writer stopped
 
-pub stopped_recovers : (chunk : ℕ) (before now : SourceState) (opened stored : LiveState) (stop : Stop) (refusal : RecoverRefused) (blocks bytes : ℕ) → RefusedBy stop refusal → StopCause opened.faults stored.faults stop → now.faults ≡ before.faults
-    → OfRepaired chunk before (λ options extras history. StopsAt options extras history opened.held stored.held stop blocks bytes) → Recovers chunk before now opened stored (Err refusal)
-stopped_recovers chunk before now opened stored (stops.Fault faults) refusal blocks bytes is (rises, carried) still each =
+pub stopped_recovers : (chunk : ℕ) (before now : SourceState) (opened stored : LiveState) (stop : Stop) (refusal : RecoverRefused) (blocks bytes : ℕ) → RefusedBy stop refusal → StopCause opened.faults stored.faults stop → now.faults ≡ before.faults → HasMagic before
+    → OfBoth chunk before (λ options extras history. StopsAt options extras history opened.held stored.held stop blocks bytes) → Recovers chunk before now opened stored (Err refusal)
+stopped_recovers chunk before now opened stored (stops.Fault faults) refusal blocks bytes is (rises, carried) still magic_is each =
     subst (λ (r : RecoverRefused). Recovers chunk before now opened stored (Err r)) (sym is)
-    (inr (rises, carried, still), λ b told p e h repaired. part_of_stop (recovered_options p chunk) e h opened stored (stops.Fault faults) blocks bytes (each b told p e h repaired))
-stopped_recovers chunk before now opened stored (stops.Limit m n) refusal blocks bytes is cause still each =
+    (inr (rises, carried, still, magic_is), of_part chunk before (λ options extras history. StopsAt options extras history opened.held stored.held (stops.Fault faults) blocks bytes) (StandsPart opened stored)
+        (λ options extras history stopped. part_of_stop options extras history opened stored (stops.Fault faults) blocks bytes stopped) each)
+stopped_recovers chunk before now opened stored (stops.Limit m n) refusal blocks bytes is cause still magic_is each =
     subst (λ (r : RecoverRefused). Recovers chunk before now opened stored (Err r)) (sym is) (
       record { source = still; store = cause },
-      λ b told p e h repaired.
-          let stopped = each b told p e h repaired in
+      magic_is,
+      of_part chunk before (λ options extras history. StopsAt options extras history opened.held stored.held (stops.Limit m n) blocks bytes) (λ options extras history. StopsAt options extras history opened.held stored.held (stops.Limit m n) m n)
+      (λ options extras history stopped.
           let why = stopped.why in
-          subst (λ (k : ℕ). StopsAt (recovered_options p chunk) e h opened.held stored.held (stops.Limit m n) k n) (sym why.0)
-          (subst (λ (k : ℕ). StopsAt (recovered_options p chunk) e h opened.held stored.held (stops.Limit m n) blocks k) (sym why.1) stopped),
+          subst (λ (k : ℕ). StopsAt options extras history opened.held stored.held (stops.Limit m n) k n) (sym why.0)
+          (subst (λ (k : ℕ). StopsAt options extras history opened.held stored.held (stops.Limit m n) blocks k) (sym why.1) stopped)) each,
     )
-stopped_recovers chunk before now opened stored stops.Memory refusal blocks bytes is cause still each =
+stopped_recovers chunk before now opened stored stops.Memory refusal blocks bytes is cause still magic_is each =
     subst (λ (r : RecoverRefused). Recovers chunk before now opened stored (Err r)) (sym is)
-    (record { source = still; store = cause }, λ b told p e h repaired. part_of_stop (recovered_options p chunk) e h opened stored stops.Memory blocks bytes (each b told p e h repaired))
+    (record { source = still; store = cause }, inr magic_is, of_part chunk before (λ options extras history. StopsAt options extras history opened.held stored.held stops.Memory blocks bytes) (StandsPart opened stored)
+        (λ options extras history stopped. part_of_stop options extras history opened stored stops.Memory blocks bytes stopped) each)
 
 pub is_stopped_recovers : {L : Type 0} (seen : L → LiveState) (chunk : ℕ) (profile : List ℕ) (before now : SourceState) (opened : LiveState) (k : Keeping L) (stop : Stop) (refusal : RecoverRefused) → RefusedBy stop refusal
     → StopCause opened.faults (seen k.scribe.store).faults stop → IsStopped seen (recovered_options profile chunk) before now opened k stop → Recovers chunk before now opened (seen k.scribe.store) (Err refusal)
 is_stopped_recovers seen chunk profile before now opened k stop refusal is cause it =
     stopped_recovers chunk before now opened (seen k.scribe.store) stop refusal (blocks_of k.scribe) (bytes_of k.scribe) is cause it.still
+    (λ bytes told. let (rest, there) = it.read bytes told in (spelled it.tops ++ rest, there.split))
     (of_longer chunk before it.tops it.extras profile it.history (λ options extras history. StopsAt options extras history opened.held (seen k.scribe.store).held stop (blocks_of k.scribe) (bytes_of k.scribe))
-    (λ bytes told. let (rest, there) = it.read bytes told in inr (rest, there, it.good)) (λ none. absurd (it.some none)) it.repairs
+    it.good (λ bytes told. inr (it.read bytes told)) (λ none. absurd (it.some none)) it.repairs
     (λ others behind. (it.keeps.writes.0.stopped stop it.stopped others behind).stops))
 
 -- ---- where the source failed, or memory lacked
@@ -184,12 +177,6 @@ going_part : {L : Type 0} (seen : L → LiveState) (options : FileOptions) (extr
 going_part seen options extras opened history k going keeps others behind =
     part_of_stop options others (history ++ behind) opened (seen k.scribe.store) stops.Memory (blocks_of k.scribe) (bytes_of k.scribe)
     (put_lacks options others opened.held (seen k.scribe.store).held history (blocks_of k.scribe) (bytes_of k.scribe) behind (holding options opened.held (seen k.scribe.store).held history k.scribe.plan going keeps.writes.0))
-
-fault_read : (bytes : List ℕ) (tops : List Top) (left : Option (List ℕ)) → (part rest : List ℕ) → bytes ≡ part ++ rest → Kept reading_limits part tops → (tops ≡ []) ⊎ ((behind : List ℕ) × Tops bytes tops behind)
-fault_read bytes tops left part rest split kept = elim kept.stands [
-  | inl none ↦ inl none
-  | inr there ↦ inr (there.0 ++ rest, record { split = split ∙ ap (λ (l : List ℕ). l ++ rest) there.1.split ∙ append_assoc magic (spelled tops ++ there.0) rest ∙ ap (λ (l : List ℕ). magic ++ l) (append_assoc (spelled tops) there.0 rest) })
-]
 
 place_of : Halt → ℕ
 place_of (at_end n) = n
@@ -215,17 +202,22 @@ no_front bytes tops halt r (behind_kept rest stands unended other there) is has 
     let same = there_place tops rest halt there in
     omega (arith, place, same)
 
+nothing_of : (chunk : ℕ) (before : SourceState) (opened : LiveState) → OfBoth chunk before (StandsPart opened opened)
+nothing_of chunk before opened = of_none chunk before (StandsPart opened opened) (λ options extras history. nothing_stands opened options extras history)
+
+-- memory lacked before anything was done
+pub nothing_recovers : (chunk : ℕ) (before now : SourceState) (opened : LiveState) → now.faults ≡ before.faults → Recovers chunk before now opened opened (Err refusals.Memory)
+nothing_recovers chunk before now opened still = (record { source = still; store = refl }, inl refl, nothing_of chunk before opened)
+
 pub begun_recovers : (chunk : ℕ) (before now : SourceState) (opened : LiveState) (reader : Reader) (refusal : RecoverRefused) → Begun before now reader (Err refusal) → Recovers chunk before now opened opened (Err refusal)
-begun_recovers chunk before now opened reader (refusals.Fault faults) begun =
-    (inl (begun.rises, begun.carried, refl), λ bytes told profile extras history repaired. nothing_stands opened (recovered_options profile chunk) extras history)
+begun_recovers chunk before now opened reader (refusals.Fault faults) begun = (inl (begun.rises, begun.carried, refl, inl refl), nothing_of chunk before opened)
 begun_recovers chunk before now opened reader refusals.NoMagic (rule, halts) = (
   λ bytes told has. no_front bytes [] (grammar 0 rule) rule (halts.halts bytes told).there refl has,
   record { source = halts.still; store = refl },
   refl,
 )
 begun_recovers chunk before now opened reader (refusals.Limit blocks bytes) begun = absurd begun
-begun_recovers chunk before now opened reader refusals.Memory still =
-    (record { source = still; store = refl }, λ bytes told profile extras history repaired. nothing_stands opened (recovered_options profile chunk) extras history)
+begun_recovers chunk before now opened reader refusals.Memory still = nothing_recovers chunk before now opened still
 
 -- the reading failed behind records that were kept
 pub over_recovers : {L : Type 0} (seen : L → LiveState) (chunk : ℕ) (profile : List ℕ) (before now : SourceState) (opened : LiveState) (reader : Reader) (k : Keeping L) (over : Over) (refusal : RecoverRefused)
@@ -236,33 +228,20 @@ over_recovers seen chunk profile before now opened reader k over refusal it told
     was : Repairing seen (recovered_options profile chunk) before now opened reader k
     was = it.repairing
 
-    part : ((bytes : List ℕ) → before.left ≡ Some bytes → (was.tops ≡ []) ⊎ ((rest : List ℕ) × Tops bytes was.tops rest × Good reading_limits was.tops)) → OfRepaired chunk before (StandsPart opened (seen k.scribe.store))
-    part read = of_longer chunk before was.tops was.extras profile was.history (StandsPart opened (seen k.scribe.store)) read (λ none. (was.begun none).1) was.repairs
+    part : OfBoth chunk before (StandsPart opened (seen k.scribe.store))
+    part = of_longer chunk before was.tops was.extras profile was.history (StandsPart opened (seen k.scribe.store)) was.good was.read (λ none. (was.begun none).1) was.repairs
         (going_part seen (recovered_options profile chunk) was.extras opened was.history k going was.keeps)
-
-    with_good : (bytes : List ℕ) → Good reading_limits was.tops → (was.tops ≡ []) ⊎ ((rest : List ℕ) × Tops bytes was.tops rest) → (was.tops ≡ []) ⊎ ((rest : List ℕ) × Tops bytes was.tops rest × Good reading_limits was.tops)
-    with_good bytes good (inl none) = inl none
-    with_good bytes good (inr (rest, there)) = inr (rest, there, good)
-
-    none_or : (bytes : List ℕ) (P : List ℕ → Type 0) → ((was.tops ≡ []) × (now.left ≡ Some bytes)) ⊎ ((rest : List ℕ) × Tops bytes was.tops rest × P rest) → (was.tops ≡ []) ⊎ ((rest : List ℕ) × Tops bytes was.tops rest)
-    none_or bytes P (inl none) = inl none.0
-    none_or bytes P (inr (rest, there, more)) = inr (rest, there)
 
     refused : (w : ScanRefused) → RefusalStands w before now was.tops → RefusalTold w (Err refusal) → Recovers chunk before now opened (seen k.scribe.store) (Err refusal)
     refused (scans.Fault faults) stands is =
         let same : refusal ≡ refusals.Fault faults = cc in
-        subst (λ (r : RecoverRefused). Recovers chunk before now opened (seen k.scribe.store) (Err r)) (sym same) (
-          inl (stands.rises, stands.carried, still),
-          part (λ bytes known. let leaves = stands.leaves bytes known in
-              with_good bytes leaves.cut_off.kept.good (fault_read bytes was.tops now.left leaves.part leaves.rest leaves.split leaves.cut_off.kept)),
-        )
+        subst (λ (r : RecoverRefused). Recovers chunk before now opened (seen k.scribe.store) (Err r)) (sym same) (inl (stands.rises, stands.carried, still, inr was.magic), part)
     refused (scans.Grammar at rule) stands (why, kind, is) = absurd (cc)
     refused (scans.Compressed at name) stands is = absurd (cc)
     refused (scans.Limit at) stands is = absurd (cc)
     refused scans.Memory stands is =
         let same : refusal ≡ refusals.Memory = cc in
-        subst (λ (r : RecoverRefused). Recovers chunk before now opened (seen k.scribe.store) (Err r)) (sym same)
-        (record { source = stands.still; store = still }, part (λ bytes known. with_good bytes stands.good (none_or bytes _ (stands.leaves bytes known))))
+        subst (λ (r : RecoverRefused). Recovers chunk before now opened (seen k.scribe.store) (Err r)) (sym same) (record { source = stands.still; store = still }, inr was.magic, part)
 
     by : (o : Over) → OverSo reader before now was.tops o → HaltTold reader o (Err refusal) → Recovers chunk before now opened (seen k.scribe.store) (Err refusal)
     by (overs.Ended at) so is = absurd (cc)
@@ -384,25 +363,27 @@ all_counted n few = omega (arith, few)
 
 -- ---- the end of the new file
 
-one_repair : (tops extras others : List Top) (profile other : List ℕ) (history later : List Rec) → Repairs tops profile extras history → Repairs tops other others later → (profile ≡ other) × (extras ≡ others) × (history ≡ later)
-one_repair tops extras others profile other history later one two = (
-  same_profile tops [] profile other (λ it. refl) one.profile_is (subst (λ (l : List Top). ProfileIs l other) (sym (append-nil tops)) two.profile_is),
-  one.extras_are ∙ sym two.extras_are,
-  one.history_is ∙ ap without_repeats (flat_once (flat tops) one.flattened two.flattened one.are_flattened two.are_flattened) ∙ sym two.history_is,
-)
-
-of_exact : (chunk : ℕ) (before : SourceState) (tops extras : List Top) (profile : List ℕ) (history : List Rec) (holds : FileOptions → List Top → List Rec → Type 0) → ((bytes : List ℕ) → before.left ≡ Some bytes → Kept reading_limits bytes tops)
-    → Repairs tops profile extras history → holds (recovered_options profile chunk) extras history → OfRepaired chunk before holds
-of_exact chunk before tops extras profile history holds keeps repairs it bytes told other others later repaired =
-    let same = kept_once bytes repaired.tops tops repaired.kept (keeps bytes told) in
-    let (p, e, h) = one_repair tops extras others profile other history later repairs (subst (λ (l : List Top). Repairs l other others later) same repaired.repairs) in
-    subst (λ (l : List Rec). holds (recovered_options other chunk) others l) h
-    (subst (λ (l : List Top). holds (recovered_options other chunk) l history) e
-    (subst (λ (q : List ℕ). holds (recovered_options q chunk) extras history) p it))
-
-magic_there : (bytes : List ℕ) (tops : List Top) → ((tops ≡ []) ⊎ ((rest : List ℕ) × Tops bytes tops rest)) → (tops ≡ [] → V1 bytes) → V1 bytes
-magic_there bytes tops (inl none) nothing = nothing none
-magic_there bytes tops (inr (rest, there)) nothing = (spelled tops ++ rest, there.split)
+of_exact : (chunk : ℕ) (before : SourceState) (tops extras : List Top) (profile : List ℕ) (history : List Rec) (holds : FileOptions → List Top → List Rec → Type 0)
+    → Good reading_limits tops → ((bytes : List ℕ) → before.left ≡ Some bytes → Kept reading_limits bytes tops)
+    → Repairs tops profile extras history → holds (recovered_options profile chunk) extras history → OfBoth chunk before holds
+of_exact chunk before tops extras profile history holds good keeps repairs it = record {
+  of_read = record {
+    tops = tops;
+    good = good;
+    read = λ bytes told. (keeps bytes told).stands;
+    profile = profile;
+    extras = extras;
+    history = history;
+    repairs = repairs;
+    stands = it;
+  };
+  of_repaired = λ bytes told other others later repaired.
+      let same = kept_once bytes repaired.tops tops repaired.kept (keeps bytes told) in
+      let (p, e, h) = repairs_once tops extras others profile other history later repairs (subst (λ (l : List Top). Repairs l other others later) same repaired.repairs) in
+      subst (λ (l : List Rec). holds (recovered_options other chunk) others l) h
+      (subst (λ (l : List Top). holds (recovered_options other chunk) l history) e
+      (subst (λ (q : List ℕ). holds (recovered_options q chunk) extras history) p it));
+}
 
 pub finish_recovers : {L : Type 0} (seen : L → LiveState) (chunk : ℕ) (profile : List ℕ) (before now : SourceState) (opened stored : LiveState) (reader : Reader) (k : Keeping L) (over : Over) (at : ℕ) (why : Why) (result : Result Recovered RecoverRefused)
     → IsOver seen (recovered_options profile chunk) before now opened reader k over → HaltTold reader over (Ok (at, why)) → (seen k.scribe.store).faults ≡ opened.faults → Finishes seen k stored at why result
@@ -417,9 +398,10 @@ finish_recovers seen chunk profile before now opened stored reader k over at why
     let extra_size = ap (λ (l : List Top). length l) was.repairs.extras_are in
     record {
       tops = was.tops;
+      good = was.good;
       halt = halt;
       halts = halts;
-      magic = λ bytes known. magic_there bytes was.tops (halts.halts bytes known).kept.stands (λ none. (was.begun none).2 bytes known);
+      magic = was.magic;
       told = subst (λ (w : Why). TellsHalt r.at w halt) (sym why_is) (subst (λ (n : ℕ). TellsHalt n why halt) (sym at_is) tells);
       profile = profile;
       extras = was.extras;
@@ -436,32 +418,50 @@ finish_recovers seen chunk profile before now opened stored reader k over at why
     let was = it.repairing in
     let (halt, halts, tells) = over_halts reader before now was.tops over at why it.over_so told in
     let (stop, blocks, bytes, is, stops, cause) = finishes (recovered_options profile chunk) was.extras opened was.history was.keeps in
-    stopped_recovers chunk before now opened stored stop refusal blocks bytes is (subst (λ (n : ℕ). StopCause n stored.faults stop) still cause) halts.still
-    (of_exact chunk before was.tops was.extras profile was.history (λ options extras history. StopsAt options extras history opened.held stored.held stop blocks bytes) (λ b known. (halts.halts b known).kept) was.repairs stops)
+    stopped_recovers chunk before now opened stored stop refusal blocks bytes is (subst (λ (n : ℕ). StopCause n stored.faults stop) still cause) halts.still was.magic
+    (of_exact chunk before was.tops was.extras profile was.history (λ options extras history. StopsAt options extras history opened.held stored.held stop blocks bytes) was.good (λ b known. (halts.halts b known).kept) was.repairs stops)
 
 -- ---- the begin of the new file
 
+-- what is known of the records that the begin gives
+record BeginsSo (before : SourceState) (tops : List Top) : Type 0 where
+  good : Good reading_limits tops
+  read : (bytes : List ℕ) → before.left ≡ Some bytes → Begins bytes tops
+  magic_is : HasMagic before
+
+begins_so : (before now : SourceState) (reader : Reader) (tops : List Top) → Stands reader before now tops → (tops ≡ [] → IsDone reader × KeepsNone before × HasMagic before) → (tops ≡ []) ⊎ ((tops ≡ [] → ⊥) × IsGoing reader.stage) → BeginsSo before tops
+begins_so before now reader tops stands begun (inl none) = record {
+  good = subst (Good reading_limits) (sym none) (λ n t at. absurd (at_none n t at));
+  read = λ bytes told. inl none;
+  magic_is = (begun none).2;
+}
+begins_so before now reader tops stands begun (inr (some, going)) = record {
+  good = good_stand reader before now tops going stands;
+  read = λ bytes told. let (rest, left, there) = read_stand reader before now tops going stands some bytes told in inr (rest, there);
+  magic_is = λ bytes told. let (rest, left, there) = read_stand reader before now tops going stands some bytes told in (spelled tops ++ rest, there.split);
+}
+
 pub begin_repairing : {L : Type 0} (seen : L → LiveState) (chunk : ℕ) (profile : List ℕ) (before now : SourceState) (opened : LiveState) (reader : Reader) (k : Keeping L) → Begun before now reader (Ok profile)
     → Keeps seen (recovered_options profile chunk) [] opened [] k → Repairing seen (recovered_options profile chunk) before now opened reader k
-begin_repairing seen chunk profile before now opened reader k (tops, stands, within, begun, repairs, long, some, still) keeps = record {
-  tops = tops;
-  stands = stands;
-  within = within;
-  begun = begun;
-  extras = [];
-  history = [];
-  repairs = repairs;
-  keeps = keeps;
-}
+begin_repairing seen chunk profile before now opened reader k (tops, stands, within, begun, repairs, long, some, still) keeps =
+    let so = begins_so before now reader tops stands begun some in
+    record {
+      tops = tops;
+      stands = stands;
+      good = so.good;
+      read = so.read;
+      magic = so.magic_is;
+      within = within;
+      begun = λ none. ((begun none).0, (begun none).1);
+      extras = [];
+      history = [];
+      repairs = repairs;
+      keeps = keeps;
+    }
 
 pub open_recovers : (chunk : ℕ) (profile : List ℕ) (before now : SourceState) (opened stored : LiveState) (reader : Reader) (stop : Stop) (refusal : RecoverRefused) → Begun before now reader (Ok profile) → RefusedBy stop refusal
     → StopCause opened.faults stored.faults stop → ((extras : List Top) (history : List Rec) → StopsAt (recovered_options profile chunk) extras history opened.held stored.held stop 0 0) → Recovers chunk before now opened stored (Err refusal)
 open_recovers chunk profile before now opened stored reader stop refusal (tops, stands, within, begun, repairs, long, some, still) is cause stops =
-    stopped_recovers chunk before now opened stored stop refusal 0 0 is cause still
-    (of_longer chunk before tops [] profile [] (λ options extras history. StopsAt options extras history opened.held stored.held stop 0 0) (λ bytes told. read bytes told some) (λ none. (begun none).1) repairs (λ others behind. stops others behind))
-  where
-    read : (bytes : List ℕ) → before.left ≡ Some bytes → ((tops ≡ []) ⊎ ((tops ≡ [] → ⊥) × IsGoing reader.stage)) → (tops ≡ []) ⊎ ((rest : List ℕ) × Tops bytes tops rest × Good reading_limits tops)
-    read bytes told (inl none) = inl none
-    read bytes told (inr (not_empty, going)) =
-        let (rest, left, there) = read_stand reader before now tops going stands not_empty bytes told in
-        inr (rest, there, good_stand reader before now tops going stands)
+    let so = begins_so before now reader tops stands begun some in
+    stopped_recovers chunk before now opened stored stop refusal 0 0 is cause still so.magic_is
+    (of_longer chunk before tops [] profile [] (λ options extras history. StopsAt options extras history opened.held stored.held stop 0 0) so.good so.read (λ none. (begun none).1) repairs (λ others behind. stops others behind))

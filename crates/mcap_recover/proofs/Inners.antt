@@ -26,6 +26,7 @@ use Rattle.mcap_model.specs.Walk.{inner_top, StepsOver}
 use Rattle.mcap_model.specs.Repaired.{is_extra}
 use Rattle.mcap_model.specs.Written.{IsRec}
 use Rattle.mcap_model.proofs.Unpacking.{chunks_are_opened}
+use Rattle.mcap_model.proofs.Walks.{WalkedSoFar, walked_all}
 use Rattle.chunk_build.specs.Chunker.{AreFramed}
 use Rattle.mcap_recover.specs.declared.keeping.Keeping.{Keeping}
 use Rattle.chunk_writer.specs.declared.phase.Phase.TheVariants as phases
@@ -140,61 +141,13 @@ channel_left seen old new content id f shown going known same channels schemas m
 
 -- ---- the walk
 
--- it has come to these
-pub record Walked (records : List ℕ) (at : ℕ) (rest : List ℕ) (done : List Top) : Type 0 where
-  pub split : records ≡ spelled done ++ rest
-  pub place : at ≡ length (spelled done)
-  pub parts : records_in records ≡ done ++ records_in rest
-
-pub walk_begins : (records : List ℕ) (at : ℕ) (rest : List ℕ) → at ≡ 0 → rest ≡ records → Walked records at rest []
-walk_begins records at rest is all = record { split = sym all; place = is; parts = ap records_in (sym all) }
-
-spelled_more : (done : List Top) (t : Top) → spelled (done ++ t ∷ []) ≡ spelled done ++ top_bytes t
-spelled_more done t = flat_map-append top_bytes done (t ∷ []) ∙ ap (λ (l : List ℕ). spelled done ++ l) (append-nil (top_bytes t))
-
-pub walk_on : (records : List ℕ) (at at_new : ℕ) (rest rest_new : List ℕ) (inner : Inner) (done : List Top) → Walked records at rest done → StepsOver at rest at_new rest_new inner → Walked records at_new rest_new (done ++ inner_top inner ∷ [])
-walk_on records at at_new rest rest_new inner done was steps =
-    let t = inner_top inner in
-    record {
-      split = was.split ∙ ap (λ (l : List ℕ). spelled done ++ l) steps.split ∙ sym (append_assoc (spelled done) (top_bytes t) rest_new) ∙ ap (λ (l : List ℕ). l ++ rest_new) (sym (spelled_more done t));
-      place =
-          let size = ap (λ (l : List ℕ). length l) (spelled_more done t) in
-          let behind = steps.behind in
-          let place = was.place in
-          omega (arith, size, behind, place, length-append (spelled done) (top_bytes t));
-      parts = was.parts ∙ ap (λ (l : List Top). done ++ l) steps.first ∙ sym (append_assoc done (t ∷ []) (records_in rest_new));
-    }
-
--- where the record in front stands
-pub stands_there : (records : List ℕ) (at at_new : ℕ) (rest rest_new : List ℕ) (inner : Inner) (done : List Top) → Walked records at rest done → StepsOver at rest at_new rest_new inner
-    → take (9 + length inner.content.now) (drop inner.offset records) ≡ framed inner.op inner.content.now
-stands_there records at at_new rest rest_new inner done was steps =
-    let t = inner_top inner in
-    let size : length (top_bytes t) ≡ 9 + length inner.content.now = length-framed inner.op inner.content.now in
-    ap (λ (n : ℕ). take (9 + length inner.content.now) (drop n records)) (steps.offset ∙ was.place)
-    ∙ ap (λ (l : List ℕ). take (9 + length inner.content.now) (drop (length (spelled done)) l)) was.split
-    ∙ ap (take (9 + length inner.content.now)) (drop_at (spelled done) rest (length (spelled done)) refl)
-    ∙ ap (take (9 + length inner.content.now)) steps.split
-    ∙ take_at (top_bytes t) rest_new (9 + length inner.content.now) size
-
-pub room_there : (records : List ℕ) (at at_new : ℕ) (rest rest_new : List ℕ) (inner : Inner) (done : List Top) → Walked records at rest done → StepsOver at rest at_new rest_new inner
-    → inner.offset + (9 + length inner.content.now) ≤ length records
-room_there records at at_new rest rest_new inner done was steps =
-    let t = inner_top inner in
-    let size = length-framed inner.op inner.content.now in
-    let all = ap (λ (l : List ℕ). length l) was.split in
-    let front = ap (λ (l : List ℕ). length l) steps.split in
-    let place = was.place in
-    let offset = steps.offset in
-    omega (arith, size, all, front, place, offset, length-append (spelled done) rest, length-append (top_bytes t) rest_new)
-
-pub walked_all : (records : List ℕ) (at : ℕ) (rest : List ℕ) (done : List Top) → Walked records at rest done → records_in rest ≡ [] → filter is_flat_kind done ≡ filter is_flat_kind (records_in records)
-walked_all records at rest done was none = ap (filter is_flat_kind) (sym (was.parts ∙ ap (λ (l : List Top). done ++ l) none ∙ append-nil done))
+pub walked_flat : (records : List ℕ) (at : ℕ) (rest : List ℕ) (done : List Top) → WalkedSoFar records at rest done → records_in rest ≡ [] → filter is_flat_kind done ≡ filter is_flat_kind (records_in records)
+walked_flat records at rest done was none = ap (filter is_flat_kind) (walked_all records at rest done was none)
 
 pub flat_more : (done : List Top) (t : Top) → filter is_flat_kind (done ++ t ∷ []) ≡ filter is_flat_kind done ++ filter is_flat_kind (t ∷ [])
 flat_more done t = filter-append is_flat_kind done (t ∷ [])
 
-pub flat_split : (records : List ℕ) (at : ℕ) (rest : List ℕ) (done : List Top) → Walked records at rest done → filter is_flat_kind (records_in records) ≡ filter is_flat_kind done ++ filter is_flat_kind (records_in rest)
+pub flat_split : (records : List ℕ) (at : ℕ) (rest : List ℕ) (done : List Top) → WalkedSoFar records at rest done → filter is_flat_kind (records_in records) ≡ filter is_flat_kind done ++ filter is_flat_kind (records_in rest)
 flat_split records at rest done was = ap (filter is_flat_kind) was.parts ∙ filter-append is_flat_kind done (records_in rest)
 
 -- ---- a record of the top level

@@ -14,6 +14,7 @@ use Rattle.mcap_model.specs.Tops.{Top}
 use Rattle.mcap_model.specs.Fields.{SchemaFields, ChannelFields, MessageFields}
 use Rattle.mcap_model.specs.History.{is_schema, is_channel, is_message, declare_same, kept_with, schema_of, channel_of, message_of}
 use Rattle.mcap_model.specs.Written.{IsRec}
+use Rattle.mcap_model.proofs.Repairs.{kept_new, kept_old, fold_more, fold_grows, zip_parts}
 use Rattle.chunk_writer.specs.declared.phase.Phase.{Phase}
 use Rattle.chunk_writer.specs.declared.phase.Phase.TheVariants as phases
 use Rattle.chunk_writer.specs.Scribes.{Writes, Grows, Gathers, phase_of}
@@ -57,12 +58,6 @@ message_known channel m [] = refl
 message_known channel m (Schema other s ∷ rs) = message_known channel m rs
 message_known channel m (Channel other s topic encoding metadata ∷ rs) = message_known channel m rs
 message_known channel m (Message other sequence log_time publish_time payload ∷ rs) = message_known channel m rs
-
-kept_new : (history : List Rec) (r : Rec) → list_any (declare_same r) history ≡ false → kept_with history r ≡ history ++ r ∷ []
-kept_new history r is = ap (λ (b : Bool). if b then history else history ++ r ∷ []) is
-
-kept_old : (history : List Rec) (r : Rec) → list_any (declare_same r) history ≡ true → kept_with history r ≡ history
-kept_old history r is = ap (λ (b : Bool). if b then history else history ++ r ∷ []) is
 
 -- ---- one record
 
@@ -110,44 +105,23 @@ takes_none seen old (s ∷ ss) zip = absurd zip
 
 -- ---- several records
 
-fold_more : (history rs ss : List Rec) → fold kept_with history (rs ++ ss) ≡ fold kept_with (fold kept_with history rs) ss
-fold_more history [] ss = refl
-fold_more history (r ∷ rs) ss = fold_more (kept_with history r) rs ss
-
 pub adds_on : {L : Type 0} (seen : L → LiveState) (old mid new : Keeping L) (one two : List Top) (rs ss : List Rec) → Adds seen old mid one rs → Adds seen mid new two ss → Adds seen old new (one ++ two) (rs ++ ss)
 adds_on seen old mid new one two rs ss first second options extras opened history keeps =
     subst (λ (l : List Rec). Keeps seen options (extras ++ (one ++ two)) opened l new) (sym (fold_more history rs ss))
     (subst (λ (l : List Top). Keeps seen options l opened (fold kept_with (fold kept_with history rs) ss) new) (append_assoc extras one two)
     (second options (extras ++ one) opened (fold kept_with history rs) (first options extras opened history keeps)))
 
--- what stands beside the first part and beside the second
-zip_parts : {X Y : Type 0} (R : X → Y → Type 0) (xs us : List X) (zs : List Y) → AllZip R (xs ++ us) zs → (ys : List Y) × (vs : List Y) × (zs ≡ ys ++ vs) × AllZip R xs ys × AllZip R us vs
-zip_parts R [] us zs zip = ([], zs, refl, tt, zip)
-zip_parts R (x ∷ xs) us [] zip = absurd zip
-zip_parts {X} {Y} R (x ∷ xs) us (z ∷ zs) zip =
-    let rest = zip_parts R xs us zs zip.1 in
-    (z ∷ rest.0, rest.1, ap (λ (l : List Y). z ∷ l) rest.2, (zip.0, rest.3), rest.4)
-
 pub takes_on : {L : Type 0} (seen : L → LiveState) (old mid new : Keeping L) (us vs : List Top) → Takes seen old mid us → Takes seen mid new vs → Takes seen old new (us ++ vs)
 takes_on seen old mid new us vs first second records zip =
     let (rs, ss, is, one, two) = zip_parts IsRec us vs records zip in
     subst (λ (l : List Rec). Adds seen old new [] l) (sym is) (adds_on seen old mid new [] [] rs ss (first rs one) (second ss two))
-
--- a history goes on
-pub fold_grows : (history ss : List Rec) → (more : List Rec) × (fold kept_with history ss ≡ history ++ more)
-fold_grows history [] = ([], sym (append-nil history))
-fold_grows history (s ∷ ss) = by (list_any (declare_same s) history) refl (fold_grows (kept_with history s) ss)
-  where
-    by : (b : Bool) → list_any (declare_same s) history ≡ b → (more : List Rec) × (fold kept_with (kept_with history s) ss ≡ kept_with history s ++ more) → (more : List Rec) × (fold kept_with history (s ∷ ss) ≡ history ++ more)
-    by true is rest = (rest.0, rest.1 ∙ ap (λ (l : List Rec). l ++ rest.0) (kept_old history s is))
-    by false is rest = (s ∷ rest.0, rest.1 ∙ ap (λ (l : List Rec). l ++ rest.0) (kept_new history s is) ∙ append_assoc history (s ∷ []) rest.0)
 
 -- one that stopped stands for whatever more
 pub stopped_more : {L : Type 0} (seen : L → LiveState) (options : FileOptions) (extras : List Top) (opened : LiveState) (history ss : List Rec) (k : Keeping L) (stop : Stop) → phase_of k.scribe ≡ phases.Stopped stop
     → Keeps seen options extras opened history k → Keeps seen options extras opened (fold kept_with history ss) k
 stopped_more seen options extras opened history ss k stop stopped keeps =
     let (more, is) = fold_grows history ss in
-    subst (λ (l : List Rec). Keeps seen options extras opened l k) (sym is) (record {
+    subst (λ (l : List Rec). Keeps seen options extras opened l k) is (record {
       writes = (stopped_on options opened.held (seen k.scribe.store).held history more k.scribe.plan stop stopped keeps.writes.0, keeps.writes.1);
       counts = λ going. absurd (going_apart (phase_of k.scribe) stop stopped going);
     })

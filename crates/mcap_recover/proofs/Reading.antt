@@ -25,6 +25,7 @@ use Rattle.mcap_model.specs.Made.{top}
 use Rattle.mcap_model.specs.Written.{IsRec, AreFlatRecords}
 use Rattle.mcap_model.specs.Repaired.{is_extra, ProfileIs, Repairs}
 use Rattle.mcap_model.proofs.Flat.{good_lists_agree}
+use Rattle.mcap_model.proofs.Repairs.{fold_more, zip_join}
 use Rattle.mcap_scan.specs.declared.reader.Reader.{Reader}
 use Rattle.mcap_scan.specs.declared.reader.Stage.TheVariants as stages
 use Rattle.mcap_scan.specs.declared.reader.Stage.{Stage}
@@ -109,21 +110,11 @@ flat_split tops t = flat_map-append flattened tops (t ∷ []) ∙ ap (λ (l : Li
 flat_at : (tops : List Top) (t : Top) (n : ℕ) (u : Top) → At (flattened t) n u → (m : ℕ) × At (flat (tops ++ t ∷ [])) m u
 flat_at tops t n u at = (length (flat tops) + n, subst (λ (l : List Top). At l (length (flat tops) + n) u) (sym (flat_split tops t)) (at_later (flat tops) (flattened t) n u at))
 
-zip_join : {X Y : Type 0} (R : X → Y → Type 0) (xs us : List X) (ys vs : List Y) → AllZip R xs ys → AllZip R us vs → AllZip R (xs ++ us) (ys ++ vs)
-zip_join R [] us [] vs one two = two
-zip_join R [] us (y ∷ ys) vs one two = absurd one
-zip_join R (x ∷ xs) us [] vs one two = absurd one
-zip_join R (x ∷ xs) us (y ∷ ys) vs one two = (one.0, zip_join R xs us ys vs one.1 two)
-
 -- what the last record shows
 pub recs_of : (tops : List Top) (t : Top) → Good reading_limits (tops ++ t ∷ []) → (rs : List Rec) × AllZip IsRec (flattened t) rs
 recs_of tops t good =
     let meets = (good_lists_agree reading_limits (tops ++ t ∷ []) good).0 in
     recs_by (flattened t) (filter_passes is_flat_kind (opened t)) (λ n u at. let (m, there) = flat_at tops t n u at in meets m u there)
-
-fold_more : (history rs ss : List Rec) → fold kept_with history (rs ++ ss) ≡ fold kept_with (fold kept_with history rs) ss
-fold_more history [] ss = refl
-fold_more history (r ∷ rs) ss = fold_more (kept_with history r) rs ss
 
 profile_more : (tops more : List Top) (profile : List ℕ) → (tops ≡ [] → ⊥) → ProfileIs tops profile → ProfileIs (tops ++ more) profile
 profile_more [] more profile some is = absurd (some refl)
@@ -144,6 +135,16 @@ not_none : (tops : List Top) (t : Top) → tops ++ t ∷ [] ≡ [] → ⊥
 not_none [] t is = cc
 not_none (u ∷ us) t is = cc
 
+-- what was read of the bytes
+pub read_stand : (reader : Reader) (before now : SourceState) (tops : List Top) → IsGoing reader.stage → Stands reader before now tops → (tops ≡ [] → ⊥) → (bytes : List ℕ) → before.left ≡ Some bytes → (rest : List ℕ) × (now.left ≡ Some rest) × Tops bytes tops rest
+read_stand reader before now tops going stands some = by reader.stage going stands
+  where
+    by : (s : Stage) → IsGoing s → StageStands s reader.tables reader.offset before now tops → (bytes : List ℕ) → before.left ≡ Some bytes → (rest : List ℕ) × (now.left ≡ Some rest) × Tops bytes tops rest
+    by stages.Fresh it was = absurd (some was.none)
+    by stages.Inside it was = was.reading.read
+    by stages.Ended it was = was.read
+    by (stages.Stopped why) it was = absurd it
+
 -- one record more was read, and kept
 pub repairing_on : {L : Type 0} (seen : L → LiveState) (options : FileOptions) (before mid now : SourceState) (opened : LiveState) (reader next : Reader) (k after : Keeping L) (op offset : ℕ)
     → (was : Repairing seen options before mid opened reader k) → (IsDone reader → ⊥) → Gives next before now was.tops op offset → TakesTop seen k after (top op (content_of next)) → Repairing seen options before now opened next after
@@ -155,6 +156,9 @@ repairing_on seen options before mid now opened reader next k after op offset wa
     record {
       tops = tops;
       stands = gives.stands;
+      good = good;
+      read = λ bytes told. let (rest, left, there) = read_stand next before now tops gives.going gives.stands (not_none was.tops t) bytes told in inr (rest, there);
+      magic = was.magic;
       within = within_more was.tops t good;
       begun = λ none. absurd (not_none was.tops t none);
       extras = was.extras ++ filter is_extra (t ∷ []);
@@ -162,16 +166,6 @@ repairing_on seen options before mid now opened reader next k after op offset wa
       repairs = repairs_more was.tops t options.profile was.extras was.history rs (λ none. undone (was.begun none).0) was.repairs zip;
       keeps = takes rs zip options was.extras opened was.history was.keeps;
     }
-
--- what was read of the bytes
-pub read_stand : (reader : Reader) (before now : SourceState) (tops : List Top) → IsGoing reader.stage → Stands reader before now tops → (tops ≡ [] → ⊥) → (bytes : List ℕ) → before.left ≡ Some bytes → (rest : List ℕ) × (now.left ≡ Some rest) × Tops bytes tops rest
-read_stand reader before now tops going stands some = by reader.stage going stands
-  where
-    by : (s : Stage) → IsGoing s → StageStands s reader.tables reader.offset before now tops → (bytes : List ℕ) → before.left ≡ Some bytes → (rest : List ℕ) × (now.left ≡ Some rest) × Tops bytes tops rest
-    by stages.Fresh it was = absurd (some was.none)
-    by stages.Inside it was = was.reading.read
-    by stages.Ended it was = was.read
-    by (stages.Stopped why) it was = absurd it
 
 pub ended_some : (tops : List Top) → HasDataEnd tops → tops ≡ [] → ⊥
 ended_some [] ended none = ended

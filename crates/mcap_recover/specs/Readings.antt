@@ -7,7 +7,7 @@ use Rattle.mcap_io.specs.Outside.{SourceState, LiveState}
 use Rattle.mcap_model.specs.declared.options.FileOptions.{FileOptions}
 use Rattle.mcap_model.specs.declared.ends.Stop.{Stop}
 use Rattle.mcap_model.specs.declared.ends.Stop.TheVariants as stops
-use Rattle.mcap_model.specs.Tops.{Top, Tops, offset_behind}
+use Rattle.mcap_model.specs.Tops.{Top, Tops, Begins, offset_behind}
 use Rattle.mcap_model.specs.Rules.{V1}
 use Rattle.mcap_model.specs.Kept.{Good, Kept, reading_limits, at_end, grammar}
 use Rattle.mcap_model.specs.Repaired.{Repairs}
@@ -67,12 +67,16 @@ KeepsNone before = (bytes : List ℕ) → before.left ≡ Some bytes → Kept re
 abbrev pub HasMagic : SourceState → Type 0
 HasMagic before = (bytes : List ℕ) → before.left ≡ Some bytes → V1 bytes
 
--- These records were read, and what repairing makes of them was kept. The source and the store were in these states before.
+-- These good records were read, with which the source's bytes begin where it tells them, and what repairing makes of them was
+-- kept. The source and the store were in these states before.
 pub record Repairing {L : Type 0} (seen : L → LiveState) (options : FileOptions) (before now : SourceState) (opened : LiveState) (reader : Reader) (k : Keeping L) : Type 0 where
   pub tops : List Top
   pub stands : Stands reader before now tops
+  pub good : Good reading_limits tops
+  pub read : (bytes : List ℕ) → before.left ≡ Some bytes → Begins bytes tops
+  pub magic : HasMagic before
   pub within : offset_behind tops ≤ file_limit
-  pub begun : tops ≡ [] → IsDone reader × KeepsNone before × HasMagic before
+  pub begun : tops ≡ [] → IsDone reader × KeepsNone before
   pub extras : List Top
   pub history : List Rec
   pub repairs : Repairs tops options.profile extras history

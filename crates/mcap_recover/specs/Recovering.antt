@@ -5,9 +5,9 @@ use Rattle.mcap_io.specs.Outside.{SourceState, LiveState, RisesOnce, Adds}
 use Rattle.mcap_model.specs.declared.options.FileOptions.{FileOptions}
 use Rattle.mcap_model.specs.declared.ends.Stop.{Stop}
 use Rattle.mcap_model.specs.declared.ends.Stop.TheVariants as stops
-use Rattle.mcap_model.specs.Tops.{Top, offset_behind}
+use Rattle.mcap_model.specs.Tops.{Top, Begins}
 use Rattle.mcap_model.specs.Rules.{V1}
-use Rattle.mcap_model.specs.Kept.{Halt, at_end, grammar, compressed, beyond}
+use Rattle.mcap_model.specs.Kept.{Good, reading_limits, Halt, at_end, grammar, compressed, beyond}
 use Rattle.mcap_model.specs.History.{is_message}
 use Rattle.mcap_model.specs.Blocks.{pieces_of, blocks_in}
 use Rattle.mcap_model.specs.File.{file_of, IsPrefix}
@@ -37,9 +37,10 @@ TellsHalt at whys.Compressed halt = (name : List ℕ) × (halt ≡ compressed at
 TellsHalt at whys.Limit halt = halt ≡ beyond at
 
 -- The source was read to where a reading of it halts. Behind what the store held stands the file of what repairing makes of
--- the records that the reading keeps, and the counts are theirs.
+-- the records that the reading keeps, which are good ones also where the source tells nothing, and the counts are theirs.
 pub record IsRecovered (chunk : ℕ) (before now : SourceState) (opened stored : LiveState) (r : Recovered) : Type 0 where
   pub tops : List Top
+  pub good : Good reading_limits tops
   pub halt : Halt
   pub halts : HaltsSo before now tops halt
   pub magic : HasMagic before
@@ -75,18 +76,39 @@ abbrev pub OfRepaired : ℕ → SourceState → (FileOptions → List Top → Li
 OfRepaired chunk before holds = (bytes : List ℕ) → before.left ≡ Some bytes → (profile : List ℕ) (extras : List Top) (history : List Rec)
     → Repaired bytes profile extras history → holds (recovered_options profile chunk) extras history
 
+-- Of good records that were read, with which the source's bytes begin where it tells them: this holds of the options, extras and
+-- history of the file that repairing makes of these.
+pub record OfRead (chunk : ℕ) (before : SourceState) (holds : FileOptions → List Top → List Rec → Type 0) : Type 0 where
+  pub tops : List Top
+  pub good : Good reading_limits tops
+  pub read : (bytes : List ℕ) → before.left ≡ Some bytes → Begins bytes tops
+  pub profile : List ℕ
+  pub extras : List Top
+  pub history : List Rec
+  pub repairs : Repairs tops profile extras history
+  pub stands : holds (recovered_options profile chunk) extras history
+
+-- it holds of both
+pub record OfBoth (chunk : ℕ) (before : SourceState) (holds : FileOptions → List Top → List Rec → Type 0) : Type 0 where
+  pub of_read : OfRead chunk before holds
+  pub of_repaired : OfRepaired chunk before holds
+
 -- behind what the store held stands a first part of the file
 abbrev pub StandsPart : LiveState → LiveState → FileOptions → List Top → List Rec → Type 0
 StandsPart opened stored options extras history = (start : List ℕ) → opened.held ≡ Some start → (text : List ℕ) × (stored.held ≡ Some (start ++ text)) × IsPrefix text (file_of options extras history)
 
--- the source doesn't begin with the magic, or it does so
+-- the source doesn't begin with the magic
 abbrev pub LacksMagic : SourceState → Type 0
 LacksMagic before = (bytes : List ℕ) → before.left ≡ Some bytes → V1 bytes → ⊥
 
+-- the store is as it was, or the source begins with the magic
+abbrev pub ChangedBehindMagic : SourceState → LiveState → LiveState → Type 0
+ChangedBehindMagic before opened stored = (stored ≡ opened) ⊎ HasMagic before
+
 -- the count of the source rose by one, or that of the store, and it is the one which is told
 abbrev pub FaultRose : ℕ → SourceState → SourceState → LiveState → LiveState → Type 0
-FaultRose faults before now opened stored = (RisesOnce before.faults now.faults × (faults ≡ now.faults) × (stored.faults ≡ opened.faults))
-    ⊎ (RisesOnce opened.faults stored.faults × (faults ≡ stored.faults) × (now.faults ≡ before.faults))
+FaultRose faults before now opened stored = (RisesOnce before.faults now.faults × (faults ≡ now.faults) × (stored.faults ≡ opened.faults) × ChangedBehindMagic before opened stored)
+    ⊎ (RisesOnce opened.faults stored.faults × (faults ≡ stored.faults) × (now.faults ≡ before.faults) × HasMagic before)
 
 -- both stand still
 pub record FaultsStill (before now : SourceState) (opened stored : LiveState) : Type 0 where
@@ -95,8 +117,8 @@ pub record FaultsStill (before now : SourceState) (opened stored : LiveState) : 
 
 abbrev pub Recovers : ℕ → SourceState → SourceState → LiveState → LiveState → Result Recovered RecoverRefused → Type 0
 Recovers chunk before now opened stored (Ok r) = IsRecovered chunk before now opened stored r
-Recovers chunk before now opened stored (Err (refusals.Fault faults)) = FaultRose faults before now opened stored × OfRepaired chunk before (StandsPart opened stored)
+Recovers chunk before now opened stored (Err (refusals.Fault faults)) = FaultRose faults before now opened stored × OfBoth chunk before (StandsPart opened stored)
 Recovers chunk before now opened stored (Err refusals.NoMagic) = LacksMagic before × FaultsStill before now opened stored × (stored ≡ opened)
-Recovers chunk before now opened stored (Err (refusals.Limit blocks bytes)) = FaultsStill before now opened stored
-    × OfRepaired chunk before (λ options extras history. StopsAt options extras history opened.held stored.held (stops.Limit blocks bytes) blocks bytes)
-Recovers chunk before now opened stored (Err refusals.Memory) = FaultsStill before now opened stored × OfRepaired chunk before (StandsPart opened stored)
+Recovers chunk before now opened stored (Err (refusals.Limit blocks bytes)) = FaultsStill before now opened stored × HasMagic before
+    × OfBoth chunk before (λ options extras history. StopsAt options extras history opened.held stored.held (stops.Limit blocks bytes) blocks bytes)
+Recovers chunk before now opened stored (Err refusals.Memory) = FaultsStill before now opened stored × ChangedBehindMagic before opened stored × OfBoth chunk before (StandsPart opened stored)

@@ -202,8 +202,9 @@ fn keeping_of<L>(alloc: Global, scribe: Scribe<L>) -> Keeping<L>
 }
 
 /// Writes the records that a reading of the source keeps as a new file into the store, which is empty where the file is to be read
-/// back: its Schemas, Channels and Messages in chunks of that size, but for what declares an id again, and its Attachments and
-/// Metadata behind them. The source is read once.
+/// back: its Schemas, Channels and Messages in chunks of that size, in bytes, but for what declares an id again, and its Attachments
+/// and Metadata behind them, which wait in memory until all chunks stand. The source is read once. A source that doesn't begin with
+/// the magic is refused, and the store is as it was; behind other refusals the store holds a first part of the file.
 pub fn recover<S: Source, L: LiveStore>(
     alloc: Global,
     source: &mut S,

@@ -6,7 +6,8 @@ use Rattle.mcap_model.specs.Walk.{walk_at, walk_rest, inner_top}
 use Rattle.chunk_writer.specs.Stops.{StopCause}
 use Rattle.mcap_recover.specs.Keeping.{Takes}
 use Rattle.mcap_recover.proofs.Keepings.{takes_none, takes_on, takes_stopped}
-use Rattle.mcap_recover.proofs.Inners.{walk_begins, walk_on, walked_all, flat_more, flat_split, stands_there, room_there}
+use Rattle.mcap_model.proofs.Walks.{walk_begins, walk_goes_on, stands_there, room_there}
+use Rattle.mcap_recover.proofs.Inners.{walked_flat, flat_more, flat_split}
 use Rattle.mcap_recover.proofs.keeping.keep_inside.Goals as goal
 
 pub records-init : goal.records-init
@@ -31,7 +32,7 @@ records-preserved g c =
     let inner = c.in-Some.inner in
     let t = inner_top inner in (
       done ++ t ∷ [],
-      walk_on c.args.records.now (walk_at c.records.walk) (walk_at c.next.new.self) (walk_rest c.records.walk) (walk_rest c.next.new.self) inner done was c.in-Some.ensures,
+      walk_goes_on c.args.records.now (walk_at c.records.walk) (walk_at c.next.new.self) (walk_rest c.records.walk) (walk_rest c.next.new.self) inner done was c.in-Some.ensures,
       subst (λ (l : List Top). Takes g.L.LiveStore.state c.args.k.now c.keep_inner.new.k l) (sym (flat_more done t))
           (takes_on g.L.LiveStore.state c.args.k.now c.records.k c.keep_inner.new.k (filter is_flat_kind done) (filter is_flat_kind (t ∷ [])) takes c.in-Ok.ensures.takes),
       c.in-Ok.ensures.goes_on,
@@ -43,7 +44,7 @@ returns-in-Err-clause-takes g c =
     let (done, was, takes, going, still) = c.records.invariant in
     let inner = c.in-Some.inner in
     let t = inner_top inner in
-    let next = walk_on c.args.records.now (walk_at c.records.walk) (walk_at c.next.new.self) (walk_rest c.records.walk) (walk_rest c.next.new.self) inner done was c.in-Some.ensures in
+    let next = walk_goes_on c.args.records.now (walk_at c.records.walk) (walk_at c.next.new.self) (walk_rest c.records.walk) (walk_rest c.next.new.self) inner done was c.in-Some.ensures in
     let so_far = subst (λ (l : List Top). Takes g.L.LiveStore.state c.args.k.now c.keep_inner.new.k l) (sym (flat_more done t))
     (takes_on g.L.LiveStore.state c.args.k.now c.records.k c.keep_inner.new.k (filter is_flat_kind done) (filter is_flat_kind (t ∷ [])) takes c.in-Err.ensures.takes) in
     subst (λ (l : List Top). Takes g.L.LiveStore.state c.args.k.now c.keep_inner.new.k l) (sym (flat_split c.args.records.now (walk_at c.next.new.self) (walk_rest c.next.new.self) (done ++ t ∷ []) next))
@@ -57,4 +58,4 @@ returns-in-Err-clause-cause g c =
 pub returns-clause-takes : goal.returns-clause-takes
 returns-clause-takes g c =
     let (done, was, takes, going, still) = c.records.invariant in
-    subst (λ (l : List Top). Takes g.L.LiveStore.state c.args.k.now c.records.k l) (walked_all c.args.records.now (walk_at c.records.walk) (walk_rest c.records.walk) done was c.in_default.ensures.0) takes
+    subst (λ (l : List Top). Takes g.L.LiveStore.state c.args.k.now c.records.k l) (walked_flat c.args.records.now (walk_at c.records.walk) (walk_rest c.records.walk) done was c.in_default.ensures.0) takes

@@ -64,7 +64,7 @@ returns-in-End-clause-reads g c =
     λ o b l first. let later = each o b l first in
     let finds = c.in-End.ensures.steps b later.tops later.stands in
     record {
-      repairing = record { tops = later.tops; stands = finds.stands; within = later.within; begun = λ none. absurd (ended_some later.tops finds.is.ended none); extras = later.extras; history = later.history; repairs = later.repairs; keeps = later.keeps };
+      repairing = record { tops = later.tops; stands = finds.stands; good = later.good; read = later.read; magic = later.magic; within = later.within; begun = λ none. absurd (ended_some later.tops finds.is.ended none); extras = later.extras; history = later.history; repairs = later.repairs; keeps = later.keeps };
       over_so = finds.halts;
     }
 
@@ -74,6 +74,6 @@ returns-in-Refused-clause-reads g c =
     λ o b l first. let later = each o b l first in
     let refuses = c.in-Refused.ensures.steps b later.tops later.stands in
     record {
-      repairing = record { tops = later.tops; stands = refused_stand c.advance.new.self b _ later.tops refuses; within = later.within; begun = λ none. (refused_done c.advance.new.self b _ later.tops refuses, (later.begun none).1, (later.begun none).2); extras = later.extras; history = later.history; repairs = later.repairs; keeps = later.keeps };
+      repairing = record { tops = later.tops; stands = refused_stand c.advance.new.self b _ later.tops refuses; good = later.good; read = later.read; magic = later.magic; within = later.within; begun = λ none. (refused_done c.advance.new.self b _ later.tops refuses, (later.begun none).1); extras = later.extras; history = later.history; repairs = later.repairs; keeps = later.keeps };
       over_so = (refuses.why, refuses.stage, refuses.stands);
     }

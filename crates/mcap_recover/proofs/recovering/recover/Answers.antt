@@ -4,8 +4,11 @@ use Rattle.chunk_writer.specs.Scribes.{Writes}
 use Rattle.chunk_writer.specs.Stops.{StopCause}
 use Rattle.mcap_recover.specs.Recovering.{recovered_options, Recovers}
 use Rattle.mcap_recover.specs.Readings.{Begun, Repairing}
-use Rattle.mcap_recover.proofs.Ending.{begun_recovers, open_recovers, begin_repairing, is_stopped_recovers, over_recovers, finish_recovers}
+use Rattle.mcap_recover.proofs.Ending.{nothing_recovers, begun_recovers, open_recovers, begin_repairing, is_stopped_recovers, over_recovers, finish_recovers}
 use Rattle.mcap_recover.proofs.recovering.recover.Goals as goal
+
+pub returns-in-Err-clause-recovers : goal.returns-in-Err-clause-recovers
+returns-in-Err-clause-recovers g c = let before = g.S.Source.state c.args.source.now in nothing_recovers c.args.chunk before before (g.L.LiveStore.state c.args.store) refl
 
 pub returns-in-Err-profile_of-clause-recovers : goal.returns-in-Err-profile_of-clause-recovers
 returns-in-Err-profile_of-clause-recovers g c =
