@@ -1,9 +1,11 @@
-//! Recoveries of cut files.
+//! Recoveries of cut files, of broken ones and of those with extras, and into stores that fail.
 use crate::same::holds_at;
-use mcap_io::{MemoryLive, QuietSource};
+use mcap_io::{FailingWrite, MemoryLive, QuietSource};
 use mcap_recover::{RecoverRefused, Recovered, Why, recover};
 use std::alloc::Global;
 use std::test::Fail;
+
+// Each literal stands in a function, so that no goal of a test holds its bytes.
 
 // One Message on one Channel, in one chunk, as a recording writes it.
 fn file() -> &'static [u8] {
@@ -24,24 +26,147 @@ fn file() -> &'static [u8] {
     \x89MCAP0\r\n"
 }
 
-// What recovering these bytes answers, and how long the new file is.
-fn recovered(
+// A file of no record.
+fn empty_file() -> &'static [u8] {
+    b"\x89MCAP0\r\n\
+    \x01\x11\0\0\0\0\0\0\0\0\0\0\0\x09\0\0\0mcaprec\x201\
+    \x0f\x04\0\0\0\0\0\0\0\0\0\0\0\
+    \x0b.\0\0\0\0\0\0\0\0\0\0\0\0\0\0\0\0\0\0\0\0\0\0\0\0\0\0\0\0\0\0\0\0\0\0\0\0\0\0\0\0\0\0\0\0\0\0\0\0\0\0\0\0\0\
+    \x0e\x11\0\0\0\0\0\0\0\x0b/\0\0\0\0\0\0\07\0\0\0\0\0\0\0\
+    \x02\x14\0\0\0\0\0\0\0/\0\0\0\0\0\0\0f\0\0\0\0\0\0\0a\xc4\x15\xd9\
+    \x89MCAP0\r\n"
+}
+
+// An Attachment and a Metadata without names and without contents.
+fn attachment() -> &'static [u8] {
+    b"\x09$\0\0\0\0\0\0\0\0\0\0\0\0\0\0\0\0\0\0\0\0\0\0\0\0\0\0\0\0\0\0\0\0\0\0\0\0\0\0\0\0\0\0\0"
+}
+
+fn metadata() -> &'static [u8] {
+    b"\x0c\x08\0\0\0\0\0\0\0\0\0\0\0\0\0\0\0"
+}
+
+fn data_end() -> &'static [u8] {
+    b"\x0f\x04\0\0\0\0\0\0\0\0\0\0\0"
+}
+
+// What stands behind the Data End of the file with the Attachment behind its block; with the Metadata; and with the Metadata and
+// the Attachment behind it.
+fn attachment_summary() -> &'static [u8] {
+    b"\x04\x12\0\0\0\0\0\0\0\x01\0\0\0\x02\0\0\0/a\0\0\0\0\0\0\0\0\
+    \x0b8\0\0\0\0\0\0\0\x01\0\0\0\0\0\0\0\0\0\x01\0\0\0\x01\0\0\0\0\0\0\0\x01\0\0\0\n\0\0\0\0\0\0\0\n\0\0\0\0\0\0\0\n\0\0\0\x01\0\x01\0\0\0\0\0\0\0\
+    \x08J\0\0\0\0\0\0\0\n\0\0\0\0\0\0\0\n\0\0\0\0\0\0\0\x22\0\0\0\0\0\0\0l\0\0\0\0\0\0\0\n\0\0\0\x01\0\x8e\0\0\0\0\0\0\0\x1f\0\0\0\0\0\0\0\0\0\0\0;\0\0\0\0\0\0\0;\0\0\0\0\0\0\0\
+    \n0\0\0\0\0\0\0\0\xad\0\0\0\0\0\0\0-\0\0\0\0\0\0\0\0\0\0\0\0\0\0\0\0\0\0\0\0\0\0\0\0\0\0\0\0\0\0\0\0\0\0\0\0\0\0\0\
+    \x0e\x11\0\0\0\0\0\0\0\x04\xe7\0\0\0\0\0\0\0\x1b\0\0\0\0\0\0\0\
+    \x0e\x11\0\0\0\0\0\0\0\x0b\x02\x01\0\0\0\0\0\0A\0\0\0\0\0\0\0\
+    \x0e\x11\0\0\0\0\0\0\0\x08C\x01\0\0\0\0\0\0S\0\0\0\0\0\0\0\
+    \x0e\x11\0\0\0\0\0\0\0\n\x96\x01\0\0\0\0\0\09\0\0\0\0\0\0\0\
+    \x02\x14\0\0\0\0\0\0\0\xe7\0\0\0\0\0\0\0\xcf\x01\0\0\0\0\0\0\x89\xa6\x7fK\
+    \x89MCAP0\r\n"
+}
+
+fn metadata_summary() -> &'static [u8] {
+    b"\x04\x12\0\0\0\0\0\0\0\x01\0\0\0\x02\0\0\0/a\0\0\0\0\0\0\0\0\
+    \x0b8\0\0\0\0\0\0\0\x01\0\0\0\0\0\0\0\0\0\x01\0\0\0\0\0\0\0\x01\0\0\0\x01\0\0\0\n\0\0\0\0\0\0\0\n\0\0\0\0\0\0\0\n\0\0\0\x01\0\x01\0\0\0\0\0\0\0\
+    \x08J\0\0\0\0\0\0\0\n\0\0\0\0\0\0\0\n\0\0\0\0\0\0\0\x22\0\0\0\0\0\0\0l\0\0\0\0\0\0\0\n\0\0\0\x01\0\x8e\0\0\0\0\0\0\0\x1f\0\0\0\0\0\0\0\0\0\0\0;\0\0\0\0\0\0\0;\0\0\0\0\0\0\0\
+    \r\x14\0\0\0\0\0\0\0\xad\0\0\0\0\0\0\0\x11\0\0\0\0\0\0\0\0\0\0\0\
+    \x0e\x11\0\0\0\0\0\0\0\x04\xcb\0\0\0\0\0\0\0\x1b\0\0\0\0\0\0\0\
+    \x0e\x11\0\0\0\0\0\0\0\x0b\xe6\0\0\0\0\0\0\0A\0\0\0\0\0\0\0\
+    \x0e\x11\0\0\0\0\0\0\0\x08'\x01\0\0\0\0\0\0S\0\0\0\0\0\0\0\
+    \x0e\x11\0\0\0\0\0\0\0\rz\x01\0\0\0\0\0\0\x1d\0\0\0\0\0\0\0\
+    \x02\x14\0\0\0\0\0\0\0\xcb\0\0\0\0\0\0\0\x97\x01\0\0\0\0\0\0\xf3\xffr;\
+    \x89MCAP0\r\n"
+}
+
+fn both_summary() -> &'static [u8] {
+    b"\x04\x12\0\0\0\0\0\0\0\x01\0\0\0\x02\0\0\0/a\0\0\0\0\0\0\0\0\
+    \x0b8\0\0\0\0\0\0\0\x01\0\0\0\0\0\0\0\0\0\x01\0\0\0\x01\0\0\0\x01\0\0\0\x01\0\0\0\n\0\0\0\0\0\0\0\n\0\0\0\0\0\0\0\n\0\0\0\x01\0\x01\0\0\0\0\0\0\0\
+    \x08J\0\0\0\0\0\0\0\n\0\0\0\0\0\0\0\n\0\0\0\0\0\0\0\x22\0\0\0\0\0\0\0l\0\0\0\0\0\0\0\n\0\0\0\x01\0\x8e\0\0\0\0\0\0\0\x1f\0\0\0\0\0\0\0\0\0\0\0;\0\0\0\0\0\0\0;\0\0\0\0\0\0\0\
+    \n0\0\0\0\0\0\0\0\xbe\0\0\0\0\0\0\0-\0\0\0\0\0\0\0\0\0\0\0\0\0\0\0\0\0\0\0\0\0\0\0\0\0\0\0\0\0\0\0\0\0\0\0\0\0\0\0\
+    \r\x14\0\0\0\0\0\0\0\xad\0\0\0\0\0\0\0\x11\0\0\0\0\0\0\0\0\0\0\0\
+    \x0e\x11\0\0\0\0\0\0\0\x04\xf8\0\0\0\0\0\0\0\x1b\0\0\0\0\0\0\0\
+    \x0e\x11\0\0\0\0\0\0\0\x0b\x13\x01\0\0\0\0\0\0A\0\0\0\0\0\0\0\
+    \x0e\x11\0\0\0\0\0\0\0\x08T\x01\0\0\0\0\0\0S\0\0\0\0\0\0\0\
+    \x0e\x11\0\0\0\0\0\0\0\n\xa7\x01\0\0\0\0\0\09\0\0\0\0\0\0\0\
+    \x0e\x11\0\0\0\0\0\0\0\r\xe0\x01\0\0\0\0\0\0\x1d\0\0\0\0\0\0\0\
+    \x02\x14\0\0\0\0\0\0\0\xf8\0\0\0\0\0\0\0\xfd\x01\0\0\0\0\0\0\xa8\xea%\x14\
+    \x89MCAP0\r\n"
+}
+
+// A Channel with two pairs; the same with the pairs the other way round and two bytes behind its fields; and a Message on it.
+fn channel() -> &'static [u8] {
+    b"\x04&\0\0\0\0\0\0\0\x01\0\0\0\x02\0\0\0/a\0\0\0\0\x14\0\0\0\x01\0\0\0a\x01\0\0\01\x01\0\0\0b\x01\0\0\02"
+}
+
+fn channel_again() -> &'static [u8] {
+    b"\x04(\0\0\0\0\0\0\0\x01\0\0\0\x02\0\0\0/a\0\0\0\0\x14\0\0\0\x01\0\0\0b\x01\0\0\02\x01\0\0\0a\x01\0\0\01\x07\x08"
+}
+
+fn message() -> &'static [u8] {
+    b"\x05\x17\0\0\0\0\0\0\0\x01\0\x01\0\0\0\n\0\0\0\0\0\0\0\x09\0\0\0\0\0\0\0\xaa"
+}
+
+// What stands behind the Header of the file of the first Channel and the Message.
+fn declared_once() -> &'static [u8] {
+    b"\x06w\0\0\0\0\0\0\0\n\0\0\0\0\0\0\0\n\0\0\0\0\0\0\0O\0\0\0\0\0\0\0N\xb3\x01$\0\0\0\0O\0\0\0\0\0\0\0\x04&\0\0\0\0\0\0\0\x01\0\0\0\x02\0\0\0/a\0\0\0\0\x14\0\0\0\x01\0\0\0a\x01\0\0\01\x01\0\0\0b\x01\0\0\02\x05\x17\0\0\0\0\0\0\0\x01\0\x01\0\0\0\n\0\0\0\0\0\0\0\x09\0\0\0\0\0\0\0\xaa\
+    \x07\x16\0\0\0\0\0\0\0\x01\0\x10\0\0\0\n\0\0\0\0\0\0\0/\0\0\0\0\0\0\0\
+    \x0f\x04\0\0\0\0\0\0\0\0\0\0\0\
+    \x04&\0\0\0\0\0\0\0\x01\0\0\0\x02\0\0\0/a\0\0\0\0\x14\0\0\0\x01\0\0\0a\x01\0\0\01\x01\0\0\0b\x01\0\0\02\
+    \x0b8\0\0\0\0\0\0\0\x01\0\0\0\0\0\0\0\0\0\x01\0\0\0\0\0\0\0\0\0\0\0\x01\0\0\0\n\0\0\0\0\0\0\0\n\0\0\0\0\0\0\0\n\0\0\0\x01\0\x01\0\0\0\0\0\0\0\
+    \x08J\0\0\0\0\0\0\0\n\0\0\0\0\0\0\0\n\0\0\0\0\0\0\0\x22\0\0\0\0\0\0\0\x80\0\0\0\0\0\0\0\n\0\0\0\x01\0\xa2\0\0\0\0\0\0\0\x1f\0\0\0\0\0\0\0\0\0\0\0O\0\0\0\0\0\0\0O\0\0\0\0\0\0\0\
+    \x0e\x11\0\0\0\0\0\0\0\x04\xce\0\0\0\0\0\0\0/\0\0\0\0\0\0\0\
+    \x0e\x11\0\0\0\0\0\0\0\x0b\xfd\0\0\0\0\0\0\0A\0\0\0\0\0\0\0\
+    \x0e\x11\0\0\0\0\0\0\0\x08>\x01\0\0\0\0\0\0S\0\0\0\0\0\0\0\
+    \x02\x14\0\0\0\0\0\0\0\xce\0\0\0\0\0\0\0\x91\x01\0\0\0\0\0\0\x1fO\x0fS\
+    \x89MCAP0\r\n"
+}
+
+// A Chunk that names a compression, and the head of a record of 2^63 bytes.
+fn compressed() -> &'static [u8] {
+    b"\x06f\0\0\0\0\0\0\0\n\0\0\0\0\0\0\0\n\0\0\0\0\0\0\0;\0\0\0\0\0\0\0\xa8\x91\xbb\xd8\x03\0\0\0lz4;\0\0\0\0\0\0\0\x04\x12\0\0\0\0\0\0\0\x01\0\0\0\x02\0\0\0/a\0\0\0\0\0\0\0\0\x05\x17\0\0\0\0\0\0\0\x01\0\x01\0\0\0\n\0\0\0\0\0\0\0\x09\0\0\0\0\0\0\0\xaa"
+}
+
+fn huge() -> &'static [u8] {
+    b"\x05\0\0\0\0\0\0\0\x80"
+}
+
+// What a recovery answered, and what the new store holds.
+#[derive(Drop)]
+struct Outcome {
+    answer: Result<Recovered, RecoverRefused>,
+    file: Vec<u8>,
+}
+
+// Recovers these bytes into a store whose appends fail as they are planned to.
+fn recovered_into(
     alloc: Global,
     bytes: &[u8],
-) -> Result<(Result<Recovered, RecoverRefused>, Vec<u8>), Fail> {
+    failing: Vec<FailingWrite>,
+) -> Result<Outcome, Fail> {
     let mut copy = Vec::new(alloc);
     copy.extend_from_slice(bytes)?;
     let mut source = QuietSource::new(copy);
-    let (store, result) = recover(
-        alloc,
-        &mut source,
-        MemoryLive::new(alloc, Vec::new(alloc)),
-        786_432,
-    );
-    Ok((result, store.into_bytes()))
+    let (store, answer) = recover(alloc, &mut source, MemoryLive::new(alloc, failing), 786_432);
+    Ok(Outcome {
+        answer,
+        file: store.into_bytes(),
+    })
 }
 
-// The bytes up to a cut.
+fn recovered(alloc: Global, bytes: &[u8]) -> Result<Outcome, Fail> {
+    recovered_into(alloc, bytes, Vec::new(alloc))
+}
+
+// These parts, one behind the other.
+fn joined(alloc: Global, parts: &[&[u8]]) -> Result<Vec<u8>, Fail> {
+    let mut bytes = Vec::new(alloc);
+    for part in parts {
+        bytes.extend_from_slice(part)?;
+    }
+    Ok(bytes)
+}
+
+// The first bytes of the file.
 fn front(len: usize) -> &'static [u8] {
     match file().get(..len) {
         Some(bytes) => bytes,
@@ -49,13 +174,7 @@ fn front(len: usize) -> &'static [u8] {
     }
 }
 
-fn is(
-    found: &(Result<Recovered, RecoverRefused>, Vec<u8>),
-    wanted: &(Result<Recovered, RecoverRefused>, usize),
-) -> bool {
-    found.0 == wanted.0 && found.1.len() == wanted.1
-}
-
+// An answer without extras, of no record or of the file's two.
 fn kept(messages: u64, at: u64, why: Why) -> Result<Recovered, RecoverRefused> {
     let records = if messages == 0 { 0 } else { 2 };
     Ok(Recovered {
@@ -67,73 +186,158 @@ fn kept(messages: u64, at: u64, why: Why) -> Result<Recovered, RecoverRefused> {
     })
 }
 
+// What the first bytes of the file are recovered to: its Header ends at 34, its Chunk at 142, its Message Index at 173 and its
+// Data End at 186.
+fn cut_at(len: usize) -> (Result<Recovered, RecoverRefused>, &'static [u8]) {
+    match len {
+        0..=7 => (Err(RecoverRefused::NoMagic), front(0)),
+        8..=33 => (kept(0, 8, Why::Short), empty_file()),
+        34..=141 => (kept(0, 34, Why::Short), empty_file()),
+        142..=172 => (kept(1, 142, Why::Short), file()),
+        173..=185 => (kept(1, 173, Why::Short), file()),
+        _ => (kept(1, 186, Why::Complete), file()),
+    }
+}
+
 #[test]
-fn cut_files_are_recovered(rt: HostRuntime) -> Result<(), Fail> {
+fn each_cut_keeps_what_is_whole(rt: HostRuntime) -> Result<(), Fail> {
     let alloc = rt.alloc();
     holds_at(&rt, file().len() == 476, &file().len());
-    for len in [0, 7] {
+    holds_at(&rt, empty_file().len() == 165, &empty_file().len());
+    for len in 0..477 {
         let found = recovered(alloc, front(len))?;
-        holds_at(&rt, is(&found, &(Err(RecoverRefused::NoMagic), 0)), &len);
-    }
-    for len in [8, 33] {
-        let found = recovered(alloc, front(len))?;
-        holds_at(&rt, is(&found, &(kept(0, 8, Why::Short), 165)), &len);
-    }
-    for len in [34, 141] {
-        let found = recovered(alloc, front(len))?;
-        holds_at(&rt, is(&found, &(kept(0, 34, Why::Short), 165)), &len);
-    }
-    for len in [142, 172] {
-        let found = recovered(alloc, front(len))?;
-        holds_at(&rt, is(&found, &(kept(1, 142, Why::Short), 476)), &len);
-        holds_at(&rt, found.1.as_slice() == file(), &len);
-    }
-    for len in [173, 185] {
-        let found = recovered(alloc, front(len))?;
-        holds_at(&rt, is(&found, &(kept(1, 173, Why::Short), 476)), &len);
-    }
-    for len in [186, 475, 476] {
-        let found = recovered(alloc, front(len))?;
-        holds_at(&rt, is(&found, &(kept(1, 186, Why::Complete), 476)), &len);
-        holds_at(&rt, found.1.as_slice() == file(), &len);
+        let (answer, text) = cut_at(len);
+        holds_at(&rt, found.answer == answer, &len);
+        holds_at(&rt, found.file.as_slice() == text, &len);
     }
     Ok(())
 }
 
-// The file's front up to the Data End, an Attachment or a Metadata, and a Data End.
-fn with_extra(alloc: Global, extra: &[u8]) -> Result<Vec<u8>, Fail> {
-    let mut bytes = Vec::new(alloc);
-    bytes.extend_from_slice(front(173))?;
-    bytes.extend_from_slice(extra)?;
-    bytes.extend_from_slice(b"\x0f\x04\0\0\0\0\0\0\0\0\0\0\0")?;
-    Ok(bytes)
+// An answer with all of the file's records and so many extras, up to its Data End.
+fn whole(extras: u64, at: u64) -> Result<Recovered, RecoverRefused> {
+    Ok(Recovered {
+        messages: 1,
+        records: 2,
+        extras,
+        at,
+        why: Why::Complete,
+    })
 }
 
 #[test]
-fn extras_are_recovered(rt: HostRuntime) -> Result<(), Fail> {
+fn extras_are_kept_and_indexed(rt: HostRuntime) -> Result<(), Fail> {
     let alloc = rt.alloc();
-    let attachment =
-        b"\x09\x24\0\0\0\0\0\0\0\0\0\0\0\0\0\0\0\0\0\0\0\0\0\0\0\0\0\0\0\0\0\0\0\0\0\0\0\0\0\0\0\0\0\0\0";
-    let metadata = b"\x0c\x08\0\0\0\0\0\0\0\0\0\0\0\0\0\0\0";
-    let found = recovered(alloc, with_extra(alloc, attachment)?.as_slice())?;
-    let wanted = Recovered {
-        messages: 1,
-        records: 2,
-        extras: 1,
-        at: 231,
-        why: Why::Complete,
+    let cut = joined(alloc, &[front(173), attachment(), data_end()])?;
+    let text = joined(
+        alloc,
+        &[front(173), attachment(), data_end(), attachment_summary()],
+    )?;
+    let found = recovered(alloc, cut.as_slice())?;
+    holds_at(&rt, found.answer == whole(1, 231), &found.answer);
+    holds_at(&rt, text.len() == 604, &text.len());
+    holds_at(&rt, found.file.as_slice() == text.as_slice(), &0);
+    let cut = joined(alloc, &[front(173), metadata(), data_end()])?;
+    let text = joined(
+        alloc,
+        &[front(173), metadata(), data_end(), metadata_summary()],
+    )?;
+    let found = recovered(alloc, cut.as_slice())?;
+    holds_at(&rt, found.answer == whole(1, 203), &found.answer);
+    holds_at(&rt, text.len() == 548, &text.len());
+    holds_at(&rt, found.file.as_slice() == text.as_slice(), &1);
+    Ok(())
+}
+
+// Extras in front of a block and behind it stand behind it in the new file, in their order.
+#[test]
+fn extras_of_two_kinds_stay_in_order(rt: HostRuntime) -> Result<(), Fail> {
+    let alloc = rt.alloc();
+    let block = match front(173).get(34..) {
+        Some(block) => block,
+        None => front(0),
     };
-    holds_at(&rt, found.0 == Ok(wanted), &found.0);
-    holds_at(&rt, found.1.len() == 604, &found.1.len());
-    let found = recovered(alloc, with_extra(alloc, metadata)?.as_slice())?;
-    let wanted = Recovered {
-        messages: 1,
-        records: 2,
-        extras: 1,
-        at: 203,
-        why: Why::Complete,
-    };
-    holds_at(&rt, found.0 == Ok(wanted), &found.0);
-    holds_at(&rt, found.1.len() == 548, &found.1.len());
+    let cut = joined(
+        alloc,
+        &[front(34), metadata(), block, attachment(), data_end()],
+    )?;
+    let text = joined(
+        alloc,
+        &[
+            front(173),
+            metadata(),
+            attachment(),
+            data_end(),
+            both_summary(),
+        ],
+    )?;
+    let found = recovered(alloc, cut.as_slice())?;
+    holds_at(&rt, found.answer == whole(2, 248), &found.answer);
+    holds_at(&rt, text.len() == 676, &text.len());
+    holds_at(&rt, found.file.as_slice() == text.as_slice(), &text.len());
+    Ok(())
+}
+
+#[test]
+fn repeated_channel_is_left_out(rt: HostRuntime) -> Result<(), Fail> {
+    let alloc = rt.alloc();
+    let cut = joined(alloc, &[front(34), channel(), channel_again(), message()])?;
+    let text = joined(alloc, &[front(34), declared_once()])?;
+    let found = recovered(alloc, cut.as_slice())?;
+    holds_at(&rt, found.answer == kept(1, 162, Why::Short), &found.answer);
+    holds_at(&rt, text.len() == 516, &text.len());
+    holds_at(&rt, found.file.as_slice() == text.as_slice(), &text.len());
+    Ok(())
+}
+
+#[test]
+fn broken_files_say_why(rt: HostRuntime) -> Result<(), Fail> {
+    let alloc = rt.alloc();
+    let cut = joined(alloc, &[front(34), huge()])?;
+    let found = recovered(alloc, cut.as_slice())?;
+    holds_at(&rt, found.answer == kept(0, 34, Why::Limit), &found.answer);
+    holds_at(&rt, found.file.as_slice() == empty_file(), &0);
+    let cut = joined(alloc, &[front(34), compressed(), message()])?;
+    let found = recovered(alloc, cut.as_slice())?;
+    holds_at(
+        &rt,
+        found.answer == kept(0, 34, Why::Compressed),
+        &found.answer,
+    );
+    holds_at(&rt, found.file.as_slice() == empty_file(), &1);
+    let cut = joined(alloc, &[front(8), channel(), message()])?;
+    let found = recovered(alloc, cut.as_slice())?;
+    holds_at(&rt, found.answer == kept(0, 8, Why::Grammar), &found.answer);
+    holds_at(&rt, found.file.as_slice() == empty_file(), &2);
+    Ok(())
+}
+
+// One append that is to fail.
+fn failing(alloc: Global, call: u64, taken: u64) -> Result<Vec<FailingWrite>, Fail> {
+    let mut failing = Vec::new(alloc);
+    failing.push(FailingWrite { call, taken })?;
+    Ok(failing)
+}
+
+// The appends are the front, the block and the back. What stands after a fault is recovered to the whole file.
+#[test]
+fn failing_store_holds_first_pieces(rt: HostRuntime) -> Result<(), Fail> {
+    let alloc = rt.alloc();
+    let fault: Result<Recovered, RecoverRefused> = Err(RecoverRefused::Fault { faults: 1 });
+    for (call, taken, len) in [
+        (0, 0, 0),
+        (0, 5, 5),
+        (1, 0, 34),
+        (1, 5, 39),
+        (2, 0, 173),
+        (2, 5, 178),
+    ] {
+        let found = recovered_into(alloc, file(), failing(alloc, call, taken)?)?;
+        holds_at(&rt, found.answer == fault, &len);
+        holds_at(&rt, found.file.as_slice() == front(len), &len);
+    }
+    let found = recovered_into(alloc, file(), failing(alloc, 2, 0)?)?;
+    let again = recovered(alloc, found.file.as_slice())?;
+    holds_at(&rt, again.answer == kept(1, 173, Why::Short), &again.answer);
+    holds_at(&rt, again.file.as_slice() == file(), &173);
     Ok(())
 }
