@@ -1,12 +1,10 @@
 -- Blocks whose times miss the range.
-use Rattle.std.proofs.Common.{◌≡◌, ℕ, ◌≤◌, List, ◌∷◌, refl, ap, subst, arith}
+use Rattle.std.proofs.Common.{◌≡◌, ℕ, ◌≤◌, List, refl, ap, subst, arith}
 use Rattle.mcap_model.specs.declared.tables.Tables.{Tables}
 use Rattle.mcap_model.specs.declared.replay.Range.{Range}
 use Rattle.mcap_model.specs.declared.replay.Shown.{Shown}
 use Rattle.mcap_model.specs.Tops.{Top, inner_tops, records_in, placed_from}
-use Rattle.mcap_model.specs.Fields.{ChunkFields, IsChunk}
 use Rattle.mcap_model.specs.Rules.{LogsAt, ChunkIsRight}
-use Rattle.mcap_model.specs.Scan.{InRange}
 use Rattle.mcap_model.proofs.Flat.{named_or}
 use Rattle.mcap_model.proofs.OpenedChunks.{inside_back}
 use Rattle.mcap_model.proofs.Replays.{range_decided}
