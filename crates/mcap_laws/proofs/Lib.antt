@@ -3,7 +3,7 @@ mod Readouts
 mod Smallest
 mod Broken
 mod BlockIndexes
-mod Tails
+pub mod Tails
 mod StatisticsRight
 mod SummaryRules
 mod IndexRules

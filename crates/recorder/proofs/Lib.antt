@@ -6,6 +6,7 @@ mod Handing
 mod Ending
 mod Filing
 pub mod ReadBack
+mod ShortFiles
 pub mod Validity
 mod AgreedFields
 pub mod OneHistory

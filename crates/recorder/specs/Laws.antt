@@ -1,5 +1,5 @@
 -- Laws of recordings.
-use Rattle.std.specs.Prelude.{◌≡◌, ℕ, ◌≤◌, List, [], length, filter, Some, IsUtf8, ◌-◌}
+use Rattle.std.specs.Prelude.{◌≡◌, ℕ, ◌≤◌, List, [], length, filter, false, Some, IsUtf8, ◌-◌}
 use Rattle.std.specs.List.{AllZip}
 use Rattle.mcap_wire.specs.Layout.{content_limit}
 use Rattle.mcap_wire.specs.Limits.{chunk_size_limit}
@@ -7,13 +7,14 @@ use Rattle.rec_data.specs.declared.owned.Rec.{Rec}
 use Rattle.mcap_model.specs.declared.ends.End.{End}
 use Rattle.mcap_model.specs.declared.ends.End.TheVariants as ends
 use Rattle.mcap_model.specs.declared.options.FileOptions.{FileOptions}
-use Rattle.mcap_model.specs.Places.{Each, EachBehind}
+use Rattle.mcap_model.specs.Places.{At, Each, EachBehind}
 use Rattle.mcap_model.specs.Tops.{Top, flat}
 use Rattle.mcap_model.specs.Rules.{Agrees}
-use Rattle.mcap_model.specs.Kept.{Halts, reading_limits, at_end}
+use Rattle.mcap_model.specs.Kept.{Halts, reading_limits, is_beyond, at_end}
 use Rattle.mcap_model.specs.Scan.{Seen, Scan}
 use Rattle.mcap_model.specs.History.{is_message, flat_history}
 use Rattle.mcap_model.specs.File.{file_of}
+use Rattle.mcap_model.specs.Whole.{offset_of, IsWhole}
 use Rattle.mcap_model.specs.Valid.{IsValid, IsFullyIndexed}
 use Rattle.mcap_model.specs.Laws.{HoldsSeen, CanBeWritten}
 use Rattle.recorder.specs.declared.options.RecordOptions.{RecordOptions}
@@ -48,9 +49,14 @@ RecordingsAreReadBack = (options : RecordOptions) (before now : Sides) (r : Repo
 
 -- ---- recordings are valid
 
--- a file is valid, and fully indexed where chunks were asked for
+-- no record of the file has a content, or an end, past a limit of reading
+abbrev pub IsWithinLimits : List ℕ → Type 0
+IsWithinLimits file = (tops : List Top) (n : ℕ) (t : Top) → IsWhole file tops → At tops n t → is_beyond reading_limits (offset_of tops n) (length t.content) ≡ false
+
+-- a file is valid, fully indexed where chunks were asked for, and within the limits of reading
 pub record IsSound (options : FileOptions) (file : List ℕ) : Type 0 where
   pub valid : IsValid file
+  pub within : IsWithinLimits file
   pub indexed : (size : ℕ) → options.chunk ≡ Some size → IsFullyIndexed file
 
 -- A file can be written of the history of a recording that was closed. That file is sound, and so is what a store holds

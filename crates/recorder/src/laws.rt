@@ -6,7 +6,8 @@ pub fn recordings_are_read_back()
     ensures { RecordingsAreReadBack }
 {}
 
-/// The file of a recording that was closed is valid, and fully indexed where chunks were asked for.
+/// The file of a recording that was closed is valid, fully indexed where chunks were asked for, and within the limits of
+/// reading.
 pub fn recordings_are_valid()
     ensures { RecordingsAreValid }
 {}
