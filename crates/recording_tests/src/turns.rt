@@ -3,17 +3,20 @@ ghost use Rattle.std.specs.Prelude.{◌≡◌, ◌+◌, ◌≤◌, ◌<◌, ◌^
 ghost use Rattle.record_core.specs.Sights.{DefFits};
 
 use crate::same::holds;
-use buffer_swap::{Control, Drain, Publisher, Turn};
-use mcap_model::End;
+use buffer_swap::{Control, Drain, Publisher, Turn, meet};
+use mcap_model::{End, Stop};
 use mcap_wire::{Memory, Pairs, Text, take_pairs};
 use rec_data::ChannelDef;
 use record_cache::Cache;
 use record_core::{Desk, NewMessage, PublishRefused};
 use std::alloc::Global;
 use std::sync::Wait;
+use std::sync::atomic::AtomicBool;
+use std::sync::atomic::Ordering::SeqCst;
 use std::test::Fail;
 use std::thread;
 use std::thread::{Threads, join_mut};
+use std::time::{Clock, Duration};
 
 const NO_PAIRS: &[u8] = b"\0\0\0\0";
 
@@ -63,7 +66,9 @@ struct Lane<'t> {
 
 impl Lane<'_> {
     // Publishes a message, first without waiting.
-    fn put<R: Wait>(&mut self, rt: &R, channel: u16, sequence: u32) {
+    fn put<R: Wait>(&mut self, rt: &R, channel: u16, sequence: u32)
+        ensures { self.new.publisher.seat.table_id ≡ self.old.publisher.seat.table_id }
+    {
         let payload = [self.mark];
         let m = message(channel, sequence, &payload);
         let answer = match self.publisher.try_publish(&m) {
@@ -83,13 +88,15 @@ impl Lane<'_> {
     }
 
     // Declares `/a` and publishes all messages.
-    fn run<R: Wait>(&mut self, rt: &R, alloc: Global) {
+    fn run<R: Wait>(&mut self, rt: &R, alloc: Global)
+        ensures { self.new.publisher.seat.table_id ≡ self.old.publisher.seat.table_id }
+    {
         let Ok(declared) = plain(alloc, "/a") else {
             return;
         };
         match self.publisher.declare_lossless(rt, &declared) {
             Ok(given) => {
-                for sequence in 0..self.many {
+                'messages: for sequence in 0..self.many {
                     self.put(rt, given.channel, sequence);
                 }
             }
@@ -108,6 +115,7 @@ fn drain_all<R: Wait>(
 ) -> Option<End>
     requires small { limit ≤ 1000 }
     requires limit { limit ≡ drain.old.seat.me.0.pass.limit }
+    ensures { drain.new.seat.table_id ≡ drain.old.seat.table_id }
 {
     let Ok(mut spare) = Cache::new(alloc, limit) else {
         return None;
@@ -148,7 +156,9 @@ fn run_lanes<R: Threads + Wait + Sync>(
 // A publisher with a mark, for so many messages.
 fn hire<'t>(alloc: Global, control: &mut Control<'t>, mark: u8, many: u32) -> Lane<'t>
     requires { control.old.seat.me.0.post.made < 64 }
-    ensures { control.new.seat.me.0.post.made ≡ control.old.seat.me.0.post.made + 1 }
+    ensures turn { (control.new.seat.table_id ≡ control.old.seat.table_id) × (result.publisher.seat.table_id ≡ control.old.seat.table_id) }
+    ensures made { control.new.seat.me.0.post.made ≡ control.old.seat.me.0.post.made + 1 }
+    ensures known { control.new.seat.me.0.post.known ≡ control.old.seat.me.0.post.known }
 {
     Lane {
         publisher: control.publisher(),
@@ -199,7 +209,8 @@ fn four<R: Threads + Wait + Sync>(
     limit: u64,
     many: u32,
 ) -> Result<bool, Memory>
-    requires { limit ≤ 1000 }
+    requires some { 1 ≤ limit }
+    requires small { limit ≤ 1000 }
 {
     let desk = Desk::open(alloc, limit)?;
     let mut turn = Turn::open(alloc, desk)?;
@@ -222,6 +233,143 @@ fn four<R: Threads + Wait + Sync>(
         there = there && all_there(bytes.as_slice(), lane);
     }
     Ok(there)
+}
+
+// Gathers a publisher behind its last message, and tells whether all its messages were accepted and stand at their places.
+fn gather(control: &mut Control<'_>, lane: Lane<'_>, bytes: &[u8]) -> bool
+    requires { lane.publisher.seat.table_id ≡ control.old.seat.table_id }
+    ensures turn { control.new.seat.table_id ≡ control.old.seat.table_id }
+    ensures made { control.new.seat.me.0.post.made ≡ control.old.seat.me.0.post.made }
+    ensures known { length control.new.seat.me.0.post.known ≡ length control.old.seat.me.0.post.known + 1 }
+{
+    let there = all_there(bytes, &lane);
+    let Lane {
+        publisher,
+        mark: _,
+        many: _,
+        places: _,
+        met: _,
+        refused: _,
+    } = lane;
+    control.gather(publisher.end());
+    there
+}
+
+// Two publishers on threads of their own. Behind them the intake is closed, all is taken, both are gathered, and the control
+// meets the drain: whether each message stands once, behind the one channel.
+fn two_that_meet<R: Threads + Wait + Sync>(
+    rt: &R,
+    alloc: Global,
+    many: u32,
+) -> Result<bool, Memory> {
+    let desk = Desk::open(alloc, 1000)?;
+    let mut turn = Turn::open(alloc, desk)?;
+    let (mut control, mut drain) = turn.start();
+    let mut one = hire(alloc, &mut control, 1, many);
+    let mut other = hire(alloc, &mut control, 2, many);
+    join_mut(rt, &mut || one.run(rt, alloc), &mut || other.run(rt, alloc));
+    let mut bytes = Vec::new(alloc);
+    control.close(rt);
+    let end = drain_all(rt, alloc, &mut drain, 1000, &mut bytes);
+    let first = gather(&mut control, one, bytes.as_slice());
+    let second = gather(&mut control, other, bytes.as_slice());
+    meet(&mut control, &mut drain);
+    Ok(end == Some(End::Closed) && first && second)
+}
+
+// What may wake a publisher that waits for room.
+#[derive(Clone, Copy)]
+enum Waker {
+    Swap,
+    Stop,
+    Close,
+}
+
+// How often a test looks whether a publisher was woken, once in ten milliseconds.
+const LOOKS: u32 = 300;
+
+// Waits for a flag, and gives up after three seconds: a wake that is missed fails a test, and doesn't hang it.
+fn is_set<R: Clock>(rt: &R, flag: &AtomicBool) -> bool {
+    for _ in 0..LOOKS {
+        if flag.load(SeqCst) {
+            return true;
+        }
+        thread::sleep(rt, Duration::from_millis(10));
+    }
+    false
+}
+
+// Waits for room for a message, and tells that the call has returned.
+fn publish_and_tell<R: Wait>(
+    rt: &R,
+    publisher: &mut Publisher<'_>,
+    channel: u16,
+    returned: &AtomicBool,
+) -> Result<u64, PublishRefused> {
+    let payload = [7];
+    let m = message(channel, 1, &payload);
+    let answer = publisher.publish_lossless(rt, &m);
+    returned.store(true, SeqCst);
+    answer
+}
+
+// Wakes by one call alone whoever waits for room, and tells whether the publisher returned. The calls behind that free a
+// publisher that wasn't woken, so that the test ends.
+fn wake<R: Wait + Clock>(
+    rt: &R,
+    alloc: Global,
+    control: &mut Control<'_>,
+    drain: &mut Drain<'_>,
+    by: Waker,
+    returned: &AtomicBool,
+) -> bool
+    requires { drain.old.seat.me.0.pass.limit ≡ 1 }
+{
+    thread::sleep(rt, Duration::from_millis(100));
+    match by {
+        Waker::Swap => match Cache::new(alloc, 1) {
+            Ok(spare) => {
+                let _full = drain.swap(rt, spare);
+            }
+            Err(_) => {}
+        },
+        Waker::Stop => {
+            drain.stop(rt, Stop::Memory);
+        }
+        Waker::Close => {
+            control.close(rt);
+        }
+    }
+    let woken = is_set(rt, returned);
+    drain.stop(rt, Stop::Memory);
+    control.close(rt);
+    woken
+}
+
+// What a publisher answers that waited for room behind the record of its channel, and was woken so, or None where it wasn't.
+fn woken_by<R: Threads + Wait + Clock + Sync>(
+    rt: &R,
+    alloc: Global,
+    by: Waker,
+) -> Result<Option<Result<u64, PublishRefused>>, Memory> {
+    let channel = plain(alloc, "/a")?;
+    let desk = Desk::open(alloc, 1)?;
+    let mut turn = Turn::open(alloc, desk)?;
+    let (mut control, mut drain) = turn.start();
+    let mut publisher = control.publisher();
+    let Ok(given) = publisher.declare(rt, &channel) else {
+        return Ok(None);
+    };
+    let returned = AtomicBool::new(false);
+    let (answer, woken) = join_mut(
+        rt,
+        &mut || publish_and_tell(rt, &mut publisher, given.channel, &returned),
+        &mut || wake(rt, alloc, &mut control, &mut drain, by, &returned),
+    );
+    if !woken {
+        return Ok(None);
+    }
+    Ok(Some(answer))
 }
 
 // One publisher on one thread: what its calls answer, how many bytes a swap gives, and how the intake ends.
@@ -269,5 +417,37 @@ fn four_publishers_and_a_drain(rt: HostRuntime) -> Result<(), Fail> {
 fn a_buffer_of_one_record_at_a_time(rt: HostRuntime) -> Result<(), Fail> {
     let there = four(&rt, rt.alloc(), 1, 500)?;
     holds(&rt, there);
+    Ok(())
+}
+
+#[test]
+fn two_publishers_on_threads_are_gathered_and_met(rt: HostRuntime) -> Result<(), Fail> {
+    let there = two_that_meet(&rt, rt.alloc(), 15)?;
+    holds(&rt, there);
+    Ok(())
+}
+
+#[test]
+fn one_swap_wakes_a_publisher_that_waits_for_room(rt: HostRuntime) -> Result<(), Fail> {
+    let answer = woken_by(&rt, rt.alloc(), Waker::Swap)?;
+    holds(&rt, answer == Some(Ok(1)));
+    Ok(())
+}
+
+#[test]
+fn a_stop_wakes_a_publisher_that_waits_for_room(rt: HostRuntime) -> Result<(), Fail> {
+    let answer = woken_by(&rt, rt.alloc(), Waker::Stop)?;
+    let stopped = PublishRefused::Stopped {
+        at: 1,
+        stop: Stop::Memory,
+    };
+    holds(&rt, answer == Some(Err(stopped)));
+    Ok(())
+}
+
+#[test]
+fn a_close_wakes_a_publisher_that_waits_for_room(rt: HostRuntime) -> Result<(), Fail> {
+    let answer = woken_by(&rt, rt.alloc(), Waker::Close)?;
+    holds(&rt, answer == Some(Err(PublishRefused::Closed { at: 1 })));
     Ok(())
 }
