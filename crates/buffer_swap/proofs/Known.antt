@@ -1,5 +1,5 @@
 -- Passes whose pairs weigh what the places of a history weigh have each of its places once.
-use Rattle.std.proofs.Common.{◌≡◌, ◌≢◌, ℕ, zero, suc, ◌+◌, ◌<◌, ◌≤◌, Bool, true, false, List, [], ◌∷◌, length, Some, refl, sym, ap, subst, inl, inr, ◌∙◌, arith}
+use Rattle.std.proofs.Common.{◌≡◌, ◌≢◌, ℕ, zero, suc, ◌+◌, ◌<◌, ◌≤◌, true, false, List, [], ◌∷◌, length, refl, sym, ap, inl, inr, arith}
 use Rattle.std.specs.Prelude.{nat_eq}
 use Rattle.std.proofs.lemmas.Bool.{cases_lt}
 use mathlib.Core.Logic.{dite}
@@ -11,8 +11,7 @@ use Rattle.mcap_model.proofs.Places.{at_none}
 use Rattle.feed_lane.specs.Pass.{placed_from}
 use Rattle.buffer_swap.specs.Weights.{total, one_if}
 use Rattle.buffer_swap.specs.Posts.{Gathered}
-use Rattle.buffer_swap.specs.Plays.{WeighAlike}
-use Rattle.buffer_swap.specs.Laws.{PlacesKnown, PlacesAreKnown}
+use Rattle.buffer_swap.specs.Laws.{PlacesAreKnown}
 
 -- ---- weights that single out a place
 

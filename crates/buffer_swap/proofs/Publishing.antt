@@ -1,13 +1,11 @@
 -- A turn in which a message was published, as a pass says it.
-use Rattle.std.proofs.Common.{◌≡◌, ◌⊎◌, ℕ, ◌<◌, ◌≤◌, Bool, true, false, List, [], ◌∷◌, ◌++◌, length, drop, Option, Some, None, Result, Ok, Err, refl, sym, ap, subst, inl, inr, ◌∙◌, arith}
-use Rattle.std.specs.Prelude.{nat_lt, nat_le, ◌&&◌}
-use Rattle.std.proofs.lemmas.Bool.{and_parts, ltb-true, leb-true}
+use Rattle.std.proofs.Common.{◌≡◌, ℕ, ◌<◌, ◌≤◌, true, List, [], ◌∷◌, ◌++◌, length, drop, Option, Some, None, Result, Ok, Err, refl, sym, ap, subst, ◌∙◌, arith}
 use Rattle.std.proofs.Math.Seq.{drop-append_seam}
 use Rattle.rec_data.specs.declared.owned.Rec.{Rec}
 use Rattle.rec_data.specs.declared.channel.ChannelDef.{ChannelDef}
 use Rattle.mcap_model.specs.declared.ends.End.TheVariants as ends
 use Rattle.mcap_model.proofs.Places.{at_within}
-use Rattle.record_core.specs.Ids.{Ids, is_known, channel_place, channel_id, new_records}
+use Rattle.record_core.specs.Ids.{channel_place, channel_id, new_records}
 use Rattle.record_core.specs.Tables.{IsTable}
 use Rattle.record_core.specs.Desk.{DeskView, accepted, added, first_of, found_of, fields_of_message, Published, declared_size, DeclaredBy}
 use Rattle.record_core.specs.declared.answers.Declared.{Declared}
