@@ -12,6 +12,7 @@ use Rattle.mcap_model.specs.Repaired.{is_extra}
 use Rattle.mcap_model.proofs.Places.{at_none, at_one}
 use Rattle.mcap_model.proofs.Lists.{pairs_at, pairs_from}
 use Rattle.mcap_model.proofs.NamedTopics.{zip_front, zip_back, unmapped}
+use Rattle.mcap_model.proofs.PlacesApart.{scan_rises}
 use Rattle.mcap_model.proofs.Flat.{at_mapped, good_lists_are_scanned}
 use Rattle.time_player.specs.Keeping.{kept_in}
 use Rattle.mcap_merge.specs.declared.input.Input.{Input}
@@ -21,7 +22,6 @@ use Rattle.mcap_merge.specs.Uses.{Use, history_of, AreUses}
 use Rattle.mcap_merge.specs.Inputs.{Read, tops_of, extra_tops, HoldsInput, HoldInputs}
 use Rattle.mcap_merge.specs.Turns.{kept_lists, TurnsOf, IsTurnOf, AreTurnsOf}
 use Rattle.mcap_merge.specs.Writing.{extras_of}
-use Rattle.mcap_merge.proofs.Rising.{scan_rises}
 use Rattle.mcap_merge.proofs.Ordered.{turn, IsListed, TurnBefore, strict_pairs, listed_is, listed_has}
 use Rattle.mcap_merge.proofs.Merging.{merges_all, flat_kinds}
 

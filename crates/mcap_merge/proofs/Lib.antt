@@ -1,5 +1,4 @@
 mod Held
-mod Rising
 mod Ordered
 mod Joined
 mod Contents
@@ -10,3 +9,6 @@ mod Stores
 mod Profiles
 mod Used
 mod Filing
+mod ReadBack
+mod Lengths
+mod SeenSchemas

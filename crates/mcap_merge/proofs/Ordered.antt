@@ -13,9 +13,9 @@ use Rattle.mcap_model.specs.Places.{At, Has, Each}
 use Rattle.mcap_model.proofs.Places.{at_none, at_within, at_read, at_one}
 use Rattle.mcap_model.proofs.Lists.{at_either, at_second, each_cons, each_joined, pairs_at, pairs_from, pairs_cons}
 use Rattle.mcap_model.proofs.NamedTopics.{contained, has_there}
+use Rattle.mcap_model.proofs.PlacesApart.{pairs_joined, none_each, none_pairs}
 use Rattle.mcap_merge.specs.declared.turns.Turn.{Turn}
 use Rattle.mcap_merge.specs.Turns.{turns_in, turns_from, turns_of, TurnNotBehind, InTurn, TurnsOf}
-use Rattle.mcap_merge.proofs.Rising.{pairs_joined, none_each, none_pairs}
 
 abbrev pub turn : ℕ → ℕ → ℕ → Turn
 turn log_time input at = record { log_time = log_time; input = input; at = at }

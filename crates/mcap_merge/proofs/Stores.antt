@@ -14,7 +14,7 @@ use Rattle.mcap_model.specs.Tops.{Top}
 use Rattle.mcap_model.specs.Kept.{reading_limits, Halts, at_end}
 use Rattle.mcap_model.proofs.Places.{at_none, at_one, at_within, at_kept, at_read, at_set_same, at_set_other}
 use Rattle.mcap_model.proofs.Lists.{at_taken}
-use Rattle.mcap_model.proofs.NamedTopics.{zip_front}
+use Rattle.mcap_model.proofs.NamedTopics.{zip_front, unmapped}
 use Rattle.mcap_model.proofs.OneMore.{taken_more, zip_push}
 use Rattle.mcap_scan.specs.declared.answers.ScanRefused.{ScanRefused}
 use Rattle.mcap_scan.specs.declared.answers.ScanRefused.TheVariants as refusals
@@ -22,7 +22,7 @@ use Rattle.mcap_merge.specs.declared.answers.MergeRefused.{MergeRefused}
 use Rattle.mcap_merge.specs.declared.answers.MergeRefused.TheVariants as merges
 use Rattle.mcap_merge.specs.declared.input.Input.{Input}
 use Rattle.mcap_merge.specs.Inputs.{Read, HoldsInput, HoldInputs, ReadsInput}
-use Rattle.mcap_merge.specs.Reading.{front_of, StoreReads, StoreKeeps, IsReadOf, StoreRefused, ReadsWhole, IsRefusalAt, AreHeld, AreReadBefore, InputRefused}
+use Rattle.mcap_merge.specs.Reading.{front_of, StoreReads, StoreKeeps, CountStands, IsReadOf, StoreRefused, ReadsWhole, IsRefusalAt, AreHeld, AreReadBefore, InputRefused}
 use Rattle.mcap_merge.proofs.Joined.{set_either}
 
 -- the first bytes of a store are all where the length is theirs
@@ -59,20 +59,22 @@ reads_whole old mid new len (Err refusals.Memory) measures (now, same, (tops, st
 pub record ReadSoFar {T : Type 0} (state : T → StoreState) (olds nows : List T) (i : ℕ) (inputs : List Input) : Type 0 where
   pub size : length nows ≡ length olds
   pub keeps : AllZip StoreKeeps (map state olds) (map state nows)
+  pub still : AllZip CountStands (map state olds) (map state nows)
   pub behind : (k : ℕ) (x : T) → i ≤ k → At olds k x → At nows k x
   pub reads : List Read
   pub hold : HoldInputs reads inputs
   pub are : AllZip IsReadOf (take i (map state olds)) reads
 
 module _ {T : Type 0} (state : T → StoreState) where
-  keeps_self : (xs : List T) → AllZip StoreKeeps (map state xs) (map state xs)
-  keeps_self [] = tt
-  keeps_self (x ∷ xs) = (record { bytes = refl; known = omega arith; faults = omega arith }, keeps_self xs)
+  zip_self : (R : StoreState → StoreState → Type 0) → ((s : StoreState) → R s s) → (xs : List T) → AllZip R (map state xs) (map state xs)
+  zip_self R same [] = tt
+  zip_self R same (x ∷ xs) = (same (state x), zip_self R same xs)
 
   pub read_begin : (olds : List T) (inputs : List Input) → inputs ≡ [] → ReadSoFar state olds olds 0 inputs
   read_begin olds inputs none = record {
     size = refl;
-    keeps = keeps_self olds;
+    keeps = zip_self StoreKeeps (λ s. record { bytes = refl; known = omega arith; faults = omega arith }) olds;
+    still = zip_self CountStands (λ s. refl) olds;
     behind = λ k x later at. at;
     reads = [];
     hold = subst (HoldInputs []) (sym none) tt;
@@ -82,14 +84,17 @@ module _ {T : Type 0} (state : T → StoreState) where
   keeps_trans : (a b c : StoreState) → StoreKeeps a b → StoreKeeps b c → StoreKeeps a c
   keeps_trans a b c one other = record { bytes = other.bytes ∙ one.bytes; known = omega (arith, one.known, other.known); faults = omega (arith, one.faults, other.faults) }
 
-  keeps_set : (olds : List StoreState) (nows : List T) (i : ℕ) (x y : T) → AllZip StoreKeeps olds (map state nows) → At nows i x → StoreKeeps (state x) (state y) → AllZip StoreKeeps olds (map state (set nows i y))
-  keeps_set [] [] i x y all at one = absurd (at_none i x at)
-  keeps_set [] (z ∷ zs) i x y all at one = absurd all
-  keeps_set (o ∷ os) [] i x y all at one = absurd all
-  keeps_set (o ∷ os) (z ∷ zs) zero x y all at one =
+  stands_trans : (a b c : StoreState) → CountStands a b → CountStands b c → CountStands a c
+  stands_trans a b c one other = other ∙ one
+
+  zip_set : (R : StoreState → StoreState → Type 0) → ((a b c : StoreState) → R a b → R b c → R a c) → (olds : List StoreState) (nows : List T) (i : ℕ) (x y : T) → AllZip R olds (map state nows) → At nows i x → R (state x) (state y) → AllZip R olds (map state (set nows i y))
+  zip_set R trans [] [] i x y all at one = absurd (at_none i x at)
+  zip_set R trans [] (z ∷ zs) i x y all at one = absurd all
+  zip_set R trans (o ∷ os) [] i x y all at one = absurd all
+  zip_set R trans (o ∷ os) (z ∷ zs) zero x y all at one =
       let same : z ≡ x = at_one (z ∷ zs) zero z x refl at in
-      (keeps_trans o (state z) (state y) all.0 (subst (λ (w : T). StoreKeeps (state w) (state y)) (sym same) one), all.1)
-  keeps_set (o ∷ os) (z ∷ zs) (suc i) x y all at one = (all.0, keeps_set os zs i x y all.1 at one)
+      (trans o (state z) (state y) all.0 (subst (λ (w : T). R (state w) (state y)) (sym same) one), all.1)
+  zip_set R trans (o ∷ os) (z ∷ zs) (suc i) x y all at one = (all.0, zip_set R trans os zs i x y all.1 at one)
 
   length_set : (xs : List T) (i : ℕ) (y : T) → length (set xs i y) ≡ length xs
   length_set [] i y = refl
@@ -115,7 +120,8 @@ module _ {T : Type 0} (state : T → StoreState) where
       → ReadSoFar state olds (set nows i y) (i + 1) more
   read_on olds nows i inputs more x y input was at keeps (r, holds, is, still) grown = record {
     size = length_set nows i y ∙ was.size;
-    keeps = keeps_set (map state olds) nows i x y was.keeps at keeps;
+    keeps = zip_set StoreKeeps keeps_trans (map state olds) nows i x y was.keeps at keeps;
+    still = zip_set CountStands stands_trans (map state olds) nows i x y was.still at still;
     behind = λ k z later there. let behind = was.behind in at_set_other nows i k z y (λ e. omega (arith, later, e)) (behind k z (omega (arith, later)) there);
     reads = was.reads ++ r ∷ [];
     hold = subst (HoldInputs (was.reads ++ r ∷ [])) (sym grown) (zip_push HoldsInput was.reads inputs r input was.hold holds);
@@ -128,7 +134,18 @@ module _ {T : Type 0} (state : T → StoreState) where
       (found.0, found.2)
 
   pub keeps_all : (olds nows : List T) (i : ℕ) (inputs : List Input) (x y : T) → ReadSoFar state olds nows i inputs → At nows i x → StoreKeeps (state x) (state y) → AllZip StoreKeeps (map state olds) (map state (set nows i y))
-  keeps_all olds nows i inputs x y was at keeps = keeps_set (map state olds) nows i x y was.keeps at keeps
+  keeps_all olds nows i inputs x y was at keeps = zip_set StoreKeeps keeps_trans (map state olds) nows i x y was.keeps at keeps
+
+  pub still_all : (olds nows : List T) (i : ℕ) (inputs : List Input) (x y : T) → ReadSoFar state olds nows i inputs → At nows i x → CountStands (state x) (state y) → AllZip CountStands (map state olds) (map state (set nows i y))
+  still_all olds nows i inputs x y was at stands = zip_set CountStands stands_trans (map state olds) nows i x y was.still at stands
+
+  others_stand : (olds nows : List T) (i : ℕ) (inputs : List Input) (x y : T) (n : ℕ) (o s : StoreState) → ReadSoFar state olds nows i inputs → (n ≡ i → ⊥) → At (map state olds) n o → At (map state (set nows i y)) n s → CountStands o s
+  others_stand olds nows i inputs x y n o s was apart at_o at_s =
+      let (w, at_w, stands) = zip_front CountStands (map state olds) (map state nows) n o was.still at_o in
+      let (z, at_z, is) = unmapped state nows n w at_w in
+      let there : At (map state (set nows i y)) n (state z) = at_mapped (set nows i y) n z (at_set_other nows i n z y apart at_z) in
+      let same : s ≡ state z = at_one (map state (set nows i y)) n s (state z) at_s there in
+      ap (λ (t : StoreState). t.faults) (same ∙ is) ∙ stands
 
   -- a store that was refused
   pub refused_at : (olds nows : List T) (i : ℕ) (inputs : List Input) (x y : T) (scan : ScanRefused) (why : MergeRefused) → ReadSoFar state olds nows i inputs → At nows i x → StoreRefused (state x) (state y) scan → IsRefusalAt i scan why
@@ -136,16 +153,16 @@ module _ {T : Type 0} (state : T → StoreState) where
   refused_at olds nows i inputs x y (refusals.Fault faults) why was at refused is =
       let within : i < length nows = at_within nows i x at in
       subst (InputRefused (map state olds) (map state (set nows i y))) (sym is)
-      (i, state x, state y, at_mapped olds i x (old_at olds nows i inputs x was at), at_mapped (set nows i y) i y (at_set_same nows i y within), refused.0, refused.1)
+      (i, state x, state y, at_mapped olds i x (old_at olds nows i inputs x was at), at_mapped (set nows i y) i y (at_set_same nows i y within), refused.0, refused.1, λ n o s apart at_o at_s. others_stand olds nows i inputs x y n o s was apart at_o at_s)
   refused_at olds nows i inputs x y (refusals.Grammar offset rule) why was at refused is =
       let halts = refused.1 in
       subst (InputRefused (map state olds) (map state (set nows i y))) (sym is)
-      (read_before olds nows i inputs was, state x, at_mapped olds i x (old_at olds nows i inputs x was at), λ bytes told. let there = halts bytes told in (there.0, rule, there.1))
+      (still_all olds nows i inputs x y was at refused.0, (read_before olds nows i inputs was, state x, at_mapped olds i x (old_at olds nows i inputs x was at), λ bytes told. let there = halts bytes told in (there.0, rule, there.1)))
   refused_at olds nows i inputs x y (refusals.Compressed offset name) why was at refused is =
-      subst (InputRefused (map state olds) (map state (set nows i y))) (sym is) (read_before olds nows i inputs was, state x, at_mapped olds i x (old_at olds nows i inputs x was at), refused.1)
+      subst (InputRefused (map state olds) (map state (set nows i y))) (sym is) (still_all olds nows i inputs x y was at refused.0, (read_before olds nows i inputs was, state x, at_mapped olds i x (old_at olds nows i inputs x was at), refused.1))
   refused_at olds nows i inputs x y (refusals.Limit offset) why was at refused is =
-      subst (InputRefused (map state olds) (map state (set nows i y))) (sym is) (read_before olds nows i inputs was, state x, at_mapped olds i x (old_at olds nows i inputs x was at), refused.1)
-  refused_at olds nows i inputs x y refusals.Memory why was at refused is = subst (InputRefused (map state olds) (map state (set nows i y))) (sym is) tt
+      subst (InputRefused (map state olds) (map state (set nows i y))) (sym is) (still_all olds nows i inputs x y was at refused.0, (read_before olds nows i inputs was, state x, at_mapped olds i x (old_at olds nows i inputs x was at), refused.1))
+  refused_at olds nows i inputs x y refusals.Memory why was at refused is = subst (InputRefused (map state olds) (map state (set nows i y))) (sym is) (still_all olds nows i inputs x y was at refused)
 
   pub all_held : (olds nows : List T) (i : ℕ) (inputs : List Input) → ReadSoFar state olds nows i inputs → length (map state olds) ≤ i → AreHeld (map state olds) inputs
   all_held olds nows i inputs was all = (was.reads, was.hold, subst (λ (l : List StoreState). AllZip IsReadOf l was.reads) (take_all i (map state olds) all) was.are)

@@ -25,7 +25,7 @@ use Rattle.record_core.specs.Ids.{Ids, fields_of_schema, schema_place, new_schem
 use Rattle.record_core.specs.Tables.{content_in, ids_in, schemas_lack, ids_lack, IdsDeclared}
 use Rattle.record_core.proofs.TableIds.{schema_missed, channel_missed}
 use Rattle.mcap_model.specs.Merged.{Sent, IsContent, IsUsed, SchemaIsUsed, MoreThan}
-use Rattle.mcap_merge.specs.Joining.{TableIsUsed, IsAskedFor, WhyLacks}
+use Rattle.mcap_merge.specs.Joining.{TableIsUsed, IsAskedFor, LackMet}
 
 -- the content of an asked channel is used
 pub content_used : (inputs : List (List Top)) (m : Sent) (source : ℕ) (known : Tables) (d : ChannelDef) → (asked : IsAskedFor inputs m source known) → IsContent (flat asked.tops) source d → IsUsed inputs d
@@ -62,7 +62,7 @@ used_none inputs t schemas channels = record {
 
 -- ---- no id is left
 
-more_than : {X : Type 0} (P : X → Type 0) (xs : List X) (x : X) (n : ℕ) → length xs ≡ n → EachOnce xs → Lacks xs x → Each P xs → P x → MoreThan n P
+pub more_than : {X : Type 0} (P : X → Type 0) (xs : List X) (x : X) (n : ℕ) → length xs ≡ n → EachOnce xs → Lacks xs x → Each P xs → P x → MoreThan n P
 more_than P xs x n size once lacks each one = (
   xs ++ x ∷ [],
   let long : length (xs ++ x ∷ []) ≡ suc n = omega (arith, size, length-append xs (x ∷ [])) in long,
@@ -124,7 +124,7 @@ new_schema_is t None is = absurd (both_ways false refl is)
 new_schema_is t (Some s) is = new_schema_at_is t s (schema_place (ids_in t) s) refl is
 
 pub used_lacking : (inputs : List (List Top)) (t after : tables.Ids) (d : ChannelDef) (why : IdRefused) → EachOnce t.schemas → EachOnce t.channels → length t.schemas ≤ 65535 → length t.channels ≤ 65535 → channel_place (ids_in t) d ≡ None
-    → IdsDeclared (ids_in t) d (Err why) (ids_in after) → IsUsed inputs d → TableIsUsed inputs t → WhyLacks inputs why
+    → IdsDeclared (ids_in t) d (Err why) (ids_in after) → IsUsed inputs d → TableIsUsed inputs t → LackMet inputs why
 used_lacking inputs t after d TooManySchemas once_s once_c few_s few_c none is used was =
     let ids = ids_in t in
     let lack = schemas_by (schemas_lack ids d.schema) (nat_le 65535 (length ids.channels)) (sym (lack_is ids d (schemas_lack ids d.schema) (nat_le 65535 (length ids.channels)) refl refl) ∙ is.0) in

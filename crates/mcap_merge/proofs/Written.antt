@@ -7,13 +7,15 @@ use Rattle.rec_data.specs.declared.owned.Rec.{Rec}
 use Rattle.rec_data.specs.declared.owned.Rec.TheVariants.{Schema, Channel, Message}
 use Rattle.rec_data.specs.declared.channel.ChannelDef.{ChannelDef}
 use Rattle.mcap_model.specs.declared.replay.Shown.{Shown}
-use Rattle.mcap_model.specs.Places.{At}
+use Rattle.mcap_model.specs.Places.{At, Each}
+use Rattle.mcap_model.specs.Laws.{IsReadBack}
 use Rattle.mcap_model.specs.Tops.{Top, flat}
 use Rattle.mcap_model.specs.Fields.{MessageFields, ChannelFields}
 use Rattle.mcap_model.specs.History.{channel_of, message_of, is_message}
 use Rattle.mcap_model.specs.Declarations.{TablesOf}
 use Rattle.mcap_model.specs.Showing.{shown_as}
 use Rattle.mcap_model.proofs.Places.{at_none, at_within, at_one}
+use Rattle.mcap_model.proofs.Lists.{each_joined}
 use Rattle.mcap_model.proofs.NamedTopics.{zip_front, zip_back}
 use Rattle.mcap_model.proofs.Flat.{at_mapped}
 use Rattle.mcap_model.proofs.OneMore.{taken_more, zip_push}
@@ -36,6 +38,7 @@ use Rattle.mcap_merge.specs.Joining.{JoinerStands, IsChosen, declared_records, I
 use Rattle.mcap_merge.specs.Writing.{message_fields_of, fields_shown, IsNext, AreReady}
 use Rattle.mcap_merge.proofs.Contents.{content_once}
 use Rattle.mcap_merge.proofs.Joined.{stands_behind}
+use Rattle.mcap_merge.proofs.ReadBack.{scan_back}
 
 pub channel_is : (d : ChannelDef) (id other schema same : ℕ) → id ≡ other → schema ≡ same → channel_of id (fields_with d schema) ≡ channel_of other (fields_with d same)
 channel_is d id other schema same one two = cc
@@ -176,15 +179,15 @@ zip_length R [] (y ∷ ys) zip = absurd zip
 zip_length R (x ∷ xs) [] zip = absurd zip
 zip_length R (x ∷ xs) (y ∷ ys) zip = ap suc (zip_length R xs ys zip.1)
 
--- the messages up to there with their contents, and an id for each channel
+-- the messages up to there with their contents, an id for each channel, and records that are read back
 abbrev pub UsedSoFar : List Read → List Sent → ℕ → Joiner → Type 0
-UsedSoFar reads messages k j = (uses : List Use) × AreUses (tops_of reads) (take k messages) uses × JoinerStands (tops_of reads) (history_of uses) j
+UsedSoFar reads messages k j = (uses : List Use) × AreUses (tops_of reads) (take k messages) uses × JoinerStands (tops_of reads) (history_of uses) j × Each IsReadBack (history_of uses)
 
 pub use_more : (reads : List Read) (messages : List Sent) (inputs : List Input) (turns : List Turn) (k : ℕ) (turn : Turn) (input : Input) (uses : List Use) (j l : Joiner) (lent : Lent) (choice : Choice) → HoldInputs reads inputs → AreTurnsOf reads turns messages → At turns k turn → At inputs turn.input input
-    → At (kept_in input.kept) turn.at (shown_of lent) → AreUses (tops_of reads) (take k messages) uses → JoinerStands (tops_of reads) (history_of uses) j
+    → At (kept_in input.kept) turn.at (shown_of lent) → AreUses (tops_of reads) (take k messages) uses → JoinerStands (tops_of reads) (history_of uses) j → Each IsReadBack (history_of uses) → choice.id < 65536 → Each IsReadBack (declared_records choice.declared)
     → ((tops : List Top) (history : List Rec) → JoinerStands (tops_of reads) history j → At (tops_of reads) turn.input tops → TablesOf (flat tops) input.tables → IsChosen (tops_of reads) tops history lent.channel l choice)
     → UsedSoFar reads messages (k + 1) l
-use_more reads messages inputs turns k turn input uses j l lent choice hold are at here shown used stands choose =
+use_more reads messages inputs turns k turn input uses j l lent choice hold are at here shown used stands back small declared choose =
     let r = ready_turn reads messages inputs turns k turn hold are at in
     let same : r.input ≡ input = at_one inputs turn.input r.input input r.at here in
     let tops = r.source.tops in
@@ -203,10 +206,15 @@ use_more reads messages inputs turns k turn input uses j l lent choice hold are 
     } in
     let new = new_records (ids_of (history_of uses)) chosen.content in
     let id = channel_id (ids_of (history_of uses)) chosen.content in
+    let source : r.is.source ≡ r.source = at_one reads turn.input r.is.source r.source r.is.at r.from in
+    let seen : At r.source.messages turn.at m.seen = subst (λ (x : Read). At x.messages turn.at m.seen) source r.is.there in
+    let message : Each IsReadBack (message_of id u.message ∷ []) = subst (λ (n : ℕ). Each IsReadBack (message_of n m.seen.message ∷ [])) chosen.id_is (scan_back r.source.tops r.source.messages turn.at choice.id m.seen r.holds.told.scan seen small) in
+    let all : Each IsReadBack (with_use (history_of uses) u) = each_joined IsReadBack (history_of uses) (new ++ message_of id u.message ∷ []) back (each_joined IsReadBack new (message_of id u.message ∷ []) (subst (Each IsReadBack) chosen.declared declared) message) in
     let behind : JoinerStands (tops_of reads) (with_use (history_of uses) u) l = subst (λ (h : List Rec). JoinerStands (tops_of reads) h l) (append_assoc (history_of uses) new (message_of id u.message ∷ [])) (stands_behind (tops_of reads) (history_of uses ++ new) l id u.message chosen.stands) in (
       uses ++ u ∷ [],
       subst (λ (ms : List Sent). AreUses (tops_of reads) ms (uses ++ u ∷ [])) (sym (taken_more messages k m r.there)) (zip_push (IsUse (tops_of reads)) (take k messages) uses m u used is),
       subst (λ (h : List Rec). JoinerStands (tops_of reads) h l) (sym (fold_last with_use [] uses u)) behind,
+      subst (Each IsReadBack) (sym (fold_last with_use [] uses u)) all,
     )
 
 -- the table has as many contents as the history
@@ -225,7 +233,7 @@ kinds_counted (Message channel sequence log_time publish_time payload ∷ rs) = 
 
 -- the message whose turn it is, for whose channel an id is asked
 pub asked_for : (reads : List Read) (messages : List Sent) (inputs : List Input) (turns : List Turn) (k : ℕ) (turn : Turn) (input : Input) (lent : Lent) → HoldInputs reads inputs → AreTurnsOf reads turns messages → At turns k turn → At inputs turn.input input
-    → At (kept_in input.kept) turn.at (shown_of lent) → (m : Sent) × IsAskedFor (tops_of reads) m lent.channel input.tables
+    → At (kept_in input.kept) turn.at (shown_of lent) → (m : Sent) × At messages k m × IsAskedFor (tops_of reads) m lent.channel input.tables
 asked_for reads messages inputs turns k turn input lent hold are at here shown =
     let r = ready_turn reads messages inputs turns k turn hold are at in
     let same : r.input ≡ input = at_one inputs turn.input r.input input r.at here in
@@ -236,6 +244,7 @@ asked_for reads messages inputs turns k turn input lent hold are at here shown =
     let source : r.is.source ≡ r.source = at_one reads turn.input r.is.source r.source r.is.at r.from in
     let seen : At r.source.messages turn.at r.message.seen = subst (λ (x : Read). At x.messages turn.at r.message.seen) source r.is.there in (
       r.message,
+      r.there,
       record {
         from = record { tops = tops; at = input_at; messages = r.source.messages; scan = r.holds.told.scan; has = (turn.at, seen) };
         tops = tops;

@@ -1,5 +1,5 @@
 -- What a merge comes to.
-use Rattle.std.specs.Prelude.{◌≡◌, ◌⊎◌, ℕ, List, ◌++◌, Some, Result, Ok, Err}
+use Rattle.std.specs.Prelude.{◌≡◌, ◌⊎◌, ℕ, List, ◌++◌, length, filter, Some, Result, Ok, Err}
 use Rattle.std.specs.List.{AllZip}
 use Rattle.rec_data.specs.declared.owned.Rec.{Rec}
 use Rattle.mcap_io.specs.Outside.{LiveState, Adds}
@@ -8,37 +8,51 @@ use Rattle.mcap_model.specs.declared.options.FileOptions.{FileOptions}
 use Rattle.mcap_model.specs.declared.ends.Stop.{Stop}
 use Rattle.mcap_model.specs.declared.ends.Stop.TheVariants as stops
 use Rattle.mcap_model.specs.Tops.{Top}
+use Rattle.mcap_model.specs.Places.{Each}
+use Rattle.mcap_model.specs.Blocks.{pieces_of, blocks_in}
+use Rattle.mcap_model.specs.Kept.{Good, reading_limits}
 use Rattle.mcap_model.specs.File.{file_of}
+use Rattle.mcap_model.specs.History.{is_message}
+use Rattle.mcap_model.specs.Laws.{IsReadBack}
+use Rattle.chunk_writer.specs.Limits.{Holds}
 use Rattle.chunk_writer.specs.Stops.{StopsAt, StopCause}
 use Rattle.mcap_merge.specs.declared.answers.MergeRefused.{MergeRefused}
 use Rattle.mcap_merge.specs.declared.answers.MergeRefused.TheVariants as merges
 use Rattle.mcap_merge.specs.declared.answers.Merged.{Merged}
 use Rattle.mcap_model.specs.Merged.{MergeOf}
 use Rattle.mcap_merge.specs.Inputs.{Read, tops_of}
-use Rattle.mcap_merge.specs.Reading.{IsReadOf}
-use Rattle.mcap_merge.specs.Gathering.{GatherRefused, Counts}
+use Rattle.mcap_merge.specs.Reading.{IsReadOf, CountStands}
+use Rattle.mcap_merge.specs.Gathering.{GatherRefused}
 
 abbrev pub merged_options : List ℕ → ℕ → FileOptions
 merged_options profile chunk = record { profile = profile; chunk = Some chunk }
 
--- the merge of stores: where they tell, they are read to their Data Ends, and this is made of their records
+-- The merge of stores: where they tell, they are read to their Data Ends, and this is made of their records, which are good
+-- lists. Each record of it is read back as itself, so its ids fit their two bytes.
 pub record MergeIs (stores : List StoreState) (profile : List ℕ) (extras : List Top) (history : List Rec) : Type 0 where
   pub reads : List Read
   pub are : AllZip IsReadOf stores reads
+  pub good : Each (Good reading_limits) (tops_of reads)
   pub merge : MergeOf (tops_of reads) profile extras history
+  pub back : Each IsReadBack history
 
--- the file of the merge stands behind what the store held
-pub record MergesInto (stores : List StoreState) (opened now : LiveState) (chunk : ℕ) (m : Merged) : Type 0 where
+-- the file of the merge stands behind what the store held, within the limits on files, and the counts are those of its
+-- records; no store failed
+pub record MergesInto (stores news : List StoreState) (opened now : LiveState) (chunk : ℕ) (m : Merged) : Type 0 where
   pub profile : List ℕ
   pub extras : List Top
   pub history : List Rec
   pub is : MergeIs stores profile extras history
-  pub counts : Counts history m
+  pub messages : m.messages ≡ length (filter is_message history)
+  pub records : m.records ≡ length history
   pub file : Adds opened.held now.held (file_of (merged_options profile chunk) extras history)
+  pub within : Holds (length (blocks_in (pieces_of (Some chunk) history))) (length (file_of (merged_options profile chunk) extras history))
+  pub inputs_still : AllZip CountStands stores news
+  pub still : now.faults ≡ opened.faults
 
--- The file stands behind what the store held, or the writer stopped at a piece of it.
+-- The file stands behind what the store held, within the limits on files, or the writer stopped at a piece of it.
 abbrev pub FileStands : FileOptions → List Top → List Rec → LiveState → LiveState → Result Unit Stop → Type 0
-FileStands options extras history opened now (Ok it) = Adds opened.held now.held (file_of options extras history)
+FileStands options extras history opened now (Ok it) = Adds opened.held now.held (file_of options extras history) × Holds (length (blocks_in (pieces_of options.chunk history))) (length (file_of options extras history))
 FileStands options extras history opened now (Err stop) = (blocks : ℕ) × (bytes : ℕ) × StopsAt options extras history opened.held now.held stop blocks bytes
 
 -- why the writer stopped, as a merge answers it
@@ -58,6 +72,6 @@ pub record MergeStops (stores : List StoreState) (opened now : LiveState) (chunk
   pub stands : FileStands (merged_options profile chunk) extras history opened now (Err stop)
   pub cause : StopCause opened.faults now.faults stop
 
--- nothing was written, or the writer stopped
+-- nothing was written, or the writer stopped behind inputs that were read whole
 abbrev pub MergeFails : List StoreState → List StoreState → LiveState → LiveState → ℕ → MergeRefused → Type 0
-MergeFails olds news opened now chunk why = ((now ≡ opened) × GatherRefused olds news why) ⊎ MergeStops olds opened now chunk why
+MergeFails olds news opened now chunk why = ((now ≡ opened) × GatherRefused olds news why) ⊎ (AllZip CountStands olds news × MergeStops olds opened now chunk why)

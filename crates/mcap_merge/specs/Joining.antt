@@ -18,7 +18,7 @@ use Rattle.record_core.specs.Sights.{DefFits}
 use Rattle.mcap_merge.specs.declared.joining.Joiner.{Joiner}
 use Rattle.mcap_merge.specs.declared.joining.Declared.{Declared}
 use Rattle.mcap_merge.specs.declared.joining.Choice.{Choice}
-use Rattle.mcap_model.specs.Merged.{Sent, IsFrom, IsContent, IsUsed, SchemaIsUsed, MoreThan}
+use Rattle.mcap_model.specs.Merged.{Sent, IsFrom, IsContent, IsUsed, SchemaIsUsed, AtMost, MoreThan}
 
 -- a place for each id that a channel of so many inputs may have
 abbrev pub IsSized : ℕ → Joiner → Type 0
@@ -68,12 +68,18 @@ pub record IsAskedFor (inputs : List (List Top)) (m : Sent) (source : ℕ) (know
   pub on : m.seen.channel ≡ source
   pub tables_are : TablesOf (flat tops) known
 
--- why no id is left
+-- why no id is left for the channel of a message, where ids are given in the order of the messages
+abbrev pub LackMet : List (List Top) → IdRefused → Type 0
+LackMet inputs TooManySchemas = MoreThan id_limit (SchemaIsUsed inputs)
+LackMet inputs TooManyChannels = MoreThan id_limit (IsUsed inputs)
+LackMet inputs Memory = Unit {0}
+
+-- why there aren't ids for all that is used, in whatever order: too many schemas; or too many channels, and no more schemas than ids
 abbrev pub WhyLacks : List (List Top) → IdRefused → Type 0
 WhyLacks inputs TooManySchemas = MoreThan id_limit (SchemaIsUsed inputs)
-WhyLacks inputs TooManyChannels = MoreThan id_limit (IsUsed inputs)
+WhyLacks inputs TooManyChannels = MoreThan id_limit (IsUsed inputs) × AtMost id_limit (SchemaIsUsed inputs)
 WhyLacks inputs Memory = Unit {0}
 
 abbrev pub AfterChoice : List (List Top) → tables.Ids → Result Choice IdRefused → Type 0
 AfterChoice inputs t (Ok c) = TableIsUsed inputs t
-AfterChoice inputs t (Err why) = WhyLacks inputs why
+AfterChoice inputs t (Err why) = LackMet inputs why

@@ -7,3 +7,4 @@ pub mod Reading
 pub mod Gathering
 pub mod Pens
 pub mod Filed
+pub mod Schemas

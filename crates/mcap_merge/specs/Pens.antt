@@ -1,5 +1,5 @@
 -- For which extras and histories a scribe stands, over its calls.
-use Rattle.std.specs.Prelude.{◌≡◌, ℕ, List, [], ◌∷◌, ◌++◌}
+use Rattle.std.specs.Prelude.{◌≡◌, ℕ, List, [], ◌∷◌, ◌++◌, Result}
 use Rattle.std.proofs.Common.{sym, subst, ◌∙◌, append-nil, append_assoc}
 use Rattle.rec_data.specs.declared.owned.Rec.{Rec}
 use Rattle.mcap_io.specs.Outside.{LiveState}
@@ -9,12 +9,18 @@ use Rattle.mcap_model.specs.Tops.{Top}
 use Rattle.chunk_writer.specs.declared.phase.Phase.TheVariants as phases
 use Rattle.chunk_writer.specs.declared.scribe.Scribe.{Scribe}
 use Rattle.chunk_writer.specs.Stops.{StopsBehind}
-use Rattle.chunk_writer.specs.Scribes.{ScribeStands, Writes, phase_of}
+use Rattle.chunk_writer.specs.Limits.{Holds}
+use Rattle.chunk_writer.specs.Scribes.{ScribeStands, Writes, EndsFile, phase_of}
+use Rattle.chunk_writer.specs.declared.tape.Written.{Written}
 
 -- of whatever extras and history the first scribe stands, the second stands for these with those behind them
 abbrev pub AddsTo : {L : Type 0} → (L → LiveState) → Scribe L → Scribe L → List Top → List Rec → Type 0
 AddsTo seen before after extras records = (options : FileOptions) (others : List Top) (opened : LiveState) (history : List Rec) → Writes seen options others opened history before
     → Writes seen options (others ++ extras) opened (history ++ records) after
+
+-- the second scribe is the first with its end, and what it counts is within the limits on files
+abbrev pub EndsWithin : {L : Type 0} → (L → LiveState) → Scribe L → Scribe L → Result Unit Stop → Type 0
+EndsWithin seen before after result = (written : Written) × EndsFile seen before after written result × Holds written.blocks written.bytes
 
 pub adds_none : {L : Type 0} (seen : L → LiveState) (s : Scribe L) → AddsTo seen s s [] []
 adds_none seen s = λ options others opened history writes.

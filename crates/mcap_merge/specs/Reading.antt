@@ -27,6 +27,10 @@ pub record StoreKeeps (old new : StoreState) : Type 0 where
   pub known : old.known ≤ new.known
   pub faults : old.faults ≤ new.faults
 
+-- its count stood still
+abbrev pub CountStands : StoreState → StoreState → Type 0
+CountStands old new = new.faults ≡ old.faults
+
 -- where the store tells, a reading of its bytes comes to its Data End, and these are its records
 abbrev pub IsReadOf : StoreState → Read → Type 0
 IsReadOf store r = (bytes : List ℕ) → store.bytes ≡ Some bytes → (end : ℕ) × Halts reading_limits bytes r.tops (at_end end)
@@ -64,17 +68,18 @@ AreReadBefore stores n = (k : ℕ) (s : StoreState) → k < n → At stores k s 
 abbrev pub HaltsFirst : List StoreState → ℕ → (List ℕ → Type 0) → Type 0
 HaltsFirst stores n halts = AreReadBefore stores n × (s : StoreState) × At stores n s × ((bytes : List ℕ) → s.bytes ≡ Some bytes → halts bytes)
 
--- the count of one of them has risen, to this
+-- the count of one of them has risen by one, to this, and those of the others stood still
 abbrev pub OneRose : List StoreState → List StoreState → ℕ → Type 0
 OneRose olds news faults = (k : ℕ) × (old new : StoreState) × At olds k old × At news k new × RisesOnce old.faults new.faults × (faults ≡ new.faults)
+    × ((n : ℕ) (was is : StoreState) → (n ≡ k → ⊥) → At olds n was → At news n is → CountStands was is)
 
--- why the inputs weren't all read
+-- why the inputs weren't all read; but for a fault their counts stood still
 abbrev pub InputRefused : List StoreState → List StoreState → MergeRefused → Type 0
 InputRefused olds news (merges.Fault faults) = OneRose olds news faults
-InputRefused olds news (merges.Grammar input offset) = HaltsFirst olds input (λ bytes. (tops : List Top) × (rule : ℕ) × Halts reading_limits bytes tops (grammar offset rule))
-InputRefused olds news (merges.Compressed input offset name) = HaltsFirst olds input (λ bytes. (tops : List Top) × Halts reading_limits bytes tops (compressed offset name))
-InputRefused olds news (merges.Limit input offset) = HaltsFirst olds input (λ bytes. (tops : List Top) × Halts reading_limits bytes tops (beyond offset))
+InputRefused olds news (merges.Grammar input offset) = AllZip CountStands olds news × HaltsFirst olds input (λ bytes. (tops : List Top) × (rule : ℕ) × Halts reading_limits bytes tops (grammar offset rule))
+InputRefused olds news (merges.Compressed input offset name) = AllZip CountStands olds news × HaltsFirst olds input (λ bytes. (tops : List Top) × Halts reading_limits bytes tops (compressed offset name))
+InputRefused olds news (merges.Limit input offset) = AllZip CountStands olds news × HaltsFirst olds input (λ bytes. (tops : List Top) × Halts reading_limits bytes tops (beyond offset))
 InputRefused olds news merges.TooManySchemas = ⊥
 InputRefused olds news merges.TooManyChannels = ⊥
 InputRefused olds news (merges.FileLimit blocks bytes) = ⊥
-InputRefused olds news merges.Memory = Unit {0}
+InputRefused olds news merges.Memory = AllZip CountStands olds news

@@ -3,10 +3,10 @@ ghost use Rattle.std.specs.Prelude.{◌≡◌, ◌≤◌, ◌*◌, List, [], len
 ghost use Rattle.mcap_model.specs.Tops.{Top};
 ghost use Rattle.record_core.specs.Tables.{HasSchemas};
 ghost use Rattle.mcap_model.specs.Merged.{Sent};
-ghost use Rattle.mcap_merge.specs.Uses.{Use, AreUses, DeclaresSoMany};
+ghost use Rattle.mcap_merge.specs.Uses.{AreJoined};
 ghost use Rattle.mcap_merge.specs.Inputs.{Read, tops_of, HoldInputs};
 ghost use Rattle.mcap_merge.specs.Turns.{AreTurnsOf};
-ghost use Rattle.mcap_merge.specs.Joining.{JoinerStands, WhyLacks};
+ghost use Rattle.mcap_merge.specs.Joining.{JoinerStands, LackMet};
 ghost use Rattle.mcap_merge.specs.Writing.{AreReady};
 
 use crate::input::Input;
@@ -29,8 +29,8 @@ pub(crate) fn check_ids(
     requires empty { (joiner.old.table.schemas ≡ []) × (joiner.old.table.channels ≡ []) }
     requires ready { AreReady inputs.now turns.now }
     ensures used { IfOk result (λ declared. (reads : List Read) (messages : List Sent) → HoldInputs reads inputs.now → AreTurnsOf reads turns.now messages
-        → (uses : List Use) × AreUses (tops_of reads) messages uses × DeclaresSoMany uses declared) }
-    ensures refused { IfErr result (λ why. (reads : List Read) (messages : List Sent) → HoldInputs reads inputs.now → AreTurnsOf reads turns.now messages → WhyLacks (tops_of reads) why) }
+        → AreJoined (tops_of reads) messages declared) }
+    ensures refused { IfErr result (λ why. (reads : List Read) (messages : List Sent) → HoldInputs reads inputs.now → AreTurnsOf reads turns.now messages → LackMet (tops_of reads) why) }
     ensures few { IfOk result (λ declared. declared ≤ 131070) }
 {
     'turns: for k in 0..turns.len() {

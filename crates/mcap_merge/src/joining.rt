@@ -1,21 +1,25 @@
 //! The channels of all inputs, numbered by content as messages first need them.
-ghost use Rattle.std.specs.Prelude.{◌≡◌, ◌≤◌, ◌<◌, ◌*◌, ◌+◌, ◌∷◌, [], ℕ, List, length, IfOk, IfErr};
+ghost use Rattle.std.specs.Prelude.{◌≡◌, ◌≤◌, ◌<◌, ◌*◌, ◌+◌, ◌∷◌, [], ℕ, List, length, Some, IfOk, IfErr};
 ghost use Rattle.rec_data.specs.declared.owned.Rec.{Rec};
-ghost use Rattle.mcap_model.specs.Places.{At};
+ghost use Rattle.mcap_model.specs.Places.{At, Each};
+ghost use Rattle.mcap_model.specs.Laws.{IsReadBack};
 ghost use Rattle.mcap_model.specs.Tops.{Top, flat};
 ghost use Rattle.mcap_model.specs.Declarations.{TablesOf};
+ghost use Rattle.mcap_model.specs.History.{schema_of, channel_of};
+ghost use Rattle.rec_data.specs.Owned.{RecFits};
+ghost use Rattle.record_core.specs.Ids.{fields_of_schema, fields_with};
 ghost use Rattle.record_core.specs.Tables.{HasSchemas};
-ghost use Rattle.record_core.specs.Sights.{DefFits};
+ghost use Rattle.record_core.specs.Sights.{SchemaFits, DefFits};
 ghost use Rattle.mcap_model.specs.Merged.{Sent, IsContent};
-ghost use Rattle.mcap_merge.specs.Joining.{JoinerStands, IsChosen, FitsChoice, IsSized, TableIsUsed, IsAskedFor, AfterChoice};
+ghost use Rattle.mcap_merge.specs.Joining.{JoinerStands, IsChosen, FitsChoice, IsSized, TableIsUsed, IsAskedFor, AfterChoice, declared_records, records_of};
 
 use crate::input::Input;
 use feed_lane::definition;
 use id_table::{GivenIds, IdRefused, IdTable};
 use mcap_model::Tables;
 use mcap_wire::Memory;
-use rec_data::ChannelDef;
-use record_core::{give_ids, number_of};
+use rec_data::{ChannelDef, SchemaDef};
+use record_core::{give_ids, id_of, number_of};
 use std::alloc::Global;
 
 /// The ids so far, by content, and the id that each channel of each input got, or 0.
@@ -39,8 +43,8 @@ pub(crate) struct Choice {
     pub declared: Option<Declared>,
 }
 
-// The content of the channel of that id.
-fn content_of(alloc: Global, tables: &Tables, source: u16) -> Result<ChannelDef, Memory>
+/// The content of the channel of that id.
+pub(crate) fn content_of(alloc: Global, tables: &Tables, source: u16) -> Result<ChannelDef, Memory>
     ensures is { IfOk result (λ d. (records : List Top) → TablesOf records tables.now → IsContent records source d) }
     ensures fits { IfOk result DefFits }
 {
@@ -50,6 +54,39 @@ fn content_of(alloc: Global, tables: &Tables, source: u16) -> Result<ChannelDef,
             return Ok(content);
         }
         Err(memory) => return Err(memory),
+    }
+}
+
+// Reads what the types say of a Schema of that content: its id fits its field, and its texts are UTF-8.
+fn see_schema(schema: &SchemaDef, id: u16)
+    requires { SchemaFits (Some schema.now) }
+    ensures { RecFits (schema_of id (fields_of_schema schema.now)) }
+{
+    let _name = schema.name.as_str();
+    let _encoding = schema.encoding.as_str();
+}
+
+// The same of a Channel of that content; the keys of its metadata differ.
+fn see_channel(content: &ChannelDef, id: u16, schema_id: u16)
+    requires { DefFits content.now }
+    ensures { RecFits (channel_of id (fields_with content.now schema_id)) }
+{
+    let _topic = content.topic.as_str();
+    let _encoding = content.message_encoding.as_str();
+    let _metadata = content.metadata.as_slice();
+}
+
+// The same of both.
+fn see_fields(content: &ChannelDef, ids: &GivenIds)
+    requires { DefFits content.now }
+    ensures { Each IsReadBack (records_of (record { content = content.now; ids = ids.now })) }
+{
+    let id = number_of(&ids.channel);
+    let schema_id = id_of(&ids.schema);
+    see_channel(content, id, schema_id);
+    match &content.schema {
+        Some(schema) => return see_schema(schema, schema_id),
+        None => return,
     }
 }
 
@@ -98,6 +135,8 @@ impl Joiner {
         ensures sized { length self.new.given.items ≡ length self.old.given.items }
         ensures schemas { HasSchemas self.new.table }
         ensures fits { IfOk result (λ c. FitsChoice c.declared) }
+        ensures short { IfOk result (λ c. c.id < 65536) }
+        ensures back { IfOk result (λ c. Each IsReadBack (declared_records c.declared)) }
         ensures chosen { IfOk result (λ c. (inputs : List (List Top)) (tops : List Top) (history : List Rec) → JoinerStands inputs history self.old
             → At inputs number tops → TablesOf (flat tops) input.now.tables → IsChosen inputs tops history source self.new c) }
         ensures used { (inputs : List (List Top)) (m : Sent) → IsAskedFor inputs m source input.now.tables → TableIsUsed inputs self.old.table → AfterChoice inputs self.new.table result }
@@ -123,6 +162,7 @@ impl Joiner {
         match give_ids(&mut self.table, &content) {
             Ok(ids) => {
                 let id = number_of(&ids.channel);
+                see_fields(&content, &ids);
                 self.given[place] = id;
                 return Ok(Choice {
                     id,

@@ -12,15 +12,10 @@ mod merge_stores;
 mod pen;
 mod profile;
 mod reading;
+mod schemas;
 mod scribe_pen;
 mod turns;
 mod writing;
 
 pub use answers::{MergeRefused, Merged};
-pub use gathering::{Gathered, gather};
 pub use merge_stores::merge;
-pub use pen::Pen;
-pub use writing::write_all;
-
-#[cfg(test)]
-mod tests;

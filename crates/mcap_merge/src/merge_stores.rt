@@ -19,7 +19,7 @@ use crate::writing::write_all;
 use chunk_writer::Scribe;
 use mcap_io::{LiveStore, Store};
 use mcap_model::{FileOptions, Stop};
-use mcap_wire::{Memory, Text};
+use mcap_wire::{CONTENT_LIMIT, Memory, Text};
 use std::alloc::Global;
 
 // Why the writer stopped, as a merge answers it.
@@ -39,7 +39,7 @@ fn options_of(alloc: Global, profile: &Text, chunk: u64) -> Result<FileOptions, 
     ensures short { IfOk result (λ o. length o.profile ≤ content_limit) }
 {
     let text = profile.as_str();
-    if text.len() > 268_435_456 {
+    if text.len() as u64 > CONTENT_LIMIT {
         return Err(Memory);
     }
     match Text::copied(alloc, text) {
@@ -88,7 +88,7 @@ pub fn merge<T: Store, L: LiveStore>(
     requires some { 0 < length stores.old.items }
     requires few { length stores.old.items ≤ 64 }
     requires size { (1 ≤ chunk) × (chunk ≤ chunk_size_limit) }
-    ensures merged { IfOk result.1 (λ m. MergesInto (map (λ s. T.state s) stores.old.items) (L.state live) (L.state result.0) chunk m) }
+    ensures merged { IfOk result.1 (λ m. MergesInto (map (λ s. T.state s) stores.old.items) (map (λ s. T.state s) stores.new.items) (L.state live) (L.state result.0) chunk m) }
     ensures refused { IfErr result.1 (λ why. MergeFails (map (λ s. T.state s) stores.old.items) (map (λ s. T.state s) stores.new.items) (L.state live) (L.state result.0) chunk why) }
     ensures keeps { AllZip StoreKeeps (map (λ s. T.state s) stores.old.items) (map (λ s. T.state s) stores.new.items) }
 {

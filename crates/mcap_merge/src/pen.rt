@@ -15,7 +15,7 @@ use mcap_model::Stop;
 
 /// What takes the extras and the records of a file, and ends it. A pen stands for extras with a history; what it wrote of
 /// them is said by relations of its values. Once it has stopped it stands for all that would have come.
-pub trait Pen {
+pub(crate) trait Pen {
     /// The second is the first, later: of whatever extras and history the first stands, the second stands for these with
     /// those extras and those records behind them.
     ghost adds: { Self → Self → List Top → List Rec → Type 0 };

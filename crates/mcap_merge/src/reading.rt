@@ -1,7 +1,7 @@
 //! Reading the inputs of a merge, each whole.
-ghost use Rattle.std.specs.Prelude.{◌≡◌, ◌≤◌, List, map, length, IfOk, IfErr};
+ghost use Rattle.std.specs.Prelude.{◌≡◌, ◌≤◌, List, map, length, IfOk, IfErr, OnOk};
 ghost use Rattle.std.specs.List.{AllZip};
-ghost use Rattle.mcap_merge.specs.Reading.{StoreReads, StoreKeeps, ReadsWhole, IsRefusalAt, AreHeld, InputRefused};
+ghost use Rattle.mcap_merge.specs.Reading.{StoreReads, StoreKeeps, CountStands, ReadsWhole, IsRefusalAt, AreHeld, InputRefused};
 
 use crate::answers::MergeRefused;
 use crate::input::{Input, read_input};
@@ -59,6 +59,7 @@ pub(crate) fn read_inputs<T: Store>(
 ) -> Result<Vec<Input>, MergeRefused>
     requires few { length stores.old.items ≤ 64 }
     ensures read { IfOk result (λ inputs. AreHeld (map (λ s. T.state s) stores.old.items) inputs.items) }
+    ensures still { OnOk result (AllZip CountStands (map (λ s. T.state s) stores.old.items) (map (λ s. T.state s) stores.new.items)) }
     ensures refused { IfErr result (λ why. InputRefused (map (λ s. T.state s) stores.old.items) (map (λ s. T.state s) stores.new.items) why) }
     ensures keeps { AllZip StoreKeeps (map (λ s. T.state s) stores.old.items) (map (λ s. T.state s) stores.new.items) }
 {

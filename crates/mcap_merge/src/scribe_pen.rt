@@ -1,7 +1,6 @@
 //! The scribe as the pen of a merge.
-ghost use Rattle.chunk_writer.specs.declared.tape.Written.{Written};
-ghost use Rattle.chunk_writer.specs.Scribes.{EndsFile, store_of, phase_of};
-ghost use Rattle.mcap_merge.specs.Pens.{AddsTo, adds_none, adds_on, adds_all};
+ghost use Rattle.chunk_writer.specs.Scribes.{store_of, phase_of};
+ghost use Rattle.mcap_merge.specs.Pens.{AddsTo, EndsWithin, adds_none, adds_on, adds_all};
 
 use crate::pen::Pen;
 use chunk_writer::{Finished, Scribe};
@@ -11,7 +10,7 @@ use mcap_model::Stop;
 impl<L: LiveStore> Pen for Scribe<L> {
     ghost adds = { λ before after extras records. AddsTo L.state before after extras records };
 
-    ghost ends = { λ before after result. (written : Written) × EndsFile L.state before after written result };
+    ghost ends = { λ before after result. EndsWithin L.state before after result };
 
     ghost phase = { λ s. phase_of s };
 

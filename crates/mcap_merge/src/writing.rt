@@ -181,7 +181,7 @@ fn write_turns<P: Pen>(
 }
 
 /// Writes the file of what was gathered: its extras, its records and the end.
-pub fn write_all<P: Pen>(alloc: Global, gathered: &Gathered, pen: &mut P) -> Result<(), Stop>
+pub(crate) fn write_all<P: Pen>(alloc: Global, gathered: &Gathered, pen: &mut P) -> Result<(), Stop>
     requires few { length gathered.now.inputs.items ≤ 64 }
     requires ready { AreReady gathered.now.inputs.items gathered.now.order.turns.items }
     requires meet { ExtrasMeet gathered.now.inputs.items }

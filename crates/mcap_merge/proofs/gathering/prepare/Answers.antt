@@ -2,7 +2,7 @@ use Rattle.std.proofs.Common.{List, sym, subst}
 use Rattle.mcap_merge.specs.declared.turns.Turn.{Turn}
 use Rattle.mcap_merge.specs.Inputs.{tops_of}
 use Rattle.mcap_merge.specs.Turns.{AreTurnsOf}
-use Rattle.mcap_merge.proofs.InTurn.{turns_are, merge_of}
+use Rattle.mcap_merge.proofs.InTurn.{turns_are, in_turn, merge_of}
 use Rattle.mcap_merge.proofs.gathering.prepare.Goals as goal
 
 pub see_ids-requires-clause-ready : goal.see_ids-requires-clause-ready
@@ -17,16 +17,17 @@ returns-in-Ok-common_profile-clause-prepared c = λ reads hold.
     let turns = c.in-Ok.turns.items in
     let (messages, zip) = turns_are reads inputs turns hold c.in-Ok.ensures in
     let all = c.in-Ok-see_ids.ensures.used in
-    let (uses, used, declared) = all reads messages hold (subst (λ (l : List Turn). AreTurnsOf reads l messages) (sym c.as_slice.ensures.value) zip) in
+    let joined = all reads messages hold (subst (λ (l : List Turn). AreTurnsOf reads l messages) (sym c.as_slice.ensures.value) zip) in
     let common = c.in-Ok-common_profile.ensures in
     record {
       messages = messages;
       turns_are = zip;
-      uses = uses;
-      used = used;
-      declared = declared;
+      uses = joined.uses;
+      used = joined.used;
+      declared = joined.declares;
+      back = joined.back;
       few = c.in-Ok-see_ids.ensures.few;
-      merge = merge_of reads inputs turns messages uses c.in-Ok-common_profile.profile hold c.in-Ok.ensures zip used (common reads hold);
+      merge = merge_of reads inputs turns messages joined.uses c.in-Ok-common_profile.profile hold c.in-Ok.ensures zip joined.used (common reads hold);
     }
 
 pub returns-in-Err-see_ids-clause-refused : goal.returns-in-Err-see_ids-clause-refused
@@ -34,4 +35,4 @@ returns-in-Err-see_ids-clause-refused c = λ reads hold.
     let (messages, zip) = turns_are reads c.args.inputs.now c.in-Ok.turns.items hold c.in-Ok.ensures in
     let why = c.in-Err-see_ids.ensures.refused in
     let answer = c.id_refusal.ensures in
-    answer (tops_of reads) (why reads messages hold (subst (λ (l : List Turn). AreTurnsOf reads l messages) (sym c.as_slice.ensures.value) zip))
+    answer (tops_of reads) (why reads messages hold (subst (λ (l : List Turn). AreTurnsOf reads l messages) (sym c.as_slice.ensures.value) zip) (in_turn reads c.args.inputs.now c.in-Ok.turns.items messages hold c.in-Ok.ensures zip))

@@ -4,6 +4,7 @@ use Rattle.mcap_model.proofs.Places.{at_read}
 use Rattle.record_core.proofs.TableIds.{id_found}
 use Rattle.record_core.specs.Tables.{ids_in}
 use Rattle.record_core.specs.Ids.{channel_place}
+use Rattle.mcap_merge.proofs.ReadBack.{none_back}
 use Rattle.mcap_merge.proofs.Joined.{none_place, chosen_known, chosen_found, chosen_new}
 use Rattle.mcap_merge.proofs.Used.{content_used, used_given, used_lacking}
 use Rattle.mcap_merge.proofs.joining.Joiner.choose.Goals as goal
@@ -46,3 +47,9 @@ returns-in-Err-give_ids-clause-used c = λ inputs m asked was.
     used_lacking inputs t c.give_ids.new.table c.in-Ok.content c.in-Err-give_ids.refused c.schemas-schemas.ensures.once c.channels-channels.ensures.once
     (omega (arith, c.schemas-schemas.ensures.count, c.schemas-schemas.ensures.few)) (omega (arith, c.channels-channels.ensures.count, c.channels-channels.ensures.few)) none c.in-Err-give_ids.ensures.given
     (content_used inputs m c.args.source c.args.input.now.tables c.in-Ok.content asked (c.in-Ok.ensures.is _ asked.tables_are)) was
+
+pub returns-then-id-ne0-clause-back : goal.returns-then-id-ne0-clause-back
+returns-then-id-ne0-clause-back c = none_back
+
+pub returns-in-Some-clause-back : goal.returns-in-Some-clause-back
+returns-in-Some-clause-back c = none_back
