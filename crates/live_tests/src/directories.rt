@@ -1,8 +1,10 @@
+//! A directory with readers beside its writer, which no whole run shows call by call.
 ghost use Rattle.std.specs.Prelude.{◌≡◌, [], None, false, IfSome, IfOk};
 ghost use Rattle.live_directory.specs.Published.{end_of};
 
-use crate::silent::{Silent, entry_at};
+use crate::untold::Untold;
 use live_directory::{Directory, Front, Naming, Note, Opened, Reader, open_directory};
+use live_entry::Entry;
 use mcap_model::End;
 use std::alloc::Global;
 use std::marker::Brand;
@@ -15,13 +17,29 @@ fn front(blocks: u64, end: Option<End>) -> Front {
     Front { blocks, end }
 }
 
+// A block of a channel and a message at that offset.
+fn entry_at(offset: u64) -> Entry<Untold> {
+    Entry {
+        extent: Untold {
+            from: offset,
+            len: 139,
+        },
+        offset,
+        chunk_length: 108,
+        start_time: 10,
+        end_time: 10,
+        messages: 1,
+        declared: 1,
+    }
+}
+
 // Publishes an entry at that offset.
 fn publish_one<J: Naming, R: Wait>(
     rt: &R,
     alloc: Global,
-    directory: &mut Directory<Silent, J>,
+    directory: &mut Directory<Untold, J>,
     offset: u64,
-) -> Option<Note<Silent, J>>
+) -> Option<Note<Untold, J>>
     requires unsealed { end_of directory.old.shown ≡ None }
     requires first_want { directory.old.short ≡ false }
     ensures unsealed { end_of directory.new.shown ≡ None }
@@ -40,8 +58,8 @@ fn publish_one<J: Naming, R: Wait>(
 fn read_one<J: Naming, R: Wait + Abort>(
     rt: &R,
     alloc: Global,
-    directory: &mut Directory<Silent, J>,
-    reader: &mut Reader<Silent, J>,
+    directory: &mut Directory<Untold, J>,
+    reader: &mut Reader<Untold, J>,
 ) -> Result<(), Fail>
     requires unsealed { end_of directory.old.shown ≡ None }
     requires first_want { directory.old.short ≡ false }
@@ -65,11 +83,11 @@ fn read_one<J: Naming, R: Wait + Abort>(
 fn one_reader_as<J: Naming, R: Wait + Abort>(
     rt: &R,
     alloc: Global,
-    opened: Opened<Silent>,
+    opened: Opened<Untold>,
 ) -> Result<(), Fail>
     requires { opened.seen.book ≡ J.book }
 {
-    let (mut directory, mut readers) = open_directory::<Silent, J, R>(alloc, rt, opened, 1)?;
+    let (mut directory, mut readers) = open_directory::<Untold, J, R>(alloc, rt, opened, 1)?;
     let answer = match readers.first_mut() {
         Some(reader) => read_one(rt, alloc, &mut directory, reader),
         None => Err(Fail::from("no reader")),
@@ -87,7 +105,7 @@ fn one_reader_finds_what_is_published(rt: HostRuntime) -> Result<(), Fail> {
 // stays. It goes on until it sees the end.
 #[derive(Drop)]
 struct Watch<J: Naming> {
-    reader: Reader<Silent, J>,
+    reader: Reader<Untold, J>,
     fronts: u64,
     blocks: u64,
     end: Option<End>,
@@ -123,8 +141,8 @@ const BLOCKS: u64 = 2000;
 fn write<J: Naming, R: Wait>(
     rt: &R,
     alloc: Global,
-    directory: &mut Directory<Silent, J>,
-) -> Option<Note<Silent, J>>
+    directory: &mut Directory<Untold, J>,
+) -> Option<Note<Untold, J>>
     requires unsealed { end_of directory.old.shown ≡ None }
     requires first_want { directory.old.short ≡ false }
 {
@@ -142,16 +160,16 @@ fn write<J: Naming, R: Wait>(
 fn beside<J: Naming + Send + Sync, R: Threads + Wait + Sync>(
     rt: &R,
     alloc: Global,
-    directory: &mut Directory<Silent, J>,
+    directory: &mut Directory<Untold, J>,
     watches: &mut [Watch<J>],
-) -> Option<Note<Silent, J>>
+) -> Option<Note<Untold, J>>
     requires unsealed { end_of directory.old.shown ≡ None }
     requires first_want { directory.old.short ≡ false }
 {
     let (_, note) = join(
         rt,
         || for_each_mut(rt, watches, 4, &|_, one| follow_to_the_end(rt, one)),
-        || -> Option<Note<Silent, J>>
+        || -> Option<Note<Untold, J>>
             requires { (end_of directory.now.shown ≡ None) × (directory.now.short ≡ false) }
         { write(rt, alloc, directory) },
     );
@@ -161,11 +179,11 @@ fn beside<J: Naming + Send + Sync, R: Threads + Wait + Sync>(
 fn four_readers_as<J: Naming + Send + Sync, R: Threads + Wait + Abort + Sync>(
     rt: &R,
     alloc: Global,
-    opened: Opened<Silent>,
+    opened: Opened<Untold>,
 ) -> Result<(), Fail>
     requires { opened.seen.book ≡ J.book }
 {
-    let (mut directory, readers) = open_directory::<Silent, J, R>(alloc, rt, opened, 4)?;
+    let (mut directory, readers) = open_directory::<Untold, J, R>(alloc, rt, opened, 4)?;
     let answer = watch_all(rt, alloc, &mut directory, readers);
     directory.close(rt);
     answer
@@ -174,8 +192,8 @@ fn four_readers_as<J: Naming + Send + Sync, R: Threads + Wait + Abort + Sync>(
 fn watch_all<J: Naming + Send + Sync, R: Threads + Wait + Abort + Sync>(
     rt: &R,
     alloc: Global,
-    directory: &mut Directory<Silent, J>,
-    readers: Vec<Reader<Silent, J>>,
+    directory: &mut Directory<Untold, J>,
+    readers: Vec<Reader<Untold, J>>,
 ) -> Result<(), Fail>
     requires unsealed { end_of directory.old.shown ≡ None }
     requires first_want { directory.old.short ≡ false }
@@ -208,7 +226,7 @@ fn fronts_never_fall_beside_the_writer(rt: HostRuntime) -> Result<(), Fail> {
 }
 
 // Hands in entries, one a call, until memory lacks or there are five, and says how many.
-fn hand_in<J: Naming, R: Wait>(rt: &R, alloc: Global, directory: &mut Directory<Silent, J>) -> u64
+fn hand_in<J: Naming, R: Wait>(rt: &R, alloc: Global, directory: &mut Directory<Untold, J>) -> u64
     requires unsealed { end_of directory.old.shown ≡ None }
     requires first_want { directory.old.short ≡ false }
     ensures unsealed { end_of directory.new.shown ≡ None }
@@ -229,8 +247,8 @@ fn hand_in<J: Naming, R: Wait>(rt: &R, alloc: Global, directory: &mut Directory<
 fn seal_all<J: Naming, R: Wait + Abort>(
     rt: &R,
     alloc: Global,
-    directory: &mut Directory<Silent, J>,
-    reader: &mut Reader<Silent, J>,
+    directory: &mut Directory<Untold, J>,
+    reader: &mut Reader<Untold, J>,
 )
     requires unsealed { end_of directory.old.shown ≡ None }
     requires first_want { directory.old.short ≡ false }
@@ -252,10 +270,10 @@ fn seal_all<J: Naming, R: Wait + Abort>(
     }
 }
 
-fn all_is_sealed_as<J: Naming, R: Wait + Abort>(rt: &R, alloc: Global, opened: Opened<Silent>)
+fn all_is_sealed_as<J: Naming, R: Wait + Abort>(rt: &R, alloc: Global, opened: Opened<Untold>)
     requires { opened.seen.book ≡ J.book }
 {
-    let Ok((mut directory, mut readers)) = open_directory::<Silent, J, R>(alloc, rt, opened, 1)
+    let Ok((mut directory, mut readers)) = open_directory::<Untold, J, R>(alloc, rt, opened, 1)
     else {
         return;
     };

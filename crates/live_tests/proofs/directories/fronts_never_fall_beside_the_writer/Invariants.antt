@@ -1,4 +1,4 @@
-use Rattle.directory_tests.proofs.tests.fronts_never_fall_beside_the_writer.Given as goal
+use Rattle.live_tests.proofs.directories.fronts_never_fall_beside_the_writer.Given as goal
 
 -- the history that was just opened
 abbrev pub ghosts-four_readers_as : goal.ghosts-four_readers_as
