@@ -16,6 +16,8 @@ mod index_tables;
 #[cfg(test)]
 mod lanes;
 #[cfg(test)]
+mod merges;
+#[cfg(test)]
 mod recoveries;
 #[cfg(test)]
 mod regions;

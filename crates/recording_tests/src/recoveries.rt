@@ -7,8 +7,8 @@ use std::test::Fail;
 
 // Each literal stands in a function, so that no goal of a test holds its bytes.
 
-// One Message on one Channel, in one chunk, as a recording writes it.
-fn file() -> &'static [u8] {
+/// One Message on one Channel, in one chunk, as a recording writes it.
+pub(crate) fn file() -> &'static [u8] {
     b"\x89MCAP0\r\n\
     \x01\x11\0\0\0\0\0\0\0\0\0\0\0\x09\0\0\0mcaprec 1\
     \x06\x63\0\0\0\0\0\0\0\x0a\0\0\0\0\0\0\0\x0a\0\0\0\0\0\0\0\x3b\0\0\0\0\0\0\0\xa8\x91\xbb\xd8\0\0\0\0\x3b\0\0\0\0\0\0\0\
