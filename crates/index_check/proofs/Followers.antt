@@ -3,8 +3,7 @@ use Rattle.std.proofs.Common.{◌≡◌, ℕ, suc, false, List, [], ◌∷◌, �
 use Rattle.std.specs.Prelude.{take_while}
 use Rattle.std.proofs.lemmas.Bool.{ne_eqb, eq-eqb}
 use Rattle.std.proofs.lemmas.Option.{same_Some}
-use Rattle.mcap_wire.proofs.Contents.{shows_decided}
-use Rattle.rec_index.specs.Records.{message_index_kinds, message_index_values, ShowsMessageIndex}
+use Rattle.rec_index.specs.Records.{ShowsMessageIndex}
 use Rattle.mcap_model.specs.Places.{At, Has, Each}
 use Rattle.mcap_model.specs.Tops.{Top, inner_tops}
 use Rattle.mcap_model.specs.Fields.{IsMessageIndex}
@@ -13,16 +12,12 @@ use Rattle.mcap_model.specs.Made.{top}
 use Rattle.mcap_model.proofs.Places.{at_none, at_last, last_apart}
 use Rattle.mcap_model.proofs.Lists.{take_while_front}
 use Rattle.mcap_model.proofs.Cutting.{last_of}
+use Rattle.mcap_model.proofs.Once.{message_index_once}
 use Rattle.index_check.specs.declared.chunk_messages.ChunkMessage.{ChunkMessage}
 use Rattle.index_check.specs.Behind.{IsOpen}
 use Rattle.index_check.specs.Messages.{message_of, AreOn}
 
 -- ---- a Message Index
-
-pub index_once : (t : Top) (a b : ℕ) (e f : List (ℕ × ℕ)) → IsMessageIndex t a e → IsMessageIndex t b f → (a ≡ b) × (e ≡ f)
-index_once t a b e f one other =
-    let same = shows_decided message_index_kinds t.content (message_index_values a e) (message_index_values b f) one.layout other.layout in
-    (cc same, cc same)
 
 pub as_index : (content : List ℕ) (channel : ℕ) (entries : List (ℕ × ℕ)) → ShowsMessageIndex content channel entries → IsMessageIndex (top 7 content) channel entries
 as_index content channel entries shows = record { kind = refl; layout = shows }
@@ -36,14 +31,14 @@ index_belongs before messages channels content channel entries o shows are fresh
         let same = last_apart (λ (u : Top). u.op ≡ 7) o.others others o.chunk chunk o.earlier earlier (sym o.joined ∙ joined) (let six = o.kind in λ e. omega (arith, six, e)) (λ e. omega (arith, kind, e)) o.indexes indexes in
         record {
           entries = λ own list is.
-              let once = index_once (top 7 content) channel own entries list (as_index content channel entries shows) is in
+              let once = message_index_once (top 7 content) channel own entries list (as_index content channel entries shows) is in
               subst (λ (l : List (ℕ × ℕ)). AreEntries (inner_tops chunk) own l) once.1
               (subst (λ (n : ℕ). AreEntries (inner_tops chunk) n entries) once.0
               (subst (λ (u : Top). AreEntries (inner_tops u) channel entries) same.0 are));
           only = λ own u list others_list has is own_is.
-              let once = index_once (top 7 content) channel own entries list (as_index content channel entries shows) own_is in
+              let once = message_index_once (top 7 content) channel own entries list (as_index content channel entries shows) own_is in
               let there = o.shown has.0 u (subst (λ (l : List Top). At l has.0 u) (sym same.1) has.1) in
-              let again = index_once u there.0 own there.1 others_list there.2 is in
+              let again = message_index_once u there.0 own there.1 others_list there.2 is in
               fresh (subst (Has channels) (again.0 ∙ sym once.0) there.3);
         }
 
@@ -114,7 +109,7 @@ on_indexed before after t messages channels o other some indexed = elim indexed 
       let is = holds.are heard (n, at) in
       let (k, i, entries, there, shows) = each is.place heard.channel is.top is.message is.at is.is in
       let seen = o.shown k i (subst (λ (l : List Top). At l k i) (behind_open before after t messages channels o other) there) in
-      let once = index_once i seen.0 heard.channel seen.1 entries seen.2 shows in
+      let once = message_index_once i seen.0 heard.channel seen.1 entries seen.2 shows in
       subst (Has channels) once.0 seen.3
 ]
   where

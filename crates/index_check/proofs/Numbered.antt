@@ -20,7 +20,7 @@ use Rattle.index_check.specs.Spots.{NamesSpot, FitsNamed, NotesOf, NamedBy}
 use Rattle.index_check.specs.Chunks.{NamesNoted, IsOfChunk, NotesIndex, NotesIndexes, NotesChunk, ChunksOf, ChunksNamed, IndexesChunk}
 use Rattle.index_check.proofs.Spotted.{fits_first, first_fits, name_next, spots_named, note_there}
 use Rattle.index_check.proofs.Indexed.{notes_named}
-use Rattle.index_check.proofs.Followers.{index_once}
+use Rattle.mcap_model.proofs.Once.{message_index_once}
 
 abbrev IsSix : Top → Type 0
 IsSix t = t.op ≡ 6
@@ -87,7 +87,7 @@ names_right tops k t note f noted names = elim names [
         (notes.shown, record { place = p; top = u; at = there; is = subst (λ (c : ℕ). IsMessageIndex u c notes.shown) own.0 notes.is; there = sym own.1 ∙ notes.there }),
     λ channel offset entries named some.
         let (i, at, notes) = note_of tops k note.indexes.items named.place named.top noted.indexes named.at in
-        let once = index_once named.top i.channel channel notes.shown entries notes.is named.is in
+        let once = message_index_once named.top i.channel channel notes.shown entries notes.is named.is in
         let has = each named.place i at (λ e. empty_or entries some (ap length (sym once.1) ∙ sym notes.counted ∙ e)) in
         let same : ◌≡◌ {A = ℕ × ℕ} (i.channel, i.offset) (channel, offset) = pair_same (i.channel, i.offset) channel offset once.0 (notes.there ∙ sym named.there) in
         subst {A = ℕ × ℕ} (λ e. Has f.indexes e) same has,
@@ -103,7 +103,7 @@ right_names tops k t note f noted right = elim right [
     λ n name at.
         let (entries, named) = none_else name.0 name.1 (n, at) in
         let (i, there, notes) = note_of tops k note.indexes.items named.place named.top noted.indexes named.at in
-        let once = index_once named.top i.channel name.0 notes.shown entries notes.is named.is in
+        let once = message_index_once named.top i.channel name.0 notes.shown entries notes.is named.is in
         (named.place, i, there, (once.0, notes.there ∙ sym named.there)),
     λ p i at some.
         let (u, there, notes) = top_of tops k note.indexes.items p i noted.indexes at in
