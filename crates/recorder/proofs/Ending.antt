@@ -35,9 +35,8 @@ use Rattle.recorder.specs.Writing.{Continues}
 use Rattle.recorder.specs.Intakes.{beside, taken_of, EndsAs, IsIntake}
 use Rattle.recorder.specs.Onto.{IsWritten, IsReported}
 use Rattle.buffer_swap.proofs.Growing.{placed_at, placed_there}
-use Rattle.recorder.proofs.Publishing.{parts}
+use Rattle.buffer_swap.proofs.Desks.{parts, ended_stands}
 use Rattle.recorder.proofs.Draining.{continues_on, continues_same}
-use Rattle.recorder.proofs.Handing.{ended_stands}
 
 -- ---- the beginning
 

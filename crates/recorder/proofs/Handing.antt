@@ -19,34 +19,10 @@ use Rattle.recorder.specs.Lone.{FoundBefore, Showing, IsAlone, GoesOn, StaysOpen
 use Rattle.recorder.specs.Writing.{written, Continues}
 use Rattle.recorder.specs.Intakes.{beside, taken_of, EndsAs, IsIntake, Intakes}
 use Rattle.recorder.proofs.Growing.{found_on}
-use Rattle.recorder.proofs.Publishing.{parts}
+use Rattle.buffer_swap.proofs.Desks.{parts, all_taken, swapped_stands, ended_stands}
 use Rattle.recorder.proofs.Draining.{written_limit, written_count}
 
 -- ---- the state behind a step
-
-abbrev all_taken : State → State
-all_taken s = record s { taken = length s.history }
-
-pub swapped_stands : (d : DeskView) (s : State) → DeskStandsFor d s → DeskStandsFor (swapped d) (all_taken s)
-swapped_stands d s stands =
-    let size : length s.history ≡ s.taken + length (drop s.taken s.history) = omega (arith, length-drop s.taken s.history, stands.within) in
-    let nothing : drop (length s.history) s.history ≡ [] = drop_all (length s.history) s.history (omega arith) in
-    record {
-      desk = ap (λ (rest : List Rec). record (desk_of d.limit (all_taken s)) { primary = rest }) nothing
-          ∙ ap (λ (n : ℕ). record (desk_of d.limit (all_taken s)) { primary = []; taken = n }) size
-          ∙ ap swapped stands.desk;
-      within = omega arith;
-      numbered = stands.numbered;
-    }
-
-pub ended_stands : (d : DeskView) (s : State) (end : End) → DeskStandsFor d s → DeskStandsFor (ended d end) (end_with end s)
-ended_stands d s end stands =
-    let size : length s.history ≡ s.taken + length (drop s.taken s.history) = omega (arith, length-drop s.taken s.history, stands.within) in
-    record {
-      desk = ap (λ (n : ℕ). record (desk_of d.limit s) { end = end_or s.end end n }) size ∙ ap (λ (x : DeskView). ended x end) stands.desk;
-      within = stands.within;
-      numbered = stands.numbered;
-    }
 
 abbrev state_behind : State → Phase → State
 state_behind s phases.Going = all_taken s

@@ -30,38 +30,13 @@ use Rattle.feed_lane.specs.Pass.{FullAt, Reason, for_size, for_close, for_stop, 
 use Rattle.recorder.specs.declared.lone.LoneDesk.{LoneDesk}
 use Rattle.buffer_swap.specs.Shown.{ChannelStands, IdsLack, HeldThere, FoundThere}
 use Rattle.recorder.specs.Lone.{FoundBefore, Showing, IsAlone, GoesOn, looked, looked_in, PublishesAlone, DeclaresAlone}
+use Rattle.buffer_swap.proofs.Desks.{parts, full_there, found_there, known_id, unknown_id, published_state, declared_state}
 use Rattle.buffer_swap.proofs.Growing.{placed_at, placed_more, channel_stands_on, lacks_on, held_there_on, found_there_on}
 use Rattle.buffer_swap.specs.Shown.{Spares}
 use Rattle.buffer_swap.proofs.Reasons.{PublishReason, HasRecords, publish_reason, declare_reason, narrow}
 use Rattle.buffer_swap.proofs.Numbers.{message_spares, declared_spares, declared_stands, declared_id, are_added, lacking_schemas, lacks_schema, lacks_channel, stands_nowhere, gets_id}
 
--- ---- a desk and its state
-
--- the fields of a desk that stands for a state
-pub record Parts (d : DeskView) (s : State) : Type 0 where
-  pub taken : d.taken ≡ s.taken
-  pub primary : d.primary ≡ drop s.taken s.history
-  pub end : d.end ≡ s.end
-  pub ids : d.ids ≡ ids_of s.history
-  pub contents : HasContents d.ids s.history
-  pub count : accepted d ≡ length s.history
-  pub held : d.taken ≤ accepted d
-
-pub parts : (d : DeskView) (s : State) → DeskStandsFor d s → Parts d s
-parts d s stands =
-    let same : d ≡ desk_of d.limit s = sym stands.desk in
-    let taken : d.taken ≡ s.taken = ap (λ (x : DeskView). x.taken) same in
-    let primary : d.primary ≡ drop s.taken s.history = ap (λ (x : DeskView). x.primary) same in
-    let size : length d.primary ≡ length (drop s.taken s.history) = ap length primary in
-    record {
-      taken = taken;
-      primary = primary;
-      end = ap (λ (x : DeskView). x.end) same;
-      ids = ap (λ (x : DeskView). x.ids) same;
-      contents = record { schemas = ap (λ (x : DeskView). x.ids.schemas) same; channels = ap (λ (x : DeskView). x.ids.channels) same };
-      count = omega (arith, taken, size, length-drop s.taken s.history, stands.within);
-      held = omega arith;
-    }
+-- ---- how the desk is found
 
 pub finds : (lone : LoneDesk) (s : State) (before : PassState) → IsAlone lone s before → Finds before (found_of lone.desk)
 finds lone s before alone =
@@ -88,28 +63,6 @@ found_self d unclosed = record {
   all = λ e is. refl;
   unclosed = unclosed;
 }
-
-full_there : (d : DeskView) (s : State) → DeskStandsFor d s → HeldThere s.history (full_at (found_of d))
-full_there d s stands =
-    let p = parts d s stands in
-    let n = accepted d - d.taken in
-    let rest : drop d.taken s.history ≡ d.primary = ap (λ (k : ℕ). drop k s.history) p.taken ∙ sym p.primary in
-    let same : take n (drop d.taken s.history) ≡ d.primary = ap (take n) rest ∙ take_all n d.primary (omega arith) in
-    record {
-      order = p.held;
-      within = omega (arith, p.count);
-      held = ap (λ (l : List Rec). length (history_bytes l)) (sym same);
-    }
-
-found_there : (d : DeskView) (s : State) → DeskStandsFor d s → FoundThere s.history (found_of d)
-found_there d s stands =
-    let p = parts d s stands in
-    let all : take (accepted d) s.history ≡ s.history = take_all (accepted d) s.history (omega (arith, p.count)) in
-    record {
-      held = full_there d s stands;
-      schemas = ap length p.contents.schemas ∙ sym (schemas_counted s.history) ∙ ap schema_count (sym all);
-      channels = ap length p.contents.channels ∙ sym (channels_counted s.history) ∙ ap channel_count (sym all);
-    }
 
 -- what a call that was refused showed beside how it found the desk
 record Shown (history : List Rec) (fulls : List FullAt) (lacks : List (ChannelDef × DeclareRefused)) : Type 0 where
@@ -238,29 +191,7 @@ adds old new s before records named alone stands is unended looked spares are =
 goes_on : (d : DeskView) (s : State) (records : List Rec) → DeskStandsFor d s → GoesOn s (accept 0 records s)
 goes_on d s records stands = record { taken = refl; front = take-append-le s.taken s.history records stands.within }
 
-some_options : FileOptions
-some_options = record { profile = []; chunk = None }
-
 -- ---- messages
-
-published_state : (d after : DeskView) (s : State) (channel : ℕ) (m : MessageFields) → publish_refusal d channel (length m.payload) ≡ None → Steps d (publish 0 channel m) after → DeskStandsFor d s
-    → DeskStandsFor after (accept 0 (message_of channel m ∷ []) s)
-published_state d after s channel m none steps stands =
-    let open_there : publish_refusal (desk_of d.limit s) channel (length m.payload) ≡ None = ap (λ (x : DeskView). publish_refusal x channel (length m.payload)) stands.desk ∙ none in
-    subst (λ (r : Option PublishRefused). DeskStandsFor after (unless r 0 (message_of channel m ∷ []) s)) open_there (steps some_options s stands)
-
-known_id : (ids : Ids) (channel : ℕ) → is_known ids channel ≡ true → (1 ≤ channel) × (channel ≤ length ids.channels)
-known_id ids channel known =
-    let both = and_parts (nat_lt 0 channel) (nat_le channel (length ids.channels)) known in
-    (let some = ltb-true 0 channel both.0 in omega (arith, some), leb-true channel (length ids.channels) both.1)
-
-unknown_by : (ids : Ids) (channel : ℕ) (some known : Bool) → nat_lt 0 channel ≡ some → nat_le channel (length ids.channels) ≡ known → (some && known) ≡ false → (channel ≡ 0) ⊎ (length ids.channels < channel)
-unknown_by ids channel false known is all no_more = let le : channel ≤ 0 = grind arith in inl (omega (arith, le))
-unknown_by ids channel true false is all no_more = inr (grind arith)
-unknown_by ids channel true true is all no_more = cc
-
-unknown_id : (ids : Ids) (channel : ℕ) → is_known ids channel ≡ false → (channel ≡ 0) ⊎ (length ids.channels < channel)
-unknown_id ids channel unknown = unknown_by ids channel (nat_lt 0 channel) (nat_le channel (length ids.channels)) refl refl unknown
 
 -- nothing refuses the message
 may_take : (lone : LoneDesk) (s : State) (before : PassState) (channel : ℕ) {len : ℕ} → IsAlone lone s before → PublishReason lone.desk channel len None → MayTake before (found_of lone.desk) channel
@@ -342,13 +273,6 @@ published old new m (Err (publishing.Full h)) last is steps looked s before alon
     )
 
 -- ---- declarations
-
-declared_state : (d after : DeskView) (s : State) (c : ChannelDef) → declare_refusal d c ≡ None → Steps d (declare 0 c) after → DeskStandsFor d s
-    → DeskStandsFor after (accept 0 (new_records d.ids c) s)
-declared_state d after s c none steps stands =
-    let open_there : declare_refusal (desk_of d.limit s) c ≡ None = ap (λ (x : DeskView). declare_refusal x c) stands.desk ∙ none in
-    let there = subst (λ (r : Option DeclareRefused). DeskStandsFor after (unless r 0 (new_records (ids_of s.history) c) s)) open_there (steps some_options s stands) in
-    subst (λ (ids : Ids). DeskStandsFor after (accept 0 (new_records ids c) s)) (sym (parts d s stands).ids) there
 
 -- a content that isn't found got no id
 unnamed : (lone : LoneDesk) (s : State) (before : PassState) (c : ChannelDef) → IsAlone lone s before → channel_place lone.desk.ids c ≡ None → IsUnnamed before c

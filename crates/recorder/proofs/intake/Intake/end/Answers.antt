@@ -2,7 +2,7 @@ use Rattle.std.proofs.Common.{ap, subst, ◌∙◌, All}
 use Rattle.record_cache.specs.Buffers.{IsKept}
 use Rattle.record_core.specs.Desk.{DeskView, accepted}
 use Rattle.recorder.specs.declared.report.WriterReport.{WriterReport}
-use Rattle.recorder.proofs.Publishing.{parts}
+use Rattle.buffer_swap.proofs.Desks.{parts}
 use Rattle.recorder.proofs.Ending.{written_all, all_kept}
 use Rattle.recorder.proofs.intake.Intake.end.Goals as goal
 

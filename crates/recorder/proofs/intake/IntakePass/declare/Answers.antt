@@ -1,4 +1,4 @@
-use Rattle.recorder.proofs.Rooms.{declared_unfull}
+use Rattle.buffer_swap.proofs.Fulls.{declared_unfull}
 use Rattle.recorder.proofs.Handing.{called}
 use Rattle.recorder.proofs.intake.IntakePass.declare.Goals as goal
 

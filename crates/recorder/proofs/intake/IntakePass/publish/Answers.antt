@@ -1,4 +1,4 @@
-use Rattle.recorder.proofs.Rooms.{published_unfull}
+use Rattle.buffer_swap.proofs.Fulls.{published_unfull}
 use Rattle.recorder.proofs.Handing.{called}
 use Rattle.recorder.proofs.intake.IntakePass.publish.Goals as goal
 
