@@ -2,12 +2,13 @@ mod Sizes
 mod Readouts
 mod Smallest
 mod Broken
-mod BlockIndexes
+pub mod BlockIndexes
 pub mod Tails
-mod StatisticsRight
+pub mod StatisticsRight
 mod SummaryRules
 mod IndexRules
 pub mod Scanned
+pub mod FirstPieces
 pub mod Validity
 pub mod Ranges
 mod OneMessage

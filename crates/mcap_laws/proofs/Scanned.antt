@@ -171,7 +171,7 @@ good_of_sound header tops is short sound agree near n t at = fits n t at (cut_at
 -- ---- the file
 
 -- a content of a piece may be read
-piece_short : (p : Piece) → PieceIsShort p → Each (λ t. length t.content ≤ 268435456) (piece_tops p)
+pub piece_short : (p : Piece) → PieceIsShort p → Each (λ t. length t.content ≤ 268435456) (piece_tops p)
 piece_short (block records) fits = each_cons (λ t. length t.content ≤ 268435456) (chunk_top records) (map (index_top records) (logged_channels records)) fits
     (each_map (index_top records) (λ t. length t.content ≤ 268435456) (logged_channels records) (λ n channel at. let less = index_short records channel in let chunk = length-chunk records in omega (arith, less, chunk, fits)))
 piece_short (alone r) fits = each_cons (λ t. length t.content ≤ 268435456) (rec_top r) [] fits (λ n y at. absurd (at_none n y at))

@@ -12,3 +12,7 @@ mod AgreedFields
 pub mod OneHistory
 mod OneFeed
 pub mod Unfull
+mod BlockStretches
+pub mod EntriesFollow
+pub mod EntriesGathered
+pub mod FrontsTold

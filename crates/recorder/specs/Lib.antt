@@ -5,3 +5,4 @@ pub mod Writing
 pub mod Intakes
 pub mod Onto
 pub mod Laws
+pub mod Entries

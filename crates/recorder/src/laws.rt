@@ -1,5 +1,8 @@
 //! Laws of recordings, each as the contract of a function that does nothing.
 ghost use Rattle.recorder.specs.Laws.{RecordingsAreReadBack, RecordingsAreValid, HistoriesAreGiven, RecordingsAreGiven};
+ghost use Rattle.recorder.specs.Entries.{RecordedEntriesFollow, FrontsAreTold, EntriesAreGathered};
+
+use mcap_io::Extent;
 
 /// The file of a recording that was closed is read back as its history.
 pub fn recordings_are_read_back()
@@ -20,4 +23,19 @@ pub fn histories_are_given()
 /// The bytes of a feed and the report on it decide the history.
 pub fn recordings_are_given()
     ensures { RecordingsAreGiven }
+{}
+
+/// The entries of the first blocks of a recording follow one another.
+pub fn recorded_entries_follow<X: Extent>()
+    ensures { RecordedEntriesFollow X.tells }
+{}
+
+/// What the entries of first blocks tell has the messages of the file's front that ends with these blocks.
+pub fn fronts_are_told<X: Extent>()
+    ensures { FrontsAreTold X.tells }
+{}
+
+/// The entries that a Scribe gives, one call after another, are those of the blocks of its history.
+pub fn entries_are_gathered<X: Extent>()
+    ensures { EntriesAreGathered X.tells X.size }
 {}
