@@ -143,23 +143,28 @@ nothing_stands opened options extras history start told = ([], told ∙ ap Some 
 pub stopped_recovers : (chunk : ℕ) (before now : SourceState) (opened stored : LiveState) (stop : Stop) (refusal : RecoverRefused) (blocks bytes : ℕ) → RefusedBy stop refusal → StopCause opened.faults stored.faults stop → now.faults ≡ before.faults → HasMagic before
     → OfBoth chunk before (λ options extras history. StopsAt options extras history opened.held stored.held stop blocks bytes) → Recovers chunk before now opened stored (Err refusal)
 stopped_recovers chunk before now opened stored (stops.Fault faults) refusal blocks bytes is (rises, carried) still magic_is each =
-    subst (λ (r : RecoverRefused). Recovers chunk before now opened stored (Err r)) (sym is)
-    (inr (rises, carried, still, magic_is), of_part chunk before (λ options extras history. StopsAt options extras history opened.held stored.held (stops.Fault faults) blocks bytes) (StandsPart opened stored)
-        (λ options extras history stopped. part_of_stop options extras history opened stored (stops.Fault faults) blocks bytes stopped) each)
+    subst (λ (r : RecoverRefused). Recovers chunk before now opened stored (Err r)) (sym is) (
+      inr (rises, carried, still, magic_is),
+      of_part chunk before (λ options extras history. StopsAt options extras history opened.held stored.held (stops.Fault faults) blocks bytes) (StandsPart opened stored)
+          (λ options extras history stopped. part_of_stop options extras history opened stored (stops.Fault faults) blocks bytes stopped) each,
+    )
 stopped_recovers chunk before now opened stored (stops.Limit m n) refusal blocks bytes is cause still magic_is each =
     subst (λ (r : RecoverRefused). Recovers chunk before now opened stored (Err r)) (sym is) (
       record { source = still; store = cause },
       magic_is,
       of_part chunk before (λ options extras history. StopsAt options extras history opened.held stored.held (stops.Limit m n) blocks bytes) (λ options extras history. StopsAt options extras history opened.held stored.held (stops.Limit m n) m n)
-      (λ options extras history stopped.
+          (λ options extras history stopped.
           let why = stopped.why in
           subst (λ (k : ℕ). StopsAt options extras history opened.held stored.held (stops.Limit m n) k n) (sym why.0)
           (subst (λ (k : ℕ). StopsAt options extras history opened.held stored.held (stops.Limit m n) blocks k) (sym why.1) stopped)) each,
     )
 stopped_recovers chunk before now opened stored stops.Memory refusal blocks bytes is cause still magic_is each =
-    subst (λ (r : RecoverRefused). Recovers chunk before now opened stored (Err r)) (sym is)
-    (record { source = still; store = cause }, inr magic_is, of_part chunk before (λ options extras history. StopsAt options extras history opened.held stored.held stops.Memory blocks bytes) (StandsPart opened stored)
-        (λ options extras history stopped. part_of_stop options extras history opened stored stops.Memory blocks bytes stopped) each)
+    subst (λ (r : RecoverRefused). Recovers chunk before now opened stored (Err r)) (sym is) (
+      record { source = still; store = cause },
+      inr magic_is,
+      of_part chunk before (λ options extras history. StopsAt options extras history opened.held stored.held stops.Memory blocks bytes) (StandsPart opened stored)
+          (λ options extras history stopped. part_of_stop options extras history opened stored stops.Memory blocks bytes stopped) each,
+    )
 
 pub is_stopped_recovers : {L : Type 0} (seen : L → LiveState) (chunk : ℕ) (profile : List ℕ) (before now : SourceState) (opened : LiveState) (k : Keeping L) (stop : Stop) (refusal : RecoverRefused) → RefusedBy stop refusal
     → StopCause opened.faults (seen k.scribe.store).faults stop → IsStopped seen (recovered_options profile chunk) before now opened k stop → Recovers chunk before now opened (seen k.scribe.store) (Err refusal)
