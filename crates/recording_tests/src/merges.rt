@@ -12,15 +12,21 @@ use std::test::Fail;
 
 // Channel 1 of topic /a, and messages on it, the first at 10.
 const CHANNEL_A: &[u8] = b"\x04\x12\0\0\0\0\0\0\0\x01\0\0\0\x02\0\0\0/a\0\0\0\0\0\0\0\0";
-const MESSAGE_A: &[u8] = b"\x05\x17\0\0\0\0\0\0\0\x01\0\x01\0\0\0\x0a\0\0\0\0\0\0\0\x09\0\0\0\0\0\0\0\xaa";
+
+const MESSAGE_A: &[u8] =
+    b"\x05\x17\0\0\0\0\0\0\0\x01\0\x01\0\0\0\x0a\0\0\0\0\0\0\0\x09\0\0\0\0\0\0\0\xaa";
 
 // The same of channel 1 of topic /b.
 const CHANNEL_B: &[u8] = b"\x04\x12\0\0\0\0\0\0\0\x01\0\0\0\x02\0\0\0/b\0\0\0\0\0\0\0\0";
-const MESSAGE_B: &[u8] = b"\x05\x17\0\0\0\0\0\0\0\x01\0\x01\0\0\0\x0a\0\0\0\0\0\0\0\x09\0\0\0\0\0\0\0\xbb";
+
+const MESSAGE_B: &[u8] =
+    b"\x05\x17\0\0\0\0\0\0\0\x01\0\x01\0\0\0\x0a\0\0\0\0\0\0\0\x09\0\0\0\0\0\0\0\xbb";
 
 // Channel 4 of topic /a, and its fifth message, at 10.
 const CHANNEL_C: &[u8] = b"\x04\x12\0\0\0\0\0\0\0\x04\0\0\0\x02\0\0\0/a\0\0\0\0\0\0\0\0";
-const MESSAGE_C: &[u8] = b"\x05\x17\0\0\0\0\0\0\0\x04\0\x05\0\0\0\x0a\0\0\0\0\0\0\0\x09\0\0\0\0\0\0\0\xcc";
+
+const MESSAGE_C: &[u8] =
+    b"\x05\x17\0\0\0\0\0\0\0\x04\0\x05\0\0\0\x0a\0\0\0\0\0\0\0\x09\0\0\0\0\0\0\0\xcc";
 
 // Channel 1 of topic /a with the metadata k: v.
 const CHANNEL_D: &[u8] =
@@ -121,7 +127,10 @@ fn the_same_file_twice_has_one_channel(rt: HostRuntime) -> Result<(), Fail> {
     let (result, bytes) = merged(alloc, stores)?;
     holds(&rt, counts(&result, 2, 3));
     holds_at(&rt, bytes.len() == 524, &bytes.len());
-    holds(&rt, stand(bytes.as_slice(), FIRST, &[CHANNEL_A, MESSAGE_A, MESSAGE_A]));
+    holds(
+        &rt,
+        stand(bytes.as_slice(), FIRST, &[CHANNEL_A, MESSAGE_A, MESSAGE_A]),
+    );
     Ok(())
 }
 
@@ -157,7 +166,10 @@ fn a_profile_of_all_inputs_is_kept(rt: HostRuntime) -> Result<(), Fail> {
     )?;
     let (result, bytes) = merged(alloc, stores)?;
     holds(&rt, counts(&result, 2, 4));
-    holds(&rt, stand(bytes.as_slice(), 8, &[b"\x01\x12\0\0\0\0\0\0\0\x01\0\0\0p"]));
+    holds(
+        &rt,
+        stand(bytes.as_slice(), 8, &[b"\x01\x12\0\0\0\0\0\0\0\x01\0\0\0p"]),
+    );
     Ok(())
 }
 
