@@ -560,22 +560,13 @@ else
     skip 'interrupts, since there is no script'
 fi
 
-# ---- an output pipe whose reader goes away, and a limit of the system on sizes
+# ---- a limit of the system on sizes
 
-mkfifo short-pipe
-head -c 10 short-pipe >/dev/null &
 filter='sed s/[0-9][0-9]*/N/g'
-expect 3 "feed N accepted=N refused=N passed=N ended
-file records=N blocks=N bytes=N stopped fault" 'mcaprec: "short-pipe": fault' timeout 60 mcaprec record --plain short-pipe many.mcap
-wait
 # shellcheck disable=SC2016  # the inner shell is to expand them
 expect 3 "feed N accepted=N refused=N passed=N ended
-file records=N blocks=N bytes=N stopped fault" 'mcaprec: "limited.mcap": fault' sh -c 'ulimit -f 128; mcaprec record --plain "$1" "$2"' sh limited.mcap many.mcap
+$stopped" 'mcaprec: "limited.mcap": fault' sh -c 'ulimit -f 128; mcaprec record --plain "$1" "$2"' sh limited.mcap many.mcap
 filter='cat'
-
-# shellcheck disable=SC2016  # the inner shell is to expand them
-expect 3 '' 'mcaprec: output: fault' sh -c 'mcaprec record --plain "$1" "$2" >/dev/full' sh printed.mcap "$sample"
-expect_empty_file printed.mcap
 
 # ---- files and folders that may not be read or written: root may do all, so another user runs it
 
