@@ -9,19 +9,20 @@ use Rattle.mcap_model.specs.Tops.{Top, spelled}
 use Rattle.mcap_model.specs.History.{history_bytes}
 use Rattle.mcap_model.specs.Blocks.{Piece, block, alone, pieces_of, piece_bytes, pieces_bytes, chunk_bytes, indexes_bytes, logged_channels}
 use Rattle.mcap_model.specs.File.{front, data_end, section, tail_by, noted, file_of}
-use Rattle.mcap_model.proofs.Section.{piece_recs, held, pieces_hold, block_within}
+use Rattle.mcap_model.specs.Recovery.{piece_records}
+use Rattle.mcap_model.proofs.Section.{held, pieces_hold, block_within}
 
 records_few : (records : List Rec) → length records ≤ length (history_bytes records)
 records_few [] = omega arith
 records_few (r ∷ rs) = omega (arith, records_few rs, length-framed (rec_opcode r) (rec_text r), length-append (rec_bytes r) (history_bytes rs))
 
-piece_few : (p : Piece) → length (piece_recs p) ≤ length (piece_bytes p)
+piece_few : (p : Piece) → length (piece_records p) ≤ length (piece_bytes p)
 piece_few (block records) = omega (arith, records_few records, block_within records, length-append (chunk_bytes records) (indexes_bytes records (logged_channels records)))
 piece_few (alone r) = omega (arith, length-framed (rec_opcode r) (rec_text r))
 
 pieces_few : (ps : List Piece) → length (held ps) ≤ length (pieces_bytes ps)
 pieces_few [] = omega arith
-pieces_few (p ∷ ps) = omega (arith, piece_few p, pieces_few ps, length-append (piece_recs p) (held ps), length-append (piece_bytes p) (pieces_bytes ps))
+pieces_few (p ∷ ps) = omega (arith, piece_few p, pieces_few ps, length-append (piece_records p) (held ps), length-append (piece_bytes p) (pieces_bytes ps))
 
 pub history_few : (options : FileOptions) (extras : List Top) (history : List Rec) → length history ≤ length (file_of options extras history)
 unfolding file_of

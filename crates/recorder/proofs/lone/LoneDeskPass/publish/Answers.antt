@@ -1,6 +1,7 @@
 use Rattle.std.proofs.Common.{ap, ◌∙◌}
 use Rattle.record_core.specs.Desk.{end_of}
-use Rattle.recorder.proofs.Rooms.{ended_room, published_unfull}
+use Rattle.buffer_swap.proofs.Fulls.{published_unfull}
+use Rattle.recorder.proofs.Rooms.{ended_room}
 use Rattle.recorder.proofs.lone.LoneDeskPass.publish.Goals as goal
 
 pub returns : goal.returns
