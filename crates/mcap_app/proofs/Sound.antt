@@ -1,12 +1,13 @@
 -- What is recorded keeps all rules.
 use Rattle.std.proofs.Common.{◌≡◌, ◌⊎◌, ℕ, ◌≤◌, List, [], ◌++◌, length, Option, Some, None, refl, ap, subst, inl, inr, ◌∙◌, arith, length-append}
+use Rattle.std.proofs.lemmas.Bool.{both_ways}
 use Rattle.mcap_wire.specs.Layout.{magic}
 use Rattle.mcap_io.specs.Outside.{WorldState}
 use Rattle.mcap_model.specs.declared.checked.Verdict.{Verdict}
 use Rattle.mcap_model.specs.declared.checked.Verdict.TheVariants as verdicts
 use Rattle.mcap_model.specs.declared.options.FileOptions.{FileOptions}
 use Rattle.mcap_model.specs.Tops.{Top, spelled}
-use Rattle.mcap_model.specs.Kept.{Halt, HaltsAt, Halts, SameHalt, reading_limits, at_end, grammar as breaks, compressed as names, beyond, no_magic, at_data_end, behind_kept}
+use Rattle.mcap_model.specs.Kept.{Halt, HaltsAt, Halts, SameHalt, reading_limits, is_beyond, at_end, grammar as breaks, compressed as names, beyond, no_magic, at_data_end, behind_kept}
 use Rattle.mcap_model.specs.File.{file_of}
 use Rattle.mcap_model.specs.Places.{At, Each}
 use Rattle.mcap_model.specs.Fields.{IsFooter}
@@ -28,14 +29,15 @@ use Rattle.mcap_model.proofs.Flaws.{flaws_exclude_validity}
 use Rattle.recorder.specs.Laws.{ReadsAs, IsSound}
 use Rattle.recorder.proofs.Validity.{recordings_are_valid}
 use Rattle.file_check.specs.declared.refusals.CheckRefused.TheVariants as refusals
-use Rattle.file_check.specs.Checking.{IsSo, HaltsBefore}
+use Rattle.file_check.specs.Checking.{IsSo, HaltsBefore, MeetsLimit}
+use Rattle.file_check.proofs.RealLimits.{limits_are_real}
 use Rattle.file_commands.specs.declared.checking.Judgement.{Judgement}
 use Rattle.file_commands.specs.declared.checking.Judgement.TheVariants as judgements
 use Rattle.file_commands.specs.Check.{verdict_status, Decides}
 use Rattle.mcap_app.specs.Laws.{IsSaid, RecordingsAreSound}
 use Rattle.mcap_app.proofs.RoundTrip.{closed_left}
 
--- ---- no compression, and no limit
+-- ---- no compression
 
 abbrev EndsOrBreaks : Halt → Type 0
 EndsOrBreaks (at_end n) = Unit {0}
@@ -61,7 +63,7 @@ long bytes tops halt (no_magic none) other = absurd (other refl)
 long bytes tops halt (at_data_end rest stand ended) other = omega (arith, ap length stand.split, length-append magic (spelled tops ++ rest))
 long bytes tops halt (behind_kept rest stand unended why there) other = omega (arith, ap length stand.split, length-append magic (spelled tops ++ rest))
 
--- where a file is read to its Data End, a reading in front of its last magic meets no compression and no limit
+-- where a file is read to its Data End, a reading in front of its last magic meets no compression
 reads_on : (file : List ℕ) (tops : List Top) (end : ℕ) → Halts reading_limits file tops (at_end end) → (halt : Halt) → (halt ≡ breaks 0 1 → ⊥) → HaltsBefore file halt → EndsOrBreaks halt
 reads_on file tops end halts halt other (inner, others, is, found) =
     let (rest, stand, ended) = ends_there file tops (at_end end) end halts.there refl in
@@ -121,22 +123,29 @@ said_of options file (verdicts.Indexed n) exact (tops, full, counted) = λ none.
 said_of options file (verdicts.Plain n) exact (tops, valid, missing, counted) = plain_said options.chunk file exact.sound.indexed missing
 said_of options file (verdicts.Flawed rule offset) exact so = flaws_exclude_validity file rule offset so exact.sound.valid
 
-verdict_ends : (chunk : Option ℕ) (verdict : Verdict) (answer : ℕ) → IsSaid chunk verdict → (answer ≡ verdict_status verdict) ⊎ (answer ≡ 5) → (answer ≡ 0) ⊎ ((answer ≡ 4) ⊎ (answer ≡ 5))
-verdict_ends chunk (verdicts.Indexed n) answer said (inl zero_is) = inl zero_is
-verdict_ends chunk (verdicts.Indexed n) answer said (inr five) = inr (inr five)
-verdict_ends chunk (verdicts.Plain n) answer said (inl zero_is) = inl zero_is
-verdict_ends chunk (verdicts.Plain n) answer said (inr five) = inr (inr five)
+verdict_ends : (chunk : Option ℕ) (verdict : Verdict) (answer : ℕ) → IsSaid chunk verdict → (answer ≡ verdict_status verdict) ⊎ (answer ≡ 5) → (answer ≡ 0) ⊎ (answer ≡ 5)
+verdict_ends chunk (verdicts.Indexed n) answer said why = why
+verdict_ends chunk (verdicts.Plain n) answer said why = why
 verdict_ends chunk (verdicts.Flawed rule offset) answer said why = absurd said
+
+-- a file whose records are within the limits of reading meets none
+meets_none : (options : FileOptions) (file : List ℕ) (offset : ℕ) → IsSound options file → MeetsLimit file offset → ⊥
+meets_none options file offset sound meets =
+    let (tops, valid) = sound.valid in
+    let past = limits_are_real file tops offset valid.v4 meets in
+    let (n, at, there) = past.at in
+    let within = sound.within in
+    both_ways (is_beyond reading_limits offset (length past.top.content)) (ap (λ (k : ℕ). is_beyond reading_limits k (length past.top.content)) there ∙ within tops n past.top valid.v4 at) past.past
 
 -- the status where the bytes of a sound file decide it
 ends_well : (options : FileOptions) (file : List ℕ) (tops : List Top) (end : ℕ) (judgement : Judgement) (answer : ℕ) → IsExact options file → Halts reading_limits file tops (at_end end)
-    → Decides file judgement answer → (answer ≡ 0) ⊎ ((answer ≡ 4) ⊎ (answer ≡ 5))
+    → Decides file judgement answer → (answer ≡ 0) ⊎ (answer ≡ 5)
 ends_well options file tops end judgements.Unopened answer exact halts is = absurd is
 ends_well options file tops end (judgements.Given verdict) answer exact halts is = verdict_ends options.chunk verdict answer (said_of options file verdict exact is.0) is.1
 ends_well options file tops end (judgements.Refused (refusals.Fault faults)) answer exact halts is = absurd is
 ends_well options file tops end (judgements.Refused (refusals.Compressed n name)) answer exact halts is = absurd (reads_on file tops end halts (names n name) (λ e. absurd cc) is.0)
-ends_well options file tops end (judgements.Refused (refusals.Limit n)) answer exact halts is = inr is.1
-ends_well options file tops end (judgements.Refused refusals.Memory) answer exact halts is = inr (inr is)
+ends_well options file tops end (judgements.Refused (refusals.Limit n)) answer exact halts is = absurd (meets_none options file n exact.sound is.0)
+ends_well options file tops end (judgements.Refused refusals.Memory) answer exact halts is = inr is
 
 pub recordings_are_sound : RecordingsAreSound
 recordings_are_sound options out feed old new later last r answer told allowed text it here same checks quiet =

@@ -57,9 +57,9 @@ pub record PrintsSound (chunk : Option ℕ) (before now : SinkState) : Type 0 wh
   pub line : TellsAll before now (verdict_line verdict)
 
 -- A recording with the status 0 in a world that tells, and then a check of its output there, in which no count rises: it
--- finds no flaw and no compression, and prints that; or a limit of reading was met, or memory lacked for the check.
+-- finds no flaw, no compression and no limit of reading, and prints that; or memory lacked for the check.
 abbrev pub RecordingsAreSound : Type 0
 RecordingsAreSound = (options : RecordOptions) (out feed : List ℕ) (old new later last : Scene) (r : Report) (answer : ℕ) (told : Told) → AreAllowed options → IsUtf8 options.file.profile
     → Records options out feed old new (Some r) 0 → old.world.told ≡ Some told
     → later.world ≡ new.world → FileChecks out later last answer → (AnyRose (counts_in later) (counts_in last) → ⊥)
-    → ((answer ≡ 0) × PrintsSound options.file.chunk later.out last.out) ⊎ ((answer ≡ 4) ⊎ (answer ≡ 5))
+    → ((answer ≡ 0) × PrintsSound options.file.chunk later.out last.out) ⊎ (answer ≡ 5)
