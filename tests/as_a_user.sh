@@ -517,17 +517,11 @@ mcaprec cat killed.mcap >"$room/stdout" 2>"$room/stderr"
 compare 'the status of an ended recording' 1 $?
 compare 'what cat says of it' 'mcaprec: "killed.mcap": grammar at N' "$(sed 's/at [0-9]*/at N/' "$room/stderr")"
 
-# A pipe whose reader goes away. The program doesn't hold it open by reading it too, so it ends: by the signal of a broken
-# pipe, or by the write that fails where that signal is ignored.
-head -c 10 out-pipe >/dev/null &
-timeout 20 mcaprec record --plain out-pipe large.mcap >/dev/null 2>&1
-compare 'the status of a recording that nobody reads any more' 141 $?
-wait
+# A pipe whose reader goes away. The program doesn't read it too, which would keep it alive: its next write fails.
 head -c 10 out-pipe >/dev/null &
 filter='sed s/[0-9][0-9]*/N/g'
-# shellcheck disable=SC2016  # the inner shell is to expand them
 expect 3 "feed N accepted=N refused=N passed=N ended
-$stopped" 'mcaprec: "out-pipe": fault' timeout 20 sh -c 'trap "" PIPE && exec mcaprec record --plain "$1" "$2"' sh out-pipe large.mcap
+$stopped" 'mcaprec: "out-pipe": fault' timeout 20 mcaprec record --plain out-pipe large.mcap
 filter='cat'
 wait
 rm -f large.mcap large-out.mcap killed.mcap
