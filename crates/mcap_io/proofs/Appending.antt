@@ -70,6 +70,13 @@ ends-within pieces at end b ends =
     let whole = ap (λ (l : List ℕ). length l) (concat-cut pieces b.before (b.piece ∷ b.behind) b.cut) in
     (omega (arith, there), omega (arith, there, place, whole, length-append (concat b.before) (b.piece ++ concat b.behind), length-append b.piece (concat b.behind)))
 
+-- a walk stays within the bytes
+pub walked-within : (pieces : List (List ℕ)) (at : ℕ) → Walked pieces at → at ≤ length (concat pieces)
+walked-within pieces at walked =
+    let place = walked.place in
+    let whole = ap (λ (l : List ℕ). length l) (concat-cut pieces walked.before walked.behind walked.cut) in
+    omega (arith, place, whole, length-append (concat walked.before) (concat walked.behind))
+
 -- no piece is empty
 pub some-there : (pieces : List (List ℕ)) (at : ℕ) (b : BeginsAt pieces at) → All (λ (p : List ℕ). 0 < length p) pieces → 0 < length b.piece
 some-there pieces at b some =

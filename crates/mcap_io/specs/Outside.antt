@@ -24,10 +24,12 @@ pub record SinkState : Type 0 where
   pub took : Option (List ℕ)
   pub faults : ℕ
 
--- of a live store: the bytes that it holds, where it tells them, and how often it has failed
+-- of a live store: the bytes that it holds, where it tells them, how often it has failed, and how many of the bytes that it
+-- took wait in it and aren't with the system yet
 pub record LiveState : Type 0 where
   pub held : Option (List ℕ)
   pub faults : ℕ
+  pub waiting : ℕ
 
 -- what stands under each name, if anything
 abbrev pub Names : Type 0

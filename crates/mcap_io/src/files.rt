@@ -221,7 +221,7 @@ impl<F: Write + OpenFile + FileExt + Drop> LiveStore for FileLive<F> {
 
     type View = FileView<F>;
 
-    ghost state = { λ s. record { held = nothing; faults = s.faults } };
+    ghost state = { λ s. record { held = nothing; faults = s.faults; waiting = length s.gather.waiting.items } };
 
     fn append(&mut self, bytes: &[u8]) -> Result<Stretch, AppendRefused>
         ensures adds { IfOk result (λ e. Adds nothing nothing bytes.now) }
@@ -229,6 +229,7 @@ impl<F: Write + OpenFile + FileExt + Drop> LiveStore for FileLive<F> {
         ensures names { IfOk result (λ e. (told : List ℕ) → nothing ≡ Some told → told ≡ bytes.now) }
         ensures leaves { IfErr result (AppendLeaves nothing nothing bytes.now) }
         ensures cause { AppendCause self.old.faults self.new.faults result }
+        ensures waits { length self.new.gather.waiting.items ≤ length self.old.gather.waiting.items + length bytes.now }
         // The pieces stand one behind the other.
         ensures place { IfOk result (λ e. (e.from ≡ self.old.len) × (self.new.len ≡ min (self.old.len + e.len) (2 ^ 64 - 1))) }
         // Where the file tells what it holds, that and what waits hold all pieces in their order.
@@ -247,6 +248,8 @@ impl<F: Write + OpenFile + FileExt + Drop> LiveStore for FileLive<F> {
         ensures names { IfOk result (λ e. (told : List ℕ) → nothing ≡ Some told → told ≡ bytes.now) }
         ensures leaves { IfErr result (AppendLeaves nothing nothing bytes.now) }
         ensures cause { AppendCause self.old.faults self.new.faults result }
+        ensures waits { length self.new.gather.waiting.items ≤ length self.old.gather.waiting.items + length bytes.now }
+        ensures through { OnOk result (length self.new.gather.waiting.items ≡ 0) }
         // The pieces stand one behind the other.
         ensures place { IfOk result (λ e. (e.from ≡ self.old.len) × (self.new.len ≡ min (self.old.len + e.len) (2 ^ 64 - 1))) }
         // Where the file tells what it holds, that and what waits hold all pieces in their order.
@@ -264,6 +267,7 @@ impl<F: Write + OpenFile + FileExt + Drop> LiveStore for FileLive<F> {
         ensures adds { OnOk result (Adds nothing nothing (concat (P.list pieces.now))) }
         ensures leaves { IfErr result (EachLeaves nothing nothing (P.list pieces.now)) }
         ensures cause { EachCause self.old.faults self.new.faults result }
+        ensures waits { length self.new.gather.waiting.items ≤ length self.old.gather.waiting.items + length (concat (P.list pieces.now)) }
         // What is appended next stands behind them.
         ensures place { OnOk result (self.new.len ≡ min (self.old.len + length (concat (P.list pieces.now))) (2 ^ 64 - 1)) }
         // Where the file tells what it holds, that and what waits hold all pieces in their order.
@@ -288,6 +292,7 @@ impl<F: Write + OpenFile + FileExt + Drop> LiveStore for FileLive<F> {
 
     fn view(&mut self) -> Result<FileView<F>, Failed>
         ensures held { nothing ≡ nothing }
+        ensures waits { length self.new.gather.waiting.items ≤ length self.old.gather.waiting.items }
         ensures unused { IfOk result (λ it. it.faults ≡ 0) }
         ensures cause { HasCause self.old.faults self.new.faults result }
         ensures rest { self.new ≡ record self.old { faults = self.new.faults } }

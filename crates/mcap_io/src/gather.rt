@@ -1,5 +1,5 @@
 //! Gathering small pieces before they are written.
-ghost use Rattle.std.specs.Prelude.{◌≡◌, [], false, IsTrue, IsErr, OnOk, OnErr, IfErr, ◌↔◌};
+ghost use Rattle.std.specs.Prelude.{◌≡◌, ◌+◌, ◌≤◌, [], length, false, IsTrue, IsErr, OnOk, OnErr, IfErr, ◌↔◌};
 ghost use Rattle.mcap_io.specs.Outside.{Adds, AddsPart, RisesOnce};
 ghost use Rattle.mcap_io.specs.Gathered.{Puts};
 
@@ -33,6 +33,7 @@ impl<K: Sink + Drop> Gather<K> {
     pub(crate) fn flush(&mut self) -> Result<(), Short>
         ensures written { OnOk result (Adds (K.state self.old.sink).took (K.state self.new.sink).took self.old.waiting.items) }
         ensures none_waits { OnOk result (self.new.waiting.items ≡ []) }
+        ensures unchanged { OnErr result (self.new.waiting.items ≡ self.old.waiting.items) }
         ensures part { OnErr result (AddsPart (K.state self.old.sink).took (K.state self.new.sink).took 0 self.old.waiting.items) }
         ensures none_taken { IfErr result (λ short. short.taken ≡ 0) }
         ensures cause { self.old.broken ≡ false → OnErr result (RisesOnce (K.state self.old.sink).faults (K.state self.new.sink).faults) }
@@ -58,6 +59,7 @@ impl<K: Sink + Drop> Gather<K> {
     // Puts the piece behind what waits. Where there is no room for it, all that waits is written first.
     pub(crate) fn put(&mut self, bytes: &[u8]) -> Result<(), Short>
         ensures puts { Puts (K.state self.old.sink).took self.old.waiting.items (K.state self.new.sink).took self.new.waiting.items bytes.now result }
+        ensures waits { length self.new.waiting.items ≤ length self.old.waiting.items + length bytes.now }
         ensures cause { self.old.broken ≡ false → OnErr result (RisesOnce (K.state self.old.sink).faults (K.state self.new.sink).faults) }
         ensures still { OnOk result ((K.state self.new.sink).faults ≡ (K.state self.old.sink).faults) }
         ensures broken { IsTrue self.new.broken ↔ IsErr result }
@@ -76,6 +78,7 @@ impl<K: Sink + Drop> Gather<K> {
     // Writes all that waits, and then the piece.
     pub(crate) fn put_through(&mut self, bytes: &[u8]) -> Result<(), Short>
         ensures puts { Puts (K.state self.old.sink).took self.old.waiting.items (K.state self.new.sink).took self.new.waiting.items bytes.now result }
+        ensures waits { length self.new.waiting.items ≤ length self.old.waiting.items + length bytes.now }
         ensures none_waits { OnOk result (self.new.waiting.items ≡ []) }
         ensures cause { self.old.broken ≡ false → OnErr result (RisesOnce (K.state self.old.sink).faults (K.state self.new.sink).faults) }
         ensures still { OnOk result ((K.state self.new.sink).faults ≡ (K.state self.old.sink).faults) }
@@ -93,6 +96,7 @@ impl<K: Sink + Drop> Gather<K> {
         requires none_waits { self.old.waiting.items ≡ [] }
         requires whole { self.old.broken ≡ false }
         ensures puts { Puts (K.state self.old.sink).took [] (K.state self.new.sink).took self.new.waiting.items bytes.now result }
+        ensures long { length self.new.waiting.items ≤ length bytes.now }
         ensures cause { OnErr result (RisesOnce (K.state self.old.sink).faults (K.state self.new.sink).faults) }
         ensures still { OnOk result ((K.state self.new.sink).faults ≡ (K.state self.old.sink).faults) }
         ensures broken { IsTrue self.new.broken ↔ IsErr result }

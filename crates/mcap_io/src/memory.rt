@@ -333,21 +333,23 @@ impl LiveView<Piece> for MemoryView {
     }
 }
 
-/// A live store that keeps what is appended and never fails.
+/// A live store that keeps what is appended and never fails. It counts what was appended and not yet appended through.
 #[derive(Drop)]
 pub struct QuietLive {
     alloc: Global,
     bytes: Vec<u8>,
+    waiting: u64,
 }
 
 impl QuietLive {
     /// An empty store.
     pub fn new(alloc: Global) -> Self
-        ensures { ⟦<QuietLive as LiveStore>⟧.state result ≡ record { held = Some []; faults = 0 } }
+        ensures { ⟦<QuietLive as LiveStore>⟧.state result ≡ record { held = Some []; faults = 0; waiting = 0 } }
     {
         QuietLive {
             alloc,
             bytes: Vec::new(alloc),
+            waiting: 0,
         }
     }
 
@@ -358,11 +360,22 @@ impl QuietLive {
         &self.bytes
     }
 
+    /// How many of its bytes would still wait in a store over a file.
+    pub fn waiting(&self) -> u64
+        ensures { result ≡ (⟦<QuietLive as LiveStore>⟧.state self.now).waiting }
+    {
+        self.waiting
+    }
+
     /// The bytes that it held.
     pub fn into_bytes(self) -> Vec<u8>
         ensures { (⟦<QuietLive as LiveStore>⟧.state self).held ≡ Some result.items }
     {
-        let QuietLive { alloc: _, bytes } = self;
+        let QuietLive {
+            alloc: _,
+            bytes,
+            waiting: _,
+        } = self;
         bytes
     }
 }
@@ -372,7 +385,7 @@ impl LiveStore for QuietLive {
 
     type View = MemoryView;
 
-    ghost state = { λ s. record { held = Some s.bytes.items; faults = 0 } };
+    ghost state = { λ s. record { held = Some s.bytes.items; faults = 0; waiting = s.waiting } };
 
     fn append(&mut self, bytes: &[u8]) -> Result<Piece, AppendRefused> {
         let Ok(copy) = Vec::from_slice(self.alloc, bytes) else {
@@ -381,11 +394,18 @@ impl LiveStore for QuietLive {
         let Ok(()) = self.bytes.extend_from_slice(bytes) else {
             return Err(AppendRefused::Memory);
         };
+        self.waiting = self.waiting.saturating_add(bytes.len() as u64);
         Ok(Piece { bytes: copy.leak() })
     }
 
     fn append_through(&mut self, bytes: &[u8]) -> Result<Piece, AppendRefused> {
-        self.append(bytes)
+        match self.append(bytes) {
+            Ok(piece) => {
+                self.waiting = 0;
+                return Ok(piece);
+            }
+            Err(why) => return Err(why),
+        }
     }
 
     fn view(&mut self) -> Result<MemoryView, Failed> {
@@ -408,7 +428,7 @@ pub struct MemoryLive {
 impl MemoryLive {
     /// An empty store. The appends are numbered from 0.
     pub fn new(alloc: Global, failing: Vec<FailingWrite>) -> Self
-        ensures tells { ⟦<MemoryLive as LiveStore>⟧.state result ≡ record { held = Some []; faults = 0 } }
+        ensures tells { ⟦<MemoryLive as LiveStore>⟧.state result ≡ record { held = Some []; faults = 0; waiting = 0 } }
         ensures plan { result.appends.failing ≡ failing }
         ensures made { result.appends.made ≡ 0 }
     {
@@ -424,6 +444,13 @@ impl MemoryLive {
         ensures { (⟦<MemoryLive as LiveStore>⟧.state self.now).held ≡ Some result.now }
     {
         self.store.bytes()
+    }
+
+    /// How many of its bytes would still wait in a store over a file.
+    pub fn waiting(&self) -> u64
+        ensures { result ≡ (⟦<MemoryLive as LiveStore>⟧.state self.now).waiting }
+    {
+        self.store.waiting()
     }
 
     /// The bytes that it held.
@@ -444,7 +471,7 @@ impl LiveStore for MemoryLive {
 
     type View = MemoryView;
 
-    ghost state = { λ s. record { held = Some s.store.bytes.items; faults = s.faults } };
+    ghost state = { λ s. record { held = Some s.store.bytes.items; faults = s.faults; waiting = s.store.waiting } };
 
     fn append(&mut self, bytes: &[u8]) -> Result<Piece, AppendRefused>
         ensures adds { IfOk result (λ e. Adds (Some self.old.store.bytes.items) (Some self.new.store.bytes.items) bytes.now) }
@@ -452,6 +479,7 @@ impl LiveStore for MemoryLive {
         ensures names { IfOk result (λ e. (told : List ℕ) → Some e.bytes.now ≡ Some told → told ≡ bytes.now) }
         ensures leaves { IfErr result (AppendLeaves (Some self.old.store.bytes.items) (Some self.new.store.bytes.items) bytes.now) }
         ensures cause { AppendCause self.old.faults self.new.faults result }
+        ensures waits { self.new.store.waiting ≤ self.old.store.waiting + length bytes.now }
         ensures planned { AppendsAsPlanned (planned self.old.appends.failing.items self.old.appends.made (length bytes.now)) result }
         ensures counted { self.new.appends.made ≡ next_call self.old.appends.made }
         ensures plan { self.new.appends.failing ≡ self.old.appends.failing }
@@ -462,6 +490,7 @@ impl LiveStore for MemoryLive {
         let Ok(()) = self.store.bytes.extend_from_slice(&bytes[..taken]) else {
             return Err(AppendRefused::Memory);
         };
+        self.store.waiting = self.store.waiting.saturating_add(taken as u64);
         self.faults = self.faults.saturating_add(1);
         Err(AppendRefused::Failed {
             taken: taken as u64,
@@ -474,17 +503,26 @@ impl LiveStore for MemoryLive {
         ensures names { IfOk result (λ e. (told : List ℕ) → Some e.bytes.now ≡ Some told → told ≡ bytes.now) }
         ensures leaves { IfErr result (AppendLeaves (Some self.old.store.bytes.items) (Some self.new.store.bytes.items) bytes.now) }
         ensures cause { AppendCause self.old.faults self.new.faults result }
+        ensures waits { self.new.store.waiting ≤ self.old.store.waiting + length bytes.now }
+        ensures through { OnOk result (self.new.store.waiting ≡ 0) }
         ensures planned { AppendsAsPlanned (planned self.old.appends.failing.items self.old.appends.made (length bytes.now)) result }
         ensures counted { self.new.appends.made ≡ next_call self.old.appends.made }
         ensures plan { self.new.appends.failing ≡ self.old.appends.failing }
     {
-        self.append(bytes)
+        match self.append(bytes) {
+            Ok(piece) => {
+                self.store.waiting = 0;
+                return Ok(piece);
+            }
+            Err(why) => return Err(why),
+        }
     }
 
     fn append_each<P: Pieces>(&mut self, pieces: &P) -> Result<(), EachRefused>
         ensures adds { OnOk result (Adds (Some self.old.store.bytes.items) (Some self.new.store.bytes.items) (concat (P.list pieces.now))) }
         ensures leaves { IfErr result (EachLeaves (Some self.old.store.bytes.items) (Some self.new.store.bytes.items) (P.list pieces.now)) }
         ensures cause { EachCause self.old.faults self.new.faults result }
+        ensures waits { self.new.store.waiting ≤ self.old.store.waiting + length (concat (P.list pieces.now)) }
         // Each piece is a call.
         ensures planned { EachAsPlanned self.old.appends.failing.items self.old.appends.made self.new.appends.made (P.list pieces.now) result }
         ensures plan { self.new.appends.failing ≡ self.old.appends.failing }

@@ -174,7 +174,7 @@ impl MemoryWorld {
 
     // An empty live store, with a plan of its own.
     fn open_live(&mut self, fails: bool) -> Result<MemoryLive, OpenRefused>
-        ensures tells { IfOk result (λ it. ⟦<MemoryLive as LiveStore>⟧.state it ≡ record { held = Some []; faults = 0 }) }
+        ensures tells { IfOk result (λ it. ⟦<MemoryLive as LiveStore>⟧.state it ≡ record { held = Some []; faults = 0; waiting = 0 }) }
         ensures unused { IfOk result (λ it. (it.appends.failing.items ≡ self.old.appends.items) × (it.appends.made ≡ 0)) }
         ensures cause { OpenCause self.old.faults self.new.faults result }
         ensures planned { OpensAsPlanned (IsTrue fails) ⊥ result }

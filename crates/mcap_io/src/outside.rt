@@ -137,7 +137,7 @@ pub trait LiveStore {
 
     type View: LiveView<Self::Extent>;
 
-    /// What it holds, where it tells that, and how often it has failed.
+    /// What it holds, where it tells that, how often it has failed, and how many bytes wait in it.
     ghost state: { Self → LiveState };
 
     /// Puts the piece behind what it holds. The store may keep it back for a while before it is with the system.
@@ -147,6 +147,7 @@ pub trait LiveStore {
         // Whether the store tells or not, an extent tells nothing else.
         ensures names { IfOk result (λ e. (told : List ℕ) → Self.Extent.tells e ≡ Some told → told ≡ bytes.now) }
         ensures leaves { IfErr result (AppendLeaves (state self.old).held (state self.new).held bytes.now) }
+        ensures waits { (state self.new).waiting ≤ (state self.old).waiting + length bytes.now }
         ensures cause { AppendCause (state self.old).faults (state self.new).faults result };
 
     /// Does the same; after an Ok all that was appended is with the system.
@@ -156,6 +157,8 @@ pub trait LiveStore {
         // Whether the store tells or not, an extent tells nothing else.
         ensures names { IfOk result (λ e. (told : List ℕ) → Self.Extent.tells e ≡ Some told → told ≡ bytes.now) }
         ensures leaves { IfErr result (AppendLeaves (state self.old).held (state self.new).held bytes.now) }
+        ensures waits { (state self.new).waiting ≤ (state self.old).waiting + length bytes.now }
+        ensures through { OnOk result ((state self.new).waiting ≡ 0) }
         ensures cause { AppendCause (state self.old).faults (state self.new).faults result };
 
     /// Appends the pieces in their order, each as `append` does, until one is refused.
@@ -163,6 +166,7 @@ pub trait LiveStore {
         ensures adds { OnOk result (Adds (state self.old).held (state self.new).held (concat (P.list pieces.now))) }
         ensures leaves { IfErr result (EachLeaves (state self.old).held (state self.new).held (P.list pieces.now)) }
         ensures cause { EachCause (state self.old).faults (state self.new).faults result }
+        ensures waits { (state self.new).waiting ≤ (state self.old).waiting + length (concat (P.list pieces.now)) }
     {
         let len = pieces.bytes().len();
         let mut at = 0;
@@ -184,6 +188,7 @@ pub trait LiveStore {
     /// Makes a view of it, which reads what is with the system.
     fn view(&mut self) -> Result<Self::View, Failed>
         ensures held { (state self.new).held ≡ (state self.old).held }
+        ensures waits { (state self.new).waiting ≤ (state self.old).waiting }
         ensures unused { IfOk result (λ it. Self.View.failures it ≡ 0) }
         ensures cause { HasCause (state self.old).faults (state self.new).faults result };
 

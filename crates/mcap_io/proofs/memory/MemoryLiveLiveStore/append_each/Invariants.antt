@@ -1,4 +1,4 @@
-use Rattle.std.proofs.Common.{length, ◌-◌, ◌≡◌, Some}
+use Rattle.std.proofs.Common.{length, ◌-◌, ◌+◌, ◌≤◌, ◌≡◌, Some}
 use Rattle.std.specs.List.{concat}
 use Rattle.mcap_io.proofs.Appending.{AddedAsPlanned}
 use Rattle.mcap_io.proofs.memory.MemoryLiveLiveStore.append_each.Given as goal
@@ -9,6 +9,7 @@ invariant-pieces g l =
     × (l.self.faults ≡ l.fn.self.faults)
     × (l.self.appends.failing ≡ l.fn.self.appends.failing)
     × (l.len ≡ length (concat (g.P.Pieces.list l.pieces)))
+    × (l.self.store.waiting ≤ l.fn.self.store.waiting + l.at)
 
 abbrev pub decreases-pieces : goal.decreases-pieces
 decreases-pieces g l = l.len - l.at
