@@ -7,7 +7,7 @@ use Rattle.mcap_model.specs.Rules.{Agrees, HasSchema}
 use Rattle.mcap_model.specs.declared.table.Declared.{Declared}
 use Rattle.mcap_model.specs.declared.tables.Tables.{Tables}
 use Rattle.mcap_model.specs.Made.{top}
-use Rattle.mcap_model.specs.Declarations.{FirstOf, SomeFirst, TablesOf}
+use Rattle.mcap_model.specs.Declarations.{FirstOf, SomeFirst, TablesOf, SameButMetadata, AgreesButMetadata}
 use Rattle.mcap_model.proofs.Firsts.{first_other, first_again, first_new}
 use Rattle.mcap_model.proofs.Maps.{schema_once, shows_once, message_once, same_trans}
 use Rattle.mcap_model.proofs.Copies.{channel_refl, channel_sym}
@@ -121,6 +121,33 @@ channel_new_agrees records tables t id f was is known lacks = record {
       let once = shows_once t id i f g is is_t in
       subst (λ (x : ChannelFields). (x.schema ≡ 0) ⊎ HasSchema records x.schema) once.1 (schema_there records tables.schemas f.schema was.schemas known);
   channel = λ i m is_t. absurd (omega (arith, is.kind, is_t.kind));
+}
+
+-- one that agrees in all but its metadata with the first of its id
+pub channel_again_but_metadata : (records : List Top) (tables : Tables) (t : Top) (id : ℕ) (f : ChannelFields) (k : ℕ) (d : Declared) → TablesOf records tables → At tables.channels k d → d.id ≡ id → IsChannel t id f
+    → (f.schema ≡ 0) ⊎ SomeFirst tables.schemas f.schema → ((i : ℕ) (h : ChannelFields) → IsChannel (top 4 d.content) i h → SameButMetadata h f) → AgreesButMetadata records t
+channel_again_but_metadata records tables t id f k d was at_k ids is known same = record {
+  schemas = λ i g h n u is_t at is_u. absurd (omega (arith, is.kind, is_t.kind));
+  channels = λ i g h n u is_t at is_u.
+      let once = shows_once t id i f g is is_t in
+      let c = was.channels.covers n i u h at is_u in
+      let entry : c.1 ≡ d = was.channels.apart c.0 k c.1 d c.3 at_k (c.4 ∙ sym once.0 ∙ sym ids) in
+      let shown : IsChannel (top 4 d.content) i c.2 = subst (λ (x : Declared). IsChannel (top 4 x.content) i c.2) entry c.5 in
+      let first : SameButMetadata c.2 g = subst (λ (x : ChannelFields). SameButMetadata c.2 x) once.1 (same i c.2 shown) in
+      let agree : SameChannel c.2 h = c.6 in
+      record { schema = sym agree.schema ∙ first.schema; topic = sym agree.topic ∙ first.topic; encoding = sym agree.encoding ∙ first.encoding };
+  schema = λ i g is_t.
+      let once = shows_once t id i f g is is_t in
+      subst (λ (x : ChannelFields). (x.schema ≡ 0) ⊎ HasSchema records x.schema) once.1 (schema_there records tables.schemas f.schema was.schemas known);
+  channel = λ i m is_t. absurd (omega (arith, is.kind, is_t.kind));
+}
+
+pub but_metadata : (records : List Top) (t : Top) → Agrees records t → AgreesButMetadata records t
+but_metadata records t agrees = record {
+  schemas = agrees.schemas;
+  channels = λ i g h n u is_t at is_u. let same = agrees.channels i g h n u is_t at is_u in record { schema = same.schema; topic = same.topic; encoding = same.encoding };
+  schema = agrees.schema;
+  channel = agrees.channel;
 }
 
 -- a Channel whose schema isn't there

@@ -10,6 +10,7 @@ use Rattle.rec_index.specs.Records.{chunk_kinds, chunk_values}
 use Rattle.mcap_model.specs.Places.{At}
 use Rattle.mcap_model.specs.Tops.{Top, records_in, is_chunk, inner_tops, is_flat_kind, flattened, flat}
 use Rattle.mcap_model.specs.Fields.{ChunkFields, IsChunk}
+use Rattle.mcap_model.specs.Kept.{Limits, Fits}
 use Rattle.mcap_model.specs.Rules.{V5, V6, V8, V10, HasDataEnd, stands_in_section, Agrees, ChunkIsRight, Breaks, breaks_6, breaks_7, breaks_8, breaks_10}
 use Rattle.mcap_model.proofs.Places.{at_none}
 use Rattle.mcap_model.proofs.Unpacking.{chunks_are_opened}
@@ -18,12 +19,13 @@ use Rattle.mcap_model.specs.declared.tables.Ruling.{Ruling}
 use Rattle.mcap_model.specs.declared.tables.Ruling.TheVariants as rulings
 use Rattle.mcap_model.specs.Made.{top}
 use Rattle.mcap_model.specs.declared.tops.Judged.TheVariants as judged
-use Rattle.mcap_model.specs.Declarations.{TablesOf, Judges, AttachmentJudged}
-use Rattle.mcap_model.specs.Chunked.{flat_of, AgreeBehind, ChunkTaken}
-use Rattle.mcap_model.specs.Judging.{as_judged, kept_or_breaks, IsPlain, KeepsRules, JudgedAs}
+use Rattle.mcap_model.specs.Declarations.{TablesOf, AgreesButMetadata, Judges, AttachmentJudged}
+use Rattle.mcap_model.specs.Chunked.{flat_of, AgreeBehind, HasSizeAndCrc, ChunkTaken}
+use Rattle.mcap_model.specs.Judging.{as_judged, kept_or_breaks, IsPlain, KeepsRules, MayWantMemory, JudgedAs}
 use Rattle.mcap_model.proofs.Meets.{chunk_meets, unknown_meets}
+use Rattle.mcap_model.proofs.Agreeing.{but_metadata}
 use Rattle.mcap_model.proofs.Inside.{unknown_not_flat}
-use Rattle.mcap_model.proofs.Flat.{flat_more}
+use Rattle.mcap_model.proofs.Flat.{named_or, flat_more}
 
 -- ---- flat records
 
@@ -82,7 +84,8 @@ flat_judged first more op n content tables ruling is stands some closed other al
     )
     by (rulings.Breaks rule) (inl layout) = ((λ some. not_chunk t closed), subst (Breaks (first ∷ more) t) (sym layout.0) (breaks_6 layout.1))
     by (rulings.Breaks rule) (inr ids) = ((λ some. not_chunk t closed), subst (Breaks (first ∷ more) t) (sym ids.0) (breaks_7 (flat_not t alone (flat (first ∷ more)) ids.2)))
-    by rulings.Memory j = tt
+    by rulings.Memory j =
+        record { v3 = tt; v5 = (some, inr stands); v6 = j.0; v10 = no_v10 t other; plain = not_chunk t closed; chunk = λ f is. absurd (closed is.kind); agrees = λ apart. j.1 }
 
 -- one of another kind
 pub silent_keeps : (first : Top) (more : List Top) (t : Top) (tables : Tables) → stands_in_section t.op ≡ true → (t.op ≡ 0 → ⊥) → (t.op ≡ 6 → ⊥) → flattened t ≡ [] → V6 t → V10 t → TablesOf (flat (first ∷ more)) tables
@@ -154,10 +157,49 @@ chunk_judged first more content f tables (rulings.Breaks rule) is plain (inr wro
     let t = top 6 content in
     let not_right = wrong.1 in
     ((λ some. chunk_plain t f is plain), subst (Breaks (first ∷ more) t) (sym wrong.0) (breaks_8 (λ v8. not_right (v8 f is plain))))
-chunk_judged first more content f tables rulings.Memory is plain taken = tt
+chunk_judged first more content f tables rulings.Memory is plain taken =
+    let t = top 6 content in
+    record {
+      v3 = tt;
+      v5 = ((λ e. omega (arith, e)), inr refl);
+      v6 = chunk_meets t f is;
+      v10 = no_v10 t (λ e. omega (arith, e));
+      plain = chunk_plain t f is plain;
+      chunk = λ g shown. subst HasSizeAndCrc (chunk_once t f g is shown) taken;
+      agrees = λ other. absurd (other refl);
+    }
 
 pub chunk_unshown : (tops : List Top) (content : List ℕ) → ((f : ChunkFields) → IsChunk (top 6 content) f → ⊥) → ((tops ≡ [] → ⊥) → IsPlain (top 6 content)) × Breaks tops (top 6 content) 6
 chunk_unshown tops content none = ((λ some name names. none names.shown names.is), breaks_6 (λ v6. let s = v6.chunk refl in none s.0 s.1))
+
+-- ---- a record that fits
+
+flat_op : (n : ℕ) (t : Top) → list_any (λ kind. eqb kind n) (3 ∷ 4 ∷ 5 ∷ []) ≡ true → t.op ≡ n → is_flat_kind t ≡ true
+flat_op n t is kind = subst (λ (m : ℕ). list_any (λ k. eqb k m) (3 ∷ 4 ∷ 5 ∷ []) ≡ true) (sym kind) is
+
+alone_agrees : (b : Bool) (before : List Top) (t : Top) → is_flat_kind t ≡ b → (t.op ≡ 6 → ⊥) → AgreeBehind before (flattened t) → AgreesButMetadata before t
+alone_agrees true before t is closed agree =
+    let alone : flattened t ≡ t ∷ [] = ap (λ (b : Bool). filter is_flat_kind (if b then inner_tops t else t ∷ [])) (ne_eqb t.op 6 closed) ∙ ap (λ (b : Bool). cond b (t ∷ []) []) is in
+    let first : Agrees (before ++ []) t = subst (AgreeBehind before) alone agree 0 t refl in
+    but_metadata before t (subst (λ (l : List Top). Agrees l t) (append-nil before) first)
+alone_agrees false before t is closed agree = record {
+  schemas = λ id f g n u shown. absurd (both_ways (is_flat_kind t) is (flat_op 3 t refl shown.kind));
+  channels = λ id f g n u shown. absurd (both_ways (is_flat_kind t) is (flat_op 4 t refl shown.kind));
+  schema = λ id f shown. absurd (both_ways (is_flat_kind t) is (flat_op 4 t refl shown.kind));
+  channel = λ id m shown. absurd (both_ways (is_flat_kind t) is (flat_op 5 t refl shown.kind));
+}
+
+-- so does one with which nothing is wrong at all
+pub fits_may_want : (limits : Limits) (tops : List Top) (t : Top) → Fits limits tops t → MayWantMemory tops t
+fits_may_want limits tops t fits = record {
+  v3 = fits.v3;
+  v5 = fits.v5;
+  v6 = fits.v6;
+  v10 = fits.v10;
+  plain = fits.plain;
+  chunk = λ f is. let v8 = fits.v8 in let right = v8 f is (named_or t f f.compression is refl fits.plain) in record { size = right.size; crc = right.crc };
+  agrees = λ closed. alone_agrees (is_flat_kind t) (flat tops) t refl closed fits.v7;
+}
 
 -- ---- records that may not stand there
 

@@ -1,5 +1,6 @@
 -- How the records inside a chunk are judged.
-use Rattle.std.specs.Prelude.{◌≡◌, ◌⊎◌, ℕ, List, ◌∷◌, [], ◌++◌, take, filter, true, Result, Ok, Err}
+use Rattle.std.specs.Prelude.{◌≡◌, ◌⊎◌, ℕ, List, ◌∷◌, [], ◌++◌, length, take, filter, true, Result, Ok, Err}
+use Rattle.mcap_crc.specs.Remainder.{remainder}
 use Rattle.mcap_model.specs.Places.{At, Each}
 use Rattle.mcap_model.specs.Tops.{Top, spelled, records_in, is_flat_kind}
 use Rattle.mcap_model.specs.Fields.{ChunkFields}
@@ -48,7 +49,12 @@ AllTaken before bytes tables (Err rulings.Fits) = ⊥
 AllTaken before bytes tables (Err (rulings.Breaks rule)) = ((rule ≡ 7) × (AgreeBehind before (flat_of (records_in bytes)) → ⊥)) ⊎ ((rule ≡ 7 → ⊥) × (AreWhole bytes → ⊥))
 AllTaken before bytes tables (Err rulings.Memory) = Unit {0}
 
+-- the size and the CRC that it names are those of its records
+pub record HasSizeAndCrc (f : ChunkFields) : Type 0 where
+  pub size : f.size ≡ length f.records
+  pub crc : (f.crc ≡ 0) ⊎ (f.crc ≡ remainder f.records)
+
 abbrev pub ChunkTaken : List Top → ChunkFields → Tables → Ruling → Type 0
 ChunkTaken before f tables rulings.Fits = ChunkIsRight f × AgreeBehind before (flat_of (records_in f.records)) × TablesOf (before ++ flat_of (records_in f.records)) tables
 ChunkTaken before f tables (rulings.Breaks rule) = ((rule ≡ 7) × (AgreeBehind before (flat_of (records_in f.records)) → ⊥)) ⊎ ((rule ≡ 8) × (ChunkIsRight f → ⊥))
-ChunkTaken before f tables rulings.Memory = Unit {0}
+ChunkTaken before f tables rulings.Memory = HasSizeAndCrc f

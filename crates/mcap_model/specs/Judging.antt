@@ -1,7 +1,7 @@
 -- How a record of the top level is judged behind those before it.
 use Rattle.std.specs.Prelude.{◌≡◌, ℕ, List, ◌∷◌, [], ◌++◌, Bool, true, false}
 use Rattle.mcap_model.specs.Tops.{Top, flat}
-use Rattle.mcap_model.specs.Fields.{IsHeader}
+use Rattle.mcap_model.specs.Fields.{IsHeader, ChunkFields, IsChunk}
 use Rattle.mcap_model.specs.Rules.{V3, V5, V6, V7, V8, V10, Breaks}
 use Rattle.mcap_model.specs.Kept.{NamesCompression}
 use Rattle.mcap_model.specs.declared.tables.Tables.{Tables}
@@ -9,7 +9,8 @@ use Rattle.mcap_model.specs.declared.tables.Ruling.{Ruling}
 use Rattle.mcap_model.specs.declared.tables.Ruling.TheVariants as rulings
 use Rattle.mcap_model.specs.declared.tops.Judged.{Judged}
 use Rattle.mcap_model.specs.declared.tops.Judged.TheVariants as judged
-use Rattle.mcap_model.specs.Declarations.{TablesOf}
+use Rattle.mcap_model.specs.Declarations.{AgreesButMetadata, TablesOf}
+use Rattle.mcap_model.specs.Chunked.{HasSizeAndCrc}
 
 -- a ruling is one on a record of the top level
 abbrev pub as_judged : Ruling → Judged
@@ -36,12 +37,25 @@ pub record KeepsRules (tops : List Top) (t : Top) : Type 0 where
   pub v10 : V10 t
   pub plain : IsPlain t
 
--- The record fits, and these are the tables of the records with it; or it breaks a rule; or it is a compressed chunk.
+-- The record breaks no rule as far as that is told without memory: it may stand there, has its layout, names no
+-- compression, and its CRCs and a chunk's size are right. Left open are the records inside a chunk, and the metadata of a
+-- Channel whose id isn't new.
+pub record MayWantMemory (tops : List Top) (t : Top) : Type 0 where
+  pub v3 : V3 tops t
+  pub v5 : V5 tops t
+  pub v6 : V6 t
+  pub v10 : V10 t
+  pub plain : IsPlain t
+  pub chunk : (f : ChunkFields) → IsChunk t f → HasSizeAndCrc f
+  pub agrees : (t.op ≡ 6 → ⊥) → AgreesButMetadata (flat tops) t
+
+-- The record fits, and these are the tables of the records with it; or it breaks a rule; or it is a compressed chunk;
+-- or memory lacked.
 abbrev pub JudgedAs : List Top → Top → Tables → Judged → Type 0
 JudgedAs tops t tables judged.Fits = KeepsRules tops t × TablesOf (flat (tops ++ t ∷ [])) tables
 JudgedAs tops t tables (judged.Breaks rule) = ((tops ≡ [] → ⊥) → IsPlain t) × Breaks tops t rule
-JudgedAs tops t tables (judged.Compressed name) = (tops ≡ [] → ⊥) × NamesCompression t name
-JudgedAs tops t tables judged.Memory = Unit {0}
+JudgedAs tops t tables (judged.Compressed name) = (tops ≡ [] → ⊥) × NamesCompression t name.now
+JudgedAs tops t tables judged.Memory = MayWantMemory tops t
 
 -- the first record is a Header
 abbrev pub FirstJudged : Top → Judged → Type 0

@@ -1,9 +1,10 @@
 //! Whether two declarations of one id have equal fields.
-ghost use Rattle.std.specs.Prelude.{◌≡◌, ◌↔◌, ℕ, List, IsTrue, IfOk, IsPermutation};
+ghost use Rattle.std.specs.Prelude.{◌≡◌, ◌↔◌, ℕ, List, IsTrue, IfOk, IfErr, IsPermutation};
 ghost use Rattle.mcap_model.specs.Fields.{SchemaFields, IsSchema, ChannelFields, IsChannel, SameChannel};
 ghost use Rattle.mcap_wire.specs.Maps.{KeysAscend};
 ghost use Rattle.rec_data.specs.Parsed.{schema_fields, channel_fields};
 ghost use Rattle.mcap_model.specs.Made.{top};
+ghost use Rattle.mcap_model.specs.Declarations.{SameButMetadata};
 
 use mcap_wire::{Memory, Pairs, PairsRef, Text};
 use rec_data::{Channel, Schema};
@@ -84,7 +85,8 @@ pub(crate) fn is_same_channel(
     content: &[u8],
     channel: &Channel<'_>,
 ) -> Result<bool, Memory>
-    ensures { IfOk result (λ same. (id : ℕ) (f : ChannelFields) → IsChannel (top 4 content.now) id f → IsTrue same ↔ SameChannel f (channel_fields channel.now)) }
+    ensures same { IfOk result (λ same. (id : ℕ) (f : ChannelFields) → IsChannel (top 4 content.now) id f → IsTrue same ↔ SameChannel f (channel_fields channel.now)) }
+    ensures lacks { IfErr result (λ memory. (id : ℕ) (f : ChannelFields) → IsChannel (top 4 content.now) id f → SameButMetadata f (channel_fields channel.now)) }
 {
     match Channel::parse(content) {
         Ok(first) => {

@@ -47,7 +47,13 @@ fn passes_limit(bytes: &[u8], at: usize) -> bool
 }
 
 // Judges the record at the offset.
-fn judge_at(alloc: Global, tables: &mut Tables, at: usize, op: u8, content: &[u8]) -> Judged
+fn judge_at<'a>(
+    alloc: Global,
+    tables: &mut Tables,
+    at: usize,
+    op: u8,
+    content: &'a [u8],
+) -> Judged<'a>
     ensures { (tops : List Top) → (HasDataEnd tops → ⊥) → at ≡ offset_behind tops → TablesOf (flat tops) tables.old → JudgedAs tops (top op content.now) tables.new result }
 {
     if at == FIRST_OFFSET {

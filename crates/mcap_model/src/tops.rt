@@ -9,25 +9,24 @@ ghost use Rattle.mcap_model.specs.Judging.{as_judged, kept_or_breaks, JudgedAs, 
 use crate::chunks::take_chunk;
 use crate::contents::{attachment_breaks, is_data_end, is_header, is_message_index, is_metadata};
 use crate::tables::{Ruling, Tables};
-use mcap_wire::Text;
 use rec_data::{ATTACHMENT, CHANNEL, DATA_END, HEADER, MESSAGE, METADATA, SCHEMA};
 use rec_index::{CHUNK, Chunk, MESSAGE_INDEX};
 use std::alloc::Global;
 
 /// Whether a record may stand where it does.
-#[derive(Drop)]
-pub enum Judged {
+#[derive(Clone, Copy)]
+pub enum Judged<'a> {
     Fits,
     /// It breaks the rule of that number.
     Breaks { rule: u8 },
     /// It is a chunk that names that compression.
-    Compressed { name: Text },
-    /// Memory lacked.
+    Compressed { name: &'a str },
+    /// Memory lacked, and nothing is wrong that is told without it.
     Memory,
 }
 
 // What a ruling on a record comes to.
-fn of_ruling(ruling: Ruling) -> Judged
+fn of_ruling<'a>(ruling: Ruling) -> Judged<'a>
     ensures { result ≡ as_judged ruling }
 {
     match ruling {
@@ -38,7 +37,7 @@ fn of_ruling(ruling: Ruling) -> Judged
 }
 
 // The record breaks that rule unless it keeps it.
-fn kept_or(keeps: bool, rule: u8) -> Judged
+fn kept_or<'a>(keeps: bool, rule: u8) -> Judged<'a>
     ensures { result ≡ kept_or_breaks keeps rule }
 {
     if keeps {
@@ -48,14 +47,14 @@ fn kept_or(keeps: bool, rule: u8) -> Judged
 }
 
 /// Judges the first record, which is to be a Header.
-pub fn judge_first(op: u8, content: &[u8]) -> Judged
+pub fn judge_first<'a>(op: u8, content: &'a [u8]) -> Judged<'a>
     ensures { FirstJudged (top op content.now) result }
 {
     kept_or(op == HEADER && is_header(content), 3)
 }
 
 // Judges a chunk.
-fn judge_chunk(alloc: Global, tables: &mut Tables, content: &[u8]) -> Judged
+fn judge_chunk<'a>(alloc: Global, tables: &mut Tables, content: &'a [u8]) -> Judged<'a>
     ensures { (first : Top) (more : List Top) → TablesOf (flat (first ∷ more)) tables.old → JudgedAs (first ∷ more) (top 6 content.now) tables.new result }
 {
     let chunk = match Chunk::parse(content) {
@@ -63,16 +62,15 @@ fn judge_chunk(alloc: Global, tables: &mut Tables, content: &[u8]) -> Judged
         Err(_) => return Judged::Breaks { rule: 6 },
     };
     if chunk.compression.len() > 0 {
-        match Text::copied(alloc, chunk.compression) {
-            Ok(name) => return Judged::Compressed { name },
-            Err(_) => return Judged::Memory,
-        }
+        return Judged::Compressed {
+            name: chunk.compression,
+        };
     }
     return of_ruling(take_chunk(alloc, tables, &chunk));
 }
 
 /// Judges a record behind the Header.
-pub fn judge(alloc: Global, tables: &mut Tables, op: u8, content: &[u8]) -> Judged
+pub fn judge<'a>(alloc: Global, tables: &mut Tables, op: u8, content: &'a [u8]) -> Judged<'a>
     ensures { (first : Top) (more : List Top) → (HasDataEnd (first ∷ more) → ⊥) → TablesOf (flat (first ∷ more)) tables.old → JudgedAs (first ∷ more) (top op content.now) tables.new result }
 {
     match op {

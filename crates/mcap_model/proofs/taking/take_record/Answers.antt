@@ -19,4 +19,4 @@ returns-in-Breaks c = λ tops was.
 
 pub returns-in-Compressed : goal.returns-in-Compressed
 returns-in-Compressed c = λ tops was.
-    cut_packed c.args.bytes.now c.args.at c.in-Ok.cut c.args.tables.now tops c.in-Compressed.name was c.in-Ok.ensures (λ past. both_ways c.passes_limit.result c.if-passes_limit.false (c.passes_limit.ensures.1 past)) (c.in-Compressed.ensures tops was.unended was.place was.tables_are)
+    cut_packed c.args.bytes.now c.args.at c.in-Ok.cut c.args.tables.now tops c.in-Compressed.name.now was c.in-Ok.ensures (λ past. both_ways c.passes_limit.result c.if-passes_limit.false (c.passes_limit.ensures.1 past)) (c.in-Compressed.ensures tops was.unended was.place was.tables_are)

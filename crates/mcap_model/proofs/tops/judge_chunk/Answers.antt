@@ -1,4 +1,4 @@
-use Rattle.std.proofs.Common.{◌≡◌, ◌∷◌, length, refl, sym, ap, subst, ◌∙◌, arith}
+use Rattle.std.proofs.Common.{◌≡◌, ◌∷◌, length, refl, sym, ap, subst, arith}
 use Rattle.rec_index.specs.Parsed.{chunk_fields}
 use Rattle.mcap_model.specs.Tops.{flat}
 use Rattle.mcap_model.specs.Fields.{IsChunk}
@@ -10,12 +10,12 @@ use Rattle.mcap_model.proofs.tops.judge_chunk.Goals as goal
 pub returns-in-Err : goal.returns-in-Err
 returns-in-Err c = λ first more stands. chunk_unshown (first ∷ more) c.args.content.now (λ f is. c.in-Err.ensures.none f is.layout)
 
-pub returns-in-Ok-copied : goal.returns-in-Ok-copied
-returns-in-Ok-copied c = λ first more stands.
+pub returns-then-chunk-gt0 : goal.returns-then-chunk-gt0
+returns-then-chunk-gt0 c = λ first more stands.
     let k = c.in-Ok.chunk in
     let f = chunk_fields k in
     let is : IsChunk (top 6 c.args.content.now) f = record { kind = refl; layout = c.in-Ok.ensures.shown } in
-    ((λ e. let size = ap length e in omega (arith, size)), record { shown = f; is = is; named = sym c.in-Ok-copied.ensures; some = λ e. let size : length k.compression.now ≡ 0 = ap length (sym c.in-Ok-copied.ensures ∙ e) in omega (arith, size, c.if-chunk-gt0.true) })
+    ((λ e. let size = ap length e in omega (arith, size)), record { shown = f; is = is; named = refl; some = λ e. let size : length k.compression.now ≡ 0 = ap length e in omega (arith, size, c.if-chunk-gt0.true) })
 
 pub returns : goal.returns
 returns c = λ first more stands.

@@ -8,7 +8,7 @@ use Rattle.rec_data.specs.Parsed.{schema_fields}
 use Rattle.mcap_model.specs.Made.{top}
 use Rattle.mcap_model.proofs.Meets.{schema_meets}
 use Rattle.mcap_model.proofs.Maps.{schema_once, schema_id}
-use Rattle.mcap_model.proofs.Agreeing.{schema_agrees, schema_new_agrees, schema_apart, schema_again, schema_new}
+use Rattle.mcap_model.proofs.Agreeing.{schema_agrees, schema_new_agrees, schema_apart, schema_again, schema_new, but_metadata}
 use Rattle.mcap_model.proofs.tables.Tables.take_schema.Goals as goal
 
 pub returns-in-Err : goal.returns-in-Err
@@ -71,3 +71,11 @@ returns-in-Ok-add c = λ records was.
     let d : Declared = record { id = s.id; content = c.args.content.now } in
     let new : Tables = record { schemas = c.add.new.self; channels = c.args.self.now.channels } in
     (schema_meets t s.id f is, schema_new_agrees records c.args.self.now.schemas t s.id f was.schemas is c.in-None.ensures, schema_new records c.args.self.now new d f was c.in-Ok-add.ensures.ok refl is c.in-None.ensures)
+
+pub returns-in-Err-add : goal.returns-in-Err-add
+returns-in-Err-add c = λ records was.
+    let s = c.in-Ok.schema in
+    let t = top 3 c.args.content.now in
+    let f = schema_fields s in
+    let is : IsSchema t s.id f = record { kind = refl; layout = c.in-Ok.ensures.shown; some = c.if-schema-eq0.false } in
+    (schema_meets t s.id f is, but_metadata records t (schema_new_agrees records c.args.self.now.schemas t s.id f was.schemas is c.in-None.ensures))
