@@ -1,5 +1,5 @@
 -- The steps of a reader.
-use Rattle.std.proofs.Common.{◌≡◌, ℕ, ◌+◌, ◌-◌, ◌^◌, ◌<◌, ◌≤◌, min, Bool, true, false, eqb, List, [], ◌∷◌, ◌++◌, length, take, drop, Option, Some, refl, sym, ap, subst, inl, inr, ◌∙◌, append_assoc, arith}
+use Rattle.std.proofs.Common.{◌≡◌, ℕ, ◌+◌, ◌-◌, ◌^◌, ◌<◌, ◌≤◌, min, Bool, true, false, eqb, List, [], ◌∷◌, ◌++◌, length, take, drop, ◌⊎◌, Option, Some, None, refl, sym, ap, subst, inl, inr, ◌∙◌, append_assoc, arith}
 use Rattle.std.specs.Prelude.{nat_lt, if◌then◌else◌}
 use Rattle.std.proofs.lemmas.Bool.{or_parts, ltb-false, eqb-true, eqb-false}
 use Rattle.std.proofs.lemmas.List.{length-append, take-append-drop}
@@ -7,7 +7,7 @@ use Rattle.mcap_wire.specs.Layout.{magic}
 use Rattle.mcap_io.specs.Outside.{SourceState, RisesOnce}
 use Rattle.mcap_model.specs.Tops.{Top, Tops, top_bytes, spelled, offset_behind, opcode, declared_length, behind_first, flat}
 use Rattle.mcap_model.specs.Rules.{V1, HasDataEnd, Breaks}
-use Rattle.mcap_model.specs.Kept.{reading_limits, is_beyond, NamesCompression, Fits, Good, Kept, Halt, at_end, grammar, compressed, beyond, IsDue, HaltsThere, packed_chunk, broken_rule, no_magic, at_data_end, behind_kept, HaltsAt}
+use Rattle.mcap_model.specs.Kept.{reading_limits, is_beyond, NamesCompression, Fits, Good, Kept, Halt, at_end, grammar, compressed, beyond, IsDue, IsPacked, HaltsThere, packed_chunk, broken_rule, no_magic, at_data_end, behind_kept, HaltsAt}
 use Rattle.mcap_model.proofs.Places.{at_none, each_more, each_at}
 use Rattle.mcap_model.proofs.Readings.{Begun, begun, length-top, fits_opcode, halts_are_last, good_from_the_front}
 use Rattle.mcap_scan.specs.declared.answers.ScanRefused.{ScanRefused}
@@ -22,14 +22,15 @@ use Rattle.mcap_model.specs.declared.tops.Judged.{Judged}
 use Rattle.mcap_model.specs.declared.tops.Judged.TheVariants as judged
 use Rattle.mcap_model.specs.Made.{top}
 use Rattle.mcap_model.specs.Declarations.{TablesOf}
-use Rattle.mcap_model.specs.Judging.{IsPlain, KeepsRules, JudgedAs}
+use Rattle.mcap_model.specs.Judging.{IsPlain, KeepsRules, MayWantMemory, JudgedAs}
+use Rattle.mcap_model.proofs.Judging.{fits_may_want}
 use Rattle.mcap_model.proofs.TakenRecords.{ended_more, spelled_more, halted, unended_more}
 use Rattle.mcap_model.proofs.Unpacking.{left_behind}
 use Rattle.mcap_model.proofs.Prefixes.{next_stands}
 use Rattle.mcap_scan.specs.Sources.{ReadTo, unread_behind, IsCutOff}
 use Rattle.mcap_scan.specs.Taking.{RefusalCause, MagicRefused, RecordRefused, TakesRecord, IsTakable}
 use Rattle.mcap_scan.proofs.Taking.{unread_broken}
-use Rattle.mcap_scan.specs.Scanning.{content_of, IsUnfinished, IsEnded, HaltsSo, MemoryStands, RefusalStands, IsFresh, StageStands, Stands, Advanced, Given, IsGoing, Moves}
+use Rattle.mcap_scan.specs.Scanning.{content_of, IsUnfinished, IsEnded, HaltsSo, MemoryStands, RefusalStands, IsFresh, StageStands, Stands, Advanced, RefusedAt, Given, IsGoing, Moves}
 
 -- ---- where a reading halts
 
@@ -299,61 +300,69 @@ going_on : (b : Bool) → IsGoing (if b then stages.Ended else stages.Inside)
 going_on true = tt
 going_on false = tt
 
-pub stepped : (reader : Reader) (tables : Tables) (offset : ℕ) (before now now_new : SourceState) (tops : List Top) (op : ℕ) (content : List ℕ) (how : Judged) (step : Step)
+-- a record that was read and refused for want of memory
+lacks_there : (tables : Tables) (offset : ℕ) (before now now_new : SourceState) (tops : List Top) (op : ℕ) (content : List ℕ)
     → IsUnfinished tables offset before now tops → now_new.faults ≡ now.faults → ((rest : List ℕ) → now.left ≡ Some rest → TakesRecord rest now_new.left op content) → IsTakable offset op (length content)
-    → JudgedAs tops (top op content) reader.tables how → Given offset (length content) reader.offset reader.stage op how step → content_of reader ≡ content → Advanced reader before now_new tops step
-stepped reader tables offset before now now_new tops op content judged.Fits step was same taken takable (keeps, are) (step_is, offset_is, stage_is) room =
-    subst (Advanced reader before now_new tops) (sym step_is)
-    (record {
-      place = was.place;
-      stands = subst (λ (l : List ℕ). Stands reader before now_new (tops ++ top op l ∷ [])) (sym room)
-          (subst (λ (s : Stage). StageStands s reader.tables reader.offset before now_new (tops ++ top op content ∷ [])) (sym stage_is)
-          (stage_of tops op content tables reader.tables offset reader.offset before now now_new (eqb op 15) refl was same taken takable keeps are (offset_more tops (top op content) offset reader.offset was.place takable.within offset_is)));
-      going = subst IsGoing (sym stage_is) (going_on (eqb op 15));
-    })
-stepped reader tables offset before now now_new tops op content (judged.Breaks rule) step was same taken takable (plain, breaks) (step_is, stage_is) room =
-    subst (Advanced reader before now_new tops) (sym step_is)
-    (record {
-      why = refusals.Grammar offset rule;
-      stage = stage_is;
-      stands = halts_so tables offset before now now_new tops (grammar offset rule) was same (λ rest there.
-          let t = taken rest there in
-          let front = front_begun rest now_new.left offset op content t takable.within in
-          let valid = takable.valid in (
-            broken_there tops rest offset op content rule was.place front takable plain breaks,
-            taken_whole rest now_new.left op content t front ∙ ap Some (sym (unread_broken rest offset rule (λ (e : opcode rest ≡ 0). valid (sym front.op_is ∙ e)))),
-          ));
-    })
-stepped reader tables offset before now now_new tops op content (judged.Compressed name) step was same taken takable (some, names) (step_is, stage_is) room =
-    subst (Advanced reader before now_new tops) (sym step_is)
-    (record {
-      why = refusals.Compressed offset name;
-      stage = stage_is;
-      stands = halts_so tables offset before now now_new tops (compressed offset name) was same (λ rest there.
-          let t = taken rest there in
-          let front = front_begun rest now_new.left offset op content t takable.within in
-          (compressed_there tops rest offset op content name was.place front takable some names, taken_whole rest now_new.left op content t front));
-    })
-stepped reader tables offset before now now_new tops op content judged.Memory step was same taken takable lacks (step_is, stage_is) room =
-    subst (Advanced reader before now_new tops) (sym step_is)
-    (record {
-      why = refusals.Memory;
-      stage = stage_is;
-      stands = record {
-        still = same ∙ was.still;
-        good = was.good;
-        leaves = λ bytes known.
-            let r = was.read bytes known in
-            let t = taken r.0 r.1 in
-            let front = front_begun r.0 now_new.left offset op content t takable.within in
-            inr (r.0, r.2, inr (front_due tops r.0 offset op content was.place front takable, inr (front.whole, taken_whole r.0 now_new.left op content t front)));
-      };
-    })
+    → MayWantMemory tops (top op content) ⊎ ((name : List ℕ) × IsPacked tops (top op content) name) → MemoryStands before now_new tops
+lacks_there tables offset before now now_new tops op content was same taken takable free = record {
+  still = same ∙ was.still;
+  good = was.good;
+  leaves = λ bytes known.
+      let r = was.read bytes known in
+      let t = taken r.0 r.1 in
+      let front = front_begun r.0 now_new.left offset op content t takable.within in
+      let there = subst (λ (u : Top). MayWantMemory tops u ⊎ ((name : List ℕ) × IsPacked tops u name)) (sym front.first) free in
+      inr (r.0, r.2, inr (front_due tops r.0 offset op content was.place front takable, inr (front.whole, taken_whole r.0 now_new.left op content t front, there)));
+}
 
 -- a step that is refused
 pub refused_step : (reader : Reader) (before now : SourceState) (tops : List Top) (why : ScanRefused) (step : Step) → step ≡ steps.Refused → reader.stage ≡ stages.Stopped why → RefusalStands why before now tops → Advanced reader before now tops step
 refused_step reader before now tops why step step_is stage_is stands =
     subst (Advanced reader before now tops) (sym step_is) (record { why = why; stage = stage_is; stands = stands })
+
+refused_given : (reader : Reader) (before now : SourceState) (tops : List Top) (at len op : ℕ) (refused : Option ScanRefused) (why : ScanRefused) (step : Step)
+    → refused ≡ Some why → Given at len reader.offset reader.stage op refused step → RefusalStands why before now tops → Advanced reader before now tops step
+refused_given reader before now tops at len op refused why step is given stands =
+    let there : (step ≡ steps.Refused) × (reader.stage ≡ stages.Stopped why) = subst (λ (r : Option ScanRefused). Given at len reader.offset reader.stage op r step) is given in
+    refused_step reader before now tops why step there.0 there.1 stands
+
+pub stepped : (reader : Reader) (tables : Tables) (offset : ℕ) (before now now_new : SourceState) (tops : List Top) (op : ℕ) (content : List ℕ) (how : Judged) (refused : Option ScanRefused) (step : Step)
+    → IsUnfinished tables offset before now tops → now_new.faults ≡ now.faults → ((rest : List ℕ) → now.left ≡ Some rest → TakesRecord rest now_new.left op content) → IsTakable offset op (length content)
+    → JudgedAs tops (top op content) reader.tables how → RefusedAt offset how refused → Given offset (length content) reader.offset reader.stage op refused step → content_of reader ≡ content → Advanced reader before now_new tops step
+stepped reader tables offset before now now_new tops op content judged.Fits refused step was same taken takable (keeps, are) none given room =
+    let there = subst (λ (r : Option ScanRefused). Given offset (length content) reader.offset reader.stage op r step) none given in
+    by there.0 there.1 there.2
+  where
+    by : step ≡ steps.Record op offset → reader.offset ≡ min (min (offset + 9) (2 ^ 64 - 1) + length content) (2 ^ 64 - 1) → reader.stage ≡ (if eqb op 15 then stages.Ended else stages.Inside) → Advanced reader before now_new tops step
+    by step_is offset_is stage_is = subst (Advanced reader before now_new tops) (sym step_is)
+        (record {
+          place = was.place;
+          stands = subst (λ (l : List ℕ). Stands reader before now_new (tops ++ top op l ∷ [])) (sym room)
+              (subst (λ (s : Stage). StageStands s reader.tables reader.offset before now_new (tops ++ top op content ∷ [])) (sym stage_is)
+              (stage_of tops op content tables reader.tables offset reader.offset before now now_new (eqb op 15) refl was same taken takable keeps are (offset_more tops (top op content) offset reader.offset was.place takable.within offset_is)));
+          going = subst IsGoing (sym stage_is) (going_on (eqb op 15));
+        })
+stepped reader tables offset before now now_new tops op content (judged.Breaks rule) refused step was same taken takable (plain, breaks) is given room =
+    refused_given reader before now_new tops offset (length content) op refused (refusals.Grammar offset rule) step is given
+    (halts_so tables offset before now now_new tops (grammar offset rule) was same (λ rest there.
+    let t = taken rest there in
+    let front = front_begun rest now_new.left offset op content t takable.within in
+    let valid = takable.valid in (
+      broken_there tops rest offset op content rule was.place front takable plain breaks,
+      taken_whole rest now_new.left op content t front ∙ ap Some (sym (unread_broken rest offset rule (λ (e : opcode rest ≡ 0). valid (sym front.op_is ∙ e)))),
+    )))
+stepped reader tables offset before now now_new tops op content (judged.Compressed name) refused step was same taken takable (some, names) (inl is) given room =
+    refused_given reader before now_new tops offset (length content) op refused (refusals.Compressed offset name.now) step is given
+    (halts_so tables offset before now now_new tops (compressed offset name.now) was same (λ rest there.
+    let t = taken rest there in
+    let front = front_begun rest now_new.left offset op content t takable.within in
+    (compressed_there tops rest offset op content name.now was.place front takable some names, taken_whole rest now_new.left op content t front)))
+stepped reader tables offset before now now_new tops op content (judged.Compressed name) refused step was same taken takable (some, names) (inr is) given room =
+    refused_given reader before now_new tops offset (length content) op refused refusals.Memory step is given
+    (lacks_there tables offset before now now_new tops op content was same taken takable (inr (name.now, (some, names))))
+stepped reader tables offset before now now_new tops op content judged.Memory refused step was same taken takable lacks is given room =
+    refused_given reader before now_new tops offset (length content) op refused refusals.Memory step is given
+    (lacks_there tables offset before now now_new tops op content was same taken takable (inl lacks))
 
 -- ---- the first record
 
@@ -392,7 +401,7 @@ lacks_back before now tops t still good read = record {
       let rest = top_bytes t ++ r.0 in
       let front = begun_again tops t r.0 good in
       let behind = left_behind rest t r.0 refl front in
-      inr (rest, begins_less bytes tops t r.0 r.2, inr (last_due tops t rest good (ap (λ (l : List ℕ). top_bytes t ++ l) (sym behind)) front, inr (front.whole, r.1 ∙ ap Some (sym behind))));
+      inr (rest, begins_less bytes tops t r.0 r.2, inr (last_due tops t rest good (ap (λ (l : List ℕ). top_bytes t ++ l) (sym behind)) front, inr (front.whole, r.1 ∙ ap Some (sym behind), inl (subst (MayWantMemory tops) (sym front.first) (fits_may_want reading_limits tops t (each_at (Fits reading_limits) tops t [] good))))));
 }
 
 pub given_back : (reader : Reader) (before now : SourceState) (tops : List Top) (t : Top) → IsGoing reader.stage → Stands reader before now (tops ++ t ∷ []) → RefusalStands refusals.Memory before now tops
@@ -406,10 +415,8 @@ given_back reader before now tops t = by reader.stage
 
 -- ---- a reading moves on
 
-pub moved : (at op len new : ℕ) (stage : Stage) (how : Judged) (step : Step) → IsTakable at op len → Given at len new stage op how step → Moves at new step
-moved at op len new stage judged.Fits step takable given =
+pub moved : (at op len new : ℕ) (stage : Stage) (refused : Option ScanRefused) (step : Step) → IsTakable at op len → Given at len new stage op refused step → Moves at new step
+moved at op len new stage None step takable given =
     let near = near_there at len takable.within in
     subst (Moves at new) (sym given.0) (omega (arith, near.near, given.1), omega (arith, near.near, given.1))
-moved at op len new stage (judged.Breaks rule) step takable given = subst (Moves at new) (sym given.0) tt
-moved at op len new stage (judged.Compressed name) step takable given = subst (Moves at new) (sym given.0) tt
-moved at op len new stage judged.Memory step takable given = subst (Moves at new) (sym given.0) tt
+moved at op len new stage (Some why) step takable given = subst (Moves at new) (sym given.0) tt

@@ -1,5 +1,5 @@
 -- For which records a reader stands, and what its next step adds.
-use Rattle.std.specs.Prelude.{◌≡◌, ℕ, ◌+◌, ◌-◌, ◌^◌, ◌<◌, ◌≤◌, ◌==◌, min, if◌then◌else◌, List, [], ◌∷◌, ◌++◌, Option, Some, None}
+use Rattle.std.specs.Prelude.{◌≡◌, ◌⊎◌, ℕ, ◌+◌, ◌-◌, ◌^◌, ◌<◌, ◌≤◌, ◌==◌, min, if◌then◌else◌, List, [], ◌∷◌, ◌++◌, Option, Some, None}
 use Rattle.mcap_io.specs.Outside.{SourceState, RisesOnce}
 use Rattle.mcap_io.specs.Rooms.{held_in}
 use Rattle.mcap_wire.specs.Limits.{file_limit}
@@ -150,12 +150,17 @@ IsOver stages.Inside = ⊥
 IsOver stages.Ended = Unit {0}
 IsOver (stages.Stopped why) = Unit {0}
 
--- What the judging of a record, taken at that offset, makes of the offset and the stage.
-abbrev pub Given : ℕ → ℕ → ℕ → Stage → ℕ → Judged → Step → Type 0
-Given at len offset stage op judged.Fits step = (step ≡ steps.Record op at) × (offset ≡ min (min (at + 9) (2 ^ 64 - 1) + len) (2 ^ 64 - 1)) × (stage ≡ (if op == 15 then stages.Ended else stages.Inside))
-Given at len offset stage op (judged.Breaks rule) step = (step ≡ steps.Refused) × (stage ≡ stages.Stopped (refusals.Grammar at rule))
-Given at len offset stage op (judged.Compressed name) step = (step ≡ steps.Refused) × (stage ≡ stages.Stopped (refusals.Compressed at name))
-Given at len offset stage op judged.Memory step = (step ≡ steps.Refused) × (stage ≡ stages.Stopped refusals.Memory)
+-- What the judging of a record at that offset refuses. The name of a compression is copied.
+abbrev pub RefusedAt : ℕ → Judged → Option ScanRefused → Type 0
+RefusedAt at judged.Fits why = why ≡ None
+RefusedAt at (judged.Breaks rule) why = why ≡ Some (refusals.Grammar at rule)
+RefusedAt at (judged.Compressed name) why = (why ≡ Some (refusals.Compressed at name.now)) ⊎ (why ≡ Some refusals.Memory)
+RefusedAt at judged.Memory why = why ≡ Some refusals.Memory
+
+-- What a record that was taken at that offset, or its refusal, makes of the offset and the stage.
+abbrev pub Given : ℕ → ℕ → ℕ → Stage → ℕ → Option ScanRefused → Step → Type 0
+Given at len offset stage op None step = (step ≡ steps.Record op at) × (offset ≡ min (min (at + 9) (2 ^ 64 - 1) + len) (2 ^ 64 - 1)) × (stage ≡ (if op == 15 then stages.Ended else stages.Inside))
+Given at len offset stage op (Some why) step = (step ≡ steps.Refused) × (stage ≡ stages.Stopped why)
 
 -- the refusal that a reader keeps
 abbrev pub KeptBy : Reader → Option (Bor ScanRefused) → Type 0

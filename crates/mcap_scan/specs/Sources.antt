@@ -1,9 +1,10 @@
 -- How much of a source a reading left unread.
 use Rattle.std.specs.Prelude.{◌≡◌, ◌⊎◌, ℕ, ◌+◌, ◌<◌, List, [], ◌++◌, length, drop, true, ◌==◌, if◌then◌else◌, Option, Some}
 use Rattle.mcap_io.specs.Outside.{SourceState}
-use Rattle.mcap_model.specs.Tops.{Top, Tops, offset_behind, opcode, declared_length, is_whole, behind_first}
+use Rattle.mcap_model.specs.Tops.{Top, Tops, offset_behind, opcode, declared_length, is_whole, first_top, behind_first}
 use Rattle.mcap_model.specs.Rules.{V1}
-use Rattle.mcap_model.specs.Kept.{reading_limits, Kept, Halt, at_end, grammar, compressed, beyond, IsDue, HaltsAt}
+use Rattle.mcap_model.specs.Kept.{reading_limits, Kept, Halt, at_end, grammar, compressed, beyond, IsDue, IsPacked, HaltsAt}
+use Rattle.mcap_model.specs.Judging.{MayWantMemory}
 
 -- where the bytes before are told, these records were taken from their front, and the rest is left
 abbrev pub ReadTo : SourceState → SourceState → List Top → Type 0
@@ -46,10 +47,15 @@ pub record FaultLeaves (bytes : List ℕ) (tops : List Top) (left : Option (List
 abbrev pub ReadWithin : List ℕ → Option (List ℕ) → Type 0
 ReadWithin rest left = (n : ℕ) × (n < declared_length rest) × (left ≡ Some (drop (9 + n) rest))
 
+-- a record was read, and breaks no rule as far as that is told without memory; or it is a chunk whose compression's name
+-- couldn't be copied
+abbrev pub LacksBehind : List Top → List ℕ → Option (List ℕ) → Type 0
+LacksBehind tops rest left = (is_whole rest ≡ true) × (left ≡ Some (behind_first rest))
+    × (MayWantMemory tops (first_top rest) ⊎ ((name : List ℕ) × IsPacked tops (first_top rest) name))
+
 -- Nothing of the rest was read; or of a record that is due the head and a first part of the content, or all of it.
 abbrev pub LacksAt : List Top → List ℕ → Option (List ℕ) → Type 0
-LacksAt tops rest left = (left ≡ Some rest)
-    ⊎ (IsDue reading_limits tops rest × (ReadWithin rest left ⊎ ((is_whole rest ≡ true) × (left ≡ Some (behind_first rest)))))
+LacksAt tops rest left = (left ≡ Some rest) ⊎ (IsDue reading_limits tops rest × (ReadWithin rest left ⊎ LacksBehind tops rest left))
 
 -- what is left where memory lacked behind these records, or already for the magic
 abbrev pub MemoryLeaves : List ℕ → List Top → Option (List ℕ) → Type 0

@@ -1,9 +1,11 @@
 //! Reading the records of a file from a source that is handed in at each call.
+ghost use Rattle.mcap_scan.specs.Scanning.{RefusedAt};
+
 use crate::answers::{ScanRefused, Step};
 use crate::heads::{take_magic, take_record};
 use mcap_io::{Room, Source};
 use mcap_model::{Judged, Tables, judge, judge_first};
-use mcap_wire::Memory;
+use mcap_wire::{Memory, Text};
 use rec_data::DATA_END;
 use std::alloc::Global;
 
@@ -18,6 +20,22 @@ pub(crate) enum Stage {
     Ended,
     /// The reading was refused.
     Stopped { why: ScanRefused },
+}
+
+// What the judging of a record at that offset refuses.
+#[inline(always)]
+fn refused_at(alloc: Global, offset: u64, judged: Judged<'_>) -> Option<ScanRefused>
+    ensures { RefusedAt offset judged.entry result }
+{
+    match judged {
+        Judged::Fits => return None,
+        Judged::Breaks { rule } => return Some(ScanRefused::Grammar { offset, rule }),
+        Judged::Compressed { name } => match Text::copied(alloc, name) {
+            Ok(name) => return Some(ScanRefused::Compressed { offset, name }),
+            Err(_) => return Some(ScanRefused::Memory),
+        },
+        Judged::Memory => return Some(ScanRefused::Memory),
+    }
 }
 
 /// What is kept of a file between two records: the declarations so far, and where the next record stands.
@@ -150,16 +168,16 @@ impl Reader {
         self.stage = Stage::Inside;
     }
 
-    // Gives the record that was read and judged.
+    // Gives the record that was read and judged, or refuses it.
     #[inline(always)]
-    fn give(&mut self, op: u8, judged: Judged) -> Step
-        ensures given { Given self.old.offset (length (held_in self.old.room)) self.new.offset self.new.stage op judged result }
+    fn give(&mut self, op: u8, refused: Option<ScanRefused>) -> Step
+        ensures given { Given self.old.offset (length (held_in self.old.room)) self.new.offset self.new.stage op refused result }
         ensures room { self.new.room ≡ self.old.room }
         ensures tables { self.new.tables ≡ self.old.tables }
     {
         let offset = self.offset;
-        match judged {
-            Judged::Fits => {
+        match refused {
+            None => {
                 self.offset = offset.saturating_add(9).saturating_add(self.room.len());
                 if op == DATA_END {
                     self.stage = Stage::Ended;
@@ -168,11 +186,7 @@ impl Reader {
                 }
                 return Step::Record { op, offset };
             }
-            Judged::Breaks { rule } => return self.stop(ScanRefused::Grammar { offset, rule }),
-            Judged::Compressed { name } => {
-                return self.stop(ScanRefused::Compressed { offset, name });
-            }
-            Judged::Memory => return self.stop(ScanRefused::Memory),
+            Some(why) => return self.stop(why),
         }
     }
 
@@ -191,7 +205,8 @@ impl Reader {
         match take_record(source, &mut self.head, &mut self.room, self.offset) {
             Ok(op) => {
                 let judged = judge_first(op, self.room.as_slice());
-                return self.give(op, judged);
+                let refused = refused_at(self.alloc, self.offset, judged);
+                return self.give(op, refused);
             }
             Err(why) => return self.stop(why),
         }
@@ -207,7 +222,8 @@ impl Reader {
         match take_record(source, &mut self.head, &mut self.room, self.offset) {
             Ok(op) => {
                 let judged = judge(self.alloc, &mut self.tables, op, self.room.as_slice());
-                return self.give(op, judged);
+                let refused = refused_at(self.alloc, self.offset, judged);
+                return self.give(op, refused);
             }
             Err(why) => return self.stop(why),
         }

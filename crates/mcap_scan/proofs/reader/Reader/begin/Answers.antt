@@ -21,8 +21,8 @@ returns-in-Ok-take_record-clause-steps g c = λ before tops was.
     let first : FirstJudged (top c.in-Ok-take_record.op content) c.judge_first-judged.result = subst (λ (l : List ℕ). FirstJudged (top c.in-Ok-take_record.op l) c.judge_first-judged.result) c.as_slice.ensures c.judge_first-judged.ensures in
     let there = first_by c.in-Ok-take_record.op content c.give.new.self.tables c.judge_first-judged.result first (subst (TablesOf []) (sym c.give.ensures.tables) was.tables_are) in
     subst (λ (l : List Top). Advanced c.give.new.self before (g.S.Source.state c.take_record.new.source) l c.give.result) (sym was.none)
-    (stepped c.give.new.self c.args.self.now.tables c.args.self.now.offset before (g.S.Source.state c.take_magic.new.source) (g.S.Source.state c.take_record.new.source) [] c.in-Ok-take_record.op content c.judge_first-judged.result c.give.result
-    reading c.in-Ok-take_record.ensures.cause c.in-Ok-take_record.ensures.taken c.in-Ok-take_record.ensures.takable there c.give.ensures.given (ap held_in c.give.ensures.room))
+    (stepped c.give.new.self c.args.self.now.tables c.args.self.now.offset before (g.S.Source.state c.take_magic.new.source) (g.S.Source.state c.take_record.new.source) [] c.in-Ok-take_record.op content c.judge_first-judged.result c.refused_at-refused.result c.give.result
+    reading c.in-Ok-take_record.ensures.cause c.in-Ok-take_record.ensures.taken c.in-Ok-take_record.ensures.takable there c.refused_at-refused.ensures c.give.ensures.given (ap held_in c.give.ensures.room))
 
 pub returns-in-Err-take_record-clause-steps : goal.returns-in-Err-take_record-clause-steps
 returns-in-Err-take_record-clause-steps g c = λ before tops was.
@@ -32,4 +32,4 @@ returns-in-Err-take_record-clause-steps g c = λ before tops was.
     (record_refused c.args.self.now.tables c.args.self.now.offset before (g.S.Source.state c.take_magic.new.source) (g.S.Source.state c.take_record.new.source) [] c.in-Err-take_record.why reading c.in-Err-take_record.ensures.cause c.in-Err-take_record.ensures.taken))
 
 pub returns-in-Ok-take_record-clause-moves : goal.returns-in-Ok-take_record-clause-moves
-returns-in-Ok-take_record-clause-moves g c = moved c.args.self.now.offset c.in-Ok-take_record.op _ c.give.new.self.offset c.give.new.self.stage c.judge_first-judged.result c.give.result c.in-Ok-take_record.ensures.takable c.give.ensures.given
+returns-in-Ok-take_record-clause-moves g c = moved c.args.self.now.offset c.in-Ok-take_record.op _ c.give.new.self.offset c.give.new.self.stage c.refused_at-refused.result c.give.result c.in-Ok-take_record.ensures.takable c.give.ensures.given

@@ -23,8 +23,8 @@ returns-in-Ok-clause-steps g c = λ before tops was.
     let there : JudgedAs tops (top c.in-Ok.op content) c.give.new.self.tables c.judge-judged.result =
     subst (λ (l : List ℕ). JudgedAs tops (top c.in-Ok.op l) c.give.new.self.tables c.judge-judged.result) c.as_slice.ensures
     (subst (λ (t : Tables). JudgedAs tops (top c.in-Ok.op c.as_slice.result.now) t c.judge-judged.result) (sym c.give.ensures.tables) judge) in
-    stepped c.give.new.self c.args.self.now.tables c.args.self.now.offset before (g.S.Source.state c.args.source.now) (g.S.Source.state c.take_record.new.source) tops c.in-Ok.op content c.judge-judged.result c.give.result
-    was.reading c.in-Ok.ensures.cause c.in-Ok.ensures.taken c.in-Ok.ensures.takable there c.give.ensures.given (ap held_in c.give.ensures.room)
+    stepped c.give.new.self c.args.self.now.tables c.args.self.now.offset before (g.S.Source.state c.args.source.now) (g.S.Source.state c.take_record.new.source) tops c.in-Ok.op content c.judge-judged.result c.refused_at-refused.result c.give.result
+    was.reading c.in-Ok.ensures.cause c.in-Ok.ensures.taken c.in-Ok.ensures.takable there c.refused_at-refused.ensures c.give.ensures.given (ap held_in c.give.ensures.room)
 
 pub returns-in-Ok-clause-moves : goal.returns-in-Ok-clause-moves
-returns-in-Ok-clause-moves g c = moved c.args.self.now.offset c.in-Ok.op _ c.give.new.self.offset c.give.new.self.stage c.judge-judged.result c.give.result c.in-Ok.ensures.takable c.give.ensures.given
+returns-in-Ok-clause-moves g c = moved c.args.self.now.offset c.in-Ok.op _ c.give.new.self.offset c.give.new.self.stage c.refused_at-refused.result c.give.result c.in-Ok.ensures.takable c.give.ensures.given
