@@ -48,8 +48,16 @@ step_of (Ok (tops_given.Record op offset content)) = steps.Record op offset
 step_of (Ok (tops_given.End offset)) = steps.End offset
 step_of (Err why) = steps.Refused
 
--- the content is a copy of the one that the scanner holds; a refusal is the one that it keeps, or memory lacked for it
+-- A kept refusal is told as it is. The name of a compression is copied for that, and memory may lack for it.
+abbrev pub TellsAgain : ScanRefused → ScanRefused → Type 0
+TellsAgain (refusals.Fault faults) why = why ≡ refusals.Fault faults
+TellsAgain (refusals.Grammar offset rule) why = why ≡ refusals.Grammar offset rule
+TellsAgain (refusals.Compressed offset name) why = (why ≡ refusals.Compressed offset name) ⊎ (why ≡ refusals.Memory)
+TellsAgain (refusals.Limit offset) why = why ≡ refusals.Limit offset
+TellsAgain refusals.Memory why = why ≡ refusals.Memory
+
+-- the content is a copy of the one that the scanner holds; a refusal is the one that it keeps
 abbrev pub Copies : {S : Type 0} → Scanner S → Result Taken ScanRefused → Type 0
 Copies scanner (Ok (tops_given.Record op offset content)) = content ≡ scanned_content scanner
 Copies scanner (Ok (tops_given.End offset)) = Unit {0}
-Copies scanner (Err why) = (kept : ScanRefused) × (scanner.reader.stage ≡ stages.Stopped kept) × ((why ≡ kept) ⊎ (why ≡ refusals.Memory))
+Copies scanner (Err why) = (kept : ScanRefused) × (scanner.reader.stage ≡ stages.Stopped kept) × TellsAgain kept why

@@ -1,11 +1,11 @@
 //! A scanner: a reader with its source.
-ghost use Rattle.std.specs.Prelude.{◌≡◌, ◌⊎◌, ℕ, List, [], Option, IfOk, IfErr};
+ghost use Rattle.std.specs.Prelude.{◌≡◌, ℕ, List, [], Option, IfOk, IfErr};
 ghost use Rattle.mcap_model.specs.Tops.{Top as Record};
 ghost use Rattle.mcap_scan.specs.declared.answers.ScanRefused.{ScanRefused as Refusal};
 ghost use Rattle.mcap_scan.specs.declared.reader.Stage.TheVariants as stages;
 ghost use Rattle.mcap_scan.specs.Scanning.{IsLast, Moves, content_of};
 ghost use Rattle.mcap_io.specs.Outside.{SourceState};
-ghost use Rattle.mcap_scan.specs.Scanners.{Scans, Steps, Copies, step_of, IsScanned, KeptIn, source_of, scanned_content, scanned_offset};
+ghost use Rattle.mcap_scan.specs.Scanners.{Scans, Steps, TellsAgain, Copies, step_of, IsScanned, KeptIn, source_of, scanned_content, scanned_offset};
 
 use crate::answers::{ScanRefused, Step, Top};
 use crate::reader::Reader;
@@ -23,7 +23,7 @@ pub struct Scanner<S> {
 
 // The same refusal once more.
 fn again(alloc: Global, why: &ScanRefused) -> ScanRefused
-    ensures { (result ≡ why.now) ⊎ (result ≡ ScanRefused.Memory) }
+    ensures { TellsAgain why.now result }
 {
     match why {
         ScanRefused::Fault { faults } => return ScanRefused::Fault { faults: *faults },
@@ -49,7 +49,7 @@ fn again(alloc: Global, why: &ScanRefused) -> ScanRefused
 
 // The refusal that a reader keeps, once more.
 fn refusal_of(alloc: Global, reader: &Reader) -> ScanRefused
-    ensures { (kept : Refusal) → reader.now.stage ≡ stages.Stopped kept → (result ≡ kept) ⊎ (result ≡ ScanRefused.Memory) }
+    ensures { (kept : Refusal) → reader.now.stage ≡ stages.Stopped kept → TellsAgain kept result }
 {
     match reader.refusal() {
         Some(why) => return again(alloc, why),

@@ -1,4 +1,4 @@
-use Rattle.std.proofs.Common.{inr, refl}
+use Rattle.std.proofs.Common.{refl}
 use Rattle.mcap_scan.specs.declared.answers.ScanRefused.TheVariants as refusals
 use Rattle.mcap_model.specs.Made.{top}
 use Rattle.mcap_scan.specs.Scanning.{content_of}
@@ -13,7 +13,7 @@ returns-in-Err-clause-steps g c = λ before tops was.
         stage = c.stop.ensures.stage;
         stands = given_back c.advance.new.self.reader before (g.S.Source.state c.advance.new.self.source) tops (top c.in-Record.op (content_of c.advance.new.self.reader)) gives.going gives.stands;
       },
-      (refusals.Memory, c.stop.ensures.stage, inr refl),
+      (refusals.Memory, c.stop.ensures.stage, refl),
     )
 
 pub returns-in-Err-clause-over : goal.returns-in-Err-clause-over
