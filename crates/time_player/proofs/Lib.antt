@@ -8,3 +8,4 @@ pub mod Parts
 pub mod Played
 mod Printed
 mod Quoted
+mod Writing

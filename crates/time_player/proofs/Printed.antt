@@ -1,5 +1,5 @@
 -- Lines that are printed in pieces.
-use Rattle.std.proofs.Common.{◌≡◌, ℕ, ◌+◌, ◌<◌, ◌≤◌, List, [], ◌∷◌, ◌++◌, length, take, drop, zero, suc, Some, Ok, Err, refl, sym, ap, subst, inl, inr, ◌∙◌, append_assoc, length-append, arith}
+use Rattle.std.proofs.Common.{◌≡◌, ℕ, ◌+◌, ◌-◌, ◌^◌, ◌<◌, ◌≤◌, min, List, [], ◌∷◌, ◌++◌, length, take, drop, zero, suc, Option, Some, Ok, Err, refl, sym, ap, subst, inl, inr, ◌∙◌, append_assoc, length-append, arith}
 use Rattle.std.proofs.Math.ListN.{drop_of_length-le}
 use Rattle.std.proofs.lemmas.List.{append-nil, take-append-le}
 use Rattle.std.proofs.lemmas.Bool.{cases_lt}
@@ -12,6 +12,7 @@ use Rattle.mcap_model.specs.declared.table.Declared.{Declared}
 use Rattle.mcap_model.specs.Places.{At}
 use Rattle.mcap_model.proofs.Places.{at_none}
 use Rattle.time_player.specs.Lines.{spelling, line_of, line_room, lines_of, IsReady}
+use Rattle.time_player.specs.Printing.{CountsAllBut}
 
 -- ---- the longest line
 
@@ -63,6 +64,7 @@ pub record Printing (before now : SinkState) (text piece left : List ℕ) (taken
   pub adds : Adds before.took now.took done
   pub whole : done ++ (piece ++ left) ≡ text
   pub count : taken ≤ length done
+  pub all_counted : taken < 2 ^ 64 - 1 → length done ≤ taken
   pub silent : text ≡ [] → now ≡ before
 
 pub begins : (s : SinkState) (text piece : List ℕ) → piece ≡ [] → Printing s s text piece text 0
@@ -72,6 +74,7 @@ begins s text piece none = record {
   adds = λ before told. told ∙ ap (λ (l : List ℕ). Some l) (sym (append-nil before));
   whole = ap (λ (l : List ℕ). l ++ text) none;
   count = omega arith;
+  all_counted = λ small. omega arith;
   silent = λ is. refl;
 }
 
@@ -84,6 +87,7 @@ line_on a b text piece left more line rest taken p is gathered = record {
       ap (λ (l : List ℕ). p.done ++ l) (ap (λ (l : List ℕ). l ++ rest) gathered ∙ append_assoc piece line rest ∙ ap (λ (l : List ℕ). piece ++ l) (sym is))
       ∙ p.whole;
   count = p.count;
+  all_counted = p.all_counted;
   silent = p.silent;
 }
 
@@ -97,13 +101,16 @@ some_written done piece left text whole some none =
 pub not_silent : (a b : SinkState) (text piece left : List ℕ) (taken : ℕ) → Printing a b text piece left taken → 0 < length piece → text ≡ [] → ⊥
 not_silent a b text piece left taken p some none = absurd (omega (arith, some_written p.done piece left text p.whole some none))
 
-pub piece_on : (a b c : SinkState) (text piece left fresh : List ℕ) (taken more : ℕ) → Printing a b text piece left taken → WritesAll b c piece (Ok tt) → 0 < length piece → fresh ≡ [] → more ≤ taken + length piece → Printing a c text fresh left more
-piece_on a b c text piece left fresh taken more p wrote some none below = record {
+pub piece_on : (a b c : SinkState) (text piece left fresh : List ℕ) (taken more : ℕ) → Printing a b text piece left taken → WritesAll b c piece (Ok tt) → 0 < length piece → fresh ≡ [] → more ≡ min (taken + length piece) (2 ^ 64 - 1) → Printing a c text fresh left more
+piece_on a b c text piece left fresh taken more p wrote some none sum = record {
   done = p.done ++ piece;
   still = wrote.0 ∙ p.still;
   adds = adds-adds a.took b.took c.took p.done piece p.adds wrote.1;
   whole = ap (λ (l : List ℕ). (p.done ++ piece) ++ (l ++ left)) none ∙ append_assoc p.done piece left ∙ p.whole;
-  count = let both = length-append p.done piece in omega (arith, both, below, p.count);
+  count = let both = length-append p.done piece in omega (arith, both, sum, p.count);
+  all_counted = λ small.
+      let old = p.all_counted (omega (arith, small, sum)) in
+      omega (arith, length-append p.done piece, sum, small, old);
   silent = λ is. absurd (omega (arith, some_written p.done piece left text p.whole some is));
 }
 
@@ -130,6 +137,19 @@ printed_part a b c text piece left taken all short p wrote below =
             omega (arith, q.2, longer, lengths, parts, ends),
             q.3 ∙ ap (λ (l : List ℕ). Some (before ++ l)) (sym (take-append-le q.0 (p.done ++ piece) left q.2) ∙ ap (take q.0) whole),
           ),
+    )
+
+-- of which all but some bytes of the last piece are counted
+pub printed_counted : (a b : SinkState) (took : Option (List ℕ)) (text piece left : List ℕ) (taken all most : ℕ) (short : Short) → Printing a b text piece left taken → CountsAllBut most b.took took (Err short) → all ≡ min (taken + short.taken) (2 ^ 64 - 1)
+    → CountsAllBut most a.took took (Err (record { taken = all }))
+printed_counted a b took text piece left taken all most short p counts sum before told =
+    let (now, is, size) = counts (before ++ p.done) (p.adds before told) in (
+      now,
+      is,
+      λ small.
+          let done = p.all_counted (omega (arith, small, sum)) in
+          let more = size (omega (arith, small, sum)) in
+          omega (arith, small, sum, done, more, length-append before p.done),
     )
 
 -- ---- a message more

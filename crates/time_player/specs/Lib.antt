@@ -5,6 +5,7 @@ pub mod Lent
 pub mod Lines
 pub mod Messages
 pub mod Ordering
+pub mod Printing
 pub mod Reading
 pub mod Replaying
 pub mod Text

@@ -11,6 +11,7 @@ mod lent;
 mod line;
 mod lines;
 mod messages;
+mod pieces;
 mod printer;
 mod replay;
 mod replaying;

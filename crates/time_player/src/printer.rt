@@ -4,12 +4,14 @@ ghost use Rattle.mcap_io.specs.Outside.{WritesAll};
 ghost use Rattle.mcap_model.specs.Places.{Each};
 ghost use Rattle.time_player.specs.Lines.{Apart, spelling, line_room, lines_of, IsReady};
 ghost use Rattle.time_player.specs.Messages.{messages_in};
+ghost use Rattle.time_player.specs.Printing.{CountsAllBut};
 
 use crate::line::{room_of, write_line};
 use crate::lines::{quote_topics, spelled};
 use crate::messages::Messages;
+use crate::pieces::write_in_pieces;
 use crate::replay::KeptReplay;
-use mcap_io::{Short, Sink, write_all_of};
+use mcap_io::{Short, Sink};
 use mcap_model::{Replayed, Table};
 use mcap_wire::Memory;
 use std::alloc::Global;
@@ -80,6 +82,7 @@ fn write_lines<K: Sink>(
 ) -> Result<(), Short>
     requires { IsReady (messages_in messages.now) quoted.now (vec_capacity piece) }
     ensures written { WritesAll (K.state sink.old) (K.state sink.new) (lines_of quoted.now (messages_in messages.now)) result }
+    ensures counted { CountsAllBut 131072 (K.state sink.old).took (K.state sink.new).took result }
     ensures silent { lines_of quoted.now (messages_in messages.now) ≡ [] → K.state sink.new ≡ K.state sink.old }
 {
     let mut piece = piece;
@@ -91,7 +94,7 @@ fn write_lines<K: Sink>(
         if piece.len() < PIECE {
             continue;
         }
-        match write_all_of(sink, &piece) {
+        match write_in_pieces(sink, &piece) {
             Ok(()) => {}
             Err(short) => {
                 return Err(Short {
@@ -105,7 +108,7 @@ fn write_lines<K: Sink>(
     if piece.is_empty() {
         return Ok(());
     }
-    match write_all_of(sink, &piece) {
+    match write_in_pieces(sink, &piece) {
         Ok(()) => return Ok(()),
         Err(short) => {
             return Err(Short {
@@ -171,9 +174,10 @@ impl Printer {
     }
 
     /// Writes all of the text, and of an empty one nothing. It takes no memory, and the messages are dropped once all is
-    /// written.
+    /// written. Of what a sink took before it failed all but 128 KiB at most are counted.
     pub fn print<K: Sink>(&mut self, alloc: Global, sink: &mut K) -> Result<(), Short>
         ensures written { WritesAll (K.state sink.old) (K.state sink.new) self.old result }
+        ensures counted { CountsAllBut 131072 (K.state sink.old).took (K.state sink.new).took result }
         ensures silent { self.old ≡ [] → K.state sink.new ≡ K.state sink.old }
         ensures left { self.new ≡ [] }
     {
