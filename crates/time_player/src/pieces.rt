@@ -1,6 +1,6 @@
 //! Writing bytes in pieces of a bounded length.
 ghost use Rattle.mcap_io.specs.Outside.{WritesAll};
-ghost use Rattle.time_player.specs.Printing.{CountsAllBut};
+ghost use Rattle.time_player.specs.Printing.{CountsAllBut, piece_limit};
 
 use mcap_io::{Short, Sink, write_all_of};
 
@@ -11,7 +11,7 @@ const LIMIT: usize = 131_072;
 /// counted.
 pub(crate) fn write_in_pieces<K: Sink>(sink: &mut K, bytes: &[u8]) -> Result<(), Short>
     ensures written { WritesAll (K.state sink.old) (K.state sink.new) bytes.now result }
-    ensures counted { CountsAllBut 131072 (K.state sink.old).took (K.state sink.new).took result }
+    ensures counted { CountsAllBut piece_limit (K.state sink.old).took (K.state sink.new).took result }
 {
     let mut taken = 0usize;
     'pieces: while taken < bytes.len() {

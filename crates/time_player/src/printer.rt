@@ -4,7 +4,7 @@ ghost use Rattle.mcap_io.specs.Outside.{WritesAll};
 ghost use Rattle.mcap_model.specs.Places.{Each};
 ghost use Rattle.time_player.specs.Lines.{Apart, spelling, line_room, lines_of, IsReady};
 ghost use Rattle.time_player.specs.Messages.{messages_in};
-ghost use Rattle.time_player.specs.Printing.{CountsAllBut};
+ghost use Rattle.time_player.specs.Printing.{CountsAllBut, piece_limit};
 
 use crate::line::{room_of, write_line};
 use crate::lines::{quote_topics, spelled};
@@ -82,7 +82,7 @@ fn write_lines<K: Sink>(
 ) -> Result<(), Short>
     requires { IsReady (messages_in messages.now) quoted.now (vec_capacity piece) }
     ensures written { WritesAll (K.state sink.old) (K.state sink.new) (lines_of quoted.now (messages_in messages.now)) result }
-    ensures counted { CountsAllBut 131072 (K.state sink.old).took (K.state sink.new).took result }
+    ensures counted { CountsAllBut piece_limit (K.state sink.old).took (K.state sink.new).took result }
     ensures silent { lines_of quoted.now (messages_in messages.now) ≡ [] → K.state sink.new ≡ K.state sink.old }
 {
     let mut piece = piece;
@@ -177,7 +177,7 @@ impl Printer {
     /// written. Of what a sink took before it failed all but 128 KiB at most are counted.
     pub fn print<K: Sink>(&mut self, alloc: Global, sink: &mut K) -> Result<(), Short>
         ensures written { WritesAll (K.state sink.old) (K.state sink.new) self.old result }
-        ensures counted { CountsAllBut 131072 (K.state sink.old).took (K.state sink.new).took result }
+        ensures counted { CountsAllBut piece_limit (K.state sink.old).took (K.state sink.new).took result }
         ensures silent { self.old ≡ [] → K.state sink.new ≡ K.state sink.old }
         ensures left { self.new ≡ [] }
     {
