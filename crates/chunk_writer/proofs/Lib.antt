@@ -4,6 +4,7 @@ pub mod Planned
 pub mod Stopping
 pub mod Writing
 pub mod Entries
+pub mod Through
 pub mod Taking
 pub mod Uncut
 pub mod Plain

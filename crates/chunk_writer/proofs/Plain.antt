@@ -186,8 +186,8 @@ refused_keeps held now records at stop cut = keeps_more held cut.between now (λ
 pub each_refused : (old new : Option (List ℕ)) (records : List Rec) (refused : EachRefused) (faults : ℕ) (stop : Stop) → EachLeaves old new (framed_each records) refused → stop ≡ refusal faults refused.why → RefusedAt old new records refused.whole stop
 each_refused old new records refused faults stop leaves same =
     let it = uncut records leaves.at.before leaves.at.piece leaves.at.behind leaves.at.cut in
-    let mid : LiveState = record { held = leaves.between; faults = 0 } in
-    let now : LiveState = record { held = new; faults = 0 } in
+    let mid : LiveState = record { held = leaves.between; faults = 0; waiting = 0 } in
+    let now : LiveState = record { held = new; faults = 0; waiting = 0 } in
     let appends = refused_appends {X = Unit {0}} (λ e. None) (λ e. 0) mid now leaves.at.piece faults refused.why stop same leaves.leaves in
     record {
       before = it.front;

@@ -210,7 +210,7 @@ stopped_grows state seen before now after records at next framed entries stop ke
     ∙ append_assoc history (take (suc way.count) records) rest
     ∙ ap (λ (l : List Rec). history ++ l) (take-append-drop (suc way.count) records) in
     subst (λ (l : List Rec). Writes state options extras opened l after) whole
-    (stopped_on options opened.held (state after.store).held ((history ++ take way.count records) ++ one.rec ∷ []) rest after.plan stop stopped put.0, put.1)
+    (stopped_on options opened.held (state after.store).held ((history ++ take way.count records) ++ one.rec ∷ []) rest after.plan stop stopped put.0, put.1, put.2)
 
 -- the same front, told by other names
 pub front_so : {L X : Type 0} (state : L → LiveState) (seen : SeenExtents X) (before : Scribe L) (records : List Rec) (entries entries' : List (Entry X)) (bytes : ℕ) (end end' : Result Unit Stop) → entries' ≡ entries → end' ≡ end

@@ -1,5 +1,5 @@
 -- The histories for which a scribe stands, its entries, and how its file ends.
-use Rattle.std.specs.Prelude.{◌≡◌, ℕ, ◌+◌, ◌<◌, ◌≤◌, List, [], ◌∷◌, ◌++◌, length, map, take, Option, Some, None, Result, Ok, Err, OnOk, OnErr}
+use Rattle.std.specs.Prelude.{◌≡◌, ℕ, ◌+◌, ◌<◌, ◌≤◌, List, [], ◌∷◌, ◌++◌, length, map, take, Option, Some, None, IsSome, Result, Ok, Err, OnOk, OnErr}
 use Rattle.std.specs.List.{AllZip}
 use Rattle.std.proofs.Common.{sym, subst, append-nil, append_assoc}
 use Rattle.rec_data.specs.declared.owned.Rec.{Rec}
@@ -36,10 +36,16 @@ pub record ScribeStands (options : FileOptions) (opened now : Option (List ℕ))
 abbrev pub AreWaiting : Phase → List Top → List (List ℕ) → Type 0
 AreWaiting phase extras waiting = phase ≡ phases.Going → (waiting ≡ map top_bytes extras) × Each IsExtra extras
 
+-- While a scribe of a file in chunks goes on, the front and each block that it appended are with the system: of what its store
+-- took so many bytes wait, none.
+abbrev pub AreThrough : FileOptions → Phase → ℕ → Type 0
+AreThrough options phase waiting = phase ≡ phases.Going → IsSome options.chunk → waiting ≡ 0
+
 -- A scribe stands for extras and a history of a file of these options; its store was in this state when it was opened. What
 -- is seen of a store is handed in.
 abbrev pub Writes : {L : Type 0} → (L → LiveState) → FileOptions → List Top → LiveState → List Rec → Scribe L → Type 0
 Writes seen options extras opened history scribe = ScribeStands options opened.held (seen scribe.store).held history scribe.plan × AreWaiting scribe.plan.phase extras scribe.extras
+    × AreThrough options scribe.plan.phase (seen scribe.store).waiting
 
 abbrev pub store_of : {L : Type 0} → Scribe L → L
 store_of scribe = scribe.store
@@ -77,6 +83,11 @@ grows_on seen one two three before behind first second = λ options extras opene
 -- this holds of each history for which a scribe stands
 abbrev pub OfEach : {L : Type 0} → (L → LiveState) → Scribe L → (FileOptions → List Rec → Type 0) → Type 0
 OfEach seen scribe holds = (options : FileOptions) (extras : List Top) (opened : LiveState) (history : List Rec) → Writes seen options extras opened history scribe → holds options history
+
+-- Where a scribe was called and goes on, the blocks are with the system in the file of each history for which it stood before.
+pub blocks_through : {L : Type 0} (seen : L → LiveState) (before after : Scribe L) (records : List Rec) → Grows seen before after records → phase_of after ≡ phases.Going
+    → OfEach seen before (λ options history. IsSome options.chunk → (seen (store_of after)).waiting ≡ 0)
+blocks_through seen before after records grows going options extras opened history writes = (grows options extras opened history writes).2 going
 
 -- a store keeps what it told, whatever it takes behind it
 abbrev pub KeepsOn : Option (List ℕ) → Option (List ℕ) → Type 0
@@ -158,10 +169,12 @@ Ends options extras opened now history blocks bytes (Ok it) = Adds opened now (f
     × (blocks ≡ length (blocks_in (pieces_of options.chunk history))) × (bytes ≡ length (file_of options extras history))
 Ends options extras opened now history blocks bytes (Err stop) = StopsAt options extras history opened now stop blocks bytes
 
--- the second scribe is the first with its end, which came to this with so many blocks and bytes, those of the front among them
+-- The second scribe is the first with its end, which came to this with so many blocks and bytes, those of the front among them.
+-- A whole file is with the system.
 abbrev pub EndsFile : {L : Type 0} → (L → LiveState) → Scribe L → Scribe L → Written → Result Unit Stop → Type 0
 EndsFile seen before after written end = (options : FileOptions) (extras : List Top) (opened : LiveState) (history : List Rec) → Writes seen options extras opened history before
     → Ends options extras opened.held (seen after.store).held history written.blocks written.bytes end × (length (front options.profile) ≤ written.bytes)
+    × OnOk end ((seen after.store).waiting ≡ 0)
 
 -- there is an entry for each block that was appended, at most one
 abbrev pub CountsLast : {X : Type 0} → ℕ → ℕ → Option (Entry X) → Type 0

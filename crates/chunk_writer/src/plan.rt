@@ -11,6 +11,7 @@ ghost use Rattle.mcap_model.specs.Tops.{Top, top_bytes};
 ghost use Rattle.mcap_model.specs.File.{front};
 ghost use Rattle.mcap_model.specs.Pieces.{back_of};
 ghost use Rattle.summary_write.specs.Tally.{StandsFor, with_noted_block, with_noted_extra};
+ghost use Rattle.chunk_writer.specs.declared.next.Next.TheVariants as nexts;
 ghost use Rattle.chunk_writer.specs.declared.phase.Phase.TheVariants as phases;
 ghost use Rattle.chunk_writer.specs.Limits.{Holds, Kept, IsNoFault};
 ghost use Rattle.chunk_writer.specs.Bodies.{BodyFor, SummaryFor, StandsSo, NextBlock, LastBlock};
@@ -220,6 +221,7 @@ impl Plan {
         ensures within { OnOk result (Holds self.new.blocks self.new.bytes) }
         ensures room { IfOk result (λ next. HoldsNext self.old.blocks self.old.bytes framed.now next) }
         ensures counted { IfOk result (λ next. CountsNext self.old.blocks self.new.blocks next) }
+        ensures plain { IfOk result (λ next. next ≡ nexts.Record → self.old.body ≡ None) }
         ensures err { IfErr result (λ stop. (r : Rec) → AreFramed framed.now r → (options : FileOptions) (history : List Rec) → Plans options history self.old
             → PutStopped options.chunk history r self.old.blocks self.old.bytes stop) }
         ensures no_fault { IfErr result (λ stop. IsNoFault stop) }

@@ -1,6 +1,6 @@
 //! The scribe appends the pieces of a file to its store: the magic and the Header; each block, or each record where there are
 //! no chunks; and the Data End with all behind it.
-ghost use Rattle.std.specs.Prelude.{◌≡◌, ◌<◌, ◌≤◌, ◌+◌, ℕ, List, Option, [], ◌∷◌, ◌++◌, length, map, get_or, Some, None, Ok, Err, IfOk, IfErr, OnOk, OnErr};
+ghost use Rattle.std.specs.Prelude.{◌≡◌, ◌<◌, ◌≤◌, ◌+◌, ℕ, List, Option, [], ◌∷◌, ◌++◌, length, map, get_or, Some, None, IsSome, Ok, Err, IfOk, IfErr, OnOk, OnErr};
 ghost use Rattle.mcap_wire.specs.Layout.{content_limit};
 ghost use Rattle.mcap_wire.specs.Limits.{chunk_size_limit, file_limit};
 ghost use Rattle.rec_data.specs.declared.owned.Rec.{Rec};
@@ -75,6 +75,7 @@ fn append<L: LiveStore>(store: &mut L, piece: &[u8]) -> Result<L::Extent, Stop>
 // Appends a piece, after which all that was appended is with the system.
 fn append_through<L: LiveStore>(store: &mut L, piece: &[u8]) -> Result<L::Extent, Stop>
     ensures appends { Appends (λ e. L.Extent.tells e) (λ e. L.Extent.size e) (L.state store.old) (L.state store.new) piece.now result }
+    ensures through { OnOk result ((L.state store.new).waiting ≡ 0) }
     ensures cause { Cause (L.state store.old).faults (L.state store.new).faults result }
 {
     match store.append_through(piece) {
@@ -126,6 +127,7 @@ fn begin_file<L: LiveStore>(
     requires profile { length options.now.profile ≤ content_limit }
     ensures stands { IfOk result (λ plan. ScribeStands options.now (L.state store.old).held (L.state store.new).held [] plan) }
     ensures goes_on { IfOk result (λ plan. plan.phase ≡ phases.Going) }
+    ensures through { OnOk result ((L.state store.new).waiting ≡ 0) }
     ensures refused { IfErr result (λ stop. (extras : List Top) (history : List Rec) → StopsAt options.now extras history (L.state store.old).held (L.state store.new).held stop 0 0) }
     ensures cause { Cause (L.state store.old).faults (L.state store.new).faults result }
 {
@@ -163,6 +165,8 @@ impl<L: LiveStore> Scribe<L> {
         requires profile { length options.now.profile ≤ content_limit }
         ensures stands { IfOk result (λ s. Writes L.state options.now [] (L.state store) [] s) }
         ensures goes_on { IfOk result (λ s. phase_of s ≡ phases.Going) }
+        // The front is with the system, whether there are chunks or not.
+        ensures through { IfOk result (λ s. (L.state (store_of s)).waiting ≡ 0) }
         ensures still { IfOk result (λ s. (L.state (store_of s)).faults ≡ (L.state store).faults) }
         ensures refused { IfErr result (λ e. (extras : List Top) (history : List Rec) → StopsAt options.now extras history (L.state store).held (L.state e.0).held e.1 0 0) }
         ensures cause { IfErr result (λ e. StopCause (L.state store).faults (L.state e.0).faults e.1) }
@@ -189,6 +193,7 @@ impl<L: LiveStore> Scribe<L> {
         ensures keeps { KeepsOn (L.state (store_of self.old)).held (L.state (store_of self.new)).held }
         ensures goes_on { OnOk result ((phase_of self.old ≡ phases.Going) × (phase_of self.new ≡ phases.Going)) }
         ensures within { OnOk result (Holds (blocks_of self.new) (bytes_of self.new)) }
+        ensures through { OnOk result (OfEach L.state self.old (λ options history. IsSome options.chunk → (L.state (store_of self.new)).waiting ≡ 0)) }
         ensures stopped { IfErr result (λ stop. phase_of self.new ≡ phases.Stopped stop) }
         // What stopped it isn't counted.
         ensures uncounted { OnErr result ((blocks_of self.new ≡ blocks_of self.old) × (bytes_of self.new ≡ bytes_of self.old)) }
@@ -217,6 +222,7 @@ impl<L: LiveStore> Scribe<L> {
         ensures keeps { KeepsOn (L.state (store_of self.old)).held (L.state (store_of self.new)).held }
         ensures goes_on { OnOk result ((phase_of self.old ≡ phases.Going) × (phase_of self.new ≡ phases.Going)) }
         ensures within { OnOk result (Holds (blocks_of self.new) (bytes_of self.new)) }
+        ensures through { OnOk result (OfEach L.state self.old (λ options history. IsSome options.chunk → (L.state (store_of self.new)).waiting ≡ 0)) }
         ensures stopped { IfErr result (λ stop. phase_of self.new ≡ phases.Stopped stop) }
         // What stopped it isn't counted.
         ensures uncounted { OnErr result ((blocks_of self.new ≡ blocks_of self.old) × (bytes_of self.new ≡ bytes_of self.old)) }
@@ -268,6 +274,7 @@ impl<L: LiveStore> Scribe<L> {
         ensures cleared { result.cache ≡ record { limit = full.limit; records = [] } }
         ensures goes_on { OnOk result.end ((phase_of self.old ≡ phases.Going) × (phase_of self.new ≡ phases.Going)) }
         ensures within { OnOk result.end (Holds (blocks_of self.new) (bytes_of self.new)) }
+        ensures through { OnOk result.end (OfEach L.state self.old (λ options history. IsSome options.chunk → (L.state (store_of self.new)).waiting ≡ 0)) }
         ensures stopped { IfErr result.end (λ stop. phase_of self.new ≡ phases.Stopped stop) }
         ensures kept { (stop : Stop) → phase_of self.old ≡ phases.Stopped stop → (result.end ≡ Err stop) × (result.entries.items ≡ []) × (self.new ≡ self.old) }
         ensures cause { phase_of self.old ≡ phases.Going → Cause (L.state (store_of self.old)).faults (L.state (store_of self.new)).faults result.end }
@@ -449,6 +456,7 @@ impl<L: LiveStore> Scribe<L> {
         ensures entry { IfOk result (λ e. IsEntryWith e e.extent bytes block) }
         ensures waiting { self.new.extras ≡ self.old.extras }
         ensures ok { OnOk result (self.new.plan ≡ self.old.plan) }
+        ensures through { OnOk result ((L.state (store_of self.new)).waiting ≡ 0) }
         ensures err { IfErr result (λ stop. StoppedBefore blocks bytes stop self.new.plan) }
     {
         match append_through(&mut self.store, block.bytes.as_slice()) {
@@ -491,6 +499,8 @@ impl<L: LiveStore> Scribe<L> {
         ensures counted { CountsLast (blocks_of self.old) result.blocks result.last }
         ensures numbers { (result.blocks ≡ blocks_of self.new) × (result.bytes ≡ bytes_of self.new) }
         ensures ended { OnOk result.end (phase_of self.new ≡ phases.Ended) }
+        // The whole file is with the system, whether there are chunks or not.
+        ensures through { OnOk result.end ((L.state (store_of self.new)).waiting ≡ 0) }
         ensures within { Holds result.blocks result.bytes }
         ensures stopped { IfErr result.end (λ stop. phase_of self.new ≡ phases.Stopped stop) }
         ensures kept { (stop : Stop) → phase_of self.old ≡ phases.Stopped stop → (result.end ≡ Err stop) × (result.last ≡ None) × (self.new ≡ self.old) }
@@ -603,6 +613,7 @@ impl<L: LiveStore> Scribe<L> {
             → Ends options extras opened.held (L.state (store_of self.new)).held history (blocks_of self.new) (bytes_of self.new) result }
         ensures same { blocks_of self.new ≡ blocks_of self.old }
         ensures stays { OnOk result (phase_of self.new ≡ phases.Ended) }
+        ensures through { OnOk result ((L.state (store_of self.new)).waiting ≡ 0) }
         ensures within { OnOk result (Holds (blocks_of self.new) (bytes_of self.new)) }
         ensures stopped { IfErr result (λ stop. phase_of self.new ≡ phases.Stopped stop) }
         // What stopped it isn't counted.

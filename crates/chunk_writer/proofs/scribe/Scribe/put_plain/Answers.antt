@@ -3,17 +3,19 @@ use Rattle.std.proofs.Common.{ℕ, ◌+◌, ap, ◌∙◌, arith}
 use Rattle.mcap_model.specs.History.{history_bytes}
 use Rattle.chunk_writer.specs.Planning.{Planning}
 use Rattle.chunk_writer.proofs.Plain.{whole_put, whole_front, stopped_front, plain_refused, refused_within, refused_keeps, each_refused, each_added}
+use Rattle.chunk_writer.proofs.Through.{stopped_through, plain_through}
 use Rattle.chunk_writer.proofs.scribe.Scribe.put_plain.Goals as goal
 
 pub returns-in-Ok-clause-grows : goal.returns-in-Ok-clause-grows
-returns-in-Ok-clause-grows g c = λ options extras opened history (stands, waits). (
+returns-in-Ok-clause-grows g c = λ options extras opened history (stands, waits, through). (
   whole_put options opened.held (g.L.LiveStore.state c.args.self.now.store).held (g.L.LiveStore.state c.append_each.new.self).held history c.args.full.now.records c.args.self.now.plan c.count.new.self c.held.result c.requires.plain c.requires.going c.count.ensures
       c.held.ensures.held (each_added _ _ c.args.full.now.records c.in-Ok.ensures.adds) stands,
   λ going. waits c.requires.going,
+  plain_through options opened.held _ history c.args.self.now.plan c.count.new.self.phase _ c.requires.plain c.requires.going stands,
 )
 
 pub returns-in-Ok-clause-front : goal.returns-in-Ok-clause-front
-returns-in-Ok-clause-front g c = λ options extras opened history (stands, waits).
+returns-in-Ok-clause-front g c = λ options extras opened history (stands, waits, through).
     whole_front {X = g.row.L-Extent.Denot} _ options opened.held (g.L.LiveStore.state c.args.self.now.store).held history c.args.full.now.records c.args.self.now.plan _ c.held.result c.requires.plain c.requires.going
     (ap (λ (p : Planning). p.bytes) c.count.ensures) c.held.ensures.held stands
 
@@ -34,7 +36,7 @@ stop-requires g c =
     }
 
 pub returns-in-Err-clause-grows : goal.returns-in-Err-clause-grows
-returns-in-Err-clause-grows g c = λ options extras opened history (stands, waits). (
+returns-in-Err-clause-grows g c = λ options extras opened history (stands, waits, through). (
   plain_refused options opened.held (g.L.LiveStore.state c.args.self.now.store).held (g.L.LiveStore.state c.append_each.new.self).held history c.args.full.now.records c.args.self.now.plan c.stop.new.self c.in-Err.refusal.whole c.refused-stop.result
       c.requires.plain c.requires.going (each_refused _ _ c.args.full.now.records c.in-Err.refusal _ c.refused-stop.result c.in-Err.ensures.leaves c.refused-stop.ensures)
       (record { few = omega (arith, c.blocks-blocks.ensures.value, c.blocks-blocks.ensures.few); small = c.requires.room })
@@ -44,10 +46,11 @@ returns-in-Err-clause-grows g c = λ options extras opened history (stands, wait
         bytes_are = c.stop.ensures.bytes_are ∙ ap (λ (n : ℕ). n + c.in-Err.refusal.whole) c.bytes-bytes.ensures.value;
       }) stands,
   λ going. waits c.requires.going,
+  stopped_through options c.stop.new.self.phase _ _ c.stop.ensures.phase,
 )
 
 pub returns-in-Err-clause-front : goal.returns-in-Err-clause-front
-returns-in-Err-clause-front g c = λ options extras opened history (stands, waits).
+returns-in-Err-clause-front g c = λ options extras opened history (stands, waits, through).
     stopped_front {X = g.row.L-Extent.Denot} _ options opened.held (g.L.LiveStore.state c.args.self.now.store).held (g.L.LiveStore.state c.append_each.new.self).held history c.args.full.now.records c.args.self.now.plan _ c.in-Err.refusal.whole _ c.requires.plain c.requires.going
     (c.stop.ensures.bytes_are ∙ ap (λ (n : ℕ). n + c.in-Err.refusal.whole) c.bytes-bytes.ensures.value)
     (each_refused _ _ c.args.full.now.records c.in-Err.refusal _ c.refused-stop.result c.in-Err.ensures.leaves c.refused-stop.ensures) stands

@@ -1,5 +1,6 @@
 use Rattle.std.proofs.Common.{[], length, Some, refl, sym, ap, ◌∙◌, append-nil, arith}
 use Rattle.std.proofs.lemmas.Result.{on_ok_weaker}
+use Rattle.chunk_writer.specs.Scribes.{blocks_through}
 use Rattle.chunk_writer.proofs.Writing.{going_apart}
 use Rattle.chunk_writer.proofs.Taking.{front_so, stopped_on}
 use Rattle.chunk_writer.proofs.scribe.Scribe.take.Goals as goal
@@ -33,8 +34,8 @@ pub returns-in-Going-clause-cause : goal.returns-in-Going-clause-cause
 returns-in-Going-clause-cause g c = λ going. rw c.taken.ensures.end c.put_all-end.ensures.cause
 
 pub returns-in-Stopped-clause-grows : goal.returns-in-Stopped-clause-grows
-returns-in-Stopped-clause-grows g c = λ options extras opened history (stands, waits).
-    (stopped_on options opened.held _ history c.args.full.records c.args.self.now.plan c.in-Stopped.stop (sym c.phase.ensures ∙ c.in-Stopped.is) stands, waits)
+returns-in-Stopped-clause-grows g c = λ options extras opened history (stands, waits, through).
+    (stopped_on options opened.held _ history c.args.full.records c.args.self.now.plan c.in-Stopped.stop (sym c.phase.ensures ∙ c.in-Stopped.is) stands, waits, through)
 
 pub returns-in-Stopped-clause-front : goal.returns-in-Stopped-clause-front
 returns-in-Stopped-clause-front g c = λ going. absurd (going_apart c.args.self.now.plan.phase c.in-Stopped.stop (sym c.phase.ensures ∙ c.in-Stopped.is) going)
@@ -76,3 +77,11 @@ returns-in-Stopped-clause-counted g c =
 
 pub unreachable-requires : goal.unreachable-requires
 unreachable-requires g c = c.requires.unended (sym c.phase.ensures ∙ c.in-Ended.is)
+
+pub returns-in-Going-clause-through : goal.returns-in-Going-clause-through
+returns-in-Going-clause-through g c =
+    rw c.taken.ensures.end
+    (on_ok_weaker c.put_all-end.result (blocks_through g.L.LiveStore.state c.args.self.now _ c.args.full.records c.put_all-end.ensures.grows) c.put_all-end.ensures.goes_on)
+
+pub returns-in-Stopped-clause-through : goal.returns-in-Stopped-clause-through
+returns-in-Stopped-clause-through g c = rw c.taken-in-Stopped.ensures.end tt
