@@ -273,21 +273,31 @@ impl<L: LiveStore> Scribe<L> {
         ensures keeps { KeepsOn (L.state (store_of self.old)).held (L.state (store_of self.new)).held }
         ensures cleared { result.cache ≡ record { limit = full.limit; records = [] } }
         ensures goes_on { OnOk result.end ((phase_of self.old ≡ phases.Going) × (phase_of self.new ≡ phases.Going)) }
-        ensures within { OnOk result.end (Holds (blocks_of self.new) (bytes_of self.new)) }
+        ensures within { Holds (blocks_of self.new) (bytes_of self.new) }
         ensures through { OnOk result.end (OfEach L.state self.old (λ options history. IsSome options.chunk → (L.state (store_of self.new)).waiting ≡ 0)) }
         ensures stopped { IfErr result.end (λ stop. phase_of self.new ≡ phases.Stopped stop) }
         ensures kept { (stop : Stop) → phase_of self.old ≡ phases.Stopped stop → (result.end ≡ Err stop) × (result.entries.items ≡ []) × (self.new ≡ self.old) }
         ensures cause { phase_of self.old ≡ phases.Going → Cause (L.state (store_of self.old)).faults (L.state (store_of self.new)).faults result.end }
     {
+        self.stays_within();
         let mut entries = Vec::new(self.plan.alloc());
         match self.plan.phase() {
             Phase::Going => {
                 let end = self.put_all(&full, &mut entries);
+                self.stays_within();
                 return taken(full, entries, end);
             }
             Phase::Stopped { stop } => return taken(full, entries, Err(stop)),
             Phase::Ended => unreachable!(),
         }
+    }
+
+    // The numbers are within the limit.
+    fn stays_within(&self)
+        ensures { Holds (blocks_of self.now) (bytes_of self.now) }
+    {
+        let _blocks = self.plan.blocks();
+        let _bytes = self.plan.bytes();
     }
 
     // Puts the records of a buffer, where no append was refused: in one call where they stand at top level, as long as a file

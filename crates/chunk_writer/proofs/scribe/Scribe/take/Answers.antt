@@ -21,9 +21,6 @@ returns-in-Going-clause-keeps g c = c.put_all-end.ensures.keeps
 pub returns-in-Going-clause-cleared : goal.returns-in-Going-clause-cleared
 returns-in-Going-clause-cleared g c = c.taken.ensures.cleared
 
-pub returns-in-Going-clause-within : goal.returns-in-Going-clause-within
-returns-in-Going-clause-within g c = rw c.taken.ensures.end c.put_all-end.ensures.within
-
 pub returns-in-Going-clause-stopped : goal.returns-in-Going-clause-stopped
 returns-in-Going-clause-stopped g c = rw c.taken.ensures.end c.put_all-end.ensures.stopped
 
@@ -48,9 +45,6 @@ returns-in-Stopped-clause-cleared g c = c.taken-in-Stopped.ensures.cleared
 
 pub returns-in-Stopped-clause-goes_on : goal.returns-in-Stopped-clause-goes_on
 returns-in-Stopped-clause-goes_on g c = rw c.taken-in-Stopped.ensures.end tt
-
-pub returns-in-Stopped-clause-within : goal.returns-in-Stopped-clause-within
-returns-in-Stopped-clause-within g c = rw c.taken-in-Stopped.ensures.end tt
 
 pub returns-in-Stopped-clause-stopped : goal.returns-in-Stopped-clause-stopped
 returns-in-Stopped-clause-stopped g c = rw c.taken-in-Stopped.ensures.end (sym c.phase.ensures ∙ c.in-Stopped.is)
