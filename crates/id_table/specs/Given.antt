@@ -1,7 +1,10 @@
 -- Which id a content has or gets.
 use Rattle.std.specs.Prelude.{◌≡◌, ◌⊎◌, ℕ, ◌+◌, ◌-◌, ◌<◌, ◌≤◌, List, [], ◌∷◌, ◌++◌, length, take, Option, Some, None, slice_get}
 use Rattle.mcap_wire.specs.Limits.{id_limit}
+use Rattle.rec_data.specs.declared.schema.SchemaDef.{SchemaDef}
 use Rattle.rec_data.specs.declared.channel.ChannelDef.{ChannelDef}
+use Rattle.id_table.specs.declared.keys.ChannelKey.{ChannelKey}
+use Rattle.id_table.specs.Parts.{StandAt}
 use Rattle.id_table.specs.declared.given.Given.{Given}
 use Rattle.id_table.specs.declared.given.Given.TheVariants.{Known, New}
 use Rattle.id_table.specs.declared.given.GivenIds.{GivenIds}
@@ -106,6 +109,23 @@ PlaceGives None count (Some (Known id)) = ⊥
 PlaceGives None count (Some (New id)) = (id ≡ count + 1) × (count < id_limit)
 PlaceGives None count None = id_limit ≤ count
 
+-- a new id was given
+abbrev pub IsNew : Given → Type 0
+IsNew (Known id) = ⊥
+IsNew (New id) = Unit {0}
+
+-- where the schema with that id stands, if there is one
+abbrev pub place_given : Option Given → Option ℕ
+place_given None = None
+place_given (Some (Known id)) = Some (id - 1)
+place_given (Some (New id)) = Some (id - 1)
+
+-- a key is kept where the id is new: the schema stands where its id says, and the parts stand
+abbrev pub KeptKey : List (List ℕ) → List (List (List ℕ × List ℕ)) → ChannelDef → Option Given → Given → Option ChannelKey → Type 0
+KeptKey texts maps d schema (Known id) kept = kept ≡ None
+KeptKey texts maps d schema (New id) None = ⊥
+KeptKey texts maps d schema (New id) (Some k) = (k.schema ≡ place_given schema) × StandAt texts maps d k.parts
+
 -- ids were given to a channel and to its schema
 pub record Declares (before : Ids) (d : ChannelDef) (g : GivenIds) (after : Ids) : Type 0 where
   pub schema : OffersTo before.schemas d.schema g.schema
@@ -122,3 +142,18 @@ abbrev pub Refuses : Ids → ChannelDef → IdRefused → Type 0
 Refuses ids d TooManySchemas = IsFullTo ids.schemas d.schema
 Refuses ids d TooManyChannels = (IsFullTo ids.schemas d.schema → ⊥) × IsFull ids.channels d
 Refuses ids d Memory = NeedsId ids d × (IsFullTo ids.schemas d.schema → ⊥) × (IsFull ids.channels d → ⊥)
+
+-- ---- taking back
+
+-- the schema has an id, if there is one
+abbrev pub SchemaStands : List SchemaDef → Option SchemaDef → Type 0
+SchemaStands schemas None = Unit {0}
+SchemaStands schemas (Some s) = (n : ℕ) × (slice_get schemas n ≡ Some s)
+
+-- the schema of each channel has an id
+abbrev pub SchemasStand : Ids → Type 0
+SchemasStand ids = (n : ℕ) (c : ChannelDef) → slice_get ids.channels n ≡ Some c → SchemaStands ids.schemas c.schema
+
+-- the ids without those that are new
+abbrev pub without : Ids → GivenIds → Ids
+without ids g = record { schemas = without_given_to ids.schemas g.schema; channels = without_given ids.channels g.channel }

@@ -1,12 +1,16 @@
 //! The table of ids.
-ghost use Rattle.std.specs.Prelude.{◌≡◌, ◌+◌, ◌<◌, ◌≤◌, ◌++◌, [], length, IfOk, IfErr, IfSome, OnOk, OnErr, option_to_list};
+ghost use Rattle.std.specs.Prelude.{◌≡◌, ◌+◌, ◌<◌, ◌≤◌, ◌++◌, [], length, map, IfOk, IfErr, IfSome, OnOk, OnErr, option_to_list};
 ghost use Rattle.mcap_wire.specs.Limits.{id_limit};
 ghost use Rattle.rec_data.specs.declared.channel.ChannelDef.{ChannelDef};
 ghost use Rattle.indexmap.specs.IndexSet.{spare};
 ghost use Rattle.id_table.specs.Ids.{Ids};
-ghost use Rattle.id_table.specs.Given.{Lacks, LacksTo, EachOnce, Found, FoundAt, Offers, OffersTo, fresh, fresh_to, IsFullTo, Declares, Refuses, IsLast, IsLastTo, without_given, without_given_to, PlaceGives, GivesOrFull};
+ghost use Rattle.id_table.specs.Parts.{Grows};
+ghost use Rattle.id_table.specs.Keys.{stocked, content_at, AllStand};
+ghost use Rattle.id_table.specs.Given.{SchemasStand, without, place_given, KeptKey, IsNew, Lacks, LacksTo, EachOnce, Found, FoundAt, Offers, OffersTo, fresh, fresh_to, IsFullTo, Declares, Refuses, IsLast, IsLastTo, without_given, without_given_to, PlaceGives, GivesOrFull};
 
 use crate::given::{Given, GivenIds, IdRefused};
+use crate::keys::{ChannelKey, key_of};
+use crate::parts::{Parts, parts_differ};
 use indexmap::IndexSet;
 use mcap_wire::Memory;
 use rec_data::{ChannelDef, SchemaDef};
@@ -17,12 +21,14 @@ use std::marker::Model;
 const MAX_IDS: usize = 65535;
 
 /// Ids by content. Contracts see the contents of schemas and of channels in the order of their ids, from 1 on. Two channels
-/// are equal where their schemas, topics, encodings and maps are, since a map keeps its keys in ascending order.
+/// are equal where their schemas, topics, encodings and maps are, since a map keeps its keys in ascending order. A schema, a
+/// text and a map that many channels have stand once.
 #[derive(Drop)]
 pub struct IdTable {
     alloc: Global,
     schemas: IndexSet<SchemaDef>,
-    channels: IndexSet<ChannelDef>,
+    parts: Parts,
+    channels: IndexSet<ChannelKey>,
 }
 
 impl Model for IdTable {
@@ -30,11 +36,11 @@ impl Model for IdTable {
 
     ghost Value = { Ids };
 
-    ghost use Rattle.id_table.specs.Table.{ids_of, IsBounded};
+    ghost use Rattle.id_table.specs.Table.{ids_of, IsTable};
 
     ghost view = { ids_of };
 
-    ghost invariant = { IsBounded };
+    ghost invariant = { IsTable };
 }
 
 impl IdTable {
@@ -45,6 +51,7 @@ impl IdTable {
         Ok(IdTable {
             alloc,
             schemas: IndexSet::new(alloc),
+            parts: Parts::new(alloc),
             channels: IndexSet::new(alloc),
         })
     }
@@ -54,7 +61,7 @@ impl IdTable {
         ensures found { Found self.now.channels d.now result }
         ensures once { EachOnce self.now.channels }
     {
-        match place_of_channel(&self.channels, d) {
+        match place_of_channel(&self.schemas, &self.parts, &self.channels, d) {
             Some(i) => return Some((i + 1) as u16),
             None => return None,
         }
@@ -71,7 +78,7 @@ impl IdTable {
             Ok(given) => given,
             Err(refused) => return Err(refused),
         };
-        let channel = match given_to_channel(&self.channels, d) {
+        let channel = match given_to_channel(&self.schemas, &self.parts, &self.channels, d) {
             Some(given) => given,
             None => return Err(IdRefused::TooManyChannels),
         };
@@ -80,7 +87,14 @@ impl IdTable {
             Ok(kept) => kept,
             Err(_) => return Err(IdRefused::Memory),
         };
-        let kept_channel = match keep_channel(self.alloc, &mut self.channels, d, channel) {
+        let kept_channel = match keep_channel(
+            self.alloc,
+            &mut self.parts,
+            &mut self.channels,
+            d,
+            schema,
+            channel,
+        ) {
             Ok(kept) => kept,
             Err(_) => return Err(IdRefused::Memory),
         };
@@ -104,25 +118,27 @@ impl IdTable {
         ensures few { result ≤ id_limit }
         ensures once { EachOnce self.now.channels }
     {
-        count_of_channels(&self.channels) as u32
+        count_of_channels(&self.schemas, &self.parts, &self.channels) as u32
     }
 
-    /// Takes back those of these ids that are new, which are the last ones of their kinds. Behind the `declare` that gave
-    /// them the table is as it was before. It takes no memory.
+    /// Takes back those of these ids that are new, which are the last ones of their kinds; no other channel has a schema that
+    /// is taken back. Behind the `declare` that gave them the table is as it was before. It takes no memory.
     pub fn take_back(&mut self, g: &GivenIds)
         requires schema { IsLastTo self.old.schemas g.now.schema }
         requires channel { IsLast self.old.channels g.now.channel }
+        requires rest { SchemasStand (without self.old g.now) }
         ensures schemas { self.new.schemas ≡ without_given_to self.old.schemas g.now.schema }
         ensures channels { self.new.channels ≡ without_given self.old.channels g.now.channel }
         ensures restores { (before : Ids) (d : ChannelDef) → Declares before d g.now self.old → self.new ≡ before }
     {
+        let _schemas = count_of_schemas(&self.schemas);
         drop_schema(&mut self.schemas, g.schema);
         drop_channel(&mut self.channels, g.channel);
     }
 }
 
 // The index of a schema in the order of ids.
-fn place_of_schema(set: &IndexSet<SchemaDef>, schema: &SchemaDef) -> Option<usize>
+pub(crate) fn place_of_schema(set: &IndexSet<SchemaDef>, schema: &SchemaDef) -> Option<usize>
     ensures found { FoundAt set.now.keys schema.now result }
     ensures once { EachOnce set.now.keys }
 {
@@ -131,12 +147,23 @@ fn place_of_schema(set: &IndexSet<SchemaDef>, schema: &SchemaDef) -> Option<usiz
 }
 
 // The index of a channel in the order of ids.
-fn place_of_channel(set: &IndexSet<ChannelDef>, channel: &ChannelDef) -> Option<usize>
-    ensures found { FoundAt set.now.keys channel.now result }
-    ensures once { EachOnce set.now.keys }
+fn place_of_channel(
+    schemas: &IndexSet<SchemaDef>,
+    parts: &Parts,
+    channels: &IndexSet<ChannelKey>,
+    d: &ChannelDef,
+) -> Option<usize>
+    requires { AllStand (stocked schemas.now.keys parts.now.texts.keys parts.now.maps.keys) channels.now.keys }
+    ensures found { FoundAt (map (content_at (stocked schemas.now.keys parts.now.texts.keys parts.now.maps.keys)) channels.now.keys) d.now result }
+    ensures once { EachOnce (map (content_at (stocked schemas.now.keys parts.now.texts.keys parts.now.maps.keys)) channels.now.keys) }
 {
-    let _len = set.len();
-    set.get_index_of(channel)
+    let _schemas = count_of_schemas(schemas);
+    parts_differ(parts);
+    let _channels = channels.len();
+    match key_of(schemas, parts, d) {
+        Some(key) => return channels.get_index_of(&key),
+        None => return None,
+    }
 }
 
 // The number of schemas; the set tells that they differ.
@@ -147,12 +174,19 @@ fn count_of_schemas(set: &IndexSet<SchemaDef>) -> usize
     set.len()
 }
 
-// The number of channels; the set tells that they differ.
-fn count_of_channels(set: &IndexSet<ChannelDef>) -> usize
-    ensures len { result ≡ length set.now.keys }
-    ensures once { EachOnce set.now.keys }
+// The number of channels; it is told that they differ.
+fn count_of_channels(
+    schemas: &IndexSet<SchemaDef>,
+    parts: &Parts,
+    channels: &IndexSet<ChannelKey>,
+) -> usize
+    requires { AllStand (stocked schemas.now.keys parts.now.texts.keys parts.now.maps.keys) channels.now.keys }
+    ensures len { result ≡ length channels.now.keys }
+    ensures once { EachOnce (map (content_at (stocked schemas.now.keys parts.now.texts.keys parts.now.maps.keys)) channels.now.keys) }
 {
-    set.len()
+    let _schemas = count_of_schemas(schemas);
+    parts_differ(parts);
+    channels.len()
 }
 
 // The id of a content that stands at a place or nowhere, or none where all are given.
@@ -192,11 +226,31 @@ fn given_to_schema(
 }
 
 // The id for a channel, or none where all are given.
-fn given_to_channel(set: &IndexSet<ChannelDef>, channel: &ChannelDef) -> Option<Given>
-    requires { length set.now.keys ≤ id_limit }
-    ensures { GivesOrFull set.now.keys channel.now result }
+fn given_to_channel(
+    schemas: &IndexSet<SchemaDef>,
+    parts: &Parts,
+    channels: &IndexSet<ChannelKey>,
+    d: &ChannelDef,
+) -> Option<Given>
+    requires few { length channels.now.keys ≤ id_limit }
+    requires stand { AllStand (stocked schemas.now.keys parts.now.texts.keys parts.now.maps.keys) channels.now.keys }
+    ensures { GivesOrFull (map (content_at (stocked schemas.now.keys parts.now.texts.keys parts.now.maps.keys)) channels.now.keys) d.now result }
 {
-    given(place_of_channel(set, channel), set.len())
+    given(
+        place_of_channel(schemas, parts, channels, d),
+        channels.len(),
+    )
+}
+
+// Where a schema with that id stands, if there is one.
+fn place_given(schema: Option<Given>) -> Option<usize>
+    ensures { result ≡ place_given schema }
+{
+    match schema {
+        None => return None,
+        Some(Given::Known(id)) => return Some((id as usize).saturating_sub(1)),
+        Some(Given::New(id)) => return Some((id as usize).saturating_sub(1)),
+    }
 }
 
 // A copy of a schema whose id is new, for which the set has room.
@@ -228,18 +282,21 @@ fn keep_schema(
     }
 }
 
-// A copy of a channel whose id is new, for which the set has room.
+// The key of a channel whose id is new, for which the set has room. Its parts stand then.
 fn keep_channel(
     alloc: Global,
-    set: &mut IndexSet<ChannelDef>,
+    parts: &mut Parts,
+    set: &mut IndexSet<ChannelKey>,
     channel: &ChannelDef,
+    schema: Option<Given>,
     given: Given,
-) -> Result<Option<ChannelDef>, Memory>
-    requires { Offers set.old.keys channel.now given }
+) -> Result<Option<ChannelKey>, Memory>
     ensures same { set.new.keys ≡ set.old.keys }
-    ensures kept { IfOk result (λ kept. kept ≡ fresh channel.now given) }
+    ensures texts { Grows parts.old.texts.keys parts.new.texts.keys }
+    ensures maps { Grows parts.old.maps.keys parts.new.maps.keys }
+    ensures kept { IfOk result (λ kept. KeptKey parts.new.texts.keys parts.new.maps.keys channel.now schema given kept) }
     ensures room { IfOk result (λ kept. IfSome kept (λ _. 0 < spare set.new)) }
-    ensures needed { OnErr result (Lacks set.old.keys channel.now) }
+    ensures needed { OnErr result (IsNew given) }
 {
     match given {
         Given::Known(_) => return Ok(None),
@@ -249,8 +306,8 @@ fn keep_channel(
         Ok(()) => {}
         Err(_) => return Err(Memory),
     }
-    match ChannelDef::copied(alloc, channel) {
-        Ok(copy) => return Ok(Some(copy)),
+    match parts.enter(alloc, channel) {
+        Ok(places) => return Ok(Some(ChannelKey::new(place_given(schema), places))),
         Err(memory) => return Err(memory),
     }
 }
@@ -270,7 +327,7 @@ fn enter_schema(set: &mut IndexSet<SchemaDef>, kept: Option<SchemaDef>)
 }
 
 // Adds a channel, for which there is room.
-fn enter_channel(set: &mut IndexSet<ChannelDef>, kept: Option<ChannelDef>)
+fn enter_channel(set: &mut IndexSet<ChannelKey>, kept: Option<ChannelKey>)
     requires { IfSome kept (λ s. (0 < spare set.old) × Lacks set.old.keys s) }
     ensures { set.new.keys ≡ set.old.keys ++ option_to_list kept }
 {
@@ -297,7 +354,7 @@ fn drop_schema(set: &mut IndexSet<SchemaDef>, given: Option<Given>)
 }
 
 // Drops the last channel, where its id was new.
-fn drop_channel(set: &mut IndexSet<ChannelDef>, given: Given)
+fn drop_channel(set: &mut IndexSet<ChannelKey>, given: Given)
     requires { IsLast set.old.keys given }
     ensures { set.new.keys ≡ without_given set.old.keys given }
 {

@@ -1,0 +1,7 @@
+use Rattle.mcap_wire.specs.contracts.sameness.TextPartialEq.TheImpl as it
+use Rattle.id_table.proofs.Sameness.{text_decides}
+use Rattle.id_table.proofs.Places.{found_at}
+use Rattle.id_table.proofs.parts.place_of_text.Goals as goal
+
+pub returns : goal.returns
+returns c = found_at it.ghosts.eq text_decides c.args.set.now.keys c.args.text.now c.get_index_of.result c.get_index_of.ensures.index
