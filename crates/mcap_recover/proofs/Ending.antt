@@ -396,7 +396,7 @@ pub finish_recovers : {L : Type 0} (seen : L → LiveState) (chunk : ℕ) (profi
 finish_recovers seen chunk profile before now opened stored reader k over at why (Ok r) it told still finishes =
     let was = it.repairing in
     let (halt, halts, tells) = over_halts reader before now was.tops over at why it.over_so told in
-    let (adds, answers, holds, same) = finishes (recovered_options profile chunk) was.extras opened was.history was.keeps in
+    let (adds, answers, holds, same, through) = finishes (recovered_options profile chunk) was.extras opened was.history was.keeps in
     let (at_is, why_is, messages, records, others) = answers in
     let few = history_few was.tops was.extras profile was.history was.repairs in
     let within = was.within in
@@ -418,6 +418,7 @@ finish_recovers seen chunk profile before now opened stored reader k over at why
       records = records ∙ all_counted (length was.history) (omega (arith, few, within));
       extras_are = others ∙ all_counted (length was.extras) (omega (arith, within, extra_size, filter_few is_extra was.tops, tops_few was.tops));
       still = same ∙ still;
+      through = through;
     }
 finish_recovers seen chunk profile before now opened stored reader k over at why (Err refusal) it told still finishes =
     let was = it.repairing in

@@ -122,7 +122,7 @@ pub stopped_more : {L : Type 0} (seen : L → LiveState) (options : FileOptions)
 stopped_more seen options extras opened history ss k stop stopped keeps =
     let (more, is) = fold_grows history ss in
     subst (λ (l : List Rec). Keeps seen options extras opened l k) is (record {
-      writes = (stopped_on options opened.held (seen k.scribe.store).held history more k.scribe.plan stop stopped keeps.writes.0, keeps.writes.1);
+      writes = (stopped_on options opened.held (seen k.scribe.store).held history more k.scribe.plan stop stopped keeps.writes.0, keeps.writes.1, keeps.writes.2);
       counts = λ going. absurd (going_apart (phase_of k.scribe) stop stopped going);
     })
 

@@ -37,7 +37,8 @@ TellsHalt at whys.Compressed halt = (name : List ℕ) × (halt ≡ compressed at
 TellsHalt at whys.Limit halt = halt ≡ beyond at
 
 -- The source was read to where a reading of it halts. Behind what the store held stands the file of what repairing makes of
--- the records that the reading keeps, which are good ones also where the source tells nothing, and the counts are theirs.
+-- the records that the reading keeps, which are good ones also where the source tells nothing, and the counts are theirs. All
+-- of the file is with the system.
 pub record IsRecovered (chunk : ℕ) (before now : SourceState) (opened stored : LiveState) (r : Recovered) : Type 0 where
   pub tops : List Top
   pub good : Good reading_limits tops
@@ -55,6 +56,7 @@ pub record IsRecovered (chunk : ℕ) (before now : SourceState) (opened stored :
   pub records : r.records ≡ length history
   pub extras_are : r.extras ≡ length extras
   pub still : stored.faults ≡ opened.faults
+  pub through : stored.waiting ≡ 0
 
 -- the numbers that are answered
 abbrev pub AnswersSo : List Top → List Rec → ℕ → Why → Recovered → Type 0
@@ -62,7 +64,7 @@ AnswersSo extras history at why r = (r.at ≡ at) × (r.why ≡ why) × (r.messa
 
 abbrev pub Finished : LiveState → FileOptions → List Top → LiveState → List Rec → LiveState → ℕ → Why → Result Recovered RecoverRefused → Type 0
 Finished last options extras opened history stored at why (Ok r) = Adds opened.held stored.held (file_of options extras history) × AnswersSo extras history at why r
-    × Holds (length (blocks_in (pieces_of options.chunk history))) (length (file_of options extras history)) × (stored.faults ≡ last.faults)
+    × Holds (length (blocks_in (pieces_of options.chunk history))) (length (file_of options extras history)) × (stored.faults ≡ last.faults) × (stored.waiting ≡ 0)
 Finished last options extras opened history stored at why (Err refusal) = (stop : Stop) × (blocks : ℕ) × (bytes : ℕ) × RefusedBy stop refusal × StopsAt options extras history opened.held stored.held stop blocks bytes
     × StopCause last.faults stored.faults stop
 
