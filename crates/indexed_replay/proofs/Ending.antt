@@ -87,7 +87,7 @@ start_once file start other summary has starts =
     (omega (arith, named, starts_same), omega (arith, named, starts_same, before))
 
 pub asked_loaded : (file : List ℕ) (start : ℕ) (summary : List Top) (header : Top) (before mid now extra : ℕ) → HasSummary file start summary → IsThere file 8 header → AskedFor file before mid → now ≤ mid + extra → now ≤ before + (8 + length (top_bytes header) + 37 + length (spelled summary) + extra)
-asked_loaded file start summary header before mid now extra has there (inl few) more = omega (arith, few, more)
+asked_loaded file start summary header before mid now extra has there (inl few) more = omega (arith, few, more, length-top header)
 asked_loaded file start summary header before mid now extra has there (inr (other, starts, few)) more =
     let once = start_once file start other summary has starts in
     let begun = there_begun file 8 header there in

@@ -113,6 +113,6 @@ module _ (file : List ℕ) (tops : List Top) (full : FullyIndexed file tops) whe
 
   pub none_fails : length file < 2 ^ 64 → (rule offset : ℕ) → Fails file rule offset → ⊥
   none_fails few rule offset (at_ends number place fails) = flaws_exclude_validity file number place (flawed file number place fails) (tops, valid)
-  none_fails few rule offset (by_start f ends some (inl early)) = omega (arith, early, starts_there f ends, inside_file.0)
-  none_fails few rule offset (by_start f ends some (inr late)) = omega (arith, late, starts_there f ends, inside_file.1)
-  none_fails few rule offset (inside start number place starts fails) = none_inside few start number place starts fails
+  none_fails few rule offset (by_start v1 f ends some (inl early)) = omega (arith, early, starts_there f ends, inside_file.0)
+  none_fails few rule offset (by_start v1 f ends some (inr late)) = omega (arith, late, starts_there f ends, inside_file.1)
+  none_fails few rule offset (inside v1 start number place starts fails) = none_inside few start number place starts fails

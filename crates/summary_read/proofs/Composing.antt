@@ -6,6 +6,7 @@ use Rattle.mcap_wire.specs.declared.faults.Cut.{Cut}
 use Rattle.mcap_model.specs.Tops.{declared_length, spelled, StandsIn}
 use Rattle.mcap_model.specs.Fields.{IsHeader}
 use Rattle.mcap_model.specs.Made.{top}
+use Rattle.mcap_model.specs.Rules.{V1}
 use Rattle.summary_read.specs.declared.refusals.LoadRefused.{LoadRefused}
 use Rattle.summary_read.specs.declared.refusals.LoadRefused.TheVariants as refusals
 use Rattle.summary_read.specs.Reached.{EndsIn, StartsAt, summary_part, inside, record_passes, FailsInside, PassesInside}
@@ -20,14 +21,14 @@ starts file f names = record { footer = f; ends = names.ends; named = refl; behi
 pub part_is : (file bytes : List ℕ) (len start : ℕ) → length file ≡ len → bytes ≡ take (len - 37 - start) (drop start file) → bytes ≡ summary_part file start
 part_is file bytes len start size is = is ∙ ap (λ (n : ℕ). take (n - 37 - start) (drop start file)) (sym size)
 
-pub refused_inside : (Y : Type 0) (file bytes : List ℕ) (f : Footer) (why : LoadRefused) → NamesPart file f → bytes ≡ summary_part file f.summary_start → SummaryCut {Y = Y} bytes f.summary_start (Err why) → IsRefused file why
-refused_inside Y file bytes f (refusals.Fault faults) names is cut = tt
-refused_inside Y file bytes f refusals.NoSummary names is cut = absurd cut
-refused_inside Y file bytes f (refusals.Grammar offset rule) names is cut =
-    (inside f.summary_start rule offset (starts file f names) (subst (λ (l : List ℕ). FailsInside l f.summary_start rule offset) is cut), names.some)
-refused_inside Y file bytes f (refusals.Limit offset) names is cut =
+pub refused_inside : (Y : Type 0) (file bytes : List ℕ) (f : Footer) (why : LoadRefused) → V1 file → NamesPart file f → bytes ≡ summary_part file f.summary_start → SummaryCut {Y = Y} bytes f.summary_start (Err why) → IsRefused file why
+refused_inside Y file bytes f (refusals.Fault faults) v1 names is cut = tt
+refused_inside Y file bytes f refusals.NoSummary v1 names is cut = absurd cut
+refused_inside Y file bytes f (refusals.Grammar offset rule) v1 names is cut =
+    (inside v1 f.summary_start rule offset (starts file f names) (subst (λ (l : List ℕ). FailsInside l f.summary_start rule offset) is cut), names.some)
+refused_inside Y file bytes f (refusals.Limit offset) v1 names is cut =
     (record_passes f.summary_start offset (starts file f names) (subst (λ (l : List ℕ). PassesInside l f.summary_start offset) is cut), names.some)
-refused_inside Y file bytes f refusals.Memory names is cut = tt
+refused_inside Y file bytes f refusals.Memory v1 names is cut = tt
 
 pub loaded : (file header bytes : List ℕ) (f : Footer) (cuts : List Cut) (p : Parts) → NamesPart file f → HasHeader file header → IsHeader (top 1 header) → bytes ≡ summary_part file f.summary_start → AreCut bytes cuts → IsListed header f bytes cuts p → IsLoaded file p
 loaded file header bytes f cuts p names has is part cut listed =

@@ -21,9 +21,16 @@ use Rattle.summary_read.specs.Steps.{HasHead, HasHeader}
 pub front_magic : (file front : List ℕ) → take 17 file ≡ front → V1 file → V1 front
 front_magic file front is v1 = (take 9 v1.0, sym is ∙ ap (take 17) v1.1)
 
+-- the first bytes of a file begin with the magic where the file does
+pub magic_begins : (n : ℕ) (file front : List ℕ) → take n file ≡ front → V1 front → V1 file
+magic_begins n file front is v1 =
+    (v1.0 ++ drop n file, sym (take-append-drop n file) ∙ ap (λ (l : List ℕ). l ++ drop n file) (is ∙ v1.1))
+
+pub begins_magic : (file front : List ℕ) → take 8 file ≡ front → V1 file → V1 front
+begins_magic file front is v1 = ([], sym is ∙ ap (take 8) v1.1)
+
 pub magic_front : (file front : List ℕ) → take 17 file ≡ front → V1 front → V1 file
-magic_front file front is v1 =
-    (v1.0 ++ drop 17 file, sym (take-append-drop 17 file) ∙ ap (λ (l : List ℕ). l ++ drop 17 file) (is ∙ v1.1))
+magic_front = magic_begins 17
 
 pub magic_missing : (file front : List ℕ) → take 17 file ≡ front → (V1 front → ⊥) → Fails file 1 0
 magic_missing file front is none = at_ends 1 0 (first_magic (λ v1. none (front_magic file front is v1)))
@@ -43,9 +50,9 @@ behind_magic file front is size =
     ∙ drop-append-le 8 front (drop 17 file) (omega (arith, size))
     ∙ ap (λ (l : List ℕ). l ++ drop 17 file) (drop_one 8 front (omega (arith, size)))
 
-pub other_header : (file front : List ℕ) → take 17 file ≡ front → length front ≡ 17 → (slice_index front 8 ≡ 1 → ⊥) → Fails file 3 8
-other_header file front is size other =
-    at_ends 3 8 (no_header (λ starts.
+pub other_header : (file front : List ℕ) → take 17 file ≡ front → length front ≡ 17 → (slice_index front 8 ≡ 1 → ⊥) → V1 front → Fails file 3 8
+other_header file front is size other v1 =
+    at_ends 3 8 (no_header (magic_front file front is v1) (λ starts.
     let op_is : slice_index front 8 ≡ starts.0.op = ap opcode (sym (behind_magic file front is size) ∙ starts.1.there) in
     other (op_is ∙ starts.2.kind)))
 
@@ -128,7 +135,7 @@ pub header_fails : (file content : List ℕ) (len : ℕ) → HasHead file len �
 header_fails file content len head is fits none =
     let has = header_stands file content len head is in
     let size : length content ≡ len = omega (arith, ap length is, length-take len (drop 17 file), length-drop 17 file, head.whole) in
-    at_ends 3 8 (no_header (λ starts.
+    at_ends 3 8 (no_header head.v1 (λ starts.
     let t = starts.0 in
     let long : length t.content < 2 ^ 64 = omega (arith, fits, length-drop 8 file, ap length starts.1.there, length-append (top_bytes t) starts.1.rest, length-top t) in
     let one = begun (drop 8 file) (top 1 content) has.stands.rest has.stands.there (omega (arith, size, head.within)) in

@@ -24,7 +24,7 @@ fails_to_fit file cuts =
 
 pub flawed : (file : List ℕ) (rule offset : ℕ) → FailsAtEnds file rule offset → Flaw file rule offset
 flawed file rule offset (first_magic none) = flaw_1 none
-flawed file rule offset (last_magic none) = flaw_2 none
-flawed file rule offset (no_header none) = flaw_3 none
+flawed file rule offset (last_magic v1 none) = flaw_2 none
+flawed file rule offset (no_header v1 none) = flaw_3 none
 flawed file rule offset (header_cut cuts) = flaw_4 8 (fails_to_fit file cuts)
-flawed file rule offset (no_footer none) = flaw_17 (inl none)
+flawed file rule offset (no_footer v1 none) = flaw_17 (inl none)

@@ -33,10 +33,10 @@ LoadCause before now (Err (refusals.Grammar offset rule)) = now ≡ before
 LoadCause before now (Err (refusals.Limit offset)) = now ≡ before
 LoadCause before now (Err refusals.Memory) = now ≡ before
 
--- The bytes that were asked for: at most the last 37; or these, the magic with the head of the Header, the content that
--- the Header declares, and the summary.
+-- The bytes that were asked for: at most the last 37 and the first eight; or the last 37, the magic with the head of the
+-- Header, the content that the Header declares, and the summary.
 abbrev pub AskedFor : List ℕ → ℕ → ℕ → Type 0
-AskedFor file before now = (now ≤ before + 37)
+AskedFor file before now = (now ≤ before + 45)
     ⊎ ((start : ℕ) × StartsAt file start × (now ≤ before + 54 + declared_length (drop 8 file) + (length file - 37 - start)))
 
 abbrev pub AsksLittle : StoreState → StoreState → Type 0

@@ -73,21 +73,21 @@ pub record CutsFirst (file : List ℕ) : Type 0 where
   pub some : 16 < length file
   pub cut : let inner = part 8 (length file - 8) file in (has_head inner ≡ false) ⊎ (is_whole inner ≡ false)
 
--- The rule of that number fails at that offset, on the ends of the file: a magic isn't there; or behind the first one no
--- Header stands, or no whole record; or in front of the last eight bytes no Footer.
+-- The rule of that number fails at that offset, on the ends of the file: the first magic isn't there; or it is, and behind
+-- it no Header stands, or no whole record; or the last magic isn't there, or in front of the last eight bytes no Footer.
 pub data FailsAtEnds (file : List ℕ) : ℕ → ℕ → Type 0 where
   first_magic : (V1 file → ⊥) → FailsAtEnds file 1 0
-  last_magic : (V2 file → ⊥) → FailsAtEnds file 2 (length file - 8)
-  no_header : (StartsWithHeader file → ⊥) → FailsAtEnds file 3 8
+  last_magic : V1 file → (V2 file → ⊥) → FailsAtEnds file 2 (length file - 8)
+  no_header : V1 file → (StartsWithHeader file → ⊥) → FailsAtEnds file 3 8
   header_cut : CutsFirst file → FailsAtEnds file 4 8
-  no_footer : (EndsWithFooter file → ⊥) → FailsAtEnds file 17 (length file - 37)
+  no_footer : V1 file → (EndsWithFooter file → ⊥) → FailsAtEnds file 17 (length file - 37)
 
 -- The rule of that number fails at that offset: on the file's ends; on the Footer, which names no place of a summary; or on
--- a record of the summary.
+-- a record of the summary. Of a file that doesn't begin with the magic only that is told.
 pub data Fails (file : List ℕ) : ℕ → ℕ → Type 0 where
   at_ends : (rule offset : ℕ) → FailsAtEnds file rule offset → Fails file rule offset
-  by_start : (f : Footer) → EndsIn file f → f.summary_start ≢ 0 → (f.summary_start < 8) ⊎ (length file < f.summary_start + 37) → Fails file 11 (length file - 37)
-  inside : (start rule offset : ℕ) → StartsAt file start → FailsInside (summary_part file start) start rule offset → Fails file rule offset
+  by_start : V1 file → (f : Footer) → EndsIn file f → f.summary_start ≢ 0 → (f.summary_start < 8) ⊎ (length file < f.summary_start + 37) → Fails file 11 (length file - 37)
+  inside : V1 file → (start rule offset : ℕ) → StartsAt file start → FailsInside (summary_part file start) start rule offset → Fails file rule offset
 
 -- ---- where a limit is passed
 

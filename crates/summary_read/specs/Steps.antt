@@ -1,6 +1,7 @@
 -- The steps of loading.
-use Rattle.std.specs.Prelude.{◌≡◌, ◌⊎◌, ℕ, ◌+◌, ◌-◌, ◌≤◌, List, [], ◌∷◌, ◌++◌, length, take, drop, true, false, Option, Some, None, Result, Ok, Err, Vec, vec_len}
+use Rattle.std.specs.Prelude.{◌≡◌, ◌⊎◌, ◌↔◌, ℕ, ◌+◌, ◌-◌, ◌≤◌, List, [], ◌∷◌, ◌++◌, length, take, drop, Bool, true, false, Option, Some, None, Result, Ok, Err, Vec, vec_len}
 use Rattle.mcap_io.specs.Stores.{StoreState}
+use Rattle.mcap_io.specs.declared.outside.Failed.{Failed}
 use Rattle.mcap_wire.specs.declared.faults.Cut.{Cut}
 use Rattle.mcap_wire.specs.Layout.{le, content_limit}
 use Rattle.mcap_wire.specs.Reading.{IsCut}
@@ -14,7 +15,7 @@ use Rattle.mcap_model.specs.Plain.{cut_top}
 use Rattle.summary_read.specs.declared.refusals.LoadRefused.{LoadRefused}
 use Rattle.summary_read.specs.declared.refusals.LoadRefused.TheVariants as refusals
 use Rattle.mcap_wire.specs.Limits.{file_limit}
-use Rattle.summary_read.specs.Reached.{summary_limit, ShowsFooter, EndsIn, HasNoSummary, BreaksFirst, DeclaresPast, FailsInside, PassesInside}
+use Rattle.summary_read.specs.Reached.{summary_limit, ShowsFooter, EndsIn, HasNoSummary, BreaksFirst, DeclaresPast, Fails, Passes, FailsInside, PassesInside}
 use Rattle.summary_read.specs.Parts.{tops_of, AreInside, IsSound}
 use Rattle.summary_read.specs.Loading.{IsRefused}
 
@@ -43,9 +44,21 @@ pub record NamesPart (file : List ℕ) (f : Footer) : Type 0 where
   pub summary_fits : length file - 37 - f.summary_start ≤ summary_limit
   pub some : HasNoSummary file → ⊥
 
+-- why a file isn't loaded by its end, where it begins with the magic
+abbrev pub EndRefused : List ℕ → LoadRefused → Type 0
+EndRefused file (refusals.Fault faults) = Unit {0}
+EndRefused file refusals.NoSummary = HasNoSummary file
+EndRefused file (refusals.Grammar offset rule) = (V1 file → Fails file rule offset) × (HasNoSummary file → ⊥)
+EndRefused file (refusals.Limit offset) = Passes file offset × (HasNoSummary file → ⊥)
+EndRefused file refusals.Memory = Unit {0}
+
 abbrev pub EndJudged : List ℕ → Result Footer LoadRefused → Type 0
 EndJudged file (Ok f) = NamesPart file f
-EndJudged file (Err why) = IsRefused file why
+EndJudged file (Err why) = EndRefused file why
+
+abbrev pub FooterFound : List ℕ → Result Footer LoadRefused → Type 0
+FooterFound file (Ok f) = NamesPart file f
+FooterFound file (Err why) = IsRefused file why
 
 -- the file begins with the magic and the head of a Header, whose content is whole
 pub record HasHead (file : List ℕ) (len : ℕ) : Type 0 where
@@ -76,7 +89,22 @@ pub record IsInside (len : ℕ) (f : Footer) : Type 0 where
 abbrev pub TellsEnd : Option (List ℕ) → ℕ → Result Footer LoadRefused → Type 0
 TellsEnd told len result = (file : List ℕ) → told ≡ Some file → length file ≡ len → EndJudged file result
 
--- and its front
+abbrev pub TellsFooter : Option (List ℕ) → ℕ → Result Footer LoadRefused → Type 0
+TellsFooter told len result = (file : List ℕ) → told ≡ Some file → length file ≡ len → FooterFound file result
+
+-- whether it begins with the magic
+abbrev pub BeginsIs : List ℕ → Result Bool Failed → Type 0
+BeginsIs file (Ok begins) = (begins ≡ true) ↔ V1 file
+BeginsIs file (Err why) = Unit {0}
+
+abbrev pub TellsMagic : Option (List ℕ) → ℕ → Result Bool Failed → Type 0
+TellsMagic told len result = (file : List ℕ) → told ≡ Some file → length file ≡ len → BeginsIs file result
+
+-- a rule that fails by the end is told, or the first magic isn't there
+abbrev pub TellsRefused : Option (List ℕ) → ℕ → ℕ → ℕ → Result Footer LoadRefused → Type 0
+TellsRefused told len offset rule result = (file : List ℕ) → told ≡ Some file → length file ≡ len → EndRefused file (refusals.Grammar offset rule) → FooterFound file result
+
+-- its front
 abbrev pub TellsFront : Option (List ℕ) → ℕ → Result ℕ LoadRefused → Type 0
 TellsFront told len result = (file : List ℕ) → told ≡ Some file → length file ≡ len → (HasNoSummary file → ⊥) → FrontJudged file result
 

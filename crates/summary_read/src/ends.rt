@@ -3,10 +3,9 @@ ghost use Rattle.std.specs.Prelude.{◌≡◌, ◌+◌, ◌-◌, ◌≤◌, ◌�
 ghost use Rattle.mcap_model.specs.Fields.{IsHeader};
 ghost use Rattle.mcap_model.specs.Made.{top};
 ghost use Rattle.mcap_model.specs.Rules.{V1};
-ghost use Rattle.summary_read.specs.Loading.{IsRefused};
 ghost use Rattle.summary_read.specs.Reached.{EndsIn, HasNoSummary};
 ghost use Rattle.mcap_model.specs.Whole.{EndsWithMagic};
-ghost use Rattle.summary_read.specs.Steps.{IsOfBytes, IsInside, BeginsWithFooter, EndJudged, FrontJudged};
+ghost use Rattle.summary_read.specs.Steps.{IsOfBytes, IsInside, BeginsWithFooter, EndJudged, EndRefused, FrontJudged};
 
 use crate::refusals::LoadRefused;
 use mcap_wire::{CONTENT_LIMIT, MAGIC, cut, take_head};
@@ -27,8 +26,8 @@ const SUMMARY_LIMIT: u64 = 268_435_456;
 /// Where the Header stands.
 const HEADER_OFFSET: u64 = 8;
 
-// Whether the bytes begin with the magic.
-fn begins_with_magic(bytes: &[u8]) -> bool
+/// Whether the bytes begin with the magic.
+pub(crate) fn begins_with_magic(bytes: &[u8]) -> bool
     ensures { IsTrue result ↔ V1 bytes.now }
 {
     bytes.starts_with(&MAGIC)
@@ -62,7 +61,7 @@ fn footer_in(bytes: &[u8]) -> Option<Footer>
 fn judge_without_footer(end: &[u8], len: u64) -> LoadRefused
     requires size { length end.now ≡ 37 }
     requires whole { 37 ≤ len }
-    ensures judged { (file : List ℕ) → length file ≡ len → drop (len - 37) file ≡ end.now → ((f : Footer) → EndsIn file f → ⊥) → IsRefused file result }
+    ensures judged { (file : List ℕ) → length file ≡ len → drop (len - 37) file ≡ end.now → ((f : Footer) → EndsIn file f → ⊥) → EndRefused file result }
     ensures of_bytes { IsOfBytes result }
 {
     if len > FILE_LIMIT {

@@ -1,24 +1,25 @@
 //! Loading: the ends of a file are read and judged, then its summary.
-ghost use Rattle.std.specs.Prelude.{◌≡◌, ◌+◌, ◌^◌, ◌<◌, ◌≤◌, length, IfOk};
+ghost use Rattle.std.specs.Prelude.{◌≡◌, ◌+◌, ◌^◌, ◌<◌, ◌≤◌, length, IfOk, OnOk};
+ghost use Rattle.mcap_io.specs.Outside.{HasCause};
 ghost use Rattle.mcap_io.specs.Stores.{LeavesStore};
 ghost use Rattle.mcap_model.specs.Fields.{IsHeader};
 ghost use Rattle.mcap_model.specs.Made.{top};
 ghost use Rattle.summary_read.specs.Loading.{Loads, LoadCause, AsksLittle};
 ghost use Rattle.summary_read.specs.Parts.{IsListed};
-ghost use Rattle.summary_read.specs.Steps.{AreCut, IsInside, TellsEnd, TellsFront, TellsHeader, HeaderAsks, TellsPart, Takes};
+ghost use Rattle.summary_read.specs.Steps.{AreCut, IsInside, TellsEnd, TellsFooter, TellsFront, TellsHeader, TellsMagic, TellsRefused, HeaderAsks, TellsPart, Takes};
 
-use crate::ends::{END_LENGTH, FRONT_LENGTH, is_header, judge_end, judge_front};
+use crate::ends::{END_LENGTH, FRONT_LENGTH, begins_with_magic, is_header, judge_end, judge_front};
 use crate::lists::of_kind;
 use crate::loaded::Loaded;
 use crate::refusals::LoadRefused;
 use crate::walk::cut_records;
 use mcap_io::{Failed, ReadRefused, Store, read_part};
-use mcap_wire::{Cut, Memory};
+use mcap_wire::{Cut, MAGIC, Memory};
 use rec_data::{CHANNEL, Footer, SCHEMA};
 use rec_index::{ATTACHMENT_INDEX, CHUNK_INDEX, METADATA_INDEX, STATISTICS, SUMMARY_OFFSET};
 use std::alloc::Global;
 
-// The Footer of a store of that length.
+// The Footer of a store of that length, judged by the last 37 bytes.
 fn read_end<T: Store>(store: &mut T, len: u64) -> Result<Footer, LoadRefused>
     requires { len ≤ (T.state store.old).known }
     ensures judged { TellsEnd (T.state store.old).bytes len result }
@@ -40,6 +41,66 @@ fn read_end<T: Store>(store: &mut T, len: u64) -> Result<Footer, LoadRefused>
                 faults: store.faults(),
             });
         }
+    }
+}
+
+// Whether a store of that length begins with the magic.
+fn read_magic<T: Store>(store: &mut T, len: u64) -> Result<bool, Failed>
+    requires { len ≤ (T.state store.old).known }
+    ensures told { TellsMagic (T.state store.old).bytes len result }
+    ensures cause { HasCause (T.state store.old).faults (T.state store.new).faults result }
+    ensures takes { Takes (T.state store.old) (T.state store.new) 8 }
+{
+    if len < MAGIC.len() as u64 {
+        return Ok(false);
+    }
+    let mut front = [0; 8];
+    match store.read_at(0, &mut front) {
+        Ok(()) => return Ok(begins_with_magic(&front)),
+        Err(Failed) => return Err(Failed),
+    }
+}
+
+// Refuses a store of that length at whose end a rule fails, if it begins with the magic: else it is refused for that.
+fn refuse_end<T: Store>(
+    store: &mut T,
+    len: u64,
+    offset: u64,
+    rule: u8,
+) -> Result<Footer, LoadRefused>
+    requires { len ≤ (T.state store.old).known }
+    ensures judged { TellsRefused (T.state store.old).bytes len offset rule result }
+    ensures refused { OnOk result ⊥ }
+    ensures cause { LoadCause (T.state store.old).faults (T.state store.new).faults result }
+    ensures takes { Takes (T.state store.old) (T.state store.new) 8 }
+{
+    match read_magic(store, len) {
+        Ok(true) => return Err(LoadRefused::Grammar { offset, rule }),
+        Ok(false) => return Err(LoadRefused::Grammar { offset: 0, rule: 1 }),
+        Err(Failed) => {
+            return Err(LoadRefused::Fault {
+                faults: store.faults(),
+            });
+        }
+    }
+}
+
+// The Footer of a store of that length. What is wrong with its end is told only of a file that begins with the magic.
+fn find_footer<T: Store>(store: &mut T, len: u64) -> Result<Footer, LoadRefused>
+    requires { len ≤ (T.state store.old).known }
+    ensures judged { TellsFooter (T.state store.old).bytes len result }
+    ensures inside { IfOk result (IsInside len) }
+    ensures cause { LoadCause (T.state store.old).faults (T.state store.new).faults result }
+    ensures takes { Takes (T.state store.old) (T.state store.new) 45 }
+    ensures asks { OnOk result ((T.state store.new).asked ≤ (T.state store.old).asked + 37) }
+{
+    match read_end(store, len) {
+        Ok(footer) => return Ok(footer),
+        Err(LoadRefused::Grammar { offset, rule }) => return refuse_end(store, len, offset, rule),
+        Err(LoadRefused::Fault { faults }) => return Err(LoadRefused::Fault { faults }),
+        Err(LoadRefused::NoSummary) => return Err(LoadRefused::NoSummary),
+        Err(LoadRefused::Limit { offset }) => return Err(LoadRefused::Limit { offset }),
+        Err(LoadRefused::Memory) => return Err(LoadRefused::Memory),
     }
 }
 
@@ -158,8 +219,8 @@ fn list_records(
     });
 }
 
-/// Loads the summary of the file that the store holds. It asks for the magic and the Header, for the last 37 bytes, and
-/// for the summary.
+/// Loads the summary of the file that the store holds. It asks for the last 37 bytes, for the magic and the Header, and for
+/// the summary. Of a file that doesn't begin with the magic that is told before any other rule.
 pub fn load<T: Store>(alloc: Global, store: &mut T) -> Result<Loaded, LoadRefused>
     ensures loads { Loads (T.state store.old).bytes result }
     ensures cause { LoadCause (T.state store.old).faults (T.state store.new).faults result }
@@ -174,7 +235,7 @@ pub fn load<T: Store>(alloc: Global, store: &mut T) -> Result<Loaded, LoadRefuse
             });
         }
     };
-    let footer = match read_end(store, len) {
+    let footer = match find_footer(store, len) {
         Ok(footer) => footer,
         Err(why) => return Err(why),
     };

@@ -9,11 +9,11 @@ returns-then-not-begins_with_magic-clause-judged c = λ file size is some.
 
 pub returns-in-Err-clause-judged : goal.returns-in-Err-clause-judged
 returns-in-Err-clause-judged c = λ file size is some.
-    (other_header file c.args.front.now is c.requires.size (head_fails c.args.front.now c.in-Err.field-0 c.requires.size c.in-Err.ensures), some)
+    (other_header file c.args.front.now is c.requires.size (head_fails c.args.front.now c.in-Err.field-0 c.requires.size c.in-Err.ensures) (c.begins_with_magic.ensures.0 c.if-not-begins_with_magic.false), some)
 
 pub returns-then-head-ne-HEADER-clause-judged : goal.returns-then-head-ne-HEADER-clause-judged
 returns-then-head-ne-HEADER-clause-judged c = λ file size is some.
-    (other_header file c.args.front.now is c.requires.size (λ kind. c.if-head-ne-HEADER.true (c.in-Ok.ensures.opcode ∙ kind)), some)
+    (other_header file c.args.front.now is c.requires.size (λ kind. c.if-head-ne-HEADER.true (c.in-Ok.ensures.opcode ∙ kind)) (c.begins_with_magic.ensures.0 c.if-not-begins_with_magic.false), some)
 
 pub returns-then-head-gt-CONTENT_LIMIT-clause-judged : goal.returns-then-head-gt-CONTENT_LIMIT-clause-judged
 returns-then-head-gt-CONTENT_LIMIT-clause-judged c = λ file size is some. (
