@@ -16,13 +16,13 @@ use Rattle.mcap_model.proofs.Lists.{filter_passed}
 use Rattle.mcap_model.proofs.Flat.{good_lists_are_scanned}
 use Rattle.mcap_laws.proofs.Leading.{there_same, is_there, opened, section_first, index_right, index_stands}
 use Rattle.summary_read.specs.Parts.{of_kind}
-use Rattle.indexed_replay.specs.Reaching.{HasChunkIndex}
+use Rattle.indexed_replay.specs.Reaching.{HasChunkIndex, Beside, nothing, heads, AskedBeside}
 use Rattle.indexed_replay.specs.Chunks.{NamesCost, ChunkCost}
 use Rattle.indexed_replay.specs.Gathering.{CostsUpTo}
 use Rattle.indexed_replay.proofs.Naming.{sum_is}
 use Rattle.mcap_model.proofs.Once.{chunk_index_once}
 use Rattle.indexed_replay.proofs.Weighed.{weights_fit}
-use Rattle.indexed_replay.proofs.Full.{OfChunk, of_chunk}
+use Rattle.indexed_replay.proofs.Full.{OfChunk, of_chunk, none_astray}
 use Rattle.indexed_replay.proofs.Costing.{names_differ, top_size, timely_size, spelled_size, timely_sum, entry_places, OneSpent, spent}
 
 -- ---- chunks
@@ -91,10 +91,15 @@ module _ (file : List ℕ) (tops : List Top) (full : FullyIndexed file tops) (se
     costs_up ts fs costs zip.1 are.1 (λ n u at. has (suc n) u at),
   )
 
+-- beside the costs nothing is asked for
+none_beside : (file : List ℕ) (tops : List Top) (full : FullyIndexed file tops) (section more : List Top) → tops ≡ section ++ more → HasDataEnd section → (messages : List Seen) → Scan section messages → (range : Range) (beside : ℕ) → Beside file range beside → beside ≡ 0
+none_beside file tops full section more joined ended messages scan range beside nothing = refl
+none_beside file tops full section more joined ended messages scan range beside (heads at f channel offset end place nowhere ends walked) = absurd (none_astray file tops full section more joined ended messages scan range at f channel offset nowhere)
+
 -- ---- files
 
 pub asked_bound : (file : List ℕ) (tops : List Top) (end bound before now : ℕ) (range : Range) → IsFullyIndexed file → Halts reading_limits file tops (at_end end) → AskedBound file range bound
-    → ((start : ℕ) (summary : List Top) (header : Top) (costs : List ℕ) → HasSummary file start summary → IsThere file 8 header → AllZip (CostsUpTo file range) (of_kind 8 summary) costs → now ≤ before + (8 + length (top_bytes header) + 37 + length (spelled summary) + sum costs))
+    → ((start : ℕ) (summary : List Top) (header : Top) (costs : List ℕ) → HasSummary file start summary → IsThere file 8 header → AllZip (CostsUpTo file range) (of_kind 8 summary) costs → AskedBeside file range before now (8 + length (top_bytes header) + 37 + length (spelled summary) + sum costs))
     → now ≤ before + bound
 asked_bound file tops end bound before now range (all, full) halts asked few =
     let valid = full.valid in
@@ -104,5 +109,6 @@ asked_bound file tops end bound before now range (all, full) halts asked few =
     let costs = costs_up file all full tops more joined ended messages scan range (of_kind 8 asked.summary) asked.indexes asked.costs asked.are_indexes asked.are_costs (λ n t at f is.
     let (place, there) = (filter_passed (λ (u : Top). u.op == 8) asked.summary n t at).0 in
     (asked.start + offset_among asked.summary place, record { start = asked.start; summary = asked.summary; has = asked.has; place = place; index = t; indexed = there; is = is; there = refl })) in
-    let least = few asked.start asked.summary asked.header asked.costs asked.has asked.first costs in
-    omega (arith, least, asked.sum_is)
+    let (beside, is, least) = few asked.start asked.summary asked.header asked.costs asked.has asked.first costs in
+    let none = none_beside file all full tops more joined ended messages scan range beside is in
+    omega (arith, least, none, asked.sum_is)

@@ -1,9 +1,9 @@
 -- The front of a chunk.
-use Rattle.std.proofs.Common.{◌≡◌, ℕ, ◌+◌, ◌-◌, ◌^◌, ◌<◌, ◌≤◌, List, [], ◌∷◌, ◌++◌, length, take, drop, Result, Ok, Err, refl, sym, ap, subst, ◌∙◌, append_assoc, arith}
-use Rattle.std.specs.Prelude.{◌≢◌, IsUtf8}
-use Rattle.std.proofs.lemmas.List.{take-append-drop, take-append-le, drop-append-le, drop-drop, drop-take, take-take, take_at, drop_at, length-append, length-drop}
+use Rattle.std.proofs.Common.{◌≡◌, ℕ, ◌+◌, ◌-◌, ◌^◌, ◌<◌, ◌≤◌, List, [], ◌++◌, length, take, drop, Result, Ok, Err, refl, sym, ap, subst, ◌∙◌, append_assoc, arith}
+use Rattle.std.specs.Prelude.{◌≢◌}
+use Rattle.std.proofs.lemmas.List.{take-append-drop, drop-append-le, drop-drop, drop-take, take-take, take_at, drop_at, length-append}
 use Rattle.mcap_wire.specs.Layout.{le, number, prefixed}
-use Rattle.mcap_wire.specs.Reading.{NumberAt, text_length, text_bytes}
+use Rattle.mcap_wire.specs.Reading.{NumberAt, text_length}
 use Rattle.mcap_wire.proofs.Numbers.{length-le, number-le}
 use Rattle.rec_index.specs.Fields.{ChunkFields}
 use Rattle.mcap_model.specs.Tops.{Top, declared_length, first_top}
@@ -13,9 +13,8 @@ use Rattle.mcap_model.proofs.Readings.{length-top}
 use Rattle.indexed_replay.specs.declared.answers.ReplayRefused.{ReplayRefused}
 use Rattle.indexed_replay.specs.Reaching.{EndsAt, LacksChunk}
 use Rattle.indexed_replay.specs.Steps.{FrontStands, LacksRecord}
-use Rattle.indexed_replay.specs.Chunks.{PackedAt, PackRefused, ChunkChecked}
+use Rattle.indexed_replay.specs.Chunks.{PackRefused, ChunkChecked}
 use Rattle.indexed_replay.proofs.Headed.{there_begun}
-use Rattle.indexed_replay.proofs.Adding.{same_there}
 
 -- ---- the compression in a content
 
@@ -38,19 +37,11 @@ module _ (t : Top) (g : ChunkFields) (is : IsChunk t g) where
   name_fits : length g.compression < 2 ^ 32
   name_fits = let layout = is.layout in let row = layout.1 in let fit = row.fit in fit.1.1.1.1.0.0
 
-  pub name_utf8 : IsUtf8 g.compression
-  name_utf8 = let layout = is.layout in let row = layout.1 in let fit = row.fit in fit.1.1.1.1.0.1
-
   behind : drop 28 t.content ≡ le 4 (length g.compression) ++ (g.compression ++ more)
   behind = ap (drop 28) split ∙ drop_at front (le 4 (length g.compression) ++ (g.compression ++ more)) 28 length-front
 
   pub name_length : text_length t.content 28 ≡ length g.compression
   name_length = ap (λ (l : List ℕ). number (take 4 l)) behind ∙ ap number (take_at (le 4 (length g.compression)) (g.compression ++ more) 4 (length-le 4 (length g.compression))) ∙ number-le 4 (length g.compression) name_fits
-
-  pub name_is : text_bytes t.content 28 ≡ g.compression
-  name_is =
-      let after : drop 32 t.content ≡ g.compression ++ more = sym (drop-drop 4 28 t.content) ∙ ap (drop 4) behind ∙ drop_at (le 4 (length g.compression)) (g.compression ++ more) 4 (length-le 4 (length g.compression)) in
-      ap (λ (n : ℕ). take n (drop 32 t.content)) name_length ∙ ap (take (length g.compression)) after ∙ take_at g.compression more (length g.compression) refl
 
   pub chunk_long : 40 + length g.compression ≤ length t.content
   chunk_long = let layout = is.layout in omega (arith, ap length split, length-front, length-append front (le 4 (length g.compression) ++ (g.compression ++ more)), length-append (le 4 (length g.compression)) (g.compression ++ more), length-le 4 (length g.compression), length-append g.compression more, length-append (prefixed 8 g.records) layout.0, length-append (le 8 (length g.records)) g.records, length-le 8 (length g.records))
@@ -100,44 +91,18 @@ none_named file out at op len value end t g front size there here is plain =
     let none : length g.compression ≡ 0 = ap length plain in
     omega (arith, none, name_length (first_top (drop at file)) g own, front_name file out at op len value end front size there)
 
--- ---- a compression that is read
-
-name_bytes : (file : List ℕ) (at n : ℕ) (t : Top) → IsThere file at t → 32 + n ≤ length t.content → take n (drop (at + 41) file) ≡ take n (drop 32 t.content)
-name_bytes file at n t there long =
-    let stands = there.stands in
-    let head = t.op ∷ le 8 (length t.content) in
-    let head_size : length head ≡ 9 = omega (arith, length-le 8 (length t.content)) in
-    let whole : drop at file ≡ head ++ (t.content ++ stands.rest) = stands.there ∙ ap (λ (l : List ℕ). t.op ∷ l) (append_assoc (le 8 (length t.content)) t.content stands.rest) in
-    let nine : drop (at + 9) file ≡ t.content ++ stands.rest = sym (drop-drop 9 at file) ∙ ap (drop 9) whole ∙ drop_at head (t.content ++ stands.rest) 9 head_size in
-    let same : at + 41 ≡ at + 9 + 32 = omega arith in
-    let after : drop (at + 41) file ≡ drop 32 t.content ++ stands.rest = ap (λ (k : ℕ). drop k file) same ∙ sym (drop-drop 32 (at + 9) file) ∙ ap (drop 32) nine ∙ drop-append-le 32 t.content stands.rest (omega (arith, long)) in
-    ap (take n) after ∙ take-append-le n (drop 32 t.content) stands.rest (omega (arith, length-drop 32 t.content, long))
-
-name_read : (file name : List ℕ) (at n : ℕ) (t : Top) → IsThere file at t → text_length t.content 28 ≡ n → 40 + n ≤ length t.content → name ≡ take n (drop (at + 41) file) → text_bytes t.content 28 ≡ name
-name_read file name at n t there size long same = ap (λ (k : ℕ). take k (drop 32 t.content)) size ∙ sym (name_bytes file at n t there (omega (arith, long))) ∙ sym same
-
-pub packed_at : (file name : List ℕ) (at n : ℕ) (t : Top) → IsThere file at t → t.op ≡ 6 → text_length t.content 28 ≡ n → 40 + n ≤ length t.content → n ≢ 0 → name ≡ take n (drop (at + 41) file) → length name ≡ n → PackedAt file at name
-packed_at file name at n t there kind size long some same name_size = record {
-  chunk = t;
-  there = there;
-  kind = kind;
-  named = name_read file name at n t there size long same;
-  some = λ none. some (sym name_size ∙ ap length none);
-}
-
-pub lacks_text : (file name : List ℕ) (at n : ℕ) (t : Top) → IsThere file at t → text_length t.content 28 ≡ n → 40 + n ≤ length t.content → name ≡ take n (drop (at + 41) file) → (IsUtf8 name → ⊥) → LacksChunk file at
-lacks_text file name at n t there size long same bad = λ u g here is.
-    let own = subst (λ (v : Top). IsChunk v g) (same_there file at u t here there) is in
-    bad (subst IsUtf8 (sym (name_is t g own) ∙ name_read file name at n t there size long same) (name_utf8 t g own))
+-- ---- a chunk that is looked at
 
 pub pack_checked : (file : List ℕ) (index at : ℕ) (result : Result ℕ ReplayRefused) → PackRefused file index at result → ChunkChecked file index at result
 pack_checked file index at (Ok end) refused = absurd refused
 pack_checked file index at (Err why) refused = refused
 
 -- where a chunk ends whose front was read
-pub chunk_ends : (file out : List ℕ) (at op len end : ℕ) → FrontStands file at out op len → end ≡ at + 9 + len → EndsAt file at end
-chunk_ends file out at op len end front is = record {
+pub chunk_ends : (file out : List ℕ) (at op len after end : ℕ) → FrontStands file at out op len → length out ≡ 49 → op ≡ 6 → NumberAt 4 out 37 0 after → end ≡ at + 9 + len → EndsAt file at end
+chunk_ends file out at op len after end front size six none is = record {
   chunk = first_top (drop at file);
   there = front.there;
+  kind = front.op_is ∙ six;
+  unpacked = front_name file out at op len 0 after front size none;
   is = omega (arith, is, length-top (first_top (drop at file)), front_size file out at op len front);
 }

@@ -24,7 +24,7 @@ use Rattle.summary_read.specs.Loading.{IsRefused, AskedFor}
 use Rattle.indexed_replay.specs.declared.answers.NotIndexed.{NotIndexed}
 use Rattle.indexed_replay.specs.declared.answers.NotIndexed.TheVariants as lacks
 use Rattle.indexed_replay.specs.declared.answers.ReplayRefused.{ReplayRefused}
-use Rattle.indexed_replay.specs.Reaching.{IsNotIndexed, at_loading, while_loading}
+use Rattle.indexed_replay.specs.Reaching.{IsNotIndexed, at_loading, while_loading, nothing, AskedBeside}
 use Rattle.indexed_replay.specs.Replaying.{IsReason, FileIsLed, IsScanReplayed, PlaysAll}
 use Rattle.indexed_replay.specs.Played.{PartsAgree, CountsJudged, refused_by}
 use Rattle.indexed_replay.proofs.Headed.{there_begun}
@@ -86,13 +86,24 @@ start_once file start other summary has starts =
     let before = starts.before in
     (omega (arith, named, starts_same), omega (arith, named, starts_same, before))
 
-pub asked_loaded : (file : List ℕ) (start : ℕ) (summary : List Top) (header : Top) (before mid now extra : ℕ) → HasSummary file start summary → IsThere file 8 header → AskedFor file before mid → now ≤ mid + extra → now ≤ before + (8 + length (top_bytes header) + 37 + length (spelled summary) + extra)
+pub asked_loaded : (file : List ℕ) (start : ℕ) (summary : List Top) (header : Top) (before mid now extra : ℕ) → HasSummary file start summary → IsThere file 8 header → AskedFor file before mid → now ≤ mid + extra → now ≤ before + (8 + length (top_bytes header) + 37 + length (spelled summary)) + extra
 asked_loaded file start summary header before mid now extra has there (inl few) more = omega (arith, few, more, length-top header)
 asked_loaded file start summary header before mid now extra has there (inr (other, starts, few)) more =
     let once = start_once file start other summary has starts in
     let begun = there_begun file 8 header there in
     let part_size : length (part start (length file - 37) file) ≡ length file - 37 - start = length-take-le (length file - 37 - start) (drop start file) (omega (arith, length-drop start file)) in
     omega (arith, once.0, once.1, begun.1, length-top header, part_size, ap length has.records, few, more)
+
+-- what was asked for of a summary that isn't played
+pub asked_unplayed : (file : List ℕ) (range : Range) (start : ℕ) (summary : List Top) (header : Top) (first before mid cost : ℕ) → HasSummary file start summary → IsThere file 8 header → AskedFor file before mid → before ≤ first → AskedBeside file range first mid (8 + length (top_bytes header) + 37 + length (spelled summary) + cost)
+asked_unplayed file range start summary header first before mid cost has there asked less =
+    (0, nothing, let few = asked_loaded file start summary header before mid mid 0 has there asked (omega arith) in omega (arith, few, less))
+
+-- and of one that is played
+pub asked_played : (file : List ℕ) (range : Range) (start : ℕ) (summary : List Top) (header : Top) (first before mid now cost : ℕ) → HasSummary file start summary → IsThere file 8 header → AskedFor file before mid → before ≤ first → AskedBeside file range mid now cost
+    → AskedBeside file range first now (8 + length (top_bytes header) + 37 + length (spelled summary) + cost)
+asked_played file range start summary header first before mid now cost has there asked less (beside, is, more) =
+    (beside, is, let few = asked_loaded file start summary header before mid now (cost + beside) has there asked (omega (arith, more)) in omega (arith, few, less))
 
 -- ---- how many chunks are stated
 

@@ -1,36 +1,38 @@
 -- On a fully indexed file that is read to its Data End no reason holds to refuse a replay, but for a failed store, a limit
 -- and memory.
-use Rattle.std.proofs.Common.{◌≡◌, ℕ, zero, suc, ◌+◌, ◌^◌, ◌<◌, ◌≤◌, Bool, List, [], ◌∷◌, ◌++◌, length, take, drop, refl, sym, ap, subst, inl, inr, ◌∙◌, eqb, arith}
+use Rattle.std.proofs.Common.{◌≡◌, ℕ, zero, suc, ◌+◌, ◌^◌, ◌<◌, ◌≤◌, Bool, true, List, [], ◌∷◌, ◌++◌, length, take, drop, refl, sym, ap, subst, inl, inr, ◌∙◌, append_assoc, eqb, arith}
 use Rattle.std.specs.Prelude.{◌≢◌, ◌==◌, Option, Err, take_while, if◌then◌else◌}
 use Rattle.std.specs.List.{list_any, prefix_len}
-use Rattle.std.proofs.lemmas.Bool.{eq-eqb}
-use Rattle.std.proofs.lemmas.List.{length-append, length-take, take-take}
-use Rattle.std.proofs.lemmas.Option.{same_Some}
-use Rattle.mcap_wire.specs.Reading.{text_bytes}
+use Rattle.std.proofs.lemmas.Bool.{eq-eqb, eqb-true}
+use Rattle.std.proofs.lemmas.Grind.{flat_map-append}
+use Rattle.std.proofs.lemmas.List.{length-append, length-take, take-take, take-append-drop, drop_at}
+use Rattle.std.proofs.lemmas.List.Sums.{prefix_len_passes}
+use Rattle.std.proofs.lemmas.Option.{same_Some, get_or_from_slice_get}
+use Rattle.mcap_wire.specs.Layout.{magic}
 use Rattle.mcap_model.specs.declared.replay.Range.{Range}
 use Rattle.mcap_model.specs.Places.{At, Has, Each}
 use Rattle.mcap_model.specs.Tops.{Top, top_bytes, spelled, inner_tops, is_chunk, is_flat_kind, flattened, flat}
 use Rattle.mcap_model.specs.Fields.{MessageFields, IsMessage, IsMessageIndex, ChunkIndexFields, IsChunkIndex}
 use Rattle.mcap_model.specs.Rules.{HasDataEnd}
+use Rattle.mcap_model.specs.Kept.{NamesCompression}
 use Rattle.mcap_model.specs.Scan.{Seen, Scan}
 use Rattle.mcap_model.specs.Whole.{offset_of, offset_among, is_index, indexes_behind, IsWhole, IsEntryOf, NamesIndexes, ChunkIndexIsRight}
 use Rattle.mcap_model.specs.Valid.{Valid, FullyIndexed}
 use Rattle.mcap_model.specs.Led.{HasSummary, IsThere}
 use Rattle.mcap_model.proofs.Places.{at_none, at_within, at_kept}
 use Rattle.mcap_model.proofs.Readings.{length-top}
-use Rattle.mcap_model.proofs.Lists.{at_second, cut_flat, filter_has, filter_passed}
+use Rattle.mcap_model.proofs.Lists.{at_second, cut_flat, filter_has, filter_passed, has_taken}
 use Rattle.mcap_model.proofs.Flat.{named_or}
 use Rattle.mcap_model.proofs.TakenRecords.{ended_front}
-use Rattle.mcap_laws.proofs.Leading.{Ends, ends_of, summary_of, in_summary, from_summary, summary_there, from_there, there_same, is_there, opened, named_of, index_right, index_stands}
+use Rattle.mcap_laws.proofs.Leading.{Ends, ends_of, summary_of, in_summary, from_summary, summary_there, from_there, there_same, is_there, at_dropped, opened, named_of, index_right, index_stands}
 use Rattle.summary_read.specs.Parts.{of_kind}
 use Rattle.indexed_replay.specs.declared.answers.NotIndexed.{NotIndexed}
 use Rattle.indexed_replay.specs.declared.answers.NotIndexed.TheVariants as lacks
 use Rattle.indexed_replay.specs.declared.answers.ReplayRefused.{ReplayRefused}
 use Rattle.indexed_replay.specs.declared.answers.ReplayRefused.TheVariants as refusals
-use Rattle.indexed_replay.specs.Reaching.{HasChunkIndex, IsReached, Names, LeadsTo, LacksChunk, LacksIndex, LacksMessage, IsElsewhere, Breaks, at_loading, no_chunk, no_index, index_elsewhere, no_message, IsPacked, CountsDiffer, NamesNone, LacksChannel, IsNotIndexed}
+use Rattle.indexed_replay.specs.Reaching.{HasChunkIndex, IsReached, Names, LeadsTo, LacksChunk, LacksIndex, LacksMessage, IsElsewhere, Breaks, at_loading, no_chunk, no_index, index_elsewhere, IndexesStand, IsApart, index_apart, LeadsNowhere, no_message, IsPacked, CountsDiffer, NamesNone, LacksChannel, IsNotIndexed}
 use Rattle.indexed_replay.specs.Replaying.{IsReason, IsScanReplayed}
 use Rattle.indexed_replay.proofs.Summed.{summary_once}
-use Rattle.indexed_replay.proofs.Chunking.{name_is}
 use Rattle.indexed_replay.proofs.Counted.{statistics_count}
 use Rattle.indexed_replay.proofs.Sound.{some_summary, none_fails}
 
@@ -53,6 +55,12 @@ taken_while test xs p t at =
     let within : p < length (take n xs) = at_within (take_while test xs) p t at in
     take-take p n xs (omega (arith, within, length-take n xs))
 
+-- each of the first ones is a Message Index
+index_among : (xs : List Top) (n : ℕ) (u : Top) → At (take_while is_index xs) n u → is_index u ≡ true
+index_among xs n u at =
+    let (less, here) = has_taken xs (prefix_len is_index xs) n u at in
+    ap is_index (sym (get_or_from_slice_get xs n u u here)) ∙ prefix_len_passes is_index xs n u less
+
 -- one of the Message Indexes behind the chunk at a place stands behind the chunk, and ends within their bytes
 index_behind : (tops : List Top) (k : ℕ) (chunk : Top) (p : ℕ) (t : Top) → At tops k chunk → At (indexes_behind tops k) p t
     → (offset_of tops (suc k + p) ≡ offset_of tops k + length (top_bytes chunk) + length (spelled (take p (indexes_behind tops k)))) × (length (spelled (take p (indexes_behind tops k))) + 9 ≤ length (spelled (indexes_behind tops k)))
@@ -62,6 +70,34 @@ index_behind tops k chunk p t at there =
       omega (arith, behind_size tops k p chunk at (suc k + p) refl, ap (λ (l : List Top). length (spelled l)) (taken_while is_index (drop (suc k) tops) p t there)),
       omega (arith, ap length cut, length-append front (top_bytes t ++ spelled more), length-append (top_bytes t) (spelled more), length-top t),
     )
+
+-- the Message Indexes behind a chunk up to one of them stand between both
+indexes_between : (file : List ℕ) (tops : List Top) → IsWhole file tops → (k : ℕ) (chunk : Top) (p : ℕ) (t : Top) → At tops k chunk → At (indexes_behind tops k) p t → (end offset : ℕ)
+    → end ≡ offset_of tops k + length (top_bytes chunk) → offset ≡ end + length (spelled (take p (indexes_behind tops k))) → IndexesStand file end offset
+indexes_between file tops whole k chunk p t at there end offset ends is =
+    let before = take p (indexes_behind tops k) in
+    let short = whole.short in
+    let taken : before ≡ take p (drop (suc k) tops) = taken_while is_index (drop (suc k) tops) p t there in
+    let at_end : end ≡ offset_of tops (suc k) = omega (arith, ends, behind_size tops k 0 chunk at (suc k) (omega arith)) in
+    let parts : drop end file ≡ spelled (drop (suc k) tops) ++ magic =
+    ap (λ (n : ℕ). drop n file) at_end ∙ ap (drop (offset_of tops (suc k))) (whole.split ∙ split_whole) ∙ drop_at (magic ++ spelled (take (suc k) tops)) (spelled (drop (suc k) tops) ++ magic) (offset_of tops (suc k)) (length-append magic (spelled (take (suc k) tops))) in
+    record {
+      indexes = before;
+      kinds = λ n u here. let (less, at_n) = has_taken (indexes_behind tops k) p n u here in eqb-true u.op 7 (index_among (drop (suc k) tops) n u at_n);
+      short = λ n u here. let (less, at_n) = has_taken (drop (suc k) tops) p n u (subst (λ (l : List Top). At l n u) taken here) in short (suc k + n) u (at_dropped tops (suc k) n u at_n (suc k + n) refl);
+      rest = spelled (drop p (drop (suc k) tops)) ++ magic;
+      split = parts ∙ ap (λ (l : List Top). spelled l ++ magic) (sym (take-append-drop p (drop (suc k) tops))) ∙ ap (λ (l : List ℕ). l ++ magic) (flat_map-append top_bytes (take p (drop (suc k) tops)) (drop p (drop (suc k) tops)))
+          ∙ append_assoc (spelled (take p (drop (suc k) tops))) (spelled (drop p (drop (suc k) tops))) magic
+          ∙ ap (λ (l : List Top). spelled l ++ (spelled (drop p (drop (suc k) tops)) ++ magic)) (sym taken);
+      there = is;
+    }
+  where
+    split_whole : magic ++ (spelled tops ++ magic) ≡ (magic ++ spelled (take (suc k) tops)) ++ (spelled (drop (suc k) tops) ++ magic)
+    split_whole =
+        ap (λ (l : List Top). magic ++ (spelled l ++ magic)) (sym (take-append-drop (suc k) tops))
+        ∙ ap (λ (l : List ℕ). magic ++ (l ++ magic)) (flat_map-append top_bytes (take (suc k) tops) (drop (suc k) tops))
+        ∙ ap (λ (l : List ℕ). magic ++ l) (append_assoc (spelled (take (suc k) tops)) (spelled (drop (suc k) tops)) magic)
+        ∙ sym (append_assoc magic (spelled (take (suc k) tops)) (spelled (drop (suc k) tops) ++ magic))
 
 names_size : (tops : List Top) (k : ℕ) (f : ChunkIndexFields) (channel offset : ℕ) → NamesIndexes tops k f → Has {X = ℕ × ℕ} f.indexes (channel, offset) → f.indexes_size ≡ length (spelled (indexes_behind tops k))
 names_size tops k f channel offset (inl none) (n, at) = absurd (at_none {X = ℕ × ℕ} n (channel, offset) (subst (λ (l : List (ℕ × ℕ)). At {X = ℕ × ℕ} l n (channel, offset)) none at))
@@ -151,8 +187,9 @@ module _ (file : List ℕ) (tops : List Top) (full : FullyIndexed file tops) (se
       let there = c.there in
       let stands = there.stands in
       let same = there_same file f.offset right.chunk packed.chunk stands.rest stands.there there.short (subst (λ (o : ℕ). IsThere file o packed.chunk) (sym packed.place) packed.there) in
-      let some = packed.some in
-      some (sym packed.named ∙ ap (λ (t : Top). text_bytes t.content 28) same ∙ name_is right.chunk right.shown of.is ∙ c.plain)
+      let v = valid in
+      let plain = v.plain in
+      plain right.k right.chunk of.at name (subst (λ (t : Top). NamesCompression t name) same packed.packed)
 
   some_index : (spot : ℕ) (f : ChunkIndexFields) (channel offset : ℕ) → Names file range spot f channel offset → LacksIndex file channel offset → ⊥
   some_index spot f channel offset names lacks =
@@ -182,6 +219,23 @@ module _ (file : List ℕ) (tops : List Top) (full : FullyIndexed file tops) (se
         | inl early ↦ omega (arith, early, ends.is, size, of.offset, named.there, behind.0)
         | inr late ↦ omega (arith, late, ends.is, size, of.offset, named.there, behind.0, behind.1, total)
       ]
+
+  -- up to it stand Message Indexes alone
+  none_apart : (spot : ℕ) (f : ChunkIndexFields) (channel offset : ℕ) → Names file range spot f channel offset → IsApart file f offset → ⊥
+  none_apart spot f channel offset names apart =
+      let reached = names.reached in
+      let c = of_chunk spot f reached.indexed in
+      let right = c.right in
+      let of = right.is in
+      let there = c.there in
+      let stands = there.stands in
+      let ends = apart.ends in
+      let same = there_same file f.offset right.chunk ends.chunk stands.rest stands.there there.short ends.there in
+      let size : length (top_bytes ends.chunk) ≡ length (top_bytes right.chunk) = ap (λ (t : Top). length (top_bytes t)) same in
+      let (entries, named) = named_of tops right.k f channel offset right.names names.named in
+      let behind = index_behind tops right.k right.chunk named.place named.top of.at named.at in
+      let lies = apart.apart in
+      lies (indexes_between file tops whole right.k right.chunk named.place named.top of.at named.at apart.end offset (omega (arith, ends.is, size, of.offset)) (omega (arith, named.there, behind.0, ends.is, size, of.offset)))
 
   of_entry : (spot : ℕ) (f : ChunkIndexFields) (channel offset : ℕ) (entry : ℕ × ℕ) → LeadsTo file range spot f channel offset entry → OfEntry file tops f channel entry
   of_entry spot f channel offset entry leads =
@@ -214,6 +268,9 @@ module _ (file : List ℕ) (tops : List Top) (full : FullyIndexed file tops) (se
 
   some_message : (spot : ℕ) (f : ChunkIndexFields) (channel offset : ℕ) (entry : ℕ × ℕ) → LeadsTo file range spot f channel offset entry → LacksMessage file f.offset channel entry → ⊥
   some_message spot f channel offset entry leads lacks = let m = of_entry spot f channel offset entry leads in lacks m.top m.message m.there m.is (sym m.time)
+
+  pub none_astray : (spot : ℕ) (f : ChunkIndexFields) (channel offset : ℕ) → LeadsNowhere file range spot f channel offset → ⊥
+  none_astray spot f channel offset nowhere = some_message spot f channel offset nowhere.entry nowhere.leads nowhere.lacks
 
   some_channel : (id : ℕ) → LacksChannel file range id → ⊥
   some_channel id lacks =
@@ -265,7 +322,8 @@ module _ (file : List ℕ) (tops : List Top) (full : FullyIndexed file tops) (se
   none_breaks few rule offset (no_chunk spot f reached none) = some_chunk spot f reached none
   none_breaks few rule offset (no_index spot f channel place names none) = some_index spot f channel place names none
   none_breaks few rule offset (index_elsewhere spot f channel place names elsewhere) = none_elsewhere spot f channel place names elsewhere
-  none_breaks few rule offset (no_message spot f channel place entry leads none) = some_message spot f channel place entry leads none
+  none_breaks few rule offset (index_apart spot f channel place names apart) = none_apart spot f channel place names apart
+  none_breaks few rule offset (no_message spot f channel place nowhere own) = none_astray spot f channel place nowhere
 
   pub none_refuses : length file < 2 ^ 64 → (topic : Option (List ℕ)) (why : ReplayRefused) → IsReason file range why → IsScanReplayed range topic messages (Err why)
   none_refuses few topic (refusals.Fault faults) is = tt

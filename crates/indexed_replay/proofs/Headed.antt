@@ -2,7 +2,6 @@
 use Rattle.std.proofs.Common.{◌≡◌, ℕ, ◌+◌, ◌^◌, ◌<◌, ◌≤◌, List, [], ◌∷◌, ◌++◌, length, take, drop, sym, ap, subst, ◌∙◌, append_assoc, arith}
 use Rattle.std.specs.Prelude.{slice_index}
 use Rattle.std.proofs.lemmas.List.{take-append-drop, drop-append-le, drop-drop, take_at, length-append, length-drop, length-take-le}
-use Rattle.std.proofs.lemmas.Bool.{le-leb}
 use Rattle.mcap_wire.specs.Layout.{le, number, content_limit}
 use Rattle.mcap_wire.specs.Reading.{HeadAt}
 use Rattle.mcap_wire.proofs.Numbers.{length-le, number-le}
@@ -10,7 +9,7 @@ use Rattle.mcap_model.specs.Tops.{Top, top_bytes, opcode, declared_length, first
 use Rattle.mcap_model.specs.Made.{top}
 use Rattle.mcap_model.specs.Led.{IsThere}
 use Rattle.mcap_model.proofs.Readings.{length-top, begun}
-use Rattle.summary_read.specs.Reached.{DeclaresPast}
+use Rattle.indexed_replay.specs.Reaching.{IsTooLong}
 use Rattle.indexed_replay.specs.Steps.{FrontStands, LacksRecord}
 
 first_cons : (out : List ℕ) (op : ℕ) → op ≡ slice_index out 0 → 1 ≤ length out → out ≡ op ∷ drop 1 out
@@ -78,14 +77,12 @@ head_apart file out at size op len is front long head t there =
     let b = there_begun file at t there in
     sym b.1 ∙ head_len (drop at file) op len (len_fits out op len head) split
 
--- a head there declares a content past the limit
-pub head_past : (file out : List ℕ) (at op len : ℕ) → at + 9 ≤ length file → out ≡ take (length out) (drop at file) → 9 ≤ length out → HeadAt out 0 op len → content_limit < len → DeclaresPast (drop at file)
-head_past file out at op len inside front long head past =
-    let split = front_split (drop at file) out op len front long head in
-    record {
-      head = le-leb 9 (length (drop at file)) (omega (arith, length-drop at file, inside));
-      past = omega (arith, head_len (drop at file) op len (len_fits out op len head) split, past);
-    }
+-- a record there has a content past the limit
+pub too_long : (file out : List ℕ) (at op len : ℕ) → FrontStands file at out op len → content_limit < len → IsTooLong file at
+too_long file out at op len front past =
+    let t = first_top (drop at file) in
+    let b = there_begun file at t front.there in
+    record { top = t; there = front.there; past = omega (arith, past, b.1, front.len_is) }
 
 -- the record there, once its content was read
 pub front_whole : (file out content : List ℕ) (at op len kind : ℕ) → FrontStands file at out op len → op ≡ kind → content ≡ take len (drop (at + 9) file) → IsThere file at (top kind content)

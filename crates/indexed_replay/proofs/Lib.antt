@@ -5,6 +5,8 @@ pub mod Wanting
 pub mod Listing
 pub mod Chunking
 pub mod Naming
+pub mod Packing
+pub mod Standing
 pub mod Gathered
 pub mod Firsts
 pub mod Summed

@@ -1,5 +1,5 @@
 -- What a Message Index adds, and why it adds nothing.
-use Rattle.std.proofs.Common.{◌≡◌, ℕ, ◌+◌, ◌≤◌, List, length, drop, Result, Ok, Err, refl, sym, ap, subst, ◌∙◌, arith}
+use Rattle.std.proofs.Common.{◌≡◌, ℕ, ◌+◌, ◌≤◌, Bool, true, false, List, length, drop, Result, Ok, Err, refl, sym, ap, subst, ◌∙◌, arith}
 use Rattle.mcap_model.specs.declared.replay.Range.{Range}
 use Rattle.mcap_model.specs.declared.replay.Shown.{Shown}
 use Rattle.mcap_model.specs.Places.{Has}
@@ -10,14 +10,13 @@ use Rattle.mcap_model.specs.Plain.{asked_topic}
 use Rattle.mcap_model.specs.Led.{IsThere}
 use Rattle.rec_index.specs.Records.{ShowsMessageIndex}
 use Rattle.mcap_model.proofs.Readings.{length-top}
-use Rattle.summary_read.specs.Reached.{DeclaresPast}
 use Rattle.indexed_replay.specs.declared.answers.ReplayRefused.{ReplayRefused}
 use Rattle.indexed_replay.specs.declared.answers.ReplayRefused.TheVariants as refusals
 use Rattle.indexed_replay.specs.declared.answers.NotIndexed.{NotIndexed}
 use Rattle.indexed_replay.specs.declared.answers.NotIndexed.TheVariants as lacks
 use Rattle.indexed_replay.specs.declared.spots.Spot.{Spot}
 use Rattle.indexed_replay.specs.declared.spots.Request.{Request}
-use Rattle.indexed_replay.specs.Reaching.{Names, LeadsTo, LacksIndex, LacksMessage, Breaks, no_index, no_message, at_index, at_message}
+use Rattle.indexed_replay.specs.Reaching.{Names, LeadsTo, LacksIndex, LacksMessage, no_index, IsTooLong, at_index, at_message}
 use Rattle.indexed_replay.specs.Replaying.{IsReason}
 use Rattle.indexed_replay.specs.Steps.{Adds, IsListed, EntryRefused, EntriesShown, entries_cost}
 use Rattle.indexed_replay.specs.Lists.{Wanted, Undeclared, Knows, HasTimely, IsShownBy, ContentRefused, at_entry, no_channel, ContentShown, IsLedBy, ListRefused, ListShown, ListCost}
@@ -27,12 +26,13 @@ use Rattle.mcap_model.proofs.Once.{message_index_once}
 
 -- ---- a content
 
-pub content_shown : (file : List ℕ) (request : Request) (spot : Spot) (entries : List (ℕ × ℕ)) (shown : List Shown × List Shown) (result : Result Unit ReplayRefused) → Wanted request.tables.now.channels spot.channel (asked_topic request.topic)
+pub content_shown : (file : List ℕ) (request : Request) (spot : Spot) (entries : List (ℕ × ℕ)) (shown : List Shown × List Shown) (result : Result Bool ReplayRefused) → Wanted request.tables.now.channels spot.channel (asked_topic request.topic)
     → EntriesShown file request.range spot entries shown result → ContentShown file request spot entries shown result
-content_shown file request spot entries shown (Ok it) wanted adds =
+content_shown file request spot entries shown (Ok true) wanted adds =
     adds_same (IsListed file request.range spot entries) (IsShownBy file request spot entries) shown.0 shown.1 adds
     (λ s listed. record { listed = listed; wanted = subst (λ (c : ℕ). Wanted request.tables.now.channels c (asked_topic request.topic)) (sym listed.channel_is) wanted })
     (λ s is. is.listed)
+content_shown file request spot entries shown (Ok false) wanted lacks = lacks
 content_shown file request spot entries shown (Err why) wanted refused = at_entry why refused.0 refused.1 refused.2 refused.3
 
 pub content_none : (file : List ℕ) (request : Request) (spot : Spot) (entries : List (ℕ × ℕ)) (old : List Shown) → (Wanted request.tables.now.channels spot.channel (asked_topic request.topic) → ⊥) → Adds (IsShownBy file request spot entries) old old
@@ -84,12 +84,10 @@ module _ (file : List ℕ) (request : Request) (at : ℕ) (spot : Spot) (content
   leads : (f : ChunkIndexFields) (entry : ℕ × ℕ) → Names file request.range at f spot.channel spot.list → Has {X = ℕ × ℕ} entries entry → Rattle.mcap_model.specs.Scan.InRange request.range entry.0 → LeadsTo file request.range at f spot.channel spot.list entry
   leads f entry names has in_range = record { names = names; list = top 7 content; entries = entries; there = there; is = is_index; entry_there = has; in_range = in_range }
 
-  entry_reason : (why : ReplayRefused) (f : ChunkIndexFields) (entry : ℕ × ℕ) → f.offset ≡ spot.chunk → LeadsTo file request.range at f spot.channel spot.list entry → EntryRefused file spot entry why → IsReason file request.range why
+  entry_reason : (why : ReplayRefused) (f : ChunkIndexFields) (entry : ℕ × ℕ) → f.offset ≡ spot.chunk → LeadsTo file request.range at f spot.channel spot.list entry → EntryRefused file spot.chunk entry why → IsReason file request.range why
   entry_reason (refusals.Fault faults) f entry place to refused = tt
   entry_reason (refusals.NotIndexed why) f entry place to refused = absurd refused
-  entry_reason (refusals.Flaw rule offset) f entry place to (nine, here, lacking) =
-      subst (λ (r : ℕ). Breaks file request.range r offset) (sym nine) (subst (λ (o : ℕ). Breaks file request.range 9 o) (sym here)
-      (no_message at f spot.channel spot.list entry to (subst (λ (o : ℕ). LacksMessage file o spot.channel entry) (sym place) lacking)))
+  entry_reason (refusals.Flaw rule offset) f entry place to refused = absurd refused
   entry_reason (refusals.Compressed offset name) f entry place to refused = absurd refused
   entry_reason (refusals.Limit offset) f entry place to (here, past) = at_message at f spot.channel spot.list offset entry to (here ∙ ap (λ (o : ℕ). o + 49 + entry.1) (sym place)) past
   entry_reason refusals.Memory f entry place to refused = tt
@@ -108,14 +106,15 @@ module _ (file : List ℕ) (request : Request) (at : ℕ) (spot : Spot) (content
     none = λ n t found g is. let covers = knows.covers in let (k, d, here, same) = covers t spot.channel g (n, found) is in none k d here same;
   }
 
-  pub list_shown : (shown : List Shown × List Shown) (result : Result Unit ReplayRefused) → Knows file request.tables.now.channels → ContentShown file request spot entries shown result → ListShown file request at spot shown result
-  list_shown shown (Ok it) knows adds = adds_same (IsShownBy file request spot entries) (IsLedBy file request spot) shown.0 shown.1 adds led listed
+  pub list_shown : (shown : List Shown × List Shown) (result : Result Bool ReplayRefused) → Knows file request.tables.now.channels → ContentShown file request spot entries shown result → ListShown file request at spot shown result
+  list_shown shown (Ok true) knows adds = adds_same (IsShownBy file request spot entries) (IsLedBy file request spot) shown.0 shown.1 adds led listed
+  list_shown shown (Ok false) knows (entry, has, in_range, lacking) = λ f place names. record { entry = entry; leads = leads f entry names has in_range; lacks = subst (λ (o : ℕ). LacksMessage file o spot.channel entry) (sym place) lacking }
   list_shown shown (Err why) knows refused = content_reason why knows refused
 
 pub lacks_reason : (file : List ℕ) (request : Request) (at : ℕ) (spot : Spot) → LacksIndex file spot.channel spot.list → ListRefused file request at spot (refusals.Flaw 12 at)
 lacks_reason file request at spot none = λ f place names. no_index at f spot.channel spot.list names none
 
-pub limit_reason : (file : List ℕ) (request : Request) (at : ℕ) (spot : Spot) (offset : ℕ) → (offset ≡ spot.list) × DeclaresPast (drop offset file) → ListRefused file request at spot (refusals.Limit offset)
+pub limit_reason : (file : List ℕ) (request : Request) (at : ℕ) (spot : Spot) (offset : ℕ) → (offset ≡ spot.list) × IsTooLong file offset → ListRefused file request at spot (refusals.Limit offset)
 limit_reason file request at spot offset (here, past) = λ f place names. at_index at f spot.channel offset (subst (λ (o : ℕ). Names file request.range at f spot.channel o) (sym here) names) past
 
 -- ---- what is asked for

@@ -1,9 +1,7 @@
 -- A message that is read by its front.
 use Rattle.std.proofs.Common.{◌≡◌, ◌⊎◌, ℕ, ◌+◌, ◌-◌, ◌^◌, ◌<◌, ◌≤◌, List, [], ◌∷◌, ◌++◌, length, take, drop, refl, sym, ap, subst, inl, inr, ◌∙◌, append_assoc, arith}
 use Rattle.std.specs.Prelude.{◌≢◌}
-use Rattle.std.proofs.lemmas.Bool.{le-leb}
 use Rattle.std.proofs.lemmas.List.{take-append-drop, drop-append-le, drop-drop, take_at, take_all, length-drop}
-use Rattle.mcap_wire.specs.Layout.{content_limit}
 use Rattle.rec_data.specs.Fields.{MessageFields}
 use Rattle.rec_data.specs.Records.{message_text, ShowsMessage}
 use Rattle.rec_data.proofs.Contents.{length-message_text}
@@ -13,7 +11,6 @@ use Rattle.mcap_model.specs.Fields.{IsMessage}
 use Rattle.mcap_model.specs.Led.{IsThere}
 use Rattle.mcap_model.proofs.Readings.{length-top}
 use Rattle.mcap_model.proofs.Maps.{message_once, message_long}
-use Rattle.summary_read.specs.Reached.{DeclaresPast}
 use Rattle.indexed_replay.specs.Reaching.{LacksMessage}
 use Rattle.std.proofs.Math.Seq.{take-append-add}
 use Rattle.indexed_replay.proofs.Headed.{there_begun}
@@ -124,12 +121,6 @@ lacks_same file out at op len chunk channel c entry m place front size five show
     ]
 
 -- ---- what is found, and what it costs
-
-pub declares_past : (file out : List ℕ) (at op len : ℕ) → FrontStands file at out op len → content_limit < len → DeclaresPast (drop at file)
-declares_past file out at op len front past =
-    let whole = front.whole in
-    let is = front.len_is in
-    record { head = le-leb 9 (length (drop at file)) (omega (arith, length-drop at file, whole)); past = omega (arith, is, past) }
 
 pub found : (file out p : List ℕ) (at op len chunk channel : ℕ) (entry : ℕ × ℕ) (m : MessageFields) (s : Shown) → at ≡ chunk + 49 + entry.1 → FrontStands file at out op len → length out ≡ 31 → op ≡ 5
     → ShowsMessage (drop 9 out) channel m → m.log_time ≡ entry.0 → p ≡ take (len - 22) (drop (at + 31) file)

@@ -1,7 +1,9 @@
 -- What the Message Indexes of a chunk add, and what they cost.
-use Rattle.std.proofs.Common.{◌≡◌, ℕ, zero, suc, ◌+◌, ◌≤◌, List, [], ◌∷◌, ◌++◌, length, take, map, sum, sum_by, refl, sym, ap, subst, inl, inr, ◌∙◌, arith}
+use Rattle.std.proofs.Common.{◌≡◌, ℕ, zero, suc, ◌+◌, ◌≤◌, Result, Ok, Err, List, [], ◌∷◌, ◌++◌, length, take, map, sum, sum_by, refl, sym, ap, subst, inl, inr, ◌∙◌, arith}
 use Rattle.std.proofs.lemmas.List.Sums.{sum_by-append, sum-map}
 use Rattle.std.specs.List.{AllZip}
+use Rattle.mcap_io.specs.Stores.{StoreState}
+use Rattle.mcap_model.specs.declared.replay.Range.{Range}
 use Rattle.mcap_model.specs.declared.replay.Shown.{Shown}
 use Rattle.mcap_model.specs.Places.{At}
 use Rattle.mcap_model.specs.Fields.{ChunkIndexFields}
@@ -9,11 +11,11 @@ use Rattle.mcap_model.proofs.Places.{at_none}
 use Rattle.indexed_replay.specs.declared.answers.ReplayRefused.{ReplayRefused}
 use Rattle.indexed_replay.specs.declared.answers.ReplayRefused.TheVariants as refusals
 use Rattle.indexed_replay.specs.declared.spots.Request.{Request}
-use Rattle.indexed_replay.specs.Reaching.{IsReached, Breaks, no_chunk, at_chunk, NamesNone}
+use Rattle.indexed_replay.specs.Reaching.{IsReached, Breaks, no_chunk, at_chunk, NamesNone, AskedBeside}
 use Rattle.indexed_replay.specs.Replaying.{IsReason}
 use Rattle.indexed_replay.specs.Steps.{Adds}
 use Rattle.indexed_replay.specs.Lists.{IsLedBy}
-use Rattle.indexed_replay.specs.Chunks.{spot_of, IsLedAmong, ChunkRefused}
+use Rattle.indexed_replay.specs.Chunks.{spot_of, IsLedAmong, ChunkRefused, ChunkAsked}
 use Rattle.indexed_replay.proofs.Adding.{sum_front, take_next, taken_or, taken_front, taken_last, adds_none, adds_both}
 
 -- ---- lists beside one another
@@ -98,6 +100,17 @@ chunk_reason file request at f (refusals.Fault faults) refused reached = tt
 chunk_reason file request at f (refusals.NotIndexed why) refused reached = absurd refused
 chunk_reason file request at f (refusals.Flaw rule offset) (twelve, here, lacks) reached =
     subst (λ (r : ℕ). Breaks file request.range r offset) (sym twelve) (subst (λ (o : ℕ). Breaks file request.range 12 o) (sym here) (no_chunk at f reached lacks))
-chunk_reason file request at f (refusals.Compressed offset name) (here, packed) reached = record { at = at; index = f; reached = reached; place = sym here; chunk = packed.chunk; there = subst (λ (o : ℕ). Rattle.mcap_model.specs.Led.IsThere file o packed.chunk) (sym here) packed.there; kind = packed.kind; named = packed.named; some = packed.some }
+chunk_reason file request at f (refusals.Compressed offset name) (here, packed) reached = record { at = at; index = f; reached = reached; place = sym here; chunk = packed.chunk; there = subst (λ (o : ℕ). Rattle.mcap_model.specs.Led.IsThere file o packed.chunk) (sym here) packed.there; packed = packed.packed }
 chunk_reason file request at f (refusals.Limit offset) (here, past) reached = at_chunk at f offset reached (sym here) past
 chunk_reason file request at f refusals.Memory refused reached = tt
+
+-- ---- what is asked for
+
+-- what was asked for of a chunk's front, and then of its Message Indexes
+pub asked_chunk : (file : List ℕ) (request : Request) (at : ℕ) (f : ChunkIndexFields) (names cost : ℕ) (old mid new : StoreState) (result : Result Unit ReplayRefused) → 49 + names ≤ cost → mid.asked ≤ old.asked + 49 → ChunkAsked file request at f names mid new result → ChunkAsked file request at f cost old new result
+asked_chunk file request at f names cost old mid new (Ok it) enough first more = omega (arith, enough, first, more)
+asked_chunk file request at f names cost old mid new (Err why) enough first more = λ knows reached. let (beside, is, few) = more knows reached in (beside, is, omega (arith, enough, first, few))
+
+-- the same of one among several
+pub asked_among : (file : List ℕ) (range : Range) (before mid now front last all : ℕ) → mid ≤ before + front → front + last ≤ all → AskedBeside file range mid now last → AskedBeside file range before now all
+asked_among file range before mid now front last all first joined (beside, is, few) = (beside, is, omega (arith, first, joined, few))

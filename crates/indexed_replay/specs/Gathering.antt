@@ -13,7 +13,7 @@ use Rattle.mcap_model.specs.Plain.{DeclareChannels}
 use Rattle.mcap_model.specs.Led.{Meets}
 use Rattle.indexed_replay.specs.declared.answers.ReplayRefused.{ReplayRefused}
 use Rattle.indexed_replay.specs.declared.spots.Request.{Request}
-use Rattle.indexed_replay.specs.Reaching.{HasChunkIndex}
+use Rattle.indexed_replay.specs.Reaching.{HasChunkIndex, AskedBeside}
 use Rattle.indexed_replay.specs.Replaying.{IsReason}
 use Rattle.indexed_replay.specs.Steps.{Adds}
 use Rattle.indexed_replay.specs.Lists.{Knows}
@@ -70,5 +70,10 @@ Gathers told request tops offsets shown result = (file : List ℕ) → told ≡ 
 abbrev pub CostsUpTo : List ℕ → Range → Top → ℕ → Type 0
 CostsUpTo file range t cost = (f : ChunkIndexFields) → IsChunkIndex t f → Meets range f → ChunkCost file range f cost
 
-abbrev pub AsksAll : Request → List Top → StoreState → StoreState → Type 0
-AsksAll request tops old new = (file : List ℕ) (costs : List ℕ) → old.bytes ≡ Some file → length file ≡ request.len → AllZip (CostsUpTo file request.range) tops costs → new.asked ≤ old.asked + sum costs
+-- what the Chunk Indexes lead to was asked for; where one is refused, more beside
+abbrev pub AllAsked : List ℕ → Request → List Top → List ℕ → ℕ → StoreState → StoreState → Result Unit ReplayRefused → Type 0
+AllAsked file request tops offsets cost old new (Ok it) = new.asked ≤ old.asked + cost
+AllAsked file request tops offsets cost old new (Err why) = Knows file request.tables.now.channels → AreIndexed file tops offsets → AskedBeside file request.range old.asked new.asked cost
+
+abbrev pub AsksAll : Request → List Top → List ℕ → StoreState → StoreState → Result Unit ReplayRefused → Type 0
+AsksAll request tops offsets old new result = (file : List ℕ) (costs : List ℕ) → old.bytes ≡ Some file → length file ≡ request.len → AllZip (CostsUpTo file request.range) tops costs → AllAsked file request tops offsets (sum costs) old new result

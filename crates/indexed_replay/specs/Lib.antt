@@ -5,3 +5,4 @@ pub mod Lists
 pub mod Chunks
 pub mod Gathering
 pub mod Played
+pub mod Belonging

@@ -1,5 +1,5 @@
 -- What a Message Index adds to a replay.
-use Rattle.std.specs.Prelude.{◌≡◌, ℕ, ◌+◌, ◌≤◌, List, length, Option, Some, Result, Ok, Err}
+use Rattle.std.specs.Prelude.{◌≡◌, ℕ, ◌+◌, ◌≤◌, List, length, Bool, true, false, Option, Some, Result, Ok, Err}
 use Rattle.mcap_io.specs.Stores.{StoreState}
 use Rattle.rec_index.specs.Records.{ShowsMessageIndex}
 use Rattle.mcap_model.specs.declared.replay.Range.{Range}
@@ -17,10 +17,10 @@ use Rattle.indexed_replay.specs.declared.answers.ReplayRefused.TheVariants as re
 use Rattle.indexed_replay.specs.declared.answers.NotIndexed.TheVariants as lacks
 use Rattle.indexed_replay.specs.declared.spots.Spot.{Spot}
 use Rattle.indexed_replay.specs.declared.spots.Request.{Request}
-use Rattle.indexed_replay.specs.Reaching.{Names}
+use Rattle.indexed_replay.specs.Reaching.{Names, LeadsNowhere}
 use Rattle.indexed_replay.specs.Replaying.{IsReason}
 use Rattle.time_player.specs.Ordering.{led_as}
-use Rattle.indexed_replay.specs.Steps.{Adds, IsListed, EntryRefused, entries_cost}
+use Rattle.indexed_replay.specs.Steps.{Adds, IsListed, LacksListed, EntryRefused, entries_cost}
 
 -- ---- channels
 
@@ -59,16 +59,17 @@ pub record IsShownBy (file : List ℕ) (request : Request) (spot : Spot) (entrie
   pub listed : IsListed file request.range spot entries s
   pub wanted : Wanted request.tables.now.channels s.channel (asked_topic request.topic)
 
--- why its messages aren't shown: an entry in the range leads nowhere, or there is one and no Channel
+-- why its messages aren't shown: that of an entry in the range can't be read, or there is one and no Channel
 pub data ContentRefused (file : List ℕ) (request : Request) (spot : Spot) (entries : List (ℕ × ℕ)) : ReplayRefused → Type 0 where
-  at_entry : (why : ReplayRefused) (entry : ℕ × ℕ) → Has entries entry → InRange request.range entry.0 → EntryRefused file spot entry why → ContentRefused file request spot entries why
+  at_entry : (why : ReplayRefused) (entry : ℕ × ℕ) → Has entries entry → InRange request.range entry.0 → EntryRefused file spot.chunk entry why → ContentRefused file request spot entries why
   no_channel : HasTimely request.range entries → Undeclared request.tables.now.channels spot.channel → ContentRefused file request spot entries (refusals.NotIndexed (lacks.NoChannel spot.channel))
 
-abbrev pub ContentShown : List ℕ → Request → Spot → List (ℕ × ℕ) → (List Shown × List Shown) → Result Unit ReplayRefused → Type 0
-ContentShown file request spot entries shown (Ok it) = Adds (IsShownBy file request spot entries) shown.0 shown.1
+abbrev pub ContentShown : List ℕ → Request → Spot → List (ℕ × ℕ) → (List Shown × List Shown) → Result Bool ReplayRefused → Type 0
+ContentShown file request spot entries shown (Ok true) = Adds (IsShownBy file request spot entries) shown.0 shown.1
+ContentShown file request spot entries shown (Ok false) = LacksListed file request.range spot entries
 ContentShown file request spot entries shown (Err why) = ContentRefused file request spot entries why
 
-abbrev pub ShowsContent : Option (List ℕ) → Request → Spot → List ℕ → (List Shown × List Shown) → Result Unit ReplayRefused → Type 0
+abbrev pub ShowsContent : Option (List ℕ) → Request → Spot → List ℕ → (List Shown × List Shown) → Result Bool ReplayRefused → Type 0
 ShowsContent told request spot content shown result = (file : List ℕ) (entries : List (ℕ × ℕ)) → told ≡ Some file → length file ≡ request.len → DeclareChannels request.tables.now.channels → ShowsMessageIndex content spot.channel entries
     → ContentShown file request spot entries shown result
 
@@ -86,11 +87,16 @@ pub record IsLedBy (file : List ℕ) (request : Request) (spot : Spot) (s : Show
 abbrev pub ListRefused : List ℕ → Request → ℕ → Spot → ReplayRefused → Type 0
 ListRefused file request at spot why = (f : ChunkIndexFields) → f.offset ≡ spot.chunk → Names file request.range at f spot.channel spot.list → IsReason file request.range why
 
-abbrev pub ListShown : List ℕ → Request → ℕ → Spot → (List Shown × List Shown) → Result Unit ReplayRefused → Type 0
-ListShown file request at spot shown (Ok it) = Adds (IsLedBy file request spot) shown.0 shown.1
+-- one of its entries leads to no message, where a Chunk Index that is reached at that offset names it
+abbrev pub ListAstray : List ℕ → Request → ℕ → Spot → Type 0
+ListAstray file request at spot = (f : ChunkIndexFields) → f.offset ≡ spot.chunk → Names file request.range at f spot.channel spot.list → LeadsNowhere file request.range at f spot.channel spot.list
+
+abbrev pub ListShown : List ℕ → Request → ℕ → Spot → (List Shown × List Shown) → Result Bool ReplayRefused → Type 0
+ListShown file request at spot shown (Ok true) = Adds (IsLedBy file request spot) shown.0 shown.1
+ListShown file request at spot shown (Ok false) = ListAstray file request at spot
 ListShown file request at spot shown (Err why) = ListRefused file request at spot why
 
-abbrev pub Shows : Option (List ℕ) → Request → ℕ → Spot → (List Shown × List Shown) → Result Unit ReplayRefused → Type 0
+abbrev pub Shows : Option (List ℕ) → Request → ℕ → Spot → (List Shown × List Shown) → Result Bool ReplayRefused → Type 0
 Shows told request at spot shown result = (file : List ℕ) → told ≡ Some file → length file ≡ request.len → Knows file request.tables.now.channels → ListShown file request at spot shown result
 
 -- what its reading asks for: all of it, and the messages in the range

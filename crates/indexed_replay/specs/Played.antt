@@ -10,12 +10,14 @@ use Rattle.mcap_model.specs.Kept.{reading_limits, at_end, Halts}
 use Rattle.mcap_model.specs.Valid.{IsFullyIndexed}
 use Rattle.mcap_model.specs.Led.{HasSummary, IsThere, AskedBound}
 use Rattle.summary_read.specs.Parts.{Parts, IsLoaded, of_kind}
+use Rattle.summary_read.specs.Loading.{AskedFor}
 use Rattle.summary_read.specs.declared.refusals.LoadRefused.{LoadRefused}
 use Rattle.summary_read.specs.declared.refusals.LoadRefused.TheVariants as load_refusals
 use Rattle.indexed_replay.specs.declared.answers.NotIndexed.{NotIndexed}
 use Rattle.indexed_replay.specs.declared.answers.NotIndexed.TheVariants as lacks
 use Rattle.indexed_replay.specs.declared.answers.ReplayRefused.{ReplayRefused}
 use Rattle.indexed_replay.specs.declared.answers.ReplayRefused.TheVariants as refusals
+use Rattle.indexed_replay.specs.Reaching.{AskedBeside}
 use Rattle.indexed_replay.specs.Replaying.{FileIsLed}
 use Rattle.indexed_replay.specs.Gathering.{CostsUpTo}
 
@@ -63,15 +65,19 @@ abbrev pub PlaysLoaded : Option (List ℕ) → Parts → Range → Option (List 
 PlaysLoaded told parts range topic result = (file : List ℕ) → told ≡ Some file → IsLoaded file parts → FileIsLed file range topic result
 
 abbrev pub AsksLoaded : Parts → Range → StoreState → StoreState → Type 0
-AsksLoaded parts range old new = (file : List ℕ) (costs : List ℕ) → old.bytes ≡ Some file → AllZip (CostsUpTo file range) parts.chunk_indexes costs → new.asked ≤ old.asked + sum costs
+AsksLoaded parts range old new = (file : List ℕ) (costs : List ℕ) → old.bytes ≡ Some file → IsLoaded file parts → AllZip (CostsUpTo file range) parts.chunk_indexes costs → AskedBeside file range old.asked new.asked (sum costs)
 
 -- ---- what is asked for
 
 -- Where these are the records of the summary and the Header, and these the costs of the chunks whose times meet the range,
--- no more is asked for than these, the magic and the Footer with the last magic.
+-- no more is asked for than these, the magic and the Footer with the last magic, and what is asked for beside.
 abbrev pub AsksIndexed : Range → StoreState → StoreState → Type 0
 AsksIndexed range old new = (file : List ℕ) (start : ℕ) (summary : List Top) (header : Top) (costs : List ℕ) → old.bytes ≡ Some file → HasSummary file start summary → IsThere file 8 header → AllZip (CostsUpTo file range) (of_kind 8 summary) costs
-    → new.asked ≤ old.asked + (8 + length (top_bytes header) + 37 + length (spelled summary) + sum costs)
+    → AskedBeside file range old.asked new.asked (8 + length (top_bytes header) + 37 + length (spelled summary) + sum costs)
+
+-- Of a file whose summary can't be loaded no more is asked for than by loading.
+abbrev pub AsksUnloaded : StoreState → StoreState → Type 0
+AsksUnloaded old new = (file : List ℕ) → old.bytes ≡ Some file → ((p : Parts) → IsLoaded file p → ⊥) → AskedFor file old.asked new.asked
 
 -- Of a fully indexed file that is read to its Data End no more is asked for than these, and of each chunk whose times meet
 -- the range its first 49 bytes, its Message Indexes and its messages in the range.

@@ -1,15 +1,17 @@
 -- What a replay by the index reaches of a file: the Chunk Indexes of its summary that meet a range, the Message Indexes that
 -- they name, and the messages to which these lead. Why such a file isn't indexed, and where a rule fails on what is reached.
-use Rattle.std.specs.Prelude.{◌≡◌, ◌≢◌, ◌⊎◌, ℕ, ◌+◌, ◌<◌, ◌≤◌, List, [], length, drop, Some}
-use Rattle.mcap_wire.specs.Reading.{text_bytes}
+use Rattle.std.specs.Prelude.{◌≡◌, ◌≢◌, ◌⊎◌, ℕ, ◌+◌, ◌*◌, ◌<◌, ◌≤◌, List, [], ◌++◌, length, drop, Some}
+use Rattle.mcap_wire.specs.Layout.{content_limit}
+use Rattle.mcap_wire.specs.Reading.{text_length}
 use Rattle.mcap_model.specs.declared.replay.Range.{Range}
 use Rattle.mcap_model.specs.Places.{At, Has, Each}
-use Rattle.mcap_model.specs.Tops.{Top, top_bytes}
+use Rattle.mcap_model.specs.Tops.{Top, top_bytes, spelled}
 use Rattle.mcap_model.specs.Fields.{ChannelFields, IsChannel, MessageFields, IsMessage, ChunkFields, IsChunk, IsMessageIndex, ChunkIndexFields, IsChunkIndex, StatisticsFields, IsStatistics}
+use Rattle.mcap_model.specs.Kept.{NamesCompression}
 use Rattle.mcap_model.specs.Scan.{InRange}
-use Rattle.mcap_model.specs.Whole.{offset_among}
+use Rattle.mcap_model.specs.Whole.{AreShort, offset_among}
 use Rattle.mcap_model.specs.Led.{HasSummary, IsThere, Meets}
-use Rattle.summary_read.specs.Reached.{HasNoSummary, StartsAt, Fails, Passes, DeclaresPast}
+use Rattle.summary_read.specs.Reached.{HasNoSummary, StartsAt, Fails, Passes}
 use Rattle.summary_read.specs.Parts.{of_kind, first_of_kind}
 use Rattle.indexed_replay.specs.declared.answers.NotIndexed.{NotIndexed}
 use Rattle.indexed_replay.specs.declared.answers.NotIndexed.TheVariants as lacks
@@ -53,10 +55,12 @@ pub record LeadsTo (file : List ℕ) (range : Range) (at : ℕ) (f : ChunkIndexF
 abbrev pub LacksChunk : List ℕ → ℕ → Type 0
 LacksChunk file offset = (t : Top) (g : ChunkFields) → IsThere file offset t → IsChunk t g → ⊥
 
--- a chunk stands at the first offset and ends at the other
+-- a chunk that names no compression stands at the first offset and ends at the other
 pub record EndsAt (file : List ℕ) (offset end : ℕ) : Type 0 where
   pub chunk : Top
   pub there : IsThere file offset chunk
+  pub kind : chunk.op ≡ 6
+  pub unpacked : text_length chunk.content 28 ≡ 0
   pub is : end ≡ offset + length (top_bytes chunk)
 
 -- The offset isn't in the bytes behind the chunk, of which there are as many as the Chunk Index states for its Message
@@ -70,24 +74,51 @@ pub record IsElsewhere (file : List ℕ) (f : ChunkIndexFields) (offset : ℕ) :
 abbrev pub LacksIndex : List ℕ → ℕ → ℕ → Type 0
 LacksIndex file channel offset = (t : Top) (entries : List (ℕ × ℕ)) → IsThere file offset t → IsMessageIndex t channel entries → ⊥
 
+-- Message Indexes alone stand from the first offset up to the other
+pub record IndexesStand (file : List ℕ) (from to : ℕ) : Type 0 where
+  pub indexes : List Top
+  pub kinds : Each (λ u. u.op ≡ 7) indexes
+  pub short : AreShort indexes
+  pub rest : List ℕ
+  pub split : drop from file ≡ spelled indexes ++ rest
+  pub there : to ≡ from + length (spelled indexes)
+
+-- what stands at that offset is a Message Index of the chunk: behind the chunk stand Message Indexes alone up to there
+pub record IsOwn (file : List ℕ) (f : ChunkIndexFields) (offset : ℕ) : Type 0 where
+  pub end : ℕ
+  pub ends : EndsAt file f.offset end
+  pub stand : IndexesStand file end offset
+
+-- it isn't
+pub record IsApart (file : List ℕ) (f : ChunkIndexFields) (offset : ℕ) : Type 0 where
+  pub end : ℕ
+  pub ends : EndsAt file f.offset end
+  pub apart : IndexesStand file end offset → ⊥
+
 -- no message of that channel and of the entry's log time stands at the entry's offset behind the first 49 bytes of a chunk
 abbrev pub LacksMessage : List ℕ → ℕ → ℕ → ℕ × ℕ → Type 0
 LacksMessage file chunk channel entry = (t : Top) (m : MessageFields) → IsThere file (chunk + 49 + entry.1) t → IsMessage t channel m → m.log_time ≡ entry.0 → ⊥
 
+-- there stands a Message Index of that channel, with an entry in the range that leads to no such message
+pub record LeadsNowhere (file : List ℕ) (range : Range) (at : ℕ) (f : ChunkIndexFields) (channel offset : ℕ) : Type 0 where
+  pub entry : ℕ × ℕ
+  pub leads : LeadsTo file range at f channel offset entry
+  pub lacks : LacksMessage file f.offset channel entry
+
 -- ---- where a rule fails
 
 -- The rule of that number fails at that offset: on the ends of the file or on its summary; at a Chunk Index that leads to
--- no Chunk, or whose map leads to no Message Index of a channel or to another place than behind the chunk (V12); or at a
--- Message Index with an entry in the range that leads to no such message (V9).
+-- no Chunk, or whose map leads to no Message Index of a channel, to another place than behind the chunk, or to one that
+-- isn't the chunk's (V12); or at a Message Index of the chunk with an entry in the range that leads to no message (V9).
 pub data Breaks (file : List ℕ) (range : Range) : ℕ → ℕ → Type 0 where
   at_loading : (rule offset : ℕ) → Fails file rule offset → Breaks file range rule offset
   no_chunk : (at : ℕ) (f : ChunkIndexFields) → IsReached file range at f → LacksChunk file f.offset → Breaks file range 12 at
   no_index : (at : ℕ) (f : ChunkIndexFields) (channel offset : ℕ) → Names file range at f channel offset → LacksIndex file channel offset → Breaks file range 12 at
   index_elsewhere : (at : ℕ) (f : ChunkIndexFields) (channel offset : ℕ) → Names file range at f channel offset → IsElsewhere file f offset → Breaks file range 12 at
-  no_message : (at : ℕ) (f : ChunkIndexFields) (channel offset : ℕ) (entry : ℕ × ℕ) → LeadsTo file range at f channel offset entry → LacksMessage file f.offset channel entry → Breaks file range 9 offset
+  index_apart : (at : ℕ) (f : ChunkIndexFields) (channel offset : ℕ) → Names file range at f channel offset → IsApart file f offset → Breaks file range 12 at
+  no_message : (at : ℕ) (f : ChunkIndexFields) (channel offset : ℕ) → LeadsNowhere file range at f channel offset → IsOwn file f offset → Breaks file range 9 offset
 
--- The chunk of a Chunk Index that is reached stands at that offset, and has this compression, which isn't empty: the
--- text behind two times, the size and the CRC.
+-- the chunk of a Chunk Index that is reached stands at that offset, and names that compression
 pub record IsPacked (file : List ℕ) (range : Range) (offset : ℕ) (name : List ℕ) : Type 0 where
   pub at : ℕ
   pub index : ChunkIndexFields
@@ -95,17 +126,38 @@ pub record IsPacked (file : List ℕ) (range : Range) (offset : ℕ) (name : Lis
   pub place : index.offset ≡ offset
   pub chunk : Top
   pub there : IsThere file offset chunk
-  pub kind : chunk.op ≡ 6
-  pub named : text_bytes chunk.content 28 ≡ name
-  pub some : name ≢ []
+  pub packed : NamesCompression chunk name
 
--- A limit is passed on the ends of the file or in its summary; or what stands where a Chunk Index, its map or an entry
--- leads declares a content past the limit, whether or not it is whole.
+-- a whole record stands there whose content is past the limit
+pub record IsTooLong (file : List ℕ) (at : ℕ) : Type 0 where
+  pub top : Top
+  pub there : IsThere file at top
+  pub past : content_limit < length top.content
+
+-- A limit is passed on the ends of the file or in its summary; or a record whose content is past the limit stands where a
+-- Chunk Index, its map or an entry leads, or behind the chunk in front of a Message Index that is named.
 pub data PassesLimit (file : List ℕ) (range : Range) : ℕ → Type 0 where
   while_loading : (offset : ℕ) → Passes file offset → PassesLimit file range offset
-  at_chunk : (at : ℕ) (f : ChunkIndexFields) (offset : ℕ) → IsReached file range at f → f.offset ≡ offset → DeclaresPast (drop offset file) → PassesLimit file range offset
-  at_index : (at : ℕ) (f : ChunkIndexFields) (channel offset : ℕ) → Names file range at f channel offset → DeclaresPast (drop offset file) → PassesLimit file range offset
-  at_message : (at : ℕ) (f : ChunkIndexFields) (channel list offset : ℕ) (entry : ℕ × ℕ) → LeadsTo file range at f channel list entry → offset ≡ f.offset + 49 + entry.1 → DeclaresPast (drop offset file) → PassesLimit file range offset
+  at_chunk : (at : ℕ) (f : ChunkIndexFields) (offset : ℕ) → IsReached file range at f → f.offset ≡ offset → IsTooLong file offset → PassesLimit file range offset
+  at_index : (at : ℕ) (f : ChunkIndexFields) (channel offset : ℕ) → Names file range at f channel offset → IsTooLong file offset → PassesLimit file range offset
+  behind_chunk : (at : ℕ) (f : ChunkIndexFields) (channel list end offset : ℕ) → Names file range at f channel list → EndsAt file f.offset end → IndexesStand file end offset → offset < list → IsTooLong file offset → PassesLimit file range offset
+  at_message : (at : ℕ) (f : ChunkIndexFields) (channel list offset : ℕ) (entry : ℕ × ℕ) → LeadsTo file range at f channel list entry → offset ≡ f.offset + 49 + entry.1 → IsTooLong file offset → PassesLimit file range offset
+
+-- ---- what is asked for
+
+-- the bytes of a record in front of its content
+abbrev pub head_length : ℕ
+head_length = 9
+
+-- So much is asked for beside that to which the indexes lead: nothing, or, where an entry leads to no message, the heads of
+-- Message Indexes directly behind the chunk and of one record more.
+pub data Beside (file : List ℕ) (range : Range) : ℕ → Type 0 where
+  nothing : Beside file range 0
+  heads : (at : ℕ) (f : ChunkIndexFields) (channel offset end place : ℕ) → LeadsNowhere file range at f channel offset → EndsAt file f.offset end → (walked : IndexesStand file end place) → Beside file range (head_length * length walked.indexes + head_length)
+
+-- from the one count on no more is asked for up to the other than the cost, and what is asked for beside
+abbrev pub AskedBeside : List ℕ → Range → ℕ → ℕ → ℕ → Type 0
+AskedBeside file range before now cost = (beside : ℕ) × Beside file range beside × (now ≤ before + cost + beside)
 
 -- ---- why a file isn't indexed
 

@@ -1,5 +1,5 @@
 -- The steps of a replay by the index.
-use Rattle.std.specs.Prelude.{◌≡◌, ℕ, ◌+◌, ◌-◌, ◌≤◌, List, [], ◌++◌, length, take, drop, sum_by, Bool, true, false, if◌then◌else◌, Option, Some, None, Result, Ok, Err, Vec}
+use Rattle.std.specs.Prelude.{◌≡◌, ℕ, ◌+◌, ◌-◌, ◌≤◌, List, ◌++◌, length, take, drop, sum_by, Bool, true, false, if◌then◌else◌, Option, Some, None, Result, Ok, Err, Vec}
 use Rattle.mcap_io.specs.Stores.{StoreState}
 use Rattle.mcap_io.specs.declared.outside.Failed.{Failed}
 use Rattle.rec_index.specs.Records.{ShowsMessageIndex}
@@ -13,13 +13,12 @@ use Rattle.mcap_model.specs.Plain.{is_within}
 use Rattle.mcap_model.specs.Scan.{InRange}
 use Rattle.mcap_model.specs.Led.{IsThere, IsInChunk}
 use Rattle.time_player.specs.Ordering.{led_as}
-use Rattle.summary_read.specs.Reached.{DeclaresPast}
 use Rattle.indexed_replay.specs.declared.answers.ReplayRefused.{ReplayRefused}
 use Rattle.indexed_replay.specs.declared.answers.ReplayRefused.TheVariants as refusals
 use Rattle.indexed_replay.specs.declared.fronts.Front.{Front}
 use Rattle.indexed_replay.specs.declared.fronts.Front.TheVariants as fronts
 use Rattle.indexed_replay.specs.declared.spots.Spot.{Spot}
-use Rattle.indexed_replay.specs.Reaching.{LacksIndex, LacksMessage}
+use Rattle.indexed_replay.specs.Reaching.{LacksIndex, LacksMessage, IsTooLong}
 
 -- ---- the front of a record
 
@@ -40,17 +39,9 @@ LacksRecord file at size = (t : Top) → IsThere file at t → size ≤ length (
 -- what stands there, by so many bytes of its front
 abbrev pub FrontIs : List ℕ → ℕ → List ℕ → Result Front Failed → Type 0
 FrontIs file at out (Ok (fronts.Whole head)) = FrontStands file at out head.op head.len
-FrontIs file at out (Ok fronts.Long) = DeclaresPast (drop at file)
+FrontIs file at out (Ok fronts.Long) = IsTooLong file at
 FrontIs file at out (Ok fronts.Absent) = LacksRecord file at (length out)
 FrontIs file at out (Err why) = Unit {0}
-
--- where the store tells and has nine bytes there, a head that is said to be long declares a content past the limit
-abbrev pub HeadIs : List ℕ → ℕ → Result Bool Failed → Type 0
-HeadIs file at (Ok long) = long ≡ true → DeclaresPast (drop at file)
-HeadIs file at (Err why) = Unit {0}
-
-abbrev pub TellsHead : Option (List ℕ) → ℕ → Result Bool Failed → Type 0
-TellsHead told at result = (file : List ℕ) → told ≡ Some file → at + 9 ≤ length file → HeadIs file at result
 
 -- the record lies within so many bytes, and has at least so many
 abbrev pub IsInside : ℕ → ℕ → ℕ → Result Front Failed → Type 0
@@ -82,16 +73,20 @@ pub record Adds (P : Shown → Type 0) (old new : List Shown) : Type 0 where
   pub are : (s : Shown) → Has more s → P s
   pub all : (s : Shown) → P s → Has more s
 
+-- why the message of an entry can't be read
+abbrev pub EntryRefused : List ℕ → ℕ → ℕ × ℕ → ReplayRefused → Type 0
+EntryRefused file chunk entry (refusals.Fault faults) = Unit {0}
+EntryRefused file chunk entry (refusals.NotIndexed why) = ⊥
+EntryRefused file chunk entry (refusals.Flaw rule offset) = ⊥
+EntryRefused file chunk entry (refusals.Compressed offset name) = ⊥
+EntryRefused file chunk entry (refusals.Limit offset) = (offset ≡ chunk + 49 + entry.1) × IsTooLong file offset
+EntryRefused file chunk entry refusals.Memory = Unit {0}
+
 -- the message of an entry is added; or none stands there; or why it can't be read
 abbrev pub MessageIs : List ℕ → ℕ → ℕ → ℕ × ℕ → (List Shown × List Shown) → Result Bool ReplayRefused → Type 0
 MessageIs file chunk channel entry shown (Ok true) = Adds (IsFound file chunk channel entry) shown.0 shown.1
 MessageIs file chunk channel entry shown (Ok false) = LacksMessage file chunk channel entry
-MessageIs file chunk channel entry shown (Err (refusals.Fault faults)) = Unit {0}
-MessageIs file chunk channel entry shown (Err (refusals.NotIndexed why)) = ⊥
-MessageIs file chunk channel entry shown (Err (refusals.Flaw rule offset)) = ⊥
-MessageIs file chunk channel entry shown (Err (refusals.Compressed offset name)) = ⊥
-MessageIs file chunk channel entry shown (Err (refusals.Limit offset)) = (offset ≡ chunk + 49 + entry.1) × DeclaresPast (drop offset file)
-MessageIs file chunk channel entry shown (Err refusals.Memory) = Unit {0}
+MessageIs file chunk channel entry shown (Err why) = EntryRefused file chunk entry why
 
 abbrev pub TellsMessage : Option (List ℕ) → ℕ → ℕ → ℕ → ℕ × ℕ → (List Shown × List Shown) → Result Bool ReplayRefused → Type 0
 TellsMessage told len chunk channel entry shown result = (file : List ℕ) → told ≡ Some file → length file ≡ len → MessageIs file chunk channel entry shown result
@@ -105,22 +100,6 @@ AsksMessage len at old new = (file : List ℕ) → old.bytes ≡ Some file → l
 
 -- ---- the entries of a Message Index
 
--- why the message of an entry isn't shown
-abbrev pub EntryRefused : List ℕ → Spot → ℕ × ℕ → ReplayRefused → Type 0
-EntryRefused file spot entry (refusals.Fault faults) = Unit {0}
-EntryRefused file spot entry (refusals.NotIndexed why) = ⊥
-EntryRefused file spot entry (refusals.Flaw rule offset) = (rule ≡ 9) × (offset ≡ spot.list) × LacksMessage file spot.chunk spot.channel entry
-EntryRefused file spot entry (refusals.Compressed offset name) = ⊥
-EntryRefused file spot entry (refusals.Limit offset) = (offset ≡ spot.chunk + 49 + entry.1) × DeclaresPast (drop offset file)
-EntryRefused file spot entry refusals.Memory = Unit {0}
-
-abbrev pub EntryShown : List ℕ → Spot → ℕ × ℕ → List Shown → List Shown → Result Unit ReplayRefused → Type 0
-EntryShown file spot entry old new (Ok it) = Adds (IsFound file spot.chunk spot.channel entry) old new
-EntryShown file spot entry old new (Err why) = EntryRefused file spot entry why
-
-abbrev pub TellsEntry : Option (List ℕ) → ℕ → Spot → ℕ × ℕ → (List Shown × List Shown) → Result Unit ReplayRefused → Type 0
-TellsEntry told len spot entry shown result = (file : List ℕ) → told ≡ Some file → length file ≡ len → EntryShown file spot entry shown.0 shown.1 result
-
 -- one of the entries is in the range and leads to the message
 pub record IsListed (file : List ℕ) (range : Range) (spot : Spot) (entries : List (ℕ × ℕ)) (s : Shown) : Type 0 where
   pub entry : Has {X = ℕ × ℕ} entries (s.log_time, s.place.inner)
@@ -128,11 +107,17 @@ pub record IsListed (file : List ℕ) (range : Range) (spot : Spot) (entries : L
   pub channel_is : s.channel ≡ spot.channel
   pub stands : IsInChunk file spot.chunk (led_as s)
 
-abbrev pub EntriesShown : List ℕ → Range → Spot → List (ℕ × ℕ) → (List Shown × List Shown) → Result Unit ReplayRefused → Type 0
-EntriesShown file range spot entries shown (Ok it) = Adds (IsListed file range spot entries) shown.0 shown.1
-EntriesShown file range spot entries shown (Err why) = (entry : ℕ × ℕ) × Has entries entry × InRange range entry.0 × EntryRefused file spot entry why
+-- one of the entries is in the range and leads to no message
+abbrev pub LacksListed : List ℕ → Range → Spot → List (ℕ × ℕ) → Type 0
+LacksListed file range spot entries = (entry : ℕ × ℕ) × Has entries entry × InRange range entry.0 × LacksMessage file spot.chunk spot.channel entry
 
-abbrev pub TellsEntries : Option (List ℕ) → ℕ → Range → Spot → List (ℕ × ℕ) → (List Shown × List Shown) → Result Unit ReplayRefused → Type 0
+-- the messages of the entries are added; or one of them isn't there; or why one can't be read
+abbrev pub EntriesShown : List ℕ → Range → Spot → List (ℕ × ℕ) → (List Shown × List Shown) → Result Bool ReplayRefused → Type 0
+EntriesShown file range spot entries shown (Ok true) = Adds (IsListed file range spot entries) shown.0 shown.1
+EntriesShown file range spot entries shown (Ok false) = LacksListed file range spot entries
+EntriesShown file range spot entries shown (Err why) = (entry : ℕ × ℕ) × Has entries entry × InRange range entry.0 × EntryRefused file spot.chunk entry why
+
+abbrev pub TellsEntries : Option (List ℕ) → ℕ → Range → Spot → List (ℕ × ℕ) → (List Shown × List Shown) → Result Bool ReplayRefused → Type 0
 TellsEntries told len range spot entries shown result = (file : List ℕ) → told ≡ Some file → length file ≡ len → EntriesShown file range spot entries shown result
 
 -- what the reading of the messages in the range asks for
@@ -155,7 +140,7 @@ ListIs file at (Err (refusals.Fault faults)) = Unit {0}
 ListIs file at (Err (refusals.NotIndexed why)) = ⊥
 ListIs file at (Err (refusals.Flaw rule offset)) = ⊥
 ListIs file at (Err (refusals.Compressed offset name)) = ⊥
-ListIs file at (Err (refusals.Limit offset)) = (offset ≡ at) × DeclaresPast (drop offset file)
+ListIs file at (Err (refusals.Limit offset)) = (offset ≡ at) × IsTooLong file offset
 ListIs file at (Err refusals.Memory) = Unit {0}
 
 abbrev pub TellsList : {Y : Type 0} → Option (List ℕ) → ℕ → ℕ → Result (Option (Vec ℕ Y)) ReplayRefused → Type 0
@@ -169,7 +154,7 @@ IndexIs file spot (Err (refusals.Fault faults)) = Unit {0}
 IndexIs file spot (Err (refusals.NotIndexed why)) = ⊥
 IndexIs file spot (Err (refusals.Flaw rule offset)) = ⊥
 IndexIs file spot (Err (refusals.Compressed offset name)) = ⊥
-IndexIs file spot (Err (refusals.Limit offset)) = (offset ≡ spot.list) × DeclaresPast (drop offset file)
+IndexIs file spot (Err (refusals.Limit offset)) = (offset ≡ spot.list) × IsTooLong file offset
 IndexIs file spot (Err refusals.Memory) = Unit {0}
 
 abbrev pub TellsIndex : {Y : Type 0} → Option (List ℕ) → ℕ → Spot → Result (Option (Vec ℕ Y)) ReplayRefused → Type 0

@@ -7,11 +7,13 @@ ghost use Rattle.indexed_replay.specs.Chunks.{AsksChunk, AsksFront, AsksNames, C
 ghost use Rattle.time_player.specs.Keeping.{kept_in};
 
 use crate::answers::{NotIndexed, ReplayRefused};
+use crate::belonging::refuse_astray;
 use crate::fronts::{Front, read_front};
 use crate::lists::show_list;
+use crate::packings::take_packing;
 use crate::spots::{Request, Spot};
 use mcap_io::{Failed, ReadRefused, Store, read_part};
-use mcap_wire::{Text, take_u32};
+use mcap_wire::{Memory, Text, take_u32};
 use rec_index::{CHUNK, ChunkIndex};
 use std::alloc::Global;
 use time_player::Kept;
@@ -19,25 +21,34 @@ use time_player::Kept;
 /// The bytes of a record in front of its content.
 const HEAD_LENGTH: u64 = 9;
 
-/// Where the compression stands in a chunk, behind the record's head, two times, the size, the CRC and its length.
-const NAME_OFFSET: u64 = 41;
+/// How much of a chunk's content stands in front of its records, beside the compression: two times, the size, the CRC, and
+/// the lengths of the compression and of the records.
+const FRONT_LENGTH: u64 = 40;
 
-// Refuses a chunk that names a compression of that length. The Chunk Index that leads to it stands at `index`.
+// Refuses a record of a chunk's opcode that has a content of that length and names a compression of that length: it is a
+// chunk only where its records fit behind them. The Chunk Index that leads to it stands at `index`.
 fn refuse_packed<T: Store>(
     alloc: Global,
     store: &mut T,
     index: u64,
     offset: u64,
+    len: u64,
     name_length: u64,
 ) -> Result<u64, ReplayRefused>
-    requires fits { offset + 41 + name_length < 2 ^ 64 }
-    requires known { offset + 41 + name_length ≤ (T.state store.old).known }
-    ensures told { NamesPack (T.state store.old).bytes index offset name_length result }
+    requires inside { 40 + name_length ≤ len }
+    requires fits { offset + 9 + len < 2 ^ 64 }
+    requires known { offset + 9 + len ≤ (T.state store.old).known }
+    ensures told { NamesPack (T.state store.old).bytes index offset len name_length result }
     ensures cause { ReplayCause (T.state store.old).faults (T.state store.new).faults result }
     ensures stays { StoreStays (T.state store.old) (T.state store.new) }
 {
-    let name = match read_part(alloc, store, offset + NAME_OFFSET, name_length) {
-        Ok(name) => name,
+    let missing = ReplayRefused::Flaw {
+        rule: 12,
+        offset: index,
+    };
+    let front_length = FRONT_LENGTH + name_length;
+    let front = match read_part(alloc, store, offset + HEAD_LENGTH, front_length) {
+        Ok(front) => front,
         Err(ReadRefused::Failed) => {
             return Err(ReplayRefused::Fault {
                 faults: store.faults(),
@@ -45,15 +56,16 @@ fn refuse_packed<T: Store>(
         }
         Err(ReadRefused::Memory) => return Err(ReplayRefused::Memory),
     };
-    match String::from_utf8(name) {
-        Ok(name) => return Err(ReplayRefused::Compressed {
-            offset,
-            name: Text::new(name),
-        }),
-        Err(_) => return Err(ReplayRefused::Flaw {
-            rule: 12,
-            offset: index,
-        }),
+    let (name, size) = match take_packing(&front) {
+        Ok(taken) => taken,
+        Err(_) => return Err(missing),
+    };
+    if size > len - front_length {
+        return Err(missing);
+    }
+    match Text::copied(alloc, name) {
+        Ok(name) => return Err(ReplayRefused::Compressed { offset, name }),
+        Err(Memory) => return Err(ReplayRefused::Memory),
     }
 }
 
@@ -100,10 +112,10 @@ fn check_chunk<T: Store>(
     if name_length == 0 {
         return Ok(offset + HEAD_LENGTH + head.len);
     }
-    if name_length > head.len - 40 {
+    if name_length > head.len - FRONT_LENGTH {
         return Err(missing);
     }
-    return refuse_packed(alloc, store, index, offset, name_length);
+    return refuse_packed(alloc, store, index, offset, head.len, name_length);
 }
 
 // Adds the messages to which the Message Indexes lead that a Chunk Index at that offset names. They stand behind the chunk,
@@ -121,7 +133,7 @@ fn show_names<T: Store>(
     ensures told { ShowsNames (T.state store.old).bytes request.now at end (chunk_index_fields index.now) (kept_in shown.old, kept_in shown.new) result }
     ensures cause { ReplayCause (T.state store.old).faults (T.state store.new).faults result }
     ensures stays { StoreStays (T.state store.old) (T.state store.new) }
-    ensures asks { AsksNames request.now (chunk_index_fields index.now) (T.state store.old) (T.state store.new) }
+    ensures asks { AsksNames request.now at end (chunk_index_fields index.now) (T.state store.old) (T.state store.new) result }
 {
     'names: for i in 0..index.message_index_offsets.count() {
         let (channel, list) = index.message_index_offsets.item(i);
@@ -137,7 +149,8 @@ fn show_names<T: Store>(
             });
         }
         match show_list(alloc, store, request, at, spot, shown) {
-            Ok(()) => {}
+            Ok(true) => {}
+            Ok(false) => return refuse_astray(store, request.len, at, end, list),
             Err(why) => return Err(why),
         }
     }
@@ -157,7 +170,7 @@ pub(crate) fn show_chunk<T: Store>(
     ensures told { ShowsChunk (T.state store.old).bytes request.now at (chunk_index_fields index.now) (kept_in shown.old, kept_in shown.new) result }
     ensures cause { ReplayCause (T.state store.old).faults (T.state store.new).faults result }
     ensures stays { StoreStays (T.state store.old) (T.state store.new) }
-    ensures asks { AsksChunk request.now (chunk_index_fields index.now) (T.state store.old) (T.state store.new) }
+    ensures asks { AsksChunk request.now at (chunk_index_fields index.now) (T.state store.old) (T.state store.new) result }
 {
     if index.message_index_offsets.count() == 0 {
         if index.message_start_time == 0 && index.message_end_time == 0 {

@@ -40,7 +40,7 @@ pub(crate) fn gather<T: Store>(
     ensures told { Gathers (T.state store.old).bytes request.now loaded.now.chunk_indexes loaded.now.chunk_index_offsets (kept_in shown.old, kept_in shown.new) result }
     ensures cause { ReplayCause (T.state store.old).faults (T.state store.new).faults result }
     ensures stays { StoreStays (T.state store.old) (T.state store.new) }
-    ensures asks { AsksAll request.now loaded.now.chunk_indexes (T.state store.old) (T.state store.new) }
+    ensures asks { AsksAll request.now loaded.now.chunk_indexes loaded.now.chunk_index_offsets (T.state store.old) (T.state store.new) result }
 {
     'chunks: for i in 0..loaded.chunk_indexes() {
         let index = loaded.chunk_index(i);

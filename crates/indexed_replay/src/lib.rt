@@ -3,6 +3,7 @@
 #![tactic(auto)]
 
 mod answers;
+mod belonging;
 mod channels;
 mod chunks;
 mod entries;
@@ -10,6 +11,7 @@ mod fronts;
 mod gathering;
 mod lists;
 mod messages;
+mod packings;
 mod replaying;
 mod spots;
 

@@ -148,14 +148,14 @@ fn check_channel(
     return Ok(());
 }
 
-// Adds the messages to which a Message Index of that content leads.
+// Adds the messages to which a Message Index of that content leads, and says whether each of them stands there.
 fn show_content<T: Store>(
     store: &mut T,
     request: &Request,
     spot: Spot,
     content: &[u8],
     shown: &mut Kept,
-) -> Result<(), ReplayRefused>
+) -> Result<bool, ReplayRefused>
     requires known { request.now.len ≤ (T.state store.old).known }
     requires is { (entries : List (ℕ × ℕ)) × ShowsMessageIndex content.now spot.channel entries }
     ensures told { ShowsContent (T.state store.old).bytes request.now spot content.now (kept_in shown.old, kept_in shown.new) result }
@@ -178,12 +178,13 @@ fn show_content<T: Store>(
         );
     }
     match check_channel(request.tables, spot.channel, &index.entries, request.range) {
-        Ok(()) => return Ok(()),
+        Ok(()) => return Ok(true),
         Err(why) => return Err(ReplayRefused::NotIndexed { why }),
     }
 }
 
-/// Adds the messages to which a Message Index leads that a Chunk Index at that offset names, if their channel is wanted.
+/// Adds the messages to which a Message Index leads that a Chunk Index at that offset names, if their channel is wanted, and
+/// says whether each of them stands there.
 pub(crate) fn show_list<T: Store>(
     alloc: Global,
     store: &mut T,
@@ -191,7 +192,7 @@ pub(crate) fn show_list<T: Store>(
     at: u64,
     spot: Spot,
     shown: &mut Kept,
-) -> Result<(), ReplayRefused>
+) -> Result<bool, ReplayRefused>
     requires { request.now.len ≤ (T.state store.old).known }
     ensures told { Shows (T.state store.old).bytes request.now at spot (kept_in shown.old, kept_in shown.new) result }
     ensures cause { ReplayCause (T.state store.old).faults (T.state store.new).faults result }

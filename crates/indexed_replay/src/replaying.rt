@@ -2,7 +2,7 @@
 ghost use Rattle.std.specs.Prelude.{◌≡◌, ◌≤◌, Ok};
 ghost use Rattle.mcap_io.specs.Stores.{LeavesStore, TellsLength};
 ghost use Rattle.mcap_model.specs.Plain.{asked_topic};
-ghost use Rattle.indexed_replay.specs.Played.{AsksBound, AsksIndexed, AsksLoaded, CountsJudged, PlaysLoaded, refused_by};
+ghost use Rattle.indexed_replay.specs.Played.{AsksBound, AsksIndexed, AsksLoaded, AsksUnloaded, CountsJudged, PlaysLoaded, refused_by};
 ghost use Rattle.indexed_replay.specs.Replaying.{Plays, PlaysScan, ReplayCause, TellsChunks, TellsNoSummary};
 
 use crate::answers::{NotIndexed, ReplayRefused};
@@ -103,6 +103,7 @@ pub fn replay_kept<T: Store>(
     ensures unsummed { TellsNoSummary (T.state store.old).bytes result }
     ensures scanned { PlaysScan (T.state store.old).bytes range (asked_topic topic.entry) result }
     ensures asks { AsksIndexed range (T.state store.old) (T.state store.new) }
+    ensures unloaded { AsksUnloaded (T.state store.old) (T.state store.new) }
     ensures bounded { AsksBound range (T.state store.old) (T.state store.new) }
     ensures cause { ReplayCause (T.state store.old).faults (T.state store.new).faults result }
     ensures leaves { LeavesStore (T.state store.old) (T.state store.new) }
@@ -138,6 +139,7 @@ pub fn replay_indexed<T: Store>(
     ensures unsummed { TellsNoSummary (T.state store.old).bytes result }
     ensures scanned { PlaysScan (T.state store.old).bytes range (asked_topic topic.entry) result }
     ensures asks { AsksIndexed range (T.state store.old) (T.state store.new) }
+    ensures unloaded { AsksUnloaded (T.state store.old) (T.state store.new) }
     ensures bounded { AsksBound range (T.state store.old) (T.state store.new) }
     ensures cause { ReplayCause (T.state store.old).faults (T.state store.new).faults result }
     ensures leaves { LeavesStore (T.state store.old) (T.state store.new) }

@@ -17,18 +17,24 @@ entries-preserved-then-not-is_within g c =
 pub returns-in-Err-clause-asks : goal.returns-in-Err-clause-asks
 returns-in-Err-clause-asks g c = λ file told size.
     let i = c.entries.invariant in
-    let next : (g.T.Store.state c.show_entry.new.store).asked ≤ (g.T.Store.state c.args.store.now).asked + entries_cost file c.args.range c.args.spot.chunk (Rattle.std.proofs.Common.take (c.entries.i + 1) c.args.entries.now) = cost_next file c.args.range c.args.spot.chunk c.args.entries.now c.entries.i (c.entries.i + 1) c.item-entry.result (g.T.Store.state c.args.store.now).asked (g.T.Store.state c.entries.store).asked (g.T.Store.state c.show_entry.new.store).asked c.item-entry.ensures (omega arith) (sym c.if-not-is_within.ensures) (i.asks file told size) (c.in-Err.ensures.asks file (i.stays.bytes ∙ told) size) in
-    cost_all file c.args.range c.args.spot.chunk c.args.entries.now (c.entries.i + 1) (g.T.Store.state c.args.store.now).asked (g.T.Store.state c.show_entry.new.store).asked next
+    let next : (g.T.Store.state c.add_message.new.store).asked ≤ (g.T.Store.state c.args.store.now).asked + entries_cost file c.args.range c.args.spot.chunk (Rattle.std.proofs.Common.take (c.entries.i + 1) c.args.entries.now) = cost_next file c.args.range c.args.spot.chunk c.args.entries.now c.entries.i (c.entries.i + 1) c.item-entry.result (g.T.Store.state c.args.store.now).asked (g.T.Store.state c.entries.store).asked (g.T.Store.state c.add_message.new.store).asked c.item-entry.ensures (omega arith) (sym c.if-not-is_within.ensures) (i.asks file told size) (c.in-Err.ensures.asks file (i.stays.bytes ∙ told) size) in
+    cost_all file c.args.range c.args.spot.chunk c.args.entries.now (c.entries.i + 1) (g.T.Store.state c.args.store.now).asked (g.T.Store.state c.add_message.new.store).asked next
+
+pub returns-in-Ok-false-clause-asks : goal.returns-in-Ok-false-clause-asks
+returns-in-Ok-false-clause-asks g c = λ file told size.
+    let i = c.entries.invariant in
+    let next : (g.T.Store.state c.add_message.new.store).asked ≤ (g.T.Store.state c.args.store.now).asked + entries_cost file c.args.range c.args.spot.chunk (Rattle.std.proofs.Common.take (c.entries.i + 1) c.args.entries.now) = cost_next file c.args.range c.args.spot.chunk c.args.entries.now c.entries.i (c.entries.i + 1) c.item-entry.result (g.T.Store.state c.args.store.now).asked (g.T.Store.state c.entries.store).asked (g.T.Store.state c.add_message.new.store).asked c.item-entry.ensures (omega arith) (sym c.if-not-is_within.ensures) (i.asks file told size) (c.in-Ok-false.ensures.asks file (i.stays.bytes ∙ told) size) in
+    cost_all file c.args.range c.args.spot.chunk c.args.entries.now (c.entries.i + 1) (g.T.Store.state c.args.store.now).asked (g.T.Store.state c.add_message.new.store).asked next
 
 pub entries-preserved : goal.entries-preserved
 entries-preserved g c =
     let i = c.entries.invariant in
-    let e = c.in-Ok.ensures in
+    let e = c.in-Ok-true.ensures in
     record {
       stays = record { bytes = e.stays.bytes ∙ i.stays.bytes; known = e.stays.known ∙ i.stays.known };
       still = e.cause ∙ i.still;
-      shows = λ file told size. listed_more file c.args.range c.args.spot c.args.entries.now c.entries.i (c.entries.i + 1) c.item-entry.result (kept_in c.args.shown.now) (kept_in c.entries.shown) (kept_in c.show_entry.new.shown) c.item-entry.ensures (omega arith) (sym c.if-not-is_within.ensures) (i.shows file told size) (e.told file (i.stays.bytes ∙ told) size);
-      asks = λ file told size. cost_next file c.args.range c.args.spot.chunk c.args.entries.now c.entries.i (c.entries.i + 1) c.item-entry.result (g.T.Store.state c.args.store.now).asked (g.T.Store.state c.entries.store).asked (g.T.Store.state c.show_entry.new.store).asked c.item-entry.ensures (omega arith) (sym c.if-not-is_within.ensures) (i.asks file told size) (e.asks file (i.stays.bytes ∙ told) size);
+      shows = λ file told size. listed_more file c.args.range c.args.spot c.args.entries.now c.entries.i (c.entries.i + 1) c.item-entry.result (kept_in c.args.shown.now) (kept_in c.entries.shown) (kept_in c.add_message.new.shown) c.item-entry.ensures (omega arith) (sym c.if-not-is_within.ensures) (i.shows file told size) (rw c.in-Ok-true.field-0-test at c.in-Ok-true.ensures.told file (i.stays.bytes ∙ told) size);
+      asks = λ file told size. cost_next file c.args.range c.args.spot.chunk c.args.entries.now c.entries.i (c.entries.i + 1) c.item-entry.result (g.T.Store.state c.args.store.now).asked (g.T.Store.state c.entries.store).asked (g.T.Store.state c.add_message.new.store).asked c.item-entry.ensures (omega arith) (sym c.if-not-is_within.ensures) (i.asks file told size) (e.asks file (i.stays.bytes ∙ told) size);
     }
 
 pub entries-init : goal.entries-init

@@ -1,9 +1,10 @@
 use Rattle.std.proofs.Common.{◌≡◌, ℕ, List, ◌++◌, ◌∷◌, [], ◌+◌, ◌≤◌, take, sum, refl, ap, ◌∙◌, arith}
 use Rattle.std.proofs.lemmas.Bool.{false≢true}
 use Rattle.rec_index.specs.Parsed.{chunk_index_fields}
+use Rattle.indexed_replay.specs.Reaching.{IsReached}
 use Rattle.indexed_replay.specs.Gathering.{CostsUpTo}
 use Rattle.indexed_replay.proofs.Gathered.{from_none, from_skip, from_more}
-use Rattle.indexed_replay.proofs.Naming.{zip_next, zip_taken, sum_joined, sum_taken}
+use Rattle.indexed_replay.proofs.Naming.{zip_next, zip_taken, sum_joined, sum_taken, asked_among}
 use Rattle.time_player.specs.Keeping.{kept_in}
 use Rattle.indexed_replay.proofs.gathering.gather.Goals as goal
 
@@ -39,14 +40,16 @@ returns-in-Err-clause-told g c = λ file told size knows are.
     c.in-Err.ensures.told file (i.stays.bytes ∙ told) size knows (record { indexed = are c.chunks.i t f c.chunk_index_offset-at.result at is c.chunk_index_offset-at.ensures; meets = c.if-not-meets.ensures.0 refl })
 
 pub returns-in-Err-clause-asks : goal.returns-in-Err-clause-asks
-returns-in-Err-clause-asks g c = λ file costs told size are.
+returns-in-Err-clause-asks g c = λ file costs told size are knows indexed.
     let i = c.chunks.invariant in
     let (t, at, is) = c.chunk_index-index.ensures in
     let f = chunk_index_fields c.chunk_index-index.result in
     let last = zip_next (CostsUpTo file c.args.request.now.range) c.args.loaded.now.chunk_indexes c.chunks.i (c.chunks.i + 1) t (take (c.chunks.i + 1) costs) at (omega arith) (zip_taken (CostsUpTo file c.args.request.now.range) (c.chunks.i + 1) c.args.loaded.now.chunk_indexes costs are) in
     let cost = last.is in
-    let all = asked_more (take (c.chunks.i + 1) costs) last.front last.last (g.T.Store.state c.args.store.now).asked (g.T.Store.state c.chunks.store).asked (g.T.Store.state c.show_chunk.new.store).asked last.joined (i.asks file last.front told size last.zipped) (c.in-Err.ensures.asks file last.last (i.stays.bytes ∙ told) size (cost f is (c.if-not-meets.ensures.0 refl))) in
-    omega (arith, all, sum_taken (c.chunks.i + 1) costs)
+    let reached : IsReached file c.args.request.now.range c.chunk_index_offset-at.result f = record { indexed = indexed c.chunks.i t f c.chunk_index_offset-at.result at is c.chunk_index_offset-at.ensures; meets = c.if-not-meets.ensures.0 refl } in
+    asked_among file c.args.request.now.range (g.T.Store.state c.args.store.now).asked (g.T.Store.state c.chunks.store).asked (g.T.Store.state c.show_chunk.new.store).asked (sum last.front) last.last (sum costs) (i.asks file last.front told size last.zipped)
+    (omega (arith, ap sum last.joined, sum_joined last.front last.last, sum_taken (c.chunks.i + 1) costs))
+    (c.in-Err.ensures.asks file last.last (i.stays.bytes ∙ told) size (cost f is (c.if-not-meets.ensures.0 refl)) knows reached)
 
 pub chunks-preserved : goal.chunks-preserved
 chunks-preserved g c =

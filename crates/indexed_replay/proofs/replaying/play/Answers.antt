@@ -1,9 +1,10 @@
-use Rattle.std.proofs.Common.{List, sym, subst, ap}
+use Rattle.std.proofs.Common.{List, sym, subst, ap, arith}
 use Rattle.mcap_model.specs.declared.replay.Shown.{Shown}
 use Rattle.mcap_model.specs.declared.replay.Topic.{Topic}
 use Rattle.mcap_model.specs.Plain.{AreNamed}
 use Rattle.time_player.specs.Keeping.{kept_in}
 use Rattle.time_player.specs.Ordering.{IsOrdered}
+use Rattle.indexed_replay.specs.Reaching.{nothing}
 use Rattle.indexed_replay.proofs.Summed.{knows, loaded_summary}
 use Rattle.indexed_replay.proofs.Playing.{are_indexed, added_led}
 use Rattle.indexed_replay.proofs.replaying.play.Goals as goal
@@ -25,3 +26,19 @@ returns-in-Ok-topics_of_kept-clause-plays g c = λ file told loaded.
     let named = subst (λ (l : List Topic). AreNamed c.in-Ok.tables.channels c.new.result.shown.items l) (sym (ap (λ v. v.items) c.new.ensures.topics)) (subst (λ (l : List Shown). AreNamed c.in-Ok.tables.channels l c.in-Ok-topics_of_kept.topics.items) shown c.in-Ok-topics_of_kept.ensures) in
     added_led file _ ((c.args.loaded.now).footer).summary_start loaded.tops (c.args.loaded.now).chunk_indexes (kept_in c.new-shown.result) (kept_in c.gather.new.shown) c.new.result adds c.new-shown.ensures (loaded_summary file c.args.loaded.now loaded) listed.chunk_indexes known
     (subst (λ (l : List Shown). IsOrdered (kept_in c.gather.new.shown) l) shown c.put_in_order_without_doubles.ensures) named
+
+pub returns-in-Err-clause-asks : goal.returns-in-Err-clause-asks
+returns-in-Err-clause-asks g c = λ file costs told loaded are. (0, nothing, omega arith)
+
+pub returns-in-Err-gather-clause-asks : goal.returns-in-Err-gather-clause-asks
+returns-in-Err-gather-clause-asks g c = λ file costs told loaded are.
+    let size = sym (c.requires.measured file told) in
+    let known = knows file c.args.loaded.now loaded c.in-Ok.tables.channels c.in-Ok.ensures in
+    let listed = loaded.listed in
+    c.in-Err-gather.ensures.asks file costs told size are known (are_indexed file ((c.args.loaded.now).footer).summary_start loaded.tops (c.args.loaded.now).chunk_indexes (c.args.loaded.now).chunk_index_offsets (loaded_summary file c.args.loaded.now loaded) listed.chunk_indexes loaded.placed)
+
+pub returns-in-Ok-topics_of_kept-clause-asks : goal.returns-in-Ok-topics_of_kept-clause-asks
+returns-in-Ok-topics_of_kept-clause-asks g c = λ file costs told loaded are. (0, nothing, omega (arith, c.in-Ok-gather.ensures.asks file costs told (sym (c.requires.measured file told)) are))
+
+pub returns-in-Err-topics_of_kept-clause-asks : goal.returns-in-Err-topics_of_kept-clause-asks
+returns-in-Err-topics_of_kept-clause-asks g c = λ file costs told loaded are. (0, nothing, omega (arith, c.in-Ok-gather.ensures.asks file costs told (sym (c.requires.measured file told)) are))

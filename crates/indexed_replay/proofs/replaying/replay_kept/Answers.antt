@@ -1,15 +1,17 @@
-use Rattle.std.proofs.Common.{◌^◌, ◌<◌, Err, List, length, sum, sym, subst, ◌∙◌, arith}
+use Rattle.std.proofs.Common.{ℕ, ◌^◌, ◌<◌, Err, List, length, sum, inl, sym, subst, ◌∙◌, arith}
 use Rattle.std.specs.List.{AllZip}
 use Rattle.mcap_model.specs.Tops.{Top}
 use Rattle.mcap_model.specs.Plain.{asked_topic}
 use Rattle.indexed_replay.specs.declared.answers.ReplayRefused.{ReplayRefused}
 use Rattle.indexed_replay.specs.declared.answers.ReplayRefused.TheVariants as refusals
+use Rattle.indexed_replay.specs.Reaching.{nothing}
 use Rattle.indexed_replay.specs.Replaying.{IsReason}
 use Rattle.indexed_replay.specs.Gathering.{CostsUpTo}
 use Rattle.summary_read.specs.Parts.{of_kind}
+use Rattle.summary_read.specs.Loading.{AskedFor}
 use Rattle.indexed_replay.proofs.Summed.{loaded_summary, summary_once}
 use Rattle.indexed_replay.proofs.Bounded.{asked_bound}
-use Rattle.indexed_replay.proofs.Ending.{load_reason, counts_reason, counts_agree, scan_replayed, asked_loaded}
+use Rattle.indexed_replay.proofs.Ending.{load_reason, counts_reason, counts_agree, scan_replayed, asked_unplayed, asked_played}
 use Rattle.indexed_replay.proofs.replaying.replay_kept.Goals as goal
 
 pub returns-in-Err-load-clause-plays : goal.returns-in-Err-load-clause-plays
@@ -23,8 +25,7 @@ returns-in-Err-load-clause-scanned g c = λ file tops end messages told full hal
 
 pub returns-in-Err-load-clause-asks : goal.returns-in-Err-load-clause-asks
 returns-in-Err-load-clause-asks g c = λ file start summary header costs told has there are.
-    let few = asked_loaded file start summary header (g.T.Store.state c.len.new.self).asked (g.T.Store.state c.load.new.store).asked (g.T.Store.state c.load.new.store).asked (sum costs) has there (c.in-Err-load.ensures.asks file (c.in-Ok.ensures.bytes ∙ told)) (omega arith) in
-    omega (arith, few, c.in-Ok.ensures.asked)
+    asked_unplayed file c.args.range start summary header (g.T.Store.state c.args.store.now).asked (g.T.Store.state c.len.new.self).asked (g.T.Store.state c.load.new.store).asked (sum costs) has there (c.in-Err-load.ensures.asks file (c.in-Ok.ensures.bytes ∙ told)) (omega (arith, c.in-Ok.ensures.asked))
 
 pub returns-in-Err-load-clause-bounded : goal.returns-in-Err-load-clause-bounded
 returns-in-Err-load-clause-bounded g c = λ file tops end bound told full halts asked.
@@ -41,8 +42,7 @@ returns-in-Err-judge_counts-clause-scanned g c = λ file tops end messages told 
 
 pub returns-in-Err-judge_counts-clause-asks : goal.returns-in-Err-judge_counts-clause-asks
 returns-in-Err-judge_counts-clause-asks g c = λ file start summary header costs told has there are.
-    let few = asked_loaded file start summary header (g.T.Store.state c.len.new.self).asked (g.T.Store.state c.load.new.store).asked (g.T.Store.state c.load.new.store).asked (sum costs) has there (c.in-Ok-load.ensures.asks file (c.in-Ok.ensures.bytes ∙ told)) (omega arith) in
-    omega (arith, few, c.in-Ok.ensures.asked)
+    asked_unplayed file c.args.range start summary header (g.T.Store.state c.args.store.now).asked (g.T.Store.state c.len.new.self).asked (g.T.Store.state c.load.new.store).asked (sum costs) has there (c.in-Ok-load.ensures.asks file (c.in-Ok.ensures.bytes ∙ told)) (omega (arith, c.in-Ok.ensures.asked))
 
 pub returns-in-Err-judge_counts-clause-bounded : goal.returns-in-Err-judge_counts-clause-bounded
 returns-in-Err-judge_counts-clause-bounded g c = λ file tops end bound told full halts asked.
@@ -61,8 +61,7 @@ returns-clause-asks g c = λ file start summary header costs told has there are.
     let listed = loaded.listed in
     let same = summary_once file start ((c.in-Ok-load.loaded).footer).summary_start summary loaded.tops has (loaded_summary file c.in-Ok-load.loaded loaded) in
     let zip = subst (λ (l : List Top). AllZip (CostsUpTo file c.args.range) l costs) (sym listed.chunk_indexes) (subst (λ (l : List Top). AllZip (CostsUpTo file c.args.range) (of_kind 8 l) costs) same are) in
-    let few = asked_loaded file start summary header (g.T.Store.state c.len.new.self).asked (g.T.Store.state c.load.new.store).asked (g.T.Store.state c.play.new.store).asked (sum costs) has there (c.in-Ok-load.ensures.asks file now) (c.play.ensures.asks file costs (c.in-Ok-load.ensures.leaves.bytes ∙ now) zip) in
-    omega (arith, few, c.in-Ok.ensures.asked)
+    asked_played file c.args.range start summary header (g.T.Store.state c.args.store.now).asked (g.T.Store.state c.len.new.self).asked (g.T.Store.state c.load.new.store).asked (g.T.Store.state c.play.new.store).asked (sum costs) has there (c.in-Ok-load.ensures.asks file now) (omega (arith, c.in-Ok.ensures.asked)) (c.play.ensures.asks file costs (c.in-Ok-load.ensures.leaves.bytes ∙ now) loaded zip)
 
 pub returns-clause-bounded : goal.returns-clause-bounded
 returns-clause-bounded g c = λ file tops end bound told full halts asked.
@@ -70,3 +69,18 @@ returns-clause-bounded g c = λ file tops end bound told full halts asked.
 
 pub returns-clause-counted : goal.returns-clause-counted
 returns-clause-counted g c = λ file told. counts_agree file c.in-Ok-load.loaded c.play.result (c.in-Ok-load.ensures.loads file (c.in-Ok.ensures.bytes ∙ told)).0 c.in-Ok-judge_counts.ensures
+
+pub returns-in-Err-clause-unloaded : goal.returns-in-Err-clause-unloaded
+returns-in-Err-clause-unloaded g c = λ file told none. inl (omega (arith, c.in-Err.ensures.asked))
+
+pub returns-in-Err-load-clause-unloaded : goal.returns-in-Err-load-clause-unloaded
+returns-in-Err-load-clause-unloaded g c = λ file told none. subst (λ (n : ℕ). AskedFor file n (g.T.Store.state c.load.new.store).asked) c.in-Ok.ensures.asked (c.in-Err-load.ensures.asks file (c.in-Ok.ensures.bytes ∙ told))
+
+pub returns-in-Err-judge_counts-clause-unloaded : goal.returns-in-Err-judge_counts-clause-unloaded
+returns-in-Err-judge_counts-clause-unloaded g c = λ file told none. absurd (none c.in-Ok-load.loaded (c.in-Ok-load.ensures.loads file (c.in-Ok.ensures.bytes ∙ told)).0)
+
+pub returns-clause-unloaded : goal.returns-clause-unloaded
+returns-clause-unloaded g c = λ file told none. absurd (none c.in-Ok-load.loaded (c.in-Ok-load.ensures.loads file (c.in-Ok.ensures.bytes ∙ told)).0)
+
+pub returns-in-Err-clause-asks : goal.returns-in-Err-clause-asks
+returns-in-Err-clause-asks g c = λ file start summary header costs told has there are. (0, nothing, omega (arith, c.in-Err.ensures.asked))
