@@ -12,6 +12,7 @@ pub mod Firsts
 pub mod Summed
 pub mod Playing
 pub mod Counted
+pub mod Telling
 pub mod Sound
 pub mod Full
 pub mod Weighed

@@ -6,3 +6,4 @@ pub mod Chunks
 pub mod Gathering
 pub mod Played
 pub mod Belonging
+pub mod Laws

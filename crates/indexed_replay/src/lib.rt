@@ -9,6 +9,7 @@ mod chunks;
 mod entries;
 mod fronts;
 mod gathering;
+pub mod laws;
 mod lists;
 mod messages;
 mod packings;

@@ -1,0 +1,42 @@
+-- What holds of the definitions.
+use Rattle.std.specs.Prelude.{◌≢◌, ℕ, ◌^◌, ◌<◌, List, length}
+use Rattle.rec_data.specs.declared.footer.Footer.{Footer}
+use Rattle.mcap_model.specs.Tops.{Top}
+use Rattle.mcap_model.specs.Whole.{IsWhole, V11, V17}
+use Rattle.mcap_model.specs.Valid.{Keeps, Valid, Flaw}
+use Rattle.summary_read.specs.declared.refusals.LoadRefused.{LoadRefused}
+use Rattle.summary_read.specs.declared.refusals.LoadRefused.TheVariants as load_refusals
+use Rattle.summary_read.specs.Reached.{EndsIn}
+use Rattle.summary_read.specs.Loading.{IsRefused}
+
+-- The file is these whole records, of which the last is the only Footer; and what this and the order of the summary say is
+-- right (V11).
+pub record IsInOrder (file : List ℕ) (tops : List Top) : Type 0 where
+  pub whole : IsWhole file tops
+  pub footer : V17 tops
+  pub order : Keeps V11 tops
+
+-- a rule for which the summary of such a file isn't loaded fails in the file
+abbrev pub LoadsTellFlaws : Type 0
+LoadsTellFlaws = (file : List ℕ) (tops : List Top) → IsInOrder file tops → length file < 2 ^ 64 → (rule offset : ℕ) → IsRefused file (load_refusals.Grammar offset rule) → Flaw file rule offset
+
+-- Besides no rule fails anywhere: the file is valid, but perhaps for chunks that name a compression.
+pub record IsFlawless (file : List ℕ) (tops : List Top) : Type 0 where
+  pub ordered : IsInOrder file tops
+  pub none : (rule offset : ℕ) → Flaw file rule offset → ⊥
+
+abbrev pub ValidFilesAreFlawless : Type 0
+ValidFilesAreFlawless = (file : List ℕ) (tops : List Top) → Valid file tops → IsFlawless file tops
+
+-- the store failed, a limit is passed, or memory lacked
+abbrev pub IsOutside : LoadRefused → Type 0
+IsOutside (load_refusals.Fault faults) = Unit {0}
+IsOutside load_refusals.NoSummary = ⊥
+IsOutside (load_refusals.Grammar offset rule) = ⊥
+IsOutside (load_refusals.Limit offset) = Unit {0}
+IsOutside load_refusals.Memory = Unit {0}
+
+-- a file in which no rule fails and whose Footer names a summary isn't refused for what stands in it
+abbrev pub FlawlessFilesAreLoaded : Type 0
+FlawlessFilesAreLoaded = (file : List ℕ) (tops : List Top) (footer : Footer) → IsFlawless file tops → length file < 2 ^ 64 → EndsIn file footer → footer.summary_start ≢ 0
+    → (why : LoadRefused) → IsRefused file why → IsOutside why

@@ -1,0 +1,18 @@
+//! What holds of the definitions, each law as the contract of a function that does nothing.
+ghost use Rattle.indexed_replay.specs.Laws.{FlawlessFilesAreLoaded, LoadsTellFlaws, ValidFilesAreFlawless};
+
+/// A rule for which a summary isn't loaded fails in the file, where its records are whole and in order.
+pub fn loads_tell_flaws()
+    ensures { LoadsTellFlaws }
+{}
+
+/// In a valid file no rule fails.
+pub fn valid_files_are_flawless()
+    ensures { ValidFilesAreFlawless }
+{}
+
+/// A file in which no rule fails and whose Footer names a summary is loaded, unless the store fails, a limit is passed or
+/// memory lacks.
+pub fn flawless_files_are_loaded()
+    ensures { FlawlessFilesAreLoaded }
+{}
