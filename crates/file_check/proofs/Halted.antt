@@ -11,15 +11,15 @@ use Rattle.mcap_model.specs.Places.{At, Each}
 use Rattle.mcap_model.specs.Tops.{Top, Tops, top_bytes, spelled, offset_behind, opcode, declared_length, has_head, is_whole, first_top, behind_first}
 use Rattle.mcap_model.specs.Fields.{IsHeader}
 use Rattle.mcap_model.specs.Rules.{V1, V3, HasDataEnd, V5, V6, V7, V8, V10, stands_in_section, Breaks, breaks_3, breaks_5, breaks_6, breaks_7, breaks_8, breaks_10}
-use Rattle.mcap_model.specs.Kept.{reading_limits, Good, grammar, IsPacked, HaltsThere, short_head, zero_opcode, cut_short, broken_rule, HaltsAt, no_magic, behind_kept}
-use Rattle.mcap_model.specs.Whole.{AreShort, IsWhole, V17}
+use Rattle.mcap_model.specs.Kept.{reading_limits, Good, grammar, IsDue, IsPacked, HaltsThere, short_head, zero_opcode, cut_short, broken_rule, HaltsAt, no_magic, behind_kept}
+use Rattle.mcap_model.specs.Whole.{V2, AreShort, IsWhole, V17}
 use Rattle.mcap_model.specs.Valid.{IsPlain, Behind, WherePlain, FailsAmong, FailsToFit, FailsByZero, StartsWithHeader, Flaw, flaw_1, flaw_3, flaw_4, flaw_5, flaw_6, flaw_7, flaw_8, flaw_10, flaw_17}
 use Rattle.mcap_model.proofs.Places.{at_none, at_last, at_more}
 use Rattle.mcap_model.proofs.Readings.{top_of, short_there, length-top}
 use Rattle.mcap_model.proofs.Flaws.{left_size}
 use Rattle.summary_check.proofs.Cuts.{inner_is}
 use Rattle.file_check.specs.declared.flaws.FailedRule.{FailedRule}
-use Rattle.file_check.specs.Halting.{failed, told_flaw, HasLengthAt, HaltsAreFlaws}
+use Rattle.file_check.specs.Halting.{failed, failed_at, told_flaw, HasLengthAt, HaltsAreFlaws}
 
 -- ---- the record at the front of some bytes
 
@@ -65,21 +65,25 @@ length_there inner tops rest stand (n, small, is) =
 regroup : (m s r e : List ℕ) → (m ++ (s ++ r)) ++ e ≡ m ++ (s ++ (r ++ e))
 regroup m s r e = simp (append_assoc) refl
 
--- the same records stand at the front of the whole file
+-- the same records stand at the front of a file that ends with some more bytes
+pub stand_with : (inner last : List ℕ) (tops : List Top) (rest : List ℕ) → Tops inner tops rest → Tops (inner ++ last) tops (rest ++ last)
+stand_with inner last tops rest stand = record { split = ap (λ (l : List ℕ). l ++ last) stand.split ∙ regroup magic (spelled tops) rest last }
+
+-- and so at that of the whole file
 pub stand_whole : (inner : List ℕ) (tops : List Top) (rest : List ℕ) → Tops inner tops rest → Tops (inner ++ magic) tops (rest ++ magic)
-stand_whole inner tops rest stand = record { split = ap (λ (l : List ℕ). l ++ magic) stand.split ∙ regroup magic (spelled tops) rest magic }
+stand_whole inner tops rest stand = stand_with inner magic tops rest stand
 
 regroup_more : (m s b r e : List ℕ) → m ++ (s ++ ((b ++ r) ++ e)) ≡ m ++ ((s ++ (b ++ [])) ++ (r ++ e))
 regroup_more m s b r e = simp (append_assoc, append-nil) refl
 
-stand_more : (inner : List ℕ) (tops : List Top) (rest : List ℕ) (t : Top) (behind : List ℕ) → Tops inner tops rest → rest ≡ top_bytes t ++ behind → Tops (inner ++ magic) (tops ++ t ∷ []) (behind ++ magic)
-stand_more inner tops rest t behind stand is =
-    let whole = stand_whole inner tops rest stand in record {
+stand_more : (inner last : List ℕ) (tops : List Top) (rest : List ℕ) (t : Top) (behind : List ℕ) → Tops inner tops rest → rest ≡ top_bytes t ++ behind → Tops (inner ++ last) (tops ++ t ∷ []) (behind ++ last)
+stand_more inner last tops rest t behind stand is =
+    let whole = stand_with inner last tops rest stand in record {
       split =
           whole.split
-          ∙ ap (λ (l : List ℕ). magic ++ (spelled tops ++ (l ++ magic))) is
-          ∙ regroup_more magic (spelled tops) (top_bytes t) behind magic
-          ∙ ap (λ (l : List ℕ). magic ++ (l ++ (behind ++ magic))) (sym (flat_map-append top_bytes tops (t ∷ [])));
+          ∙ ap (λ (l : List ℕ). magic ++ (spelled tops ++ (l ++ last))) is
+          ∙ regroup_more magic (spelled tops) (top_bytes t) behind last
+          ∙ ap (λ (l : List ℕ). magic ++ (l ++ (behind ++ last))) (sym (flat_map-append top_bytes tops (t ∷ [])));
     }
 
 pub good_short : (tops : List Top) → Good reading_limits tops → AreShort tops
@@ -94,22 +98,26 @@ short_more tops t short last n u at = elim (at_more tops t n u at) [
 -- ---- what the record there breaks
 
 -- records, and one more behind them that is framed there
-record Next (inner : List ℕ) (tops : List Top) (t : Top) : Type 0 where
-  rest : List ℕ
-  behind : List ℕ
-  stand : Tops inner tops rest
-  good : Good reading_limits tops
-  is : rest ≡ top_bytes t ++ behind
-  short : length t.content < 2 ^ 64
+pub record Next (inner : List ℕ) (tops : List Top) (t : Top) : Type 0 where
+  pub rest : List ℕ
+  pub behind : List ℕ
+  pub stand : Tops inner tops rest
+  pub good : Good reading_limits tops
+  pub is : rest ≡ top_bytes t ++ behind
+  pub short : length t.content < 2 ^ 64
 
-fails_among : (R : List Top → ℕ → Top → Type 0) (inner : List ℕ) (tops : List Top) (t : Top) → Next inner tops t → (R (tops ++ t ∷ []) (length tops) t → ⊥) → FailsAmong R (inner ++ magic) (offset_behind tops)
-fails_among R inner tops t next bad =
+-- where a file ends with the magic, it does so behind them
+abbrev pub Ends : List ℕ → List ℕ → Type 0
+Ends inner last = V2 (inner ++ last) → 8 ≤ length last
+
+fails_among : (R : List Top → ℕ → Top → Type 0) (inner last : List ℕ) (tops : List Top) (t : Top) → Ends inner last → Next inner tops t → (R (tops ++ t ∷ []) (length tops) t → ⊥) → FailsAmong R (inner ++ last) (offset_behind tops)
+fails_among R inner last tops t ends next bad =
     let before : take (length tops) (tops ++ t ∷ []) ≡ tops = take_at tops (t ∷ []) (length tops) refl in record {
       tops = tops ++ t ∷ [];
-      rest = next.behind ++ magic;
-      stand = stand_more inner tops next.rest t next.behind next.stand next.is;
+      rest = next.behind ++ last;
+      stand = stand_more inner last tops next.rest t next.behind next.stand next.is;
       short = short_more tops t (good_short tops next.good) next.short;
-      inside = λ v2. omega (arith, length-append next.behind magic);
+      inside = λ v2. omega (arith, ends v2, length-append next.behind last);
       place = length tops;
       top = t;
       at = at_last tops t [];
@@ -136,15 +144,15 @@ where_plain_bad R tops t good plain bad kept = bad (kept (plain_all tops t good 
 -- ---- the first record
 
 -- a record at the front is no Header, so no Header stands there
-no_header : (inner : List ℕ) (t : Top) → Next inner [] t → length inner + 8 < 2 ^ 64 → (IsHeader t → ⊥) → StartsWithHeader (inner ++ magic) → ⊥
-no_header inner t next fits bad (u, stands, header) =
-    let whole = stand_whole inner [] next.rest next.stand in
-    let left : drop 8 (inner ++ magic) ≡ top_bytes t ++ (next.behind ++ magic) =
-    ap (drop 8) whole.split ∙ ap (λ (l : List ℕ). l ++ magic) next.is ∙ append_assoc (top_bytes t) next.behind magic in
-    let bytes : top_bytes u ++ stands.rest ≡ top_bytes t ++ (next.behind ++ magic) = sym stands.there ∙ left in
-    let size : length (drop 8 (inner ++ magic)) ≡ length (top_bytes u) + length stands.rest = ap length stands.there ∙ length-append (top_bytes u) stands.rest in
-    let short : length u.content < 2 ^ 64 = omega (arith, size, fits, length-top u, length-drop 8 (inner ++ magic), length-append inner magic) in
-    let parts = records_apart u.op t.op u.content t.content stands.rest (next.behind ++ magic) short next.short bytes in
+no_header : (inner last : List ℕ) (t : Top) → Next inner [] t → length inner + length last < 2 ^ 64 → (IsHeader t → ⊥) → StartsWithHeader (inner ++ last) → ⊥
+no_header inner last t next fits bad (u, stands, header) =
+    let whole = stand_with inner last [] next.rest next.stand in
+    let left : drop 8 (inner ++ last) ≡ top_bytes t ++ (next.behind ++ last) =
+    ap (drop 8) whole.split ∙ ap (λ (l : List ℕ). l ++ last) next.is ∙ append_assoc (top_bytes t) next.behind last in
+    let bytes : top_bytes u ++ stands.rest ≡ top_bytes t ++ (next.behind ++ last) = sym stands.there ∙ left in
+    let size : length (drop 8 (inner ++ last)) ≡ length (top_bytes u) + length stands.rest = ap length stands.there ∙ length-append (top_bytes u) stands.rest in
+    let short : length u.content < 2 ^ 64 = omega (arith, size, fits, length-top u, length-drop 8 (inner ++ last), length-append inner last) in
+    let parts = records_apart u.op t.op u.content t.content stands.rest (next.behind ++ last) short next.short bytes in
     let heads : u ≡ t = ap (λ (o : ℕ). top_of o u.content) parts.0 ∙ ap (top_of t.op) parts.1 in
     bad (subst IsHeader heads header)
 
@@ -159,32 +167,29 @@ header_v8 t header f is plain = let six = is.kind in let one = header.kind in ab
 
 -- ---- what is told
 
-as_told : (file : List ℕ) (f : FailedRule) (rule offset : ℕ) → f ≡ failed rule offset → Flaw file rule offset → Flaw file f.rule f.offset
+pub as_told : (file : List ℕ) (f : FailedRule) (rule offset : ℕ) → f ≡ failed rule offset → Flaw file rule offset → Flaw file f.rule f.offset
 as_told file f rule offset same flaw = subst (λ (g : FailedRule). Flaw file g.rule g.offset) (sym same) flaw
-
-told_else : (end offset rule : ℕ) → (eqb rule 4 && eqb offset end) ≡ false → (eqb offset 8 && (eqb rule 7 || eqb rule 8)) ≡ false → told_flaw end offset rule ≡ failed rule offset
-told_else end offset rule one other =
-    ap (λ (b : Bool). if b then failed 17 (end - 29) else if eqb offset 8 && (eqb rule 7 || eqb rule 8) then failed 3 8 else failed rule offset) one
-    ∙ ap (λ (b : Bool). if b then failed 3 8 else failed rule offset) other
 
 and_no : (b : Bool) → (b && false) ≡ false
 and_no true = refl
 and_no false = refl
 
--- rules other than 4, 7 and 8 are told as they are, and so is 4 in front of the end, and 7 and 8 behind the first record
-told_plain : (end offset rule : ℕ) → eqb rule 4 ≡ false → (eqb rule 7 || eqb rule 8) ≡ false → told_flaw end offset rule ≡ failed rule offset
-told_plain end offset rule four others =
-    told_else end offset rule (ap (λ (b : Bool). b && eqb offset end) four) (ap (λ (b : Bool). eqb offset 8 && b) others ∙ and_no (eqb offset 8))
+-- rules other than 7 and 8 are told as they are, and so are these behind the first record
+pub at_plain : (offset rule : ℕ) → (eqb rule 7 || eqb rule 8) ≡ false → failed_at offset rule ≡ failed rule offset
+at_plain offset rule others = ap (λ (b : Bool). if b then failed 3 8 else failed rule offset) (ap (λ (b : Bool). eqb offset 8 && b) others ∙ and_no (eqb offset 8))
 
-told_cut : (end offset : ℕ) → (offset ≡ end → ⊥) → told_flaw end offset 4 ≡ failed 4 offset
-told_cut end offset apart = told_else end offset 4 (ne_eqb offset end apart) (and_no (eqb offset 8))
+at_later : (offset rule : ℕ) → (offset ≡ 8 → ⊥) → failed_at offset rule ≡ failed rule offset
+at_later offset rule apart = ap (λ (b : Bool). if b && (eqb rule 7 || eqb rule 8) then failed 3 8 else failed rule offset) (ne_eqb offset 8 apart)
 
-told_later : (end offset rule : ℕ) → eqb rule 4 ≡ false → (offset ≡ 8 → ⊥) → told_flaw end offset rule ≡ failed rule offset
-told_later end offset rule four apart =
-    told_else end offset rule (ap (λ (b : Bool). b && eqb offset end) four) (ap (λ (b : Bool). b && (eqb rule 7 || eqb rule 8)) (ne_eqb offset 8 apart))
+-- rules other than 4 are told where they are broken, and so is 4 in front of the end
+told_other : (end offset rule : ℕ) → eqb rule 4 ≡ false → told_flaw end offset rule ≡ failed_at offset rule
+told_other end offset rule four = ap (λ (b : Bool). if b && eqb offset end then failed 17 (end - 29) else failed_at offset rule) four
+
+told_short : (end offset : ℕ) → (offset ≡ end → ⊥) → told_flaw end offset 4 ≡ failed 4 offset
+told_short end offset apart = ap (λ (b : Bool). if b then failed 17 (end - 29) else failed_at offset 4) (ne_eqb offset end apart) ∙ at_plain offset 4 refl
 
 told_end : (end : ℕ) → told_flaw end end 4 ≡ failed 17 (end - 29)
-told_end end = ap (λ (b : Bool). if b then failed 17 (end - 29) else if eqb end 8 && false then failed 3 8 else failed 4 end) (eq-eqb end end refl)
+told_end end = ap (λ (b : Bool). if b then failed 17 (end - 29) else failed_at end 4) (eq-eqb end end refl)
 
 -- ---- each halt
 
@@ -244,7 +249,7 @@ cut_there inner tops [] stand good unended cut =
 cut_there inner tops (b ∷ bs) stand good unended cut =
     let size = left_size inner tops (b ∷ bs) stand in
     as_told (inner ++ magic) (told_flaw (length inner) (offset_behind tops) 4) 4 (offset_behind tops)
-    (told_cut (length inner) (offset_behind tops) (λ e. omega (arith, e, size)))
+    (told_short (length inner) (offset_behind tops) (λ e. omega (arith, e, size)))
     (flaw_4 (offset_behind tops) (cut_off inner tops (b ∷ bs) stand good (omega arith) cut))
 
 zero_there : (inner : List ℕ) (tops : List Top) (rest : List ℕ) → Tops inner tops rest → Good reading_limits tops → has_head rest ≡ true → opcode rest ≡ 0 → FailsByZero (inner ++ magic) (offset_behind tops)
@@ -259,41 +264,61 @@ zero_there inner tops (b ∷ bs) stand good head none = record {
   zero = none;
 }
 
+no_cons : (x : Top) (xs : List Top) → x ∷ xs ≡ [] → ⊥
+no_cons x xs e = let size = ap length e in omega (arith, size)
+
+later : (x : Top) (xs : List Top) → offset_behind (x ∷ xs) ≡ 8 → ⊥
+later x xs e = omega (arith, e, length-append (top_bytes x) (spelled xs), length-top x)
+
 -- the record there breaks a rule
-broken_there : (inner : List ℕ) (tops : List Top) (t : Top) (rule : ℕ) → Next inner tops t → length inner + 8 < 2 ^ 64 → ((name : List ℕ) → IsPacked tops t name → ⊥) → Breaks tops t rule
-    → Flaw (inner ++ magic) (told_flaw (length inner) (offset_behind tops) rule).rule (told_flaw (length inner) (offset_behind tops) rule).offset
-broken_there inner [] t rule next fits plain (breaks_3 bad) =
-    as_told (inner ++ magic) (told_flaw (length inner) 8 3) 3 8 (told_plain (length inner) 8 3 refl refl) (flaw_3 (no_header inner t next fits bad))
-broken_there inner (x ∷ xs) t rule next fits plain (breaks_3 bad) = absurd (bad tt)
-broken_there inner tops t rule next fits plain (breaks_5 bad) =
-    as_told (inner ++ magic) (told_flaw (length inner) (offset_behind tops) 5) 5 (offset_behind tops) (told_plain (length inner) (offset_behind tops) 5 refl refl)
-    (flaw_5 (offset_behind tops) (inl (fails_among (Behind V5) inner tops t next (behind_bad V5 tops t bad))))
-broken_there inner tops t rule next fits plain (breaks_6 bad) =
-    as_told (inner ++ magic) (told_flaw (length inner) (offset_behind tops) 6) 6 (offset_behind tops) (told_plain (length inner) (offset_behind tops) 6 refl refl)
-    (flaw_6 (offset_behind tops) (fails_among (λ l n. V6) inner tops t next bad))
-broken_there inner [] t rule next fits plain (breaks_7 bad) =
-    as_told (inner ++ magic) (told_flaw (length inner) 8 7) 3 8 refl (flaw_3 (no_header inner t next fits (λ header. bad (header_v7 t header))))
-broken_there inner (x ∷ xs) t rule next fits plain (breaks_7 bad) =
+pub broken_there : (inner last : List ℕ) (tops : List Top) (t : Top) (rule : ℕ) → Ends inner last → Next inner tops t → length inner + length last < 2 ^ 64 → ((name : List ℕ) → IsPacked tops t name → ⊥) → Breaks tops t rule
+    → Flaw (inner ++ last) (failed_at (offset_behind tops) rule).rule (failed_at (offset_behind tops) rule).offset
+broken_there inner last [] t rule ends next fits plain (breaks_3 bad) =
+    as_told (inner ++ last) (failed_at 8 3) 3 8 (at_plain 8 3 refl) (flaw_3 (no_header inner last t next fits bad))
+broken_there inner last (x ∷ xs) t rule ends next fits plain (breaks_3 bad) = absurd (bad tt)
+broken_there inner last tops t rule ends next fits plain (breaks_5 bad) =
+    as_told (inner ++ last) (failed_at (offset_behind tops) 5) 5 (offset_behind tops) (at_plain (offset_behind tops) 5 refl)
+    (flaw_5 (offset_behind tops) (inl (fails_among (Behind V5) inner last tops t ends next (behind_bad V5 tops t bad))))
+broken_there inner last tops t rule ends next fits plain (breaks_6 bad) =
+    as_told (inner ++ last) (failed_at (offset_behind tops) 6) 6 (offset_behind tops) (at_plain (offset_behind tops) 6 refl)
+    (flaw_6 (offset_behind tops) (fails_among (λ l n. V6) inner last tops t ends next bad))
+broken_there inner last [] t rule ends next fits plain (breaks_7 bad) =
+    as_told (inner ++ last) (failed_at 8 7) 3 8 refl (flaw_3 (no_header inner last t next fits (λ header. bad (header_v7 t header))))
+broken_there inner last (x ∷ xs) t rule ends next fits plain (breaks_7 bad) =
     let at = offset_behind (x ∷ xs) in
-    as_told (inner ++ magic) (told_flaw (length inner) at 7) 7 at (told_later (length inner) at 7 refl (λ e. omega (arith, e, length-append (top_bytes x) (spelled xs), length-top x)))
-    (flaw_7 at (fails_among (WherePlain (Behind V7)) inner (x ∷ xs) t next
-    (where_plain_bad (Behind V7) (x ∷ xs) t next.good (λ name names. plain name ((λ none. no_cons none), names)) (behind_bad V7 (x ∷ xs) t bad))))
-  where
-    no_cons : x ∷ xs ≡ [] → ⊥
-    no_cons e = let size = ap length e in omega (arith, size)
-broken_there inner [] t rule next fits plain (breaks_8 bad) =
-    as_told (inner ++ magic) (told_flaw (length inner) 8 8) 3 8 refl (flaw_3 (no_header inner t next fits (λ header. bad (header_v8 t header))))
-broken_there inner (x ∷ xs) t rule next fits plain (breaks_8 bad) =
+    as_told (inner ++ last) (failed_at at 7) 7 at (at_later at 7 (later x xs))
+    (flaw_7 at (fails_among (WherePlain (Behind V7)) inner last (x ∷ xs) t ends next
+    (where_plain_bad (Behind V7) (x ∷ xs) t next.good (λ name names. plain name (no_cons x xs, names)) (behind_bad V7 (x ∷ xs) t bad))))
+broken_there inner last [] t rule ends next fits plain (breaks_8 bad) =
+    as_told (inner ++ last) (failed_at 8 8) 3 8 refl (flaw_3 (no_header inner last t next fits (λ header. bad (header_v8 t header))))
+broken_there inner last (x ∷ xs) t rule ends next fits plain (breaks_8 bad) =
     let at = offset_behind (x ∷ xs) in
-    as_told (inner ++ magic) (told_flaw (length inner) at 8) 8 at (told_later (length inner) at 8 refl (λ e. omega (arith, e, length-append (top_bytes x) (spelled xs), length-top x)))
-    (flaw_8 at (fails_among (WherePlain (λ l n. V8)) inner (x ∷ xs) t next
-    (where_plain_bad (λ l n. V8) (x ∷ xs) t next.good (λ name names. plain name ((λ none. no_cons none), names)) bad)))
-  where
-    no_cons : x ∷ xs ≡ [] → ⊥
-    no_cons e = let size = ap length e in omega (arith, size)
-broken_there inner tops t rule next fits plain (breaks_10 bad) =
-    as_told (inner ++ magic) (told_flaw (length inner) (offset_behind tops) 10) 10 (offset_behind tops) (told_plain (length inner) (offset_behind tops) 10 refl refl)
-    (flaw_10 (offset_behind tops) (fails_among (λ l n. V10) inner tops t next bad))
+    as_told (inner ++ last) (failed_at at 8) 8 at (at_later at 8 (later x xs))
+    (flaw_8 at (fails_among (WherePlain (λ l n. V8)) inner last (x ∷ xs) t ends next
+    (where_plain_bad (λ l n. V8) (x ∷ xs) t next.good (λ name names. plain name (no_cons x xs, names)) bad)))
+broken_there inner last tops t rule ends next fits plain (breaks_10 bad) =
+    as_told (inner ++ last) (failed_at (offset_behind tops) 10) 10 (offset_behind tops) (at_plain (offset_behind tops) 10 refl)
+    (flaw_10 (offset_behind tops) (fails_among (λ l n. V10) inner last tops t ends next bad))
+
+-- it isn't that a record isn't whole
+pub not_four : (tops : List Top) (t : Top) (rule : ℕ) → Breaks tops t rule → eqb rule 4 ≡ false
+not_four tops t rule (breaks_3 bad) = refl
+not_four tops t rule (breaks_5 bad) = refl
+not_four tops t rule (breaks_6 bad) = refl
+not_four tops t rule (breaks_7 bad) = refl
+not_four tops t rule (breaks_8 bad) = refl
+not_four tops t rule (breaks_10 bad) = refl
+
+-- the record there, as it is framed
+pub next_there : (inner : List ℕ) (tops : List Top) (rest : List ℕ) → Tops inner tops rest → Good reading_limits tops → IsDue reading_limits tops rest → is_whole rest ≡ true
+    → (offset_behind tops + 9 ≤ length inner → HasLengthAt inner (offset_behind tops)) → Next inner tops (first_top rest)
+next_there inner tops rest stand good due whole bytes =
+    let head = due.head.0 in
+    let nine = leb-true 9 (length rest) head in
+    let there = length_there inner tops rest stand (bytes (omega (arith, nine, left_size inner tops rest stand))) in
+    let framed = framed_first rest head whole there in
+    let small = short_there (offset_behind tops) (declared_length rest) due.within in
+    record { rest = rest; behind = behind_first rest; stand = stand; good = good; is = framed.same; short = omega (arith, framed.size, small) }
 
 -- ---- all of them
 
@@ -302,18 +327,13 @@ by_cause : (inner : List ℕ) (tops : List Top) (rest : List ℕ) (offset rule :
     → Flaw (inner ++ magic) (told_flaw (length inner) offset rule).rule (told_flaw (length inner) offset rule).offset
 by_cause inner tops rest offset rule stand good unended fits bytes (short_head headless) = cut_there inner tops rest stand good unended (inl headless)
 by_cause inner tops rest offset rule stand good unended fits bytes (zero_opcode head none) =
-    as_told (inner ++ magic) (told_flaw (length inner) (offset_behind tops) 5) 5 (offset_behind tops) (told_plain (length inner) (offset_behind tops) 5 refl refl)
+    as_told (inner ++ magic) (told_flaw (length inner) (offset_behind tops) 5) 5 (offset_behind tops) (told_other (length inner) (offset_behind tops) 5 refl ∙ at_plain (offset_behind tops) 5 refl)
     (flaw_5 (offset_behind tops) (inr (inl (zero_there inner tops rest stand good head none))))
 by_cause inner tops rest offset rule stand good unended fits bytes (cut_short due short) = cut_there inner tops rest stand good unended (inr short)
 by_cause inner tops rest offset rule stand good unended fits bytes (broken_rule r due whole plain breaks) =
-    let head = due.head.0 in
-    let nine = leb-true 9 (length rest) head in
-    let there = length_there inner tops rest stand (bytes (omega (arith, nine, left_size inner tops rest stand))) in
-    let framed = framed_first rest head whole there in
-    let small = short_there (offset_behind tops) (declared_length rest) due.within in
-    let next : Next inner tops (first_top rest) =
-    record { rest = rest; behind = behind_first rest; stand = stand; good = good; is = framed.same; short = omega (arith, framed.size, small) } in
-    broken_there inner tops (first_top rest) r next fits plain breaks
+    let t = first_top rest in
+    let flaw = broken_there inner magic tops t r (λ v2. omega arith) (next_there inner tops rest stand good due whole bytes) fits plain breaks in
+    subst (λ (g : FailedRule). Flaw (inner ++ magic) g.rule g.offset) (sym (told_other (length inner) (offset_behind tops) r (not_four tops t r breaks))) flaw
 
 -- without the magic in front of them
 no_magic_there : (inner : List ℕ) → 8 ≤ length inner → (V1 inner → ⊥) → V1 (inner ++ magic) → ⊥
@@ -327,7 +347,7 @@ no_magic_there inner long bad (rest, is) =
 halted : (inner : List ℕ) (tops : List Top) (offset rule : ℕ) → 8 ≤ length inner → length inner + 8 < 2 ^ 64 → (offset + 9 ≤ length inner → HasLengthAt inner offset) → Good reading_limits tops
     → HaltsAt reading_limits inner tops (grammar offset rule) → Flaw (inner ++ magic) (told_flaw (length inner) offset rule).rule (told_flaw (length inner) offset rule).offset
 halted inner tops offset rule long fits bytes good (no_magic bad) =
-    as_told (inner ++ magic) (told_flaw (length inner) 0 1) 1 0 (told_plain (length inner) 0 1 refl refl) (flaw_1 (no_magic_there inner long bad))
+    as_told (inner ++ magic) (told_flaw (length inner) 0 1) 1 0 refl (flaw_1 (no_magic_there inner long bad))
 halted inner tops offset rule long fits bytes good (behind_kept rest stand unended halt there) = by_cause inner tops rest offset rule stand good unended fits bytes there
 
 pub halts_are_flaws : HaltsAreFlaws

@@ -11,5 +11,7 @@ pub mod Flawed
 pub mod Halted
 pub mod Parts
 pub mod Refusing
+pub mod Fronted
+pub mod CutFlaws
 pub mod Judged
 pub mod RealLimits

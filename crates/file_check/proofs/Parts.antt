@@ -1,7 +1,8 @@
 -- Parts of a file that are read by themselves.
-use Rattle.std.proofs.Common.{◌≡◌, ℕ, ◌+◌, ◌-◌, ◌≤◌, List, [], ◌++◌, length, take, drop, sym, ap, ◌∙◌, append_assoc, arith}
-use Rattle.std.proofs.lemmas.List.{take-append-drop, take_all, take-take, drop-drop, drop-take, drop_at, length-append, length-drop}
+use Rattle.std.proofs.Common.{◌≡◌, ℕ, ◌+◌, ◌-◌, ◌<◌, ◌≤◌, List, [], ◌++◌, length, take, drop, refl, sym, ap, ◌∙◌, append_assoc, arith}
+use Rattle.std.proofs.lemmas.List.{take_at, append-nil, take-append-drop, take_all, take-take, drop-drop, drop-take, drop_at, length-append, length-drop}
 use Rattle.mcap_wire.specs.Layout.{le, magic}
+use Rattle.mcap_model.specs.Rules.{V1}
 use Rattle.mcap_model.specs.Whole.{EndsWithMagic}
 
 -- the last eight bytes of a file
@@ -25,6 +26,16 @@ whole_ends file long (start, is) =
       [],
       all_of_it file long ∙ ap (drop (length file - 8)) is ∙ drop_at start magic (length file - 8) (sym size),
     )
+
+-- the first eight bytes of a file
+pub begins_whole : (file : List ℕ) → V1 (take 8 file) → V1 file
+begins_whole file (rest, is) = (rest ++ drop 8 file, sym (take-append-drop 8 file) ∙ ap (λ (l : List ℕ). l ++ drop 8 file) is ∙ append_assoc magic rest (drop 8 file))
+
+pub whole_begins : (file : List ℕ) → V1 file → V1 (take 8 file)
+whole_begins file (rest, is) = ([], ap (take 8) is ∙ take_at magic rest 8 refl ∙ sym (append-nil magic))
+
+pub too_brief : (file : List ℕ) (len : ℕ) → length file ≡ len → len < 8 → V1 file → ⊥
+too_brief file len size short (rest, is) = omega (arith, size, short, ap length is, length-append magic rest)
 
 -- the length in a head, in the bytes in front of an end
 pub head_there : (file head : List ℕ) (offset end n : ℕ) → head ≡ take 9 (drop offset file) → offset + 9 ≤ end → take 8 (drop 1 head) ≡ le 8 n → take 8 (drop (offset + 1) (take end file)) ≡ le 8 n

@@ -1,5 +1,5 @@
 -- In a file of whole records a limit is met only at a record that passes it.
-use Rattle.std.proofs.Common.{◌≡◌, ℕ, ◌+◌, ◌<◌, ◌≤◌, true, List, [], ◌∷◌, ◌++◌, length, take, refl, sym, ap, subst, inl, inr, ◌∙◌, append_assoc, arith}
+use Rattle.std.proofs.Common.{◌≡◌, ℕ, ◌+◌, ◌≤◌, true, List, [], ◌∷◌, ◌++◌, length, take, refl, sym, ap, subst, inl, inr, ◌∙◌, append_assoc, arith}
 use Rattle.std.specs.Prelude.{nat_lt}
 use Rattle.std.proofs.lemmas.Bool.{leb-true, lt-ltb, or_left}
 use Rattle.std.proofs.lemmas.List.{append_cancel_left, length-append, take_at}
@@ -14,7 +14,7 @@ use Rattle.mcap_model.proofs.Readings.{all_short, one_follows, begun}
 use Rattle.mcap_model.proofs.Flaws.{left_size}
 use Rattle.summary_check.specs.Files.{PassesLimit}
 use Rattle.summary_check.proofs.Cuts.{front_length}
-use Rattle.file_check.specs.Checking.{HaltsBefore, MeetsLimit}
+use Rattle.file_check.specs.Checking.{HaltsBefore}
 use Rattle.file_check.specs.Laws.{IsPastLimits, LimitsAreReal}
 use Rattle.file_check.proofs.Halted.{stand_whole, good_short}
 

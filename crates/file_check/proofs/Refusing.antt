@@ -1,6 +1,6 @@
 -- What is told of a data section that was refused.
 use Rattle.std.proofs.Common.{◌≡◌, ℕ, zero, suc, ◌-◌, ◌^◌, ◌<◌, ◌≤◌, List, [], ◌∷◌, ◌++◌, Option, length, take, Some, Ok, refl, sym, ap, subst, ◌∙◌, arith}
-use Rattle.std.proofs.lemmas.List.{take_at, length-append, length-take-le}
+use Rattle.std.proofs.lemmas.List.{take_at, take_all, length-append, length-take-le}
 use Rattle.mcap_wire.specs.Layout.{magic}
 use Rattle.mcap_io.specs.Outside.{SourceState}
 use Rattle.mcap_io.specs.Stores.{StoreState}
@@ -15,11 +15,12 @@ use Rattle.file_check.specs.LastChunk.{IndexFails}
 use Rattle.index_check.specs.declared.section.Section.{Section}
 use Rattle.file_check.specs.Reading.{IndexIsWrong, Reads}
 use Rattle.file_check.specs.declared.flaws.FailedRule.{FailedRule}
-use Rattle.file_check.specs.Halting.{told_flaw}
+use Rattle.file_check.specs.Halting.{told_flaw, told_cut, HasLengthAt}
 use Rattle.file_check.specs.declared.refusals.CheckRefused.{CheckRefused}
 use Rattle.file_check.specs.declared.refusals.CheckRefused.TheVariants as refusals
-use Rattle.file_check.specs.Checking.{HaltsBefore, IsUnchecked, IsFault, front_of, TellsFlaw, EndsAtMagic, FrontIs}
+use Rattle.file_check.specs.Checking.{HaltsBefore, IsUnchecked, IsFault, front_of, TellsFlaw, TellsCut, IsUnended, EndsAtMagic, FrontIs}
 use Rattle.mcap_model.proofs.Places.{at_none}
+use Rattle.file_check.proofs.CutFlaws.{cuts_are_flaws}
 use Rattle.file_check.proofs.Halted.{good_short, stand_whole, halts_are_flaws}
 
 -- ---- the bytes in front of the last magic
@@ -90,12 +91,57 @@ index_told file end offset tops rest ended good stand fails =
     } in
     subst (λ (l : List ℕ). Flaw l 9 offset) (sym (inner_whole file end ended)) (flaw_9 offset among)
 
+-- the same of a file without the last magic
+index_cut : (file : List ℕ) (offset : ℕ) (tops : List Top) (rest : List ℕ) → (EndsWithMagic file → ⊥) → Good reading_limits tops → Tops file tops rest → IndexFails tops offset → Flaw file 9 offset
+index_cut file offset tops rest none good stand fails =
+    let bad = fails.breaks in
+    flaw_9 offset (record {
+      tops = tops;
+      rest = rest;
+      stand = stand;
+      short = good_short tops good;
+      inside = λ v2. absurd (none v2.1);
+      place = fails.place;
+      top = fails.top;
+      at = fails.at;
+      there = fails.there;
+      breaks = λ keeps. bad (keeps (plain_front tops (suc fails.place) good));
+    })
+
 pub index_read : (old : StoreState) (now : SourceState) (told : Option (List ℕ)) (file : List ℕ) (end offset : ℕ) (tops : List Top) → old.bytes ≡ told → told ≡ Some file → EndsAtMagic file end
     → IndexIsWrong (front_of old end) now tops offset → Flaw file 9 offset
 index_read old now told file end offset tops same is ended wrong =
     let are = wrong.are_read in
     let left = are.read (take end file) (ap (λ (t : Option (List ℕ)). front_left t 0 end) (same ∙ is)) in
     index_told file end offset tops left.0 ended are.good left.2 wrong.fails
+
+-- ---- a file without the last magic
+
+pub unended : (file : List ℕ) (len : ℕ) → len ≡ length file → (EndsWithMagic file → ⊥) → Flaw file 2 (len - 8)
+unended file len size none = subst (λ (n : ℕ). Flaw file 2 (n - 8)) (sym size) (flaw_2 (λ v2. none v2.1))
+
+all_of_it : (file : List ℕ) (len : ℕ) → IsUnended file len → take len file ≡ file
+all_of_it file len ended = take_all len file (omega (arith, ended.size))
+
+pub index_read_cut : (old : StoreState) (now : SourceState) (told : Option (List ℕ)) (file : List ℕ) (len offset : ℕ) (tops : List Top) → old.bytes ≡ told → told ≡ Some file → IsUnended file len
+    → IndexIsWrong (front_of old len) now tops offset → Flaw file 9 offset
+index_read_cut old now told file len offset tops same is ended wrong =
+    let are = wrong.are_read in
+    let left = are.read (take len file) (ap (λ (t : Option (List ℕ)). front_left t 0 len) (same ∙ is)) in
+    index_cut file offset tops left.0 ended.none are.good (subst (λ (l : List ℕ). Tops l tops left.0) (all_of_it file len ended) left.2) wrong.fails
+
+pub cut_told : (file : List ℕ) (len offset rule : ℕ) (tops : List Top) (f : FailedRule) → len < 2 ^ 64 → IsUnended file len → Halts reading_limits (take len file) tops (grammar offset rule)
+    → TellsCut (Some file) len offset rule f → Flaw file f.rule f.offset
+cut_told file len offset rule tops f fits ended halts (is, there) =
+    let all = all_of_it file len ended in
+    let flaw = cuts_are_flaws file tops offset rule (omega (arith, fits, ended.size)) ended.none
+    (λ room. subst (λ (l : List ℕ). HasLengthAt l offset) all (there file refl (omega (arith, room, ended.size)) (omega (arith, ended.size))))
+    (subst (λ (l : List ℕ). Halts reading_limits l tops (grammar offset rule)) all halts) in
+    let same : f ≡ told_cut (length file) offset rule = is ∙ ap (λ (n : ℕ). told_cut n offset rule) (sym ended.size) in
+    subst (λ (g : FailedRule). Flaw file g.rule g.offset) (sym same) flaw
+
+pub lacks_last : (file : List ℕ) (len : ℕ) → IsUnended file len → Flaw file 2 (len - 8)
+lacks_last file len ended = unended file len (sym ended.size) ended.none
 
 -- ---- what was read
 
@@ -109,9 +155,6 @@ front_is old now file end section told (tops, is) =
 
 pub too_short : (file : List ℕ) (len : ℕ) → len ≡ length file → len < 16 → Flaw file 2 (len - 8)
 too_short file len size short = subst (λ (n : ℕ). Flaw file 2 (n - 8)) (sym size) (flaw_2 (λ v2. let long = v2.0 in omega (arith, long, size, short)))
-
-pub unended : (file : List ℕ) (len : ℕ) → len ≡ length file → (EndsWithMagic file → ⊥) → Flaw file 2 (len - 8)
-unended file len size none = subst (λ (n : ℕ). Flaw file 2 (n - 8)) (sym size) (flaw_2 (λ v2. none v2.1))
 
 pub ended_at : (file : List ℕ) (len : ℕ) → len ≡ length file → 8 ≤ len → len < 2 ^ 64 → EndsWithMagic file → EndsAtMagic file (len - 8)
 ended_at file len size long fits ends = record { size = omega (arith, size, long); magic_last = ends; fits = omega (arith, size, fits) }

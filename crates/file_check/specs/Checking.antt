@@ -18,12 +18,14 @@ use Rattle.file_check.specs.declared.refusals.CheckRefused.TheVariants as refusa
 use Rattle.index_check.specs.declared.section.Section.{Section}
 use Rattle.index_check.specs.Section.{SectionOf}
 use Rattle.file_check.specs.declared.reading.SectionRefused.{SectionRefused}
+use Rattle.file_check.specs.declared.reading.SectionRefused.TheVariants as sections
+use Rattle.mcap_scan.specs.declared.answers.ScanRefused.TheVariants as scans
 use Rattle.file_check.specs.Reading.{Reads}
 use Rattle.summary_check.specs.declared.refusals.SummaryRefused.{SummaryRefused}
 use Rattle.summary_check.specs.declared.refusals.SummaryRefused.TheVariants as summaries
 use Rattle.summary_check.specs.Judging.{IsJudged}
 use Rattle.summary_check.specs.Files.{file_of, PassesLimit, IsRefused as IsRefusedBehind}
-use Rattle.file_check.specs.Halting.{told_flaw, HasLengthAt}
+use Rattle.file_check.specs.Halting.{told_flaw, told_cut, HasLengthAt}
 
 -- the numbers of the data section
 abbrev pub Counted : List Top → Counts → Type 0
@@ -75,20 +77,56 @@ IsFault (refusals.Compressed offset name) = ⊥
 IsFault (refusals.Limit offset) = ⊥
 IsFault refusals.Memory = ⊥
 
--- the source over the front of a store
+-- a source over the front of a store, which counts its own failures
 abbrev pub front_of : StoreState → ℕ → SourceState
-front_of store end = record { left = front_left store.bytes 0 end; faults = store.faults }
+front_of store end = record { left = front_left store.bytes 0 end; faults = 0 }
+
+-- where the bytes up to the end have the head of a record at that offset, a length stands in it
+abbrev pub HeadStands : Option (List ℕ) → ℕ → ℕ → Type 0
+HeadStands told end offset = (file : List ℕ) → told ≡ Some file → offset + 9 ≤ end → end ≤ length file → HasLengthAt (take end file) offset
 
 -- what is told of a reading that halted there
 abbrev pub TellsFlaw : Option (List ℕ) → ℕ → ℕ → ℕ → FailedRule → Type 0
-TellsFlaw told end offset rule f = (f ≡ told_flaw end offset rule)
-    × ((file : List ℕ) → told ≡ Some file → offset + 9 ≤ end → end ≤ length file → HasLengthAt (take end file) offset)
+TellsFlaw told end offset rule f = (f ≡ told_flaw end offset rule) × HeadStands told end offset
+
+-- the same of a file without the last magic
+abbrev pub TellsCut : Option (List ℕ) → ℕ → ℕ → ℕ → FailedRule → Type 0
+TellsCut told len offset rule f = (f ≡ told_cut len offset rule) × HeadStands told len offset
+
+-- ---- what is asked for
+
+-- Of the store no more is asked for than the file and 25 bytes: the first magic, which is looked at before the reading and
+-- read with it; the last one, where the reading goes up to the end; and the head of the record at which it halts, once more.
+abbrev pub margin : ℕ
+margin = 8 + (8 + 9)
+
+abbrev pub AsksOnce : StoreState → StoreState → Type 0
+AsksOnce old new = (file : List ℕ) → old.bytes ≡ Some file → new.asked ≤ old.asked + (length file + margin)
+
+-- of the bytes up to the end each once, and a head
+abbrev pub AsksFront : StoreState → ℕ → StoreState → Type 0
+AsksFront old end new = (file : List ℕ) → old.bytes ≡ Some file → end ≤ length file → new.asked ≤ old.asked + (end + 9)
 
 -- ---- the data section
 
 -- the data section of a store was read in front of that end
-abbrev pub SectionReads : StoreState → ℕ → StoreState → Result Section SectionRefused → Type 0
-SectionReads old end new result = (now : SourceState) × (now.faults ≡ new.faults) × Reads (front_of old end) now result
+abbrev pub SectionReads : StoreState → ℕ → Result Section SectionRefused → Type 0
+SectionReads old end result = (now : SourceState) × Reads (front_of old end) now result
+
+-- the store failed where the reading did
+abbrev pub SectionCause : ℕ → ℕ → Result Section SectionRefused → Type 0
+SectionCause before now (Ok section) = now ≡ before
+SectionCause before now (Err (sections.Scan (scans.Fault faults))) = RisesOnce before now
+SectionCause before now (Err (sections.Scan (scans.Grammar offset rule))) = now ≡ before
+SectionCause before now (Err (sections.Scan (scans.Compressed offset name))) = now ≡ before
+SectionCause before now (Err (sections.Scan (scans.Limit offset))) = now ≡ before
+SectionCause before now (Err (sections.Scan scans.Memory)) = now ≡ before
+SectionCause before now (Err (sections.Index offset)) = now ≡ before
+
+-- of the bytes up to the end each was asked for once at most, and none behind a section that was read
+abbrev pub SectionAsks : StoreState → ℕ → ℕ → Result Section SectionRefused → Type 0
+SectionAsks old end asked (Ok section) = (file : List ℕ) → old.bytes ≡ Some file → end ≤ length file → (section.behind ≤ end) × (asked ≤ old.asked + section.behind)
+SectionAsks old end asked (Err why) = asked ≤ old.asked + end
 
 -- the file's last magic stands at that end
 pub record EndsAtMagic (file : List ℕ) (end : ℕ) : Type 0 where
@@ -101,9 +139,28 @@ abbrev pub TellsRefused : Option (List ℕ) → ℕ → SectionRefused → Resul
 TellsRefused told end why result = (old : StoreState) (now : SourceState) → old.bytes ≡ told → Reads (front_of old end) now (Err why)
     → (file : List ℕ) → told ≡ Some file → EndsAtMagic file end → Checked file result
 
--- and its cause
-abbrev pub RefusedCause : ℕ → ℕ → ℕ → SectionRefused → Result Verdict CheckRefused → Type 0
-RefusedCause before now end why result = (old : StoreState) (read : SourceState) → read.faults ≡ before → Reads (front_of old end) read (Err why) → CheckCause old.faults now result
+-- and its cause: where the reading had failed, the count of the store is told
+abbrev pub RefusedCause : ℕ → ℕ → SectionRefused → Result Verdict CheckRefused → Type 0
+RefusedCause before now (sections.Scan (scans.Fault faults)) result = (now ≡ before) × (result ≡ Err (refusals.Fault now))
+RefusedCause before now (sections.Scan (scans.Grammar offset rule)) result = CheckCause before now result
+RefusedCause before now (sections.Scan (scans.Compressed offset name)) result = CheckCause before now result
+RefusedCause before now (sections.Scan (scans.Limit offset)) result = CheckCause before now result
+RefusedCause before now (sections.Scan scans.Memory) result = CheckCause before now result
+RefusedCause before now (sections.Index offset) result = CheckCause before now result
+
+-- ---- a file without the last magic
+
+pub record IsUnended (file : List ℕ) (len : ℕ) : Type 0 where
+  pub size : length file ≡ len
+  pub none : EndsWithMagic file → ⊥
+
+-- what is told of it where its data section was refused
+abbrev pub TellsCutSection : Option (List ℕ) → ℕ → SectionRefused → Result Verdict CheckRefused → Type 0
+TellsCutSection told len why result = (old : StoreState) (now : SourceState) → old.bytes ≡ told → Reads (front_of old len) now (Err why)
+    → (file : List ℕ) → told ≡ Some file → IsUnended file len → Checked file result
+
+abbrev pub TellsUnended : Option (List ℕ) → ℕ → Result Verdict CheckRefused → Type 0
+TellsUnended told len result = (file : List ℕ) → told ≡ Some file → IsUnended file len → Checked file result
 
 -- ---- behind the data section
 

@@ -4,25 +4,32 @@ ghost use Rattle.mcap_io.specs.Stores.{StoreStays};
 ghost use Rattle.file_check.specs.declared.reading.SectionRefused.TheVariants as sections;
 ghost use Rattle.mcap_model.specs.Tops.{Top};
 ghost use Rattle.index_check.specs.Section.{SectionOf};
-ghost use Rattle.file_check.specs.Checking.{Counted, CheckCause, SectionReads, TellsRefused, RefusedCause, TellsJudged, TellsFile, IsUnchecked, told_by};
+ghost use Rattle.file_check.specs.Checking.{Counted, CheckCause, SectionReads, SectionCause, SectionAsks, AsksFront, TellsRefused, RefusedCause, TellsJudged, TellsFile, IsUnchecked, told_by};
 
 use crate::ends::tell_flaw;
 use crate::reading::{SectionRefused, read_section};
 use crate::refusals::CheckRefused;
+use crate::store_front::StoreFront;
 use index_check::Section;
-use mcap_io::{ReadRefused, Store, StoreSource, read_part};
+use mcap_io::{ReadRefused, Store, read_part};
 use mcap_model::{Counts, Verdict};
 use mcap_scan::ScanRefused;
 use std::alloc::Global;
 use summary_check::{SummaryRefused, judge_summary};
 
-// Reads the data section of a store in front of that end.
-fn read_front<T: Store>(alloc: Global, store: &mut T, end: u64) -> Result<Section, SectionRefused>
+/// Reads the data section of a store in front of that end.
+pub(crate) fn read_front<T: Store>(
+    alloc: Global,
+    store: &mut T,
+    end: u64,
+) -> Result<Section, SectionRefused>
     requires { end ≤ (T.state store.old).known }
-    ensures reads { SectionReads (T.state store.old) end (T.state store.new) result }
+    ensures reads { SectionReads (T.state store.old) end result }
+    ensures cause { SectionCause (T.state store.old).faults (T.state store.new).faults result }
+    ensures asks { SectionAsks (T.state store.old) end (T.state store.new).asked result }
     ensures keeps { StoreStays (T.state store.old) (T.state store.new) }
 {
-    let mut source = StoreSource::new(store, end);
+    let mut source = StoreFront::new(store, end);
     read_section(alloc, &mut source)
 }
 
@@ -31,11 +38,16 @@ fn tell_scan<T: Store>(store: &mut T, end: u64, why: ScanRefused) -> Result<Verd
     requires known { end ≤ (T.state store.old).known }
     requires long { 8 ≤ end }
     ensures tells { TellsRefused (T.state store.old).bytes end (sections.Scan why) result }
-    ensures cause { RefusedCause (T.state store.old).faults (T.state store.new).faults end (sections.Scan why) result }
+    ensures cause { RefusedCause (T.state store.old).faults (T.state store.new).faults (sections.Scan why) result }
+    ensures asks { (T.state store.new).asked ≤ (T.state store.old).asked + 9 }
     ensures keeps { StoreStays (T.state store.old) (T.state store.new) }
 {
     match why {
-        ScanRefused::Fault { faults } => return Err(CheckRefused::Fault { faults }),
+        ScanRefused::Fault { faults: _ } => {
+            return Err(CheckRefused::Fault {
+                faults: store.faults(),
+            });
+        }
         ScanRefused::Grammar { offset, rule } => match tell_flaw(store, end, offset, rule) {
             Ok(failed) => {
                 return Ok(Verdict::Flawed {
@@ -62,7 +74,8 @@ fn tell_section<T: Store>(
     requires known { end ≤ (T.state store.old).known }
     requires long { 8 ≤ end }
     ensures tells { TellsRefused (T.state store.old).bytes end why result }
-    ensures cause { RefusedCause (T.state store.old).faults (T.state store.new).faults end why result }
+    ensures cause { RefusedCause (T.state store.old).faults (T.state store.new).faults why result }
+    ensures asks { (T.state store.new).asked ≤ (T.state store.old).asked + 9 }
     ensures keeps { StoreStays (T.state store.old) (T.state store.new) }
 {
     match why {
@@ -97,6 +110,7 @@ fn read_rest<T: Store>(
     ensures gives { IfOk result (λ part. (file : List ℕ) → (T.state store.old).bytes ≡ Some file → part.items ≡ take (end - at) (drop at file)) }
     ensures unchecked { IfErr result (λ why. (file : List ℕ) → IsUnchecked file why) }
     ensures cause { CheckCause (T.state store.old).faults (T.state store.new).faults result }
+    ensures asks { (T.state store.new).asked ≤ (T.state store.old).asked + (end - at) }
     ensures keeps { StoreStays (T.state store.old) (T.state store.new) }
 {
     if at > end {
@@ -140,6 +154,7 @@ fn judge_behind<T: Store>(
     requires fits { end + 8 < 2 ^ 64 }
     ensures tells { TellsJudged (T.state store.old).bytes end section result }
     ensures cause { CheckCause (T.state store.old).faults (T.state store.new).faults result }
+    ensures asks { (T.state store.new).asked ≤ (T.state store.old).asked + (end - section.behind) }
     ensures keeps { StoreStays (T.state store.old) (T.state store.new) }
 {
     let counts = counts_of(&section);
@@ -160,6 +175,7 @@ pub(crate) fn check_records<T: Store>(
     requires fits { end + 8 < 2 ^ 64 }
     ensures tells { TellsFile (T.state store.old).bytes end result }
     ensures cause { CheckCause (T.state store.old).faults (T.state store.new).faults result }
+    ensures asks { AsksFront (T.state store.old) end (T.state store.new) }
     ensures keeps { StoreStays (T.state store.old) (T.state store.new) }
 {
     match read_front(alloc, store, end) {

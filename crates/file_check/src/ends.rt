@@ -1,14 +1,45 @@
-//! Parts of a file that are read by themselves: its last magic, and the head of a record.
+//! Parts of a file that are read by themselves: its magics, and the head of a record.
 ghost use Rattle.std.specs.Prelude.{◌≡◌, ◌+◌, ◌≤◌, ◌↔◌, ◌^◌, ◌<◌, ℕ, List, Some, length, take, drop, IsTrue, IfOk, IfErr};
 ghost use Rattle.mcap_io.specs.Stores.{StoreStays};
 ghost use Rattle.mcap_wire.specs.Layout.{le};
+ghost use Rattle.mcap_model.specs.Rules.{V1};
 ghost use Rattle.mcap_model.specs.Whole.{EndsWithMagic};
-ghost use Rattle.file_check.specs.Checking.{CheckCause, IsFault, TellsFlaw};
+ghost use Rattle.file_check.specs.Checking.{CheckCause, IsFault, HeadStands, TellsFlaw, TellsCut};
 
-use crate::flaws::{FailedRule, failed_rule};
+use crate::flaws::{FailedRule, cut_rule, failed_rule};
 use crate::refusals::CheckRefused;
 use mcap_io::{Failed, Store};
 use mcap_wire::{MAGIC, take_u64};
+
+// Whether the bytes begin with the magic.
+fn are_begun(bytes: &[u8]) -> bool
+    ensures { IsTrue result ↔ V1 bytes.now }
+{
+    bytes.starts_with(&MAGIC)
+}
+
+/// Whether the first eight bytes of a store of that length are the magic.
+pub(crate) fn begins_with_magic<T: Store>(store: &mut T, len: u64) -> Result<bool, CheckRefused>
+    requires { len ≤ (T.state store.old).known }
+    ensures tells { IfOk result (λ begins. (file : List ℕ) → (T.state store.old).bytes ≡ Some file → length file ≡ len → IsTrue begins ↔ V1 file) }
+    ensures cause { CheckCause (T.state store.old).faults (T.state store.new).faults result }
+    ensures fault { IfErr result IsFault }
+    ensures asks { (T.state store.new).asked ≤ (T.state store.old).asked + 8 }
+    ensures keeps { StoreStays (T.state store.old) (T.state store.new) }
+{
+    if len < 8 {
+        return Ok(false);
+    }
+    let mut front = [0; 8];
+    match store.read_at(0, &mut front) {
+        Ok(()) => return Ok(are_begun(&front)),
+        Err(Failed) => {
+            return Err(CheckRefused::Fault {
+                faults: store.faults(),
+            });
+        }
+    }
+}
 
 // Whether the bytes end with the magic.
 fn are_ended(bytes: &[u8]) -> bool
@@ -24,6 +55,7 @@ pub(crate) fn ends_with_magic<T: Store>(store: &mut T, len: u64) -> Result<bool,
     ensures tells { IfOk result (λ ends. (file : List ℕ) → (T.state store.old).bytes ≡ Some file → length file ≡ len → IsTrue ends ↔ EndsWithMagic file) }
     ensures cause { CheckCause (T.state store.old).faults (T.state store.new).faults result }
     ensures fault { IfErr result IsFault }
+    ensures asks { (T.state store.new).asked ≤ (T.state store.old).asked + 8 }
     ensures keeps { StoreStays (T.state store.old) (T.state store.new) }
 {
     let mut end = [0; 8];
@@ -49,6 +81,32 @@ fn length_in(head: &[u8]) -> u64
     }
 }
 
+// Reads the head of the record at that offset once more, if the bytes up to `end` have it.
+fn read_head<T: Store>(store: &mut T, end: u64, offset: u64) -> Result<(), CheckRefused>
+    requires { end ≤ (T.state store.old).known }
+    ensures stands { IfOk result (λ it. HeadStands (T.state store.old).bytes end offset) }
+    ensures cause { CheckCause (T.state store.old).faults (T.state store.new).faults result }
+    ensures fault { IfErr result IsFault }
+    ensures asks { (T.state store.new).asked ≤ (T.state store.old).asked + 9 }
+    ensures keeps { StoreStays (T.state store.old) (T.state store.new) }
+{
+    if offset > end || end - offset < 9 {
+        return Ok(());
+    }
+    let mut head = [0; 9];
+    match store.read_at(offset, &mut head) {
+        Ok(()) => {
+            let _len = length_in(&head);
+            return Ok(());
+        }
+        Err(Failed) => {
+            return Err(CheckRefused::Fault {
+                faults: store.faults(),
+            });
+        }
+    }
+}
+
 /// What is told of a file whose records are read up to `end`, where its last magic begins, and whose reading halts at that
 /// offset for that rule. The head of the record there is read once more.
 pub(crate) fn tell_flaw<T: Store>(
@@ -61,21 +119,31 @@ pub(crate) fn tell_flaw<T: Store>(
     ensures tells { IfOk result (λ f. TellsFlaw (T.state store.old).bytes end offset rule f) }
     ensures cause { CheckCause (T.state store.old).faults (T.state store.new).faults result }
     ensures fault { IfErr result IsFault }
+    ensures asks { (T.state store.new).asked ≤ (T.state store.old).asked + 9 }
     ensures keeps { StoreStays (T.state store.old) (T.state store.new) }
 {
-    if offset > end || end - offset < 9 {
-        return Ok(failed_rule(end, offset, rule));
+    match read_head(store, end, offset) {
+        Ok(()) => return Ok(failed_rule(end, offset, rule)),
+        Err(why) => return Err(why),
     }
-    let mut head = [0; 9];
-    match store.read_at(offset, &mut head) {
-        Ok(()) => {
-            let _len = length_in(&head);
-            return Ok(failed_rule(end, offset, rule));
-        }
-        Err(Failed) => {
-            return Err(CheckRefused::Fault {
-                faults: store.faults(),
-            });
-        }
+}
+
+/// The same of a file of that length that doesn't end with the magic.
+pub(crate) fn tell_cut<T: Store>(
+    store: &mut T,
+    len: u64,
+    offset: u64,
+    rule: u8,
+) -> Result<FailedRule, CheckRefused>
+    requires { len ≤ (T.state store.old).known }
+    ensures tells { IfOk result (λ f. TellsCut (T.state store.old).bytes len offset rule f) }
+    ensures cause { CheckCause (T.state store.old).faults (T.state store.new).faults result }
+    ensures fault { IfErr result IsFault }
+    ensures asks { (T.state store.new).asked ≤ (T.state store.old).asked + 9 }
+    ensures keeps { StoreStays (T.state store.old) (T.state store.new) }
+{
+    match read_head(store, len, offset) {
+        Ok(()) => return Ok(cut_rule(len, offset, rule)),
+        Err(why) => return Err(why),
     }
 }

@@ -13,6 +13,8 @@ mod message_counts;
 mod reading;
 mod record_counts;
 mod refusals;
+mod store_front;
+mod unended;
 mod whole;
 
 pub use refusals::CheckRefused;

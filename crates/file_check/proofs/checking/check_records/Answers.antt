@@ -1,5 +1,6 @@
-use Rattle.std.proofs.Common.{sym, ◌∙◌}
+use Rattle.std.proofs.Common.{sym, ◌∙◌, arith}
 use Rattle.file_check.proofs.Refusing.{front_is}
+use Rattle.file_check.proofs.Fronted.{told_cause}
 use Rattle.file_check.proofs.checking.check_records.Goals as goal
 
 pub returns-in-Ok-clause-tells : goal.returns-in-Ok-clause-tells
@@ -7,15 +8,21 @@ returns-in-Ok-clause-tells g c = λ file told ended.
     let old = g.T.Store.state c.args.store.now in
     let reads = c.in-Ok.ensures.reads in
     let keeps = c.in-Ok.ensures.keeps in
-    c.judge_behind.ensures.tells file (keeps.bytes ∙ told) ended (front_is old reads.0 file c.args.end c.in-Ok.section told reads.2)
+    c.judge_behind.ensures.tells file (keeps.bytes ∙ told) ended (front_is old reads.0 file c.args.end c.in-Ok.section told reads.1)
 
 pub returns-in-Err-clause-tells : goal.returns-in-Err-clause-tells
 returns-in-Err-clause-tells g c = λ file told ended.
     let reads = c.in-Err.ensures.reads in
     let keeps = c.in-Err.ensures.keeps in
-    c.tell_section.ensures.tells (g.T.Store.state c.args.store.now) reads.0 (sym keeps.bytes) reads.2 file (keeps.bytes ∙ told) ended
+    c.tell_section.ensures.tells (g.T.Store.state c.args.store.now) reads.0 (sym keeps.bytes) reads.1 file (keeps.bytes ∙ told) ended
 
 pub returns-in-Err-clause-cause : goal.returns-in-Err-clause-cause
-returns-in-Err-clause-cause g c =
-    let reads = c.in-Err.ensures.reads in
-    c.tell_section.ensures.cause (g.T.Store.state c.args.store.now) reads.0 reads.1 reads.2
+returns-in-Err-clause-cause g c = told_cause _ _ _ c.in-Err.why c.tell_section.result c.in-Err.ensures.cause c.tell_section.ensures.cause
+
+pub returns-in-Ok-clause-asks : goal.returns-in-Ok-clause-asks
+returns-in-Ok-clause-asks g c = λ file told long.
+    let front = c.in-Ok.ensures.asks file told long in
+    omega (arith, front.0, front.1, c.judge_behind.ensures.asks)
+
+pub returns-in-Err-clause-asks : goal.returns-in-Err-clause-asks
+returns-in-Err-clause-asks g c = λ file told long. omega (arith, c.in-Err.ensures.asks, c.tell_section.ensures.asks)

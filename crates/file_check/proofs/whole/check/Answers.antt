@@ -1,27 +1,70 @@
-use Rattle.std.proofs.Common.{ℕ, subst, sym, ◌∙◌, arith, rules}
+-- What the first magic, the last one and the records between them say; and what was asked for.
+use Rattle.std.proofs.Common.{ℕ, subst, sym, ◌∙◌, arith}
 use Rattle.std.proofs.lemmas.Bool.{both_ways}
-use Rattle.mcap_model.specs.Valid.{Flaw}
-use Rattle.file_check.proofs.Refusing.{too_short, unended}
+use Rattle.mcap_model.specs.Valid.{Flaw, flaw_1}
+use Rattle.file_check.specs.Checking.{CheckCause}
+use Rattle.file_check.proofs.Refusing.{too_short}
 use Rattle.file_check.proofs.whole.check.Goals as goal
-
-pub returns-then-len-lt16-clause-checks : goal.returns-then-len-lt16-clause-checks
-returns-then-len-lt16-clause-checks g c = λ file told. subst (λ (n : ℕ). Flaw file 2 n) (sym c.saturating_sub-offset.ensures) (too_short file c.in-Ok.len (c.in-Ok.ensures.tells file told) c.if-len-lt16.true)
 
 pub returns-in-Ok-false-clause-checks : goal.returns-in-Ok-false-clause-checks
 returns-in-Ok-false-clause-checks g c = λ file told.
     let measured = c.in-Ok.ensures in
-    let size = measured.tells file told in
-    let is = c.in-Ok-false.ensures.tells file (measured.bytes ∙ told) (sym size) in
-    unended file c.in-Ok.len size (λ ends. both_ways c.in-Ok-false.field-0 c.in-Ok-false.field-0-test (is.1 ends))
-
-pub returns-clause-cause : goal.returns-clause-cause
-returns-clause-cause g c = search rules
-
-pub returns-clause-leaves : goal.returns-clause-leaves
-returns-clause-leaves g c = record {
-  bytes = c.check_records.ensures.keeps.bytes ∙ c.in-Ok-true.ensures.keeps.bytes ∙ c.in-Ok.ensures.bytes;
-  known = omega (arith, c.check_records.ensures.keeps.known, c.in-Ok-true.ensures.keeps.known, c.in-Ok.ensures.known);
-}
+    let is = c.in-Ok-false.ensures.tells file (measured.bytes ∙ told) (sym (measured.tells file told)) in
+    flaw_1 (λ v1. both_ways c.in-Ok-false.field-0 c.in-Ok-false.field-0-test (is.1 v1))
 
 pub returns-in-Ok-false-clause-cause : goal.returns-in-Ok-false-clause-cause
 returns-in-Ok-false-clause-cause g c = c.in-Ok-false.ensures.cause ∙ c.in-Ok.ensures.cause.still
+
+pub returns-then-len-lt16-clause-checks : goal.returns-then-len-lt16-clause-checks
+returns-then-len-lt16-clause-checks g c = λ file told. subst (λ (n : ℕ). Flaw file 2 n) (sym c.saturating_sub-offset.ensures) (too_short file c.in-Ok.len (c.in-Ok.ensures.tells file told) c.if-len-lt16.true)
+
+pub returns-then-len-lt16-clause-cause : goal.returns-then-len-lt16-clause-cause
+returns-then-len-lt16-clause-cause g c = c.in-Ok-true.ensures.cause ∙ c.in-Ok.ensures.cause.still
+
+pub returns-in-Ok-true-ends_with_magic-clause-cause : goal.returns-in-Ok-true-ends_with_magic-clause-cause
+returns-in-Ok-true-ends_with_magic-clause-cause g c =
+    subst (λ (n : ℕ). CheckCause n (g.T.Store.state c.check_records.new.store).faults c.check_records.result) (c.in-Ok-true-ends_with_magic.ensures.cause ∙ c.in-Ok-true.ensures.cause ∙ c.in-Ok.ensures.cause.still) c.check_records.ensures.cause
+
+pub returns-in-Ok-true-ends_with_magic-clause-asks : goal.returns-in-Ok-true-ends_with_magic-clause-asks
+returns-in-Ok-true-ends_with_magic-clause-asks g c = λ file told.
+    let measured = c.in-Ok.ensures in
+    let first = c.in-Ok-true.ensures in
+    let last = c.in-Ok-true-ends_with_magic.ensures in
+    let size = measured.tells file told in
+    let front = c.check_records.ensures.asks file (last.keeps.bytes ∙ first.keeps.bytes ∙ measured.bytes ∙ told) (omega (arith, size)) in
+    omega (arith, front, last.asks, first.asks, measured.asked, size, c.if-len-lt16.false)
+
+pub returns-in-Ok-true-ends_with_magic-clause-leaves : goal.returns-in-Ok-true-ends_with_magic-clause-leaves
+returns-in-Ok-true-ends_with_magic-clause-leaves g c = record {
+  bytes = c.check_records.ensures.keeps.bytes ∙ c.in-Ok-true-ends_with_magic.ensures.keeps.bytes ∙ c.in-Ok-true.ensures.keeps.bytes ∙ c.in-Ok.ensures.bytes;
+  known = omega (arith, c.check_records.ensures.keeps.known, c.in-Ok-true-ends_with_magic.ensures.keeps.known, c.in-Ok-true.ensures.keeps.known, c.in-Ok.ensures.known);
+}
+
+pub returns-in-Ok-false-ends_with_magic-clause-checks : goal.returns-in-Ok-false-ends_with_magic-clause-checks
+returns-in-Ok-false-ends_with_magic-clause-checks g c = λ file told.
+    let measured = c.in-Ok.ensures in
+    let first = c.in-Ok-true.ensures in
+    let last = c.in-Ok-false-ends_with_magic.ensures in
+    let size = measured.tells file told in
+    let is = last.tells file (first.keeps.bytes ∙ measured.bytes ∙ told) (sym size) in
+    c.check_unended.ensures.tells file (last.keeps.bytes ∙ first.keeps.bytes ∙ measured.bytes ∙ told)
+    (record { size = sym size; none = λ ends. both_ways c.in-Ok-false-ends_with_magic.field-0 c.in-Ok-false-ends_with_magic.field-0-test (is.1 ends) })
+
+pub returns-in-Ok-false-ends_with_magic-clause-cause : goal.returns-in-Ok-false-ends_with_magic-clause-cause
+returns-in-Ok-false-ends_with_magic-clause-cause g c =
+    subst (λ (n : ℕ). CheckCause n (g.T.Store.state c.check_unended.new.store).faults c.check_unended.result) (c.in-Ok-false-ends_with_magic.ensures.cause ∙ c.in-Ok-true.ensures.cause ∙ c.in-Ok.ensures.cause.still) c.check_unended.ensures.cause
+
+pub returns-in-Ok-false-ends_with_magic-clause-asks : goal.returns-in-Ok-false-ends_with_magic-clause-asks
+returns-in-Ok-false-ends_with_magic-clause-asks g c = λ file told.
+    let measured = c.in-Ok.ensures in
+    let first = c.in-Ok-true.ensures in
+    let last = c.in-Ok-false-ends_with_magic.ensures in
+    let size = measured.tells file told in
+    let front = c.check_unended.ensures.asks file (last.keeps.bytes ∙ first.keeps.bytes ∙ measured.bytes ∙ told) (omega (arith, size)) in
+    omega (arith, front, last.asks, first.asks, measured.asked, size)
+
+pub returns-in-Ok-false-ends_with_magic-clause-leaves : goal.returns-in-Ok-false-ends_with_magic-clause-leaves
+returns-in-Ok-false-ends_with_magic-clause-leaves g c = record {
+  bytes = c.check_unended.ensures.keeps.bytes ∙ c.in-Ok-false-ends_with_magic.ensures.keeps.bytes ∙ c.in-Ok-true.ensures.keeps.bytes ∙ c.in-Ok.ensures.bytes;
+  known = omega (arith, c.check_unended.ensures.keeps.known, c.in-Ok-false-ends_with_magic.ensures.keeps.known, c.in-Ok-true.ensures.keeps.known, c.in-Ok.ensures.known);
+}

@@ -1,0 +1,25 @@
+use Rattle.std.proofs.Common.{ℕ, List, Option, sym, subst}
+use Rattle.mcap_model.specs.Kept.{grammar}
+use Rattle.mcap_scan.specs.declared.answers.ScanRefused.{ScanRefused}
+use Rattle.mcap_scan.specs.Scanning.{RefusalStands}
+use Rattle.file_check.specs.Checking.{IsSo, front_of, TellsCut}
+use Rattle.file_check.proofs.Refusing.{halted_at, cut_told, lacks_last, fault_unchecked}
+use Rattle.file_check.proofs.unended.tell_scan.Goals as goal
+
+pub returns-in-Ok-clause-tells : goal.returns-in-Ok-clause-tells
+returns-in-Ok-clause-tells g c = λ old now same reads file told ended.
+    let len = c.args.len in
+    let offset = c.in-Grammar.offset in
+    let rule = c.in-Grammar.rule in
+    let stands = subst (λ (w : ScanRefused). RefusalStands w (front_of old len) now reads.0) c.in-Grammar.is reads.1 in
+    let halts = halted_at old now (g.T.Store.state c.args.store.now).bytes file len reads.0 (grammar offset rule) same told stands in
+    cut_told file len offset rule reads.0 c.in-Ok.failed c.requires.fits ended halts (subst (λ (t : Option (List ℕ)). TellsCut t len offset rule c.in-Ok.failed) told c.in-Ok.ensures.tells)
+
+pub returns-in-Err-clause-tells : goal.returns-in-Err-clause-tells
+returns-in-Err-clause-tells g c = λ old now same reads file told ended. fault_unchecked file c.in-Err.why c.in-Err.ensures.fault
+
+pub returns-in-Compressed-clause-tells : goal.returns-in-Compressed-clause-tells
+returns-in-Compressed-clause-tells g c = λ old now same reads file told ended. subst (IsSo file) (sym c.lacks_end-packed.ensures) (lacks_last file c.args.len ended)
+
+pub returns-in-Limit-clause-tells : goal.returns-in-Limit-clause-tells
+returns-in-Limit-clause-tells g c = λ old now same reads file told ended. subst (IsSo file) (sym c.lacks_end-long.ensures) (lacks_last file c.args.len ended)

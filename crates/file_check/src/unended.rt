@@ -1,0 +1,104 @@
+//! The check of a file that doesn't end with the magic: where its data ends is told, if a reading halts there.
+ghost use Rattle.std.specs.Prelude.{◌≡◌, ◌≤◌, ◌<◌, ◌+◌, ◌-◌, ◌^◌};
+ghost use Rattle.mcap_io.specs.Stores.{StoreStays};
+ghost use Rattle.file_check.specs.declared.reading.SectionRefused.TheVariants as sections;
+ghost use Rattle.mcap_model.specs.declared.checked.Verdict.TheVariants as verdicts;
+ghost use Rattle.file_check.specs.Checking.{CheckCause, AsksFront, RefusedCause, TellsCutSection, TellsUnended};
+
+use crate::checking::read_front;
+use crate::ends::tell_cut;
+use crate::flaws::magic_lacks;
+use crate::reading::SectionRefused;
+use crate::refusals::CheckRefused;
+use mcap_io::Store;
+use mcap_model::Verdict;
+use mcap_scan::ScanRefused;
+use std::alloc::Global;
+
+// The last magic isn't there.
+fn lacks_end(len: u64) -> Verdict
+    ensures { result ≡ verdicts.Flawed 2 (len - 8) }
+{
+    let lacks = magic_lacks(len);
+    Verdict::Flawed {
+        rule: lacks.rule,
+        offset: lacks.offset,
+    }
+}
+
+// What is told of such a file whose records weren't all read.
+fn tell_scan<T: Store>(store: &mut T, len: u64, why: ScanRefused) -> Result<Verdict, CheckRefused>
+    requires known { len ≤ (T.state store.old).known }
+    requires fits { len < 2 ^ 64 }
+    ensures tells { TellsCutSection (T.state store.old).bytes len (sections.Scan why) result }
+    ensures cause { RefusedCause (T.state store.old).faults (T.state store.new).faults (sections.Scan why) result }
+    ensures asks { (T.state store.new).asked ≤ (T.state store.old).asked + 9 }
+    ensures keeps { StoreStays (T.state store.old) (T.state store.new) }
+{
+    match why {
+        ScanRefused::Fault { faults: _ } => {
+            return Err(CheckRefused::Fault {
+                faults: store.faults(),
+            });
+        }
+        ScanRefused::Grammar { offset, rule } => match tell_cut(store, len, offset, rule) {
+            Ok(failed) => {
+                return Ok(Verdict::Flawed {
+                    rule: failed.rule,
+                    offset: failed.offset,
+                });
+            }
+            Err(why) => return Err(why),
+        },
+        ScanRefused::Compressed { offset: _, name: _ } => {
+            let packed = lacks_end(len);
+            return Ok(packed);
+        }
+        ScanRefused::Limit { offset: _ } => {
+            let long = lacks_end(len);
+            return Ok(long);
+        }
+        ScanRefused::Memory => return Err(CheckRefused::Memory),
+    }
+}
+
+// What is told of such a file whose data section was refused.
+fn tell_section<T: Store>(
+    store: &mut T,
+    len: u64,
+    why: SectionRefused,
+) -> Result<Verdict, CheckRefused>
+    requires known { len ≤ (T.state store.old).known }
+    requires fits { len < 2 ^ 64 }
+    ensures tells { TellsCutSection (T.state store.old).bytes len why result }
+    ensures cause { RefusedCause (T.state store.old).faults (T.state store.new).faults why result }
+    ensures asks { (T.state store.new).asked ≤ (T.state store.old).asked + 9 }
+    ensures keeps { StoreStays (T.state store.old) (T.state store.new) }
+{
+    match why {
+        SectionRefused::Scan { why } => return tell_scan(store, len, why),
+        SectionRefused::Index { offset } => return Ok(Verdict::Flawed { rule: 9, offset }),
+    }
+}
+
+/// Checks a store of that length that doesn't end with the magic.
+pub(crate) fn check_unended<T: Store>(
+    alloc: Global,
+    store: &mut T,
+    len: u64,
+) -> Result<Verdict, CheckRefused>
+    requires known { len ≤ (T.state store.old).known }
+    requires fits { len < 2 ^ 64 }
+    ensures tells { TellsUnended (T.state store.old).bytes len result }
+    ensures cause { CheckCause (T.state store.old).faults (T.state store.new).faults result }
+    ensures asks { AsksFront (T.state store.old) len (T.state store.new) }
+    ensures keeps { StoreStays (T.state store.old) (T.state store.new) }
+{
+    match read_front(alloc, store, len) {
+        Ok(_) => {
+            let behind = lacks_end(len);
+            return Ok(behind);
+        }
+        Err(why) => return tell_section(store, len, why),
+    }
+}
