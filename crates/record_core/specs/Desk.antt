@@ -118,12 +118,12 @@ abbrev pub Published : DeskView → ℕ → MessageFields → Result ℕ Publish
 Published d channel m (Ok place) after = (publish_refusal d channel (length m.payload) ≡ None) × (place ≡ accepted d) × (after ≡ added d (message_of channel m ∷ []))
 Published d channel m (Err refusal) after = (publish_refusal d channel (length m.payload) ≡ Some refusal) × (after ≡ d)
 
--- The same of a declaration, which answers the channel's id and the places of the records that are added. Memory for ids may
--- lack, only where there is no other reason, and then too nothing changes.
+-- The same of a declaration, which answers the channel's id and the places of the records that are added. Memory for the ids
+-- of a new content may lack, only where there is no other reason, and then too nothing changes.
 abbrev pub DeclaredBy : DeskView → ChannelDef → Result Declared DeclareRefused → DeskView → Type 0
 DeclaredBy d c (Ok given) after = (declare_refusal d c ≡ None) × (given.channel ≡ channel_id d.ids c) × (given.first ≡ accepted d)
     × (given.count ≡ length (new_records d.ids c)) × (after ≡ added d (new_records d.ids c))
-DeclaredBy d c (Err declaring.Memory) after = (declare_refusal d c ≡ None) × (after ≡ d)
+DeclaredBy d c (Err declaring.Memory) after = (declare_refusal d c ≡ None) × (channel_place d.ids c ≡ None) × (after ≡ d)
 DeclaredBy d c (Err refusal) after = (declare_refusal d c ≡ Some refusal) × (after ≡ d)
 
 -- the end, if one stands

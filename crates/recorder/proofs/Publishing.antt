@@ -395,7 +395,7 @@ declared old new c (Err declaring.Memory) last few is steps looked s before alon
     let found = found_of old.desk in (
       s,
       with_found before found,
-      refused old new s before before.fulls before.lacks before.reasons alone is.1 looked (same_shown old s before alone),
+      refused old new s before before.fulls before.lacks before.reasons alone is.2 looked (same_shown old s before alone),
       goes_on_same s,
       (found, narrow old.desk c None is.0 (λ len e. cc), finds old s before alone, ap first_of why.0, refl),
     )

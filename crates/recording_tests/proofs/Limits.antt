@@ -15,5 +15,5 @@ published_limit d channel m (Err refusal) after is = ap (λ (x : DeskView). x.li
 
 pub declared_limit : (d : DeskView) (c : ChannelDef) (result : Result Declared DeclareRefused) (after : DeskView) → DeclaredBy d c result after → after.limit ≡ d.limit
 declared_limit d c (Ok given) after is = ap (λ (x : DeskView). x.limit) is.4
-declared_limit d c (Err declaring.Memory) after is = ap (λ (x : DeskView). x.limit) is.1
+declared_limit d c (Err declaring.Memory) after is = ap (λ (x : DeskView). x.limit) is.2
 declared_limit d c (Err refusal) after is = ap (λ (x : DeskView). x.limit) is.1
