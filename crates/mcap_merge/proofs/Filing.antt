@@ -41,8 +41,9 @@ pub filed : {L : Type 0} (seen : L → LiveState) (options : FileOptions) (opene
     → WritesFile (λ s t e r. AddsTo seen s t e r) (λ s t r. EndsWithin seen s t r) (λ s. phase_of s) old new extras history result
     → FileStands options extras history opened (seen new.store) result
 filed seen options opened old new extras history (Ok it) begun (all, adds, (written, ends, within)) =
-    let ended = (ends options extras opened history (adds options [] opened [] begun)).0 in
-    (ended.0, holds_same written.blocks written.bytes (length (blocks_in (pieces_of options.chunk history))) (length (file_of options extras history)) ended.1 ended.2 within)
+    let whole = ends options extras opened history (adds options [] opened [] begun) in
+    let ended = whole.0 in
+    (ended.0, holds_same written.blocks written.bytes (length (blocks_in (pieces_of options.chunk history))) (length (file_of options extras history)) ended.1 ended.2 within, whole.2)
 filed seen options opened old new extras history (Err stop) begun (inl (adds, stopped)) =
     let stands = (adds options [] opened [] begun).0 in
     let at = stands.stopped in
@@ -64,7 +65,7 @@ pub lacks_adds : {L : Type 0} (seen : L → LiveState) (s t : Scribe L) (stop : 
 lacks_adds seen s t stop extras records gathers is = λ options others opened history writes.
     let one : Gathers seen s t (record { op = 0; content = [] }) = gathers (record { op = 0; content = [] }) in
     let there = one options others opened history writes in
-    adds_all seen t stop extras records is options others opened history (there.0, λ going. absurd (stopped_going stop (sym is ∙ going)))
+    adds_all seen t stop extras records is options others opened history (there.0, λ going. absurd (stopped_going stop (sym is ∙ going)), λ going. absurd (stopped_going stop (sym is ∙ going)))
 
 -- ---- a merge
 
@@ -103,6 +104,7 @@ merges_into stores news g opened now chunk m options result gathered still is wr
       within = stood.1;
       inputs_still = still;
       still = subst (Cause opened.faults now.faults) ok cause;
+      through = stood.2;
     }
 
 pub merge_stops : (stores : List StoreState) (g : Gathered) (opened now : LiveState) (chunk : ℕ) (why : MergeRefused) (options : FileOptions) (result : Result Unit Stop) → IsGathered stores g → options ≡ merged_options g.order.profile chunk → Written_by options g opened now result

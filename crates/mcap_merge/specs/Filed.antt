@@ -36,8 +36,8 @@ pub record MergeIs (stores : List StoreState) (profile : List ℕ) (extras : Lis
   pub merge : MergeOf (tops_of reads) profile extras history
   pub back : Each IsReadBack history
 
--- the file of the merge stands behind what the store held, within the limits on files, and the counts are those of its
--- records; no store failed
+-- the file of the merge stands behind what the store held, within the limits on files, and all of it is with the system; the
+-- counts are those of its records; no store failed
 pub record MergesInto (stores news : List StoreState) (opened now : LiveState) (chunk : ℕ) (m : Merged) : Type 0 where
   pub profile : List ℕ
   pub extras : List Top
@@ -49,10 +49,13 @@ pub record MergesInto (stores news : List StoreState) (opened now : LiveState) (
   pub within : Holds (length (blocks_in (pieces_of (Some chunk) history))) (length (file_of (merged_options profile chunk) extras history))
   pub inputs_still : AllZip CountStands stores news
   pub still : now.faults ≡ opened.faults
+  pub through : now.waiting ≡ 0
 
--- The file stands behind what the store held, within the limits on files, or the writer stopped at a piece of it.
+-- The file stands behind what the store held, within the limits on files, and is with the system; or the writer stopped at a
+-- piece of it.
 abbrev pub FileStands : FileOptions → List Top → List Rec → LiveState → LiveState → Result Unit Stop → Type 0
 FileStands options extras history opened now (Ok it) = Adds opened.held now.held (file_of options extras history) × Holds (length (blocks_in (pieces_of options.chunk history))) (length (file_of options extras history))
+    × (now.waiting ≡ 0)
 FileStands options extras history opened now (Err stop) = (blocks : ℕ) × (bytes : ℕ) × StopsAt options extras history opened.held now.held stop blocks bytes
 
 -- why the writer stopped, as a merge answers it

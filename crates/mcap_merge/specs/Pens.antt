@@ -44,4 +44,5 @@ adds_all seen s stop extras records is = λ options others opened history writes
         unended = was.unended;
       },
       λ going. absurd (stopped_going stop (sym is ∙ going)),
+      λ going. absurd (stopped_going stop (sym is ∙ going)),
     )
