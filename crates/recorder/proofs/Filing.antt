@@ -46,6 +46,7 @@ module _ {L : Type 0} (state : L → LiveState) (options : RecordOptions) (sourc
         wrote = ended.0;
         within = all.within;
         begun = inl ended.1;
+        through = ended.2;
         cause = subst (λ (n : ℕ). Cause {X = Unit {0}} n (state (store_of last)).faults (answer_of w.end)) still written.cause;
       } in
       subst (Recorded options before (sides now (state store))) (same_report is)
@@ -65,6 +66,7 @@ module _ {L : Type 0} (state : L → LiveState) (options : RecordOptions) (sourc
         wrote = stops;
         within = record { few = omega arith; small = omega arith };
         begun = inr (refl, refl);
+        through = tt;
         cause = cause;
       } in
       let all : IsAll [] none = record {

@@ -1,5 +1,5 @@
 -- What a recording of one feed did to its source and to its store.
-use Rattle.std.specs.Prelude.{◌≡◌, ◌⊎◌, ◌≤◌, ℕ, List, [], ◌∷◌, length, Result, Ok, Err}
+use Rattle.std.specs.Prelude.{◌≡◌, ◌⊎◌, ◌≤◌, ℕ, List, [], ◌∷◌, length, Result, Ok, Err, OnOk}
 use Rattle.rec_data.specs.declared.owned.Rec.{Rec}
 use Rattle.mcap_io.specs.Outside.{SourceState, LiveState}
 use Rattle.mcap_model.specs.declared.ends.End.{End}
@@ -40,13 +40,14 @@ answer_of (ends.Stopped stop) = Err stop
 abbrev pub IsBegun : FileOptions → List Rec → ℕ → Type 0
 IsBegun options history bytes = (length (front options.profile) ≤ bytes) ⊎ ((bytes ≡ 0) × (history ≡ []))
 
--- What the writer's report says of its store. Where it closed, the file of the history stands behind what the store held;
--- else the writer stopped at a piece of that file.
+-- What the writer's report says of its store. Where it closed, the file of the history stands behind what the store held, and
+-- all of it is with the system; else the writer stopped at a piece of that file.
 pub record WriterRecorded (options : FileOptions) (before now : LiveState) (history : List Rec) (w : WriterReport) : Type 0 where
   pub records : w.records ≡ length history
   pub wrote : Ends options [] before.held now.held history w.blocks w.bytes (answer_of w.end)
   pub within : Holds w.blocks w.bytes
   pub begun : IsBegun options history w.bytes
+  pub through : OnOk (answer_of w.end) (now.waiting ≡ 0)
   -- the store's count rises by one where the writer stopped at a fault, which carries it, and stands still otherwise
   pub cause : Cause before.faults now.faults (answer_of w.end)
 
