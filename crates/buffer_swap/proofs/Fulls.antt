@@ -33,4 +33,4 @@ declared_unfull before after c (Err (declaring.TooManyRecords count)) is unfull 
 declared_unfull before after c (Err (declaring.Full h)) is unfull = absurd (unfull h refl)
 declared_unfull before after c (Err declaring.TooManySchemas) is unfull = fulls_there is.7
 declared_unfull before after c (Err declaring.TooManyChannels) is unfull = fulls_there is.7
-declared_unfull before after c (Err declaring.Memory) is unfull = fulls_there is.4
+declared_unfull before after c (Err declaring.Memory) is unfull = fulls_there is.7

@@ -22,7 +22,7 @@ use Rattle.buffer_swap.specs.Plays.{Sat, Stood, Took, fresh}
 use Rattle.buffer_swap.specs.Calls.{counts_message, pass_published, counts_declared, pass_declared, PublishedInTurn, DeclaredInTurn, reasoned, Publishes, Declares, TriesBy}
 use Rattle.buffer_swap.specs.declared.view.View.{View}
 use Rattle.buffer_swap.proofs.Desks.{parts, known_id, unknown_id}
-use Rattle.buffer_swap.proofs.Reasons.{PublishReason, HasRecords, publish_reason, declare_reason}
+use Rattle.buffer_swap.proofs.Reasons.{PublishReason, HasRecords, HasAll, MayHave, publish_reason, declare_reason}
 use Rattle.buffer_swap.proofs.Numbers.{are_added, lacking_schemas, stands_nowhere, gets_id}
 
 -- how the desk was found, beside what the pass had
@@ -153,7 +153,8 @@ declares d after missed p post c (Err declaring.TooManyChannels) stood small few
     (reasons ++ for_id declaring.TooManyChannels ∷ [], (found_of d, small, finds d p reasons stood, ap first_of why.0, unnamed d p reasons c stood why.1, placed d p reasons stood why.4, omega (arith, at_most, why.2), refl))
 declares d after missed p post c (Err declaring.Memory) stood small few is reasons =
     let why = declare_reason d c None is.0 in
-    (reasons, (found_of d, small, finds d p reasons stood, ap first_of why.0, refl))
+    let has : HasAll d c = subst (MayHave d c) is.1 why.1 in
+    (reasons, (found_of d, small, finds d p reasons stood, ap first_of why.0, unnamed d p reasons c stood is.1, placed d p reasons stood has.place, has.channels, refl))
 
 pub declared_answer : (m n behind : Sat) (c : ChannelDef) (result : Result Declared DeclareRefused) → Took m n → m.0.post.seated ≡ true → declared_size c ≤ 1048576
     → DeclaredInTurn n c result behind → Declares m.0.pass behind.0.pass c result

@@ -175,7 +175,7 @@ declared_earlier p after found reasons c (Err (declaring.TooManyRecords count)) 
 declared_earlier p after found reasons c (Err (declaring.Full h)) earlier short is = (is.0, is.1, found_earlier p found reasons is.0 earlier is.2, is.3, is.4, is.5, is.6, is.7, is.8)
 declared_earlier p after found reasons c (Err declaring.TooManySchemas) earlier short is = (is.0, is.1, found_earlier p found reasons is.0 earlier is.2, is.3, is.4, place_earlier p found reasons is.0 is.5, is.6, is.7)
 declared_earlier p after found reasons c (Err declaring.TooManyChannels) earlier short is = (is.0, is.1, found_earlier p found reasons is.0 earlier is.2, is.3, is.4, place_earlier p found reasons is.0 is.5, is.6, is.7)
-declared_earlier p after found reasons c (Err declaring.Memory) earlier short is = (is.0, is.1, found_earlier p found reasons is.0 earlier is.2, is.3, is.4)
+declared_earlier p after found reasons c (Err declaring.Memory) earlier short is = (is.0, is.1, found_earlier p found reasons is.0 earlier is.2, is.3, is.4, place_earlier p found reasons is.0 is.5, is.6, is.7)
 
 narrow_enough : (before after : PassState) (c : ChannelDef) (result : Result Declared DeclareRefused) → declared_size c ≤ 1048576 → DeclaredInto before after c result → NotTooWide result
 narrow_enough before after c result small is len there =

@@ -224,7 +224,7 @@ declare_refused records handled before after d declaring.TooManySchemas is (foun
 declare_refused records handled before after d declaring.TooManyChannels is (found, narrow, finds, end, unnamed, place, many, same) =
     subst (λ (p : PassState). IsRefusal records handled before p causes.TooManyChannels) (sym same)
     (lacked records handled before found d declaring.TooManyChannels causes.TooManyChannels finds end refl refl refl is (d, is, has_last before.lacks (d, declaring.TooManyChannels) []))
-declare_refused records handled before after d declaring.Memory is (found, narrow, finds, end, same) =
+declare_refused records handled before after d declaring.Memory is (found, narrow, finds, end, unnamed, place, left, same) =
     subst (λ (p : PassState). IsRefusal records handled before p causes.Memory) (sym same) (lacked_memory records handled before found finds end)
 
 -- the cause is that a record is too large only where the refusal is
@@ -309,4 +309,4 @@ declared_limit before after d (Err (declaring.TooManyRecords count)) call = ap (
 declared_limit before after d (Err (declaring.Full held)) call = ap (λ (p : PassState). p.limit) call.8
 declared_limit before after d (Err declaring.TooManySchemas) call = ap (λ (p : PassState). p.limit) call.7
 declared_limit before after d (Err declaring.TooManyChannels) call = ap (λ (p : PassState). p.limit) call.7
-declared_limit before after d (Err declaring.Memory) call = ap (λ (p : PassState). p.limit) call.4
+declared_limit before after d (Err declaring.Memory) call = ap (λ (p : PassState). p.limit) call.7

@@ -176,7 +176,8 @@ GetsId before found channel records = ((records ≡ []) × IsChannel found chann
 
 -- A channel got an id and its records their places, or the declaration was refused for the first reason that held of how the
 -- intake was found. Records that are too long are refused without a look at the intake. No other reason than an end refuses a
--- content for which the pass has an id; memory may lack only where there is no other reason.
+-- content for which the pass has an id; memory may lack only where none of the others is seen. Whether an id is needed for its
+-- schema isn't seen here, since another may have declared that.
 abbrev pub DeclaredInto : PassState → PassState → ChannelDef → Result Declared DeclareRefused → Type 0
 DeclaredInto before after d (Ok given) = (found : Found) × (records : List Rec) × IsNarrow d × Finds before found × (found.end ≡ None) × (given.first ≡ found.count)
     × (given.count ≡ length records) × AreAdded d given.channel records × GetsId before found given.channel records × (after ≡ with_declared before found d given.channel records)
@@ -193,4 +194,5 @@ DeclaredInto before after d (Err declaring.TooManySchemas) = (found : Found) × 
     × (found.schemas ≡ id_limit) × (after ≡ with_lack before found d declaring.TooManySchemas)
 DeclaredInto before after d (Err declaring.TooManyChannels) = (found : Found) × IsNarrow d × Finds before found × (found.end ≡ None) × IsUnnamed before d × HasPlace before found
     × (found.channels ≡ id_limit) × (after ≡ with_lack before found d declaring.TooManyChannels)
-DeclaredInto before after d (Err declaring.Memory) = (found : Found) × IsNarrow d × Finds before found × (found.end ≡ None) × (after ≡ with_found before found)
+DeclaredInto before after d (Err declaring.Memory) = (found : Found) × IsNarrow d × Finds before found × (found.end ≡ None) × IsUnnamed before d × HasPlace before found
+    × (found.channels < id_limit) × (after ≡ with_found before found)

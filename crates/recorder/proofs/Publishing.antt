@@ -33,7 +33,7 @@ use Rattle.recorder.specs.Lone.{FoundBefore, Showing, IsAlone, GoesOn, looked, l
 use Rattle.buffer_swap.proofs.Desks.{parts, full_there, found_there, known_id, unknown_id, published_state, declared_state}
 use Rattle.buffer_swap.proofs.Growing.{placed_at, placed_more, channel_stands_on, lacks_on, held_there_on, found_there_on}
 use Rattle.buffer_swap.specs.Shown.{Spares}
-use Rattle.buffer_swap.proofs.Reasons.{PublishReason, HasRecords, publish_reason, declare_reason, narrow}
+use Rattle.buffer_swap.proofs.Reasons.{PublishReason, HasRecords, HasAll, MayHave, publish_reason, declare_reason, narrow}
 use Rattle.buffer_swap.proofs.Numbers.{message_spares, declared_spares, declared_stands, declared_id, are_added, lacking_schemas, lacks_schema, lacks_channel, stands_nowhere, gets_id}
 
 -- ---- how the desk is found
@@ -392,10 +392,11 @@ declared old new c (Err declaring.TooManyChannels) last few is steps looked s be
     )
 declared old new c (Err declaring.Memory) last few is steps looked s before alone =
     let why = declare_reason old.desk c None is.0 in
+    let has : HasAll old.desk c = subst (MayHave old.desk c) is.1 why.1 in
     let found = found_of old.desk in (
       s,
       with_found before found,
       refused old new s before before.fulls before.lacks before.reasons alone is.2 looked (same_shown old s before alone),
       goes_on_same s,
-      (found, narrow old.desk c None is.0 (λ len e. cc), finds old s before alone, ap first_of why.0, refl),
+      (found, narrow old.desk c None is.0 (λ len e. cc), finds old s before alone, ap first_of why.0, unnamed old s before c alone is.1, placed old s before alone has.place, has.channels, refl),
     )

@@ -1,4 +1,5 @@
 use Rattle.std.proofs.Common.{◌∷◌, ◌++◌, [], false, refl, arith}
+use Rattle.mcap_model.proofs.Places.{at_none}
 use Rattle.feed_lane.specs.Pass.{for_size}
 use Rattle.feed_lane.specs.Tapes.{found_now}
 use Rattle.feed_lane.proofs.Tapes.{finds}
@@ -16,6 +17,9 @@ returns c = λ begun before (reasons, is). rw is (
     omega (arith, c.if-len-gt1048576.false, c.declared_size-len.ensures),
     finds [] [] reasons c.args.self.now.asked false false 0 0 (λ ended. ended),
     refl,
+    λ k pair at same. at_none k pair at,
+    record { few = omega arith; room = omega arith },
+    omega arith,
     refl,
   ),
 )
