@@ -18,6 +18,8 @@ mod lanes;
 #[cfg(test)]
 mod merges;
 #[cfg(test)]
+mod passes;
+#[cfg(test)]
 mod recoveries;
 #[cfg(test)]
 mod regions;
