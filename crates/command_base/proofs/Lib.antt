@@ -1,6 +1,9 @@
+pub mod About
+pub mod Asked
+pub mod Behind
 pub mod Blamed
 pub mod Counting
-pub mod Mapped
+pub mod Due
 pub mod OneFile
 pub mod Opened
 pub mod Taken

@@ -1,5 +1,6 @@
 -- What the calls of a command come to that reads one file and prints of it.
 use Rattle.std.proofs.Common.{◌≡◌, ◌⊎◌, ℕ, zero, suc, ◌^◌, ◌<◌, not, Bool, true, false, cond, ◌||◌, ◌==◌, if◌then◌else◌, List, [], ◌∷◌, ◌++◌, Some, None, Result, Err, refl, sym, ap, subst, inl, inr, ◌∙◌, arith}
+use Rattle.std.specs.Prelude.{◌↔◌}
 use Rattle.std.specs.Option.{option_map}
 use Rattle.std.proofs.lemmas.List.{append-nil}
 use Rattle.std.proofs.lemmas.Bool.{both_ways, ne_eqb, false_from_ne_true}
@@ -15,7 +16,7 @@ use Rattle.command_base.specs.declared.faults.Counts.{Counts}
 use Rattle.command_base.specs.declared.one_file.Faults.{Faults}
 use Rattle.command_base.specs.Printing.{TellsAll, Takes}
 use Rattle.command_base.specs.Texts.{Trouble, bad_words, fault, output_fault, grammar, compressed, limit, output_limit, not_indexed, flaw, no_memory, asked_status, status_of}
-use Rattle.command_base.specs.Ran.{Scene, counts_in, AnyRose, IsCaused, Blames, kept, refused, failed_so, source_faults, live_faults, named_when, troubles_of, Complains}
+use Rattle.command_base.specs.Ran.{Scene, counts_in, AnyRose, IsCaused, Blames, kept, refused, failed_so, source_faults, live_faults, named_when, failed_names, troubles_of, Complains}
 use Rattle.command_base.specs.OneFile.{Ending, was_read, halted, failing, lacked, text_of, is_lack, findings_of, ending_status, IsHalt, HaltsWell, files_of, NameRead, PrintsEnding, AskedRose, ShowsFaults, ReadsOne}
 use Rattle.command_base.proofs.Counting.{added_none, kept_adds, kept_well, still_where, blamed, not_risen}
 use Rattle.command_base.proofs.Opened.{tells_more, SameNames, leaves_same}
@@ -93,13 +94,10 @@ status_is file (halted trouble) well a b = halted_is file trouble (well trouble 
 status_is file failing well a b = each_two (IsStatus file failing) refl refl refl refl a b
 status_is file lacked well a b = each_two (IsStatus file lacked) refl refl refl refl a b
 
--- the status is 5, or that of what failed and of the ending
-answered : (file : List ℕ) (ending : Ending) (faults : Faults) (before now : SinkState) (answer : ℕ) → HaltsWell ending → Complains (one_troubles file ending faults.file faults.printing) before now answer
-    → (answer ≡ 5) ⊎ (answer ≡ number_of ending faults.file faults.printing)
-answered file ending faults before now answer well a = elim a.are [
-  | inl due ↦ inr (sym a.status_is ∙ ap status_of due ∙ status_is file ending well faults.file faults.printing)
-  | inr alone ↦ inl (sym a.status_is ∙ ap status_of alone)
-]
+-- the status is that of what failed and of the ending
+answered : (file : List ℕ) (ending : Ending) (blamed printing : Bool) (before now : SinkState) (answer : ℕ) → HaltsWell ending → Complains (one_troubles file ending blamed printing) before now answer
+    → answer ≡ number_of ending blamed printing
+answered file ending blamed printing before now answer well a = a.status_is ∙ status_is file ending well blamed printing
 
 own_other : (ending : Ending) (n : ℕ) → HaltsWell ending → own ending ≡ n → (n ≡ 2) ⊎ ((n ≡ 3) ⊎ (n ≡ 5)) → ⊥
 own_other (was_read text) n well e other = elim other [ inl two ↦ omega (arith, e, two) | inr (inl three) ↦ omega (arith, e, three) | inr (inr five) ↦ omega (arith, e, five) ]
@@ -117,6 +115,17 @@ number_three true some n other e = absurd (omega (arith, e))
 number_three false true n other e = refl
 number_three false false n other e = absurd (other e)
 
+number_five : (lacks some : Bool) (n : ℕ) → (n ≡ 5 → ⊥) → cond lacks 5 (cond some 3 n) ≡ 5 → lacks ≡ true
+number_five true some n other e = refl
+number_five false true n other e = absurd (omega (arith, e))
+number_five false false n other e = absurd (other e)
+
+lack_is : (ending : Ending) → is_lack ending ≡ true → ending ≡ lacked
+lack_is (was_read text) is = absurd cc
+lack_is (halted trouble) is = absurd cc
+lack_is failing is = absurd cc
+lack_is lacked is = refl
+
 three_or : (lacks some : Bool) (n answer : ℕ) → some ≡ true → answer ≡ cond lacks 5 (cond some 3 n) → (answer ≡ 3) ⊎ (answer ≡ 5)
 three_or true some n answer risen is = inr is
 three_or false true n answer risen is = inl is
@@ -125,14 +134,12 @@ three_or false false n answer risen is = absurd cc
 -- the status is not that of bad words
 pub one_not_two : (kind : ObjectKind) (file : List ℕ) (old new : Scene) (entries : List Opening) (ending : Ending) (answer : ℕ) → HaltsWell ending → ReadsOne kind file old new entries ending answer → answer ≡ 2 → ⊥
 one_not_two kind file old new entries ending answer well all two =
-    let due : troubles_of (findings_of ending) all.ran.failed all.ran.printing ≡ one_troubles file ending all.faults.file all.faults.printing =
-    ap (λ (l : List (List ℕ)). troubles_of (findings_of ending) l all.ran.printing) all.blame ∙ ap (one_troubles file ending all.faults.file) all.printing_is in
-    let told : Complains (one_troubles file ending all.faults.file all.faults.printing) old.err new.err answer =
+    let due : troubles_of (findings_of ending) all.ran.failed all.ran.printing ≡ one_troubles file ending all.blamed all.ran.printing =
+    ap (λ (l : List (List ℕ)). troubles_of (findings_of ending) l all.ran.printing) all.blame in
+    let told : Complains (one_troubles file ending all.blamed all.ran.printing) old.err new.err answer =
     subst (λ (l : List Trouble). Complains l old.err new.err answer) due all.ran.said in
-    elim (answered file ending all.faults old.err new.err answer well told) [
-      | inl five ↦ omega (arith, five, two)
-      | inr is ↦ number_not_two (is_lack ending) (all.faults.file || all.faults.printing) (own ending) (λ e. own_other ending 2 well e (inl refl)) (sym is ∙ two)
-    ]
+    let is = answered file ending all.blamed all.ran.printing old.err new.err answer well told in
+    number_not_two (is_lack ending) (all.blamed || all.ran.printing) (own ending) (λ e. own_other ending 2 well e (inl refl)) (sym is ∙ two)
 
 -- ---- endings
 
@@ -207,8 +214,8 @@ calm_status failing other = absurd (other refl)
 calm_status lacked other = refl
 
 module _ (kind : ObjectKind) (file : List ℕ) (old new : Scene) (entries : List Opening) (ending : Ending) (broken broke : Bool) (faults : Faults) (answer : ℕ) (parts : AreParts kind file old new entries ending broken broke faults answer) where
-  abbrev answer_is : (answer ≡ 5) ⊎ (answer ≡ number_of ending faults.file faults.printing)
-  answer_is = answered file ending faults old.err new.err answer parts.well parts.told
+  answer_is : answer ≡ number_of ending faults.file faults.printing
+  answer_is = answered file ending faults.file faults.printing old.err new.err answer parts.well parts.told
 
   rose : AskedRose (counts_in old) (counts_in new) → (answer ≡ 3) ⊎ (answer ≡ 5)
   rose risen =
@@ -217,10 +224,7 @@ module _ (kind : ObjectKind) (file : List ℕ) (old new : Scene) (entries : List
         | inr (inl inputs) ↦ inl (parts.shows.file_told (inr (inr inputs)))
         | inr (inr printing) ↦ inr (parts.shows.printing_told (inr printing))
       ]) in
-      elim answer_is [
-        | inl five ↦ inr five
-        | inr is ↦ three_or (is_lack ending) (faults.file || faults.printing) (own ending) answer some is
-      ]
+      three_or (is_lack ending) (faults.file || faults.printing) (own ending) answer some answer_is
 
   file_rose : faults.file ≡ true → Rose old.world.faults new.world.faults ⊎ Rose old.world.input_faults new.world.input_faults
   file_rose blamed_is = elim (parts.shows.file_cause blamed_is) [ inl is ↦ parts.name.cause is | inr risen ↦ risen ]
@@ -229,13 +233,16 @@ module _ (kind : ObjectKind) (file : List ℕ) (old new : Scene) (entries : List
   printing_rose blamed_is = elim (parts.shows.printing_cause blamed_is) [ inl is ↦ broke_rose old.out new.out ending broke parts.prints is | inr risen ↦ risen ]
 
   three : answer ≡ 3 → AskedRose (counts_in old) (counts_in new)
-  three is_three = elim answer_is [
-    | inl five ↦ absurd (omega (arith, five, is_three))
-    | inr is ↦ elim (which faults.file faults.printing (number_three (is_lack ending) (faults.file || faults.printing) (own ending) (λ e. own_other ending 3 parts.well e (inr (inl refl))) (sym is ∙ is_three))) [
-      | inl blamed_is ↦ elim (file_rose blamed_is) [ inl world ↦ inl world | inr inputs ↦ inr (inl inputs) ]
-      | inr blamed_is ↦ inr (inr (printing_rose blamed_is))
-    ]
+  three is_three = elim (which faults.file faults.printing (number_three (is_lack ending) (faults.file || faults.printing) (own ending) (λ e. own_other ending 3 parts.well e (inr (inl refl))) (sym answer_is ∙ is_three))) [
+    | inl blamed_is ↦ elim (file_rose blamed_is) [ inl world ↦ inl world | inr inputs ↦ inr (inl inputs) ]
+    | inr blamed_is ↦ inr (inr (printing_rose blamed_is))
   ]
+
+  five : (answer ≡ 5) ↔ (ending ≡ lacked)
+  five = (
+    λ is. lack_is ending (number_five (is_lack ending) (faults.file || faults.printing) (own ending) (λ e. own_other ending 5 parts.well e (inr (inr refl))) (sym answer_is ∙ is)),
+    λ is. answer_is ∙ ap (λ (e : Ending). number_of e faults.file faults.printing) is,
+  )
 
   -- where no count rose nothing failed
   file_calm : (AnyRose (counts_in old) (counts_in new) → ⊥) → faults.file ≡ false
@@ -248,35 +255,22 @@ module _ (kind : ObjectKind) (file : List ℕ) (old new : Scene) (entries : List
   unblamed : faults.file ≡ false → broken ≡ false
   unblamed well = false_from_ne_true broken (λ is. both_ways faults.file well (parts.shows.file_told (inl is)))
 
-  calm : (AnyRose (counts_in old) (counts_in new) → ⊥) → (broken ≡ false) × ((answer ≡ ending_status ending) ⊎ (answer ≡ 5))
+  -- and where nothing failed no name did
+  unnamed : broken ≡ false → failed_names entries ≡ []
+  unnamed well = parts.name.names_are ∙ ap (λ (b : Bool). named_when b file ++ []) well
+
+  calm : (AnyRose (counts_in old) (counts_in new) → ⊥) → (failed_names entries ≡ []) × (ending ≡ failing → ⊥) × (answer ≡ ending_status ending)
   calm quiet =
       let well = unblamed (file_calm quiet) in
-      let none : (faults.file || faults.printing) ≡ false = neither faults.file faults.printing (file_calm quiet) (printing_calm quiet) in (
-        well,
-        elim answer_is [
-          | inl five ↦ inr five
-          | inr is ↦ inl (is ∙ ap (λ (b : Bool). cond (is_lack ending) 5 (cond b 3 (own ending))) none ∙ calm_status ending (λ e. both_ways broken well (parts.sure e)))
-        ],
-      )
+      let unfailing : ending ≡ failing → ⊥ = λ e. both_ways broken well (parts.sure e) in
+      let none : (faults.file || faults.printing) ≡ false = neither faults.file faults.printing (file_calm quiet) (printing_calm quiet) in
+      (unnamed well, unfailing, answer_is ∙ ap (λ (b : Bool). cond (is_lack ending) 5 (cond b 3 (own ending))) none ∙ calm_status ending unfailing)
 
-  whole : answer ≡ 0 → (broken ≡ false) × ((text : List ℕ) × (ending ≡ was_read text) × TellsAll old.out new.out text)
+  whole : answer ≡ 0 → (failed_names entries ≡ []) × ((text : List ℕ) × (ending ≡ was_read text) × TellsAll old.out new.out text)
   whole zero_is =
-      let number : number_of ending faults.file faults.printing ≡ 0 = elim answer_is [
-        | inl five ↦ absurd (omega (arith, five, zero_is))
-        | inr is ↦ sym is ∙ zero_is
-      ] in
-      let all = all_read ending faults.file faults.printing parts.well number (λ well e. both_ways broken (unblamed well) (parts.sure e)) in
+      let all = all_read ending faults.file faults.printing parts.well (sym answer_is ∙ zero_is) (λ well e. both_ways broken (unblamed well) (parts.sure e)) in
       let well : broke ≡ false = false_from_ne_true broke (λ is. both_ways faults.printing all.3 (parts.shows.printing_told (inl is))) in
-      (unblamed all.2, (all.0, all.1, all_taken old.out new.out ending broke all.0 parts.prints all.1 well))
-
-  -- of a file that was read, where nothing failed, there is nothing to say
-  read : (text : List ℕ) → ending ≡ was_read text → (AnyRose (counts_in old) (counts_in new) → ⊥) → answer ≡ 0
-  read text is quiet =
-      let none : one_troubles file ending faults.file faults.printing ≡ [] =
-      ap (λ (e : Ending). one_troubles file e faults.file faults.printing) is
-      ∙ ap (λ (b : Bool). one_troubles file (was_read text) b faults.printing) (file_calm quiet)
-      ∙ ap (λ (b : Bool). one_troubles file (was_read text) false b) (printing_calm quiet) in
-      sym parts.told.status_is ∙ ap status_of (parts.told.calm none)
+      (unnamed (unblamed all.2), (all.0, all.1, all_taken old.out new.out ending broke all.0 parts.prints all.1 well))
 
   blames : Blames (files_of kind file) old.world new.world entries (named_when faults.file file ++ [])
   blames = record {
@@ -308,22 +302,16 @@ module _ (kind : ObjectKind) (file : List ℕ) (old new : Scene) (entries : List
       failed = named_when faults.file file ++ [];
       blames = blames;
       printing = faults.printing;
-      blames_output = record { caused = printing_rose; told = λ on risen. parts.shows.printing_told (inr risen) };
+      blames_output = (printing_rose, λ risen. parts.shows.printing_told (inr risen));
       said = parts.told;
     };
-    failed = broken;
-    names_are = parts.name.names_are;
-    sure = parts.sure;
-    broke = broke;
-    printed = parts.prints;
-    faults = faults;
-    shows = parts.shows;
+    blamed = faults.file;
     blame = refl;
-    printing_is = refl;
+    cause = (file_rose, λ risen. parts.shows.file_told (inr risen));
+    five = five;
     rose = rose;
     three = three;
     calm = calm;
-    read = read;
     whole = whole;
   }
 

@@ -1,4 +1,5 @@
 pub mod OneFile
 pub mod Printing
+pub mod Putting
 pub mod Ran
 pub mod Texts

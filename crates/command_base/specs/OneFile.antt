@@ -1,6 +1,6 @@
 -- What a command does that reads one file and prints of it: how the reading ended, what is printed and told of that, and
 -- which parts are blamed.
-use Rattle.std.specs.Prelude.{◌≡◌, ◌⊎◌, ℕ, List, [], ◌∷◌, ◌++◌, Bool, true, false}
+use Rattle.std.specs.Prelude.{◌≡◌, ◌⊎◌, ◌↔◌, ℕ, List, [], ◌∷◌, ◌++◌, Bool, true, false}
 use Rattle.mcap_io.specs.Outside.{Rose, SinkState, WorldState, Opening}
 use Rattle.mcap_io.specs.declared.outside.ObjectKind.{ObjectKind}
 use Rattle.command_base.specs.declared.faults.Counts.{Counts}
@@ -100,25 +100,18 @@ pub record ShowsFaults (before now : Counts) (failed broke : Bool) (faults : Fau
 
 -- What a command did to the world and to both outputs that opened the one name, and whose reading of it ended so.
 pub record ReadsOne (kind : ObjectKind) (file : List ℕ) (old new : Scene) (entries : List Opening) (ending : Ending) (status : ℕ) : Type 0 where
-  -- standard output takes the text, and standard error the troubles
+  -- standard output takes the text, and standard error the troubles, which give the status
   pub ran : Ran (files_of kind file) old new entries (text_of ending) (findings_of ending) status
-  -- what failed: the opening, the keeping or the object of the file; and a write
-  pub failed : Bool
-  pub names_are : failed_names entries ≡ named_when failed file ++ []
-  pub sure : ending ≡ failing → failed ≡ true
-  pub broke : Bool
-  pub printed : PrintsEnding old.out new.out ending broke
-  -- the file and standard output are blamed for these, and for a count that rose
-  pub faults : Faults
-  pub shows : ShowsFaults (counts_in old) (counts_in new) failed broke faults
-  pub blame : ran.failed ≡ named_when faults.file file ++ []
-  pub printing_is : ran.printing ≡ faults.printing
+  -- the file alone is blamed, once, where a count of the world or of its inputs rose, or stands at the end of its type
+  pub blamed : Bool
+  pub blame : ran.failed ≡ named_when blamed file ++ []
+  pub cause : (blamed ≡ true) ↔ (Rose old.world.faults new.world.faults ⊎ Rose old.world.input_faults new.world.input_faults)
+  -- 5 is the answer exactly where memory lacked for the reading
+  pub five : (status ≡ 5) ↔ (ending ≡ lacked)
   -- a count that rose is answered, also one that stands at the end of its type; and 3 is the answer only to such a count
   pub rose : AskedRose (counts_in old) (counts_in new) → (status ≡ 3) ⊎ (status ≡ 5)
   pub three : status ≡ 3 → AskedRose (counts_in old) (counts_in new)
-  -- unless a count rises, the file didn't fail, and the ending decides the status, or memory lacked
-  pub calm : (AnyRose (counts_in old) (counts_in new) → ⊥) → (failed ≡ false) × ((status ≡ ending_status ending) ⊎ (status ≡ 5))
-  -- of a file that was read, where no count rises, there is nothing to tell, so that no memory can lack for it
-  pub read : (text : List ℕ) → ending ≡ was_read text → (AnyRose (counts_in old) (counts_in new) → ⊥) → status ≡ 0
+  -- unless a count rises, the file didn't fail, and the ending decides the status
+  pub calm : (AnyRose (counts_in old) (counts_in new) → ⊥) → (failed_names entries ≡ []) × (ending ≡ failing → ⊥) × (status ≡ ending_status ending)
   -- the status 0 says that the file was read without a failure, and that all of the text was taken
-  pub whole : status ≡ 0 → (failed ≡ false) × ((text : List ℕ) × (ending ≡ was_read text) × TellsAll old.out new.out text)
+  pub whole : status ≡ 0 → (failed_names entries ≡ []) × ((text : List ℕ) × (ending ≡ was_read text) × TellsAll old.out new.out text)

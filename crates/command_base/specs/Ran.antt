@@ -1,5 +1,5 @@
 -- What every command does: to the names of the world, to both outputs, and how it ends.
-use Rattle.std.specs.Prelude.{◌≡◌, ◌⊎◌, ◌<◌, ◌+◌, ◌-◌, ◌^◌, ◌==◌, ◌||◌, not, ℕ, List, [], ◌∷◌, ◌++◌, map, Bool, true, false, if◌then◌else◌, Option, Some, None}
+use Rattle.std.specs.Prelude.{◌≡◌, ◌⊎◌, ◌↔◌, ◌<◌, ◌+◌, ◌-◌, ◌^◌, ◌==◌, ◌||◌, not, ℕ, List, [], ◌∷◌, ◌++◌, map, Bool, true, false, if◌then◌else◌, Option, Some, None}
 use Rattle.std.specs.List.{flat_map}
 use Rattle.mcap_io.specs.Outside.{Rose, added, SinkState, WorldState, Told, Keeping, Opening, opened, taken_back}
 use Rattle.mcap_io.specs.declared.outside.ObjectKind.{ObjectKind}
@@ -169,10 +169,9 @@ pub record Blames (files : Files) (old new : WorldState) (entries : List Opening
   pub caused : Each (IsCaused files old new) names
   pub told : CountsOn old → WorldRose old new → names ≡ [] → ⊥
 
--- the same of standard output
-pub record BlamesOutput (old new : SinkState) (printing : Bool) : Type 0 where
-  pub caused : printing ≡ true → Rose old.faults new.faults
-  pub told : old.faults < 2 ^ 64 - 1 → Rose old.faults new.faults → printing ≡ true
+-- standard output is blamed exactly where its count rose, or stands at the end of its type
+abbrev pub BlamesOutput : SinkState → SinkState → Bool → Type 0
+BlamesOutput old new printing = (printing ≡ true) ↔ Rose old.faults new.faults
 
 -- ---- standard error
 
@@ -190,15 +189,11 @@ pub record Findings : Type 0 where
 abbrev pub troubles_of : Findings → List (List ℕ) → Bool → List Trouble
 troubles_of found names printing = found.halts ++ (map fault names ++ (found.limits ++ (when printing output_fault ++ when found.lacked no_memory)))
 
--- What standard error is told of these troubles: their lines, or that memory lacked alone, where it lacked for saying
--- more; all of them were taken, or a first part where this output failed. They give the status.
+-- Standard error took the lines of these troubles, and no more; all of them, or a first part where it failed itself. They give
+-- the status.
 pub record Complains (due : List Trouble) (before now : SinkState) (status : ℕ) : Type 0 where
-  pub troubles : List Trouble
-  pub are : (troubles ≡ due) ⊎ (troubles ≡ no_memory ∷ [])
-  -- nothing lacks for saying nothing
-  pub calm : due ≡ [] → troubles ≡ []
-  pub status_is : status_of troubles ≡ status
-  pub text : Takes before now (said troubles)
+  pub status_is : status ≡ status_of due
+  pub text : Takes before now (said due)
 
 -- ---- a command
 

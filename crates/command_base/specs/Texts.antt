@@ -55,17 +55,24 @@ unindexed_text unindexed.ChunkCount = codes "chunk count"
 unindexed_text unindexed.NoMessageIndex = codes "no message index"
 unindexed_text unindexed.NoChannel = codes "no channel"
 
+-- a name, and what stands behind it
+abbrev pub about : List ℕ → List ℕ → List ℕ
+about name what = codes "mcaprec: " ++ (quoted name ++ what)
+
+-- an offset ends a line
+abbrev pub at_offset : ℕ → List ℕ
+at_offset n = codes " at " ++ (decimal n ++ codes "\n")
+
 unfoldable pub line_of : Trouble → List ℕ
 line_of bad_words = codes "mcaprec: bad words\n" ++ usage
-line_of (fault name) = codes "mcaprec: " ++ (quoted name ++ codes ": fault\n")
+line_of (fault name) = about name (codes ": fault\n")
 line_of output_fault = codes "mcaprec: output: fault\n"
-line_of (grammar name n) = codes "mcaprec: " ++ (quoted name ++ (codes ": grammar at " ++ (decimal n ++ codes "\n")))
-line_of (compressed name compression n) = codes "mcaprec: " ++ (quoted name ++ (codes ": compressed " ++ (quoted compression
-    ++ (codes " at " ++ (decimal n ++ codes "\n")))))
-line_of (limit name n) = codes "mcaprec: " ++ (quoted name ++ (codes ": limit at " ++ (decimal n ++ codes "\n")))
-line_of (output_limit name) = codes "mcaprec: " ++ (quoted name ++ codes ": limit\n")
-line_of (not_indexed name why) = codes "mcaprec: " ++ (quoted name ++ (codes ": not indexed: " ++ (unindexed_text why ++ codes "\n")))
-line_of (flaw name rule n) = codes "mcaprec: " ++ (quoted name ++ (codes ": flaw V" ++ (decimal rule ++ (codes " at " ++ (decimal n ++ codes "\n")))))
+line_of (grammar name n) = about name (codes ": grammar" ++ at_offset n)
+line_of (compressed name compression n) = about name (codes ": compressed " ++ (quoted compression ++ at_offset n))
+line_of (limit name n) = about name (codes ": limit" ++ at_offset n)
+line_of (output_limit name) = about name (codes ": limit\n")
+line_of (not_indexed name why) = about name (codes ": not indexed: " ++ (unindexed_text why ++ codes "\n"))
+line_of (flaw name rule n) = about name (codes ": flaw V" ++ (decimal rule ++ at_offset n))
 line_of no_memory = codes "mcaprec: no memory\n"
 
 abbrev pub said : List Trouble → List ℕ

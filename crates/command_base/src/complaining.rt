@@ -1,108 +1,71 @@
-//! Telling standard error of the troubles of a command, and the status that they give.
-ghost use Rattle.std.specs.Prelude.{◌≡◌, ◌++◌, [], ◌∷◌, List, map, true, IfOk, OnOk, OnErr};
-ghost use Rattle.command_base.specs.Texts.{Trouble, trouble_of, complained, bad_words, no_memory, said};
+//! Telling standard error of the troubles of a command, and the status that they give. It takes no memory.
+ghost use Rattle.std.specs.Prelude.{◌≡◌, ◌∷◌, []};
+ghost use Rattle.std.specs.List.{flat_map};
+ghost use Rattle.command_base.specs.Texts.{trouble_of, complained, bad_words, no_memory, said};
 ghost use Rattle.command_base.specs.Printing.{Takes};
+ghost use Rattle.command_base.specs.Putting.{Puts};
 ghost use Rattle.command_base.specs.Ran.{when, Complains};
 
-use crate::complaint::{BAD_WORDS, Complaint, NO_MEMORY, say, status};
-use mcap_io::{Sink, write_all_of};
-use mcap_wire::Memory;
-use std::alloc::Global;
+use crate::complaint::{BAD_WORDS, Complaint, NO_MEMORY, put_line, status};
+use crate::waiting::Waiting;
+use mcap_io::Sink;
 
-/// Adds a complaint where it is due.
-pub fn push_when<'a>(
-    all: &mut Vec<Complaint<'a>>,
-    due: bool,
-    complaint: Complaint<'a>,
-) -> Result<(), Memory>
-    ensures added { OnOk result (map trouble_of all.new.items ≡ map trouble_of all.old.items ++ when due (trouble_of complaint.entry)) }
-    ensures due { OnErr result (due ≡ true) }
+/// The complaint, where it is due.
+pub fn due_when(due: bool, complaint: Complaint<'_>) -> Option<Complaint<'_>>
+    ensures { complained result ≡ when due (trouble_of complaint.entry) }
 {
-    if due {
-        match all.push(complaint) {
-            Ok(()) => return Ok(()),
-            Err(_) => return Err(Memory),
-        }
-    }
-    Ok(())
+    if due { Some(complaint) } else { None }
 }
 
-/// Adds the complaint, if there is one.
-pub fn push_some<'a>(
-    all: &mut Vec<Complaint<'a>>,
-    complaint: Option<Complaint<'a>>,
-) -> Result<(), Memory>
-    ensures added { OnOk result (map trouble_of all.new.items ≡ map trouble_of all.old.items ++ complained complaint.entry) }
-    ensures due { OnErr result (complained complaint.entry ≡ [] → ⊥) }
+// Puts the line of a complaint, if there is one.
+fn put_some<E: Sink>(waiting: &mut Waiting, err: &mut E, complaint: &Option<Complaint<'_>>)
+    ensures { Puts (E.state err.old) waiting.old (E.state err.new) waiting.new (said (complained complaint.now)) }
 {
     match complaint {
-        Some(complaint) => return push_when(all, true, complaint),
-        None => return Ok(()),
+        Some(complaint) => put_line(waiting, err, complaint),
+        None => {}
     }
 }
 
-// Writes the text to standard error, if there is any. That it fails changes nothing.
-fn tell<E: Sink>(err: &mut E, text: &[u8])
+// Puts the lines of the complaints that there are, in their order.
+fn put_lines<E: Sink>(waiting: &mut Waiting, err: &mut E, complaints: &[Option<Complaint<'_>>])
+    ensures { Puts (E.state err.old) waiting.old (E.state err.new) waiting.new (flat_map (λ c. said (complained c)) complaints.now) }
+{
+    'complaints: for complaint in complaints {
+        put_some(waiting, err, complaint);
+    }
+}
+
+/// Tells standard error of the complaints that there are, in their order, and answers the status. That standard error fails
+/// changes nothing but that.
+pub fn complain_of<E: Sink>(err: &mut E, complaints: &[Option<Complaint<'_>>]) -> u8
+    ensures { Complains (flat_map complained complaints.now) (E.state err.old) (E.state err.new) result }
+{
+    let mut waiting = Waiting::new();
+    put_lines(&mut waiting, err, complaints);
+    waiting.write_out(err);
+    status(complaints)
+}
+
+// Tells standard error a text.
+fn tell<E: Sink>(err: &mut E, text: &str)
     ensures { Takes (E.state err.old) (E.state err.new) text.now }
 {
-    if text.is_empty() {
-        return;
-    }
-    match write_all_of(err, text) {
-        Ok(()) => {}
-        Err(_) => {}
-    }
+    let mut waiting = Waiting::new();
+    waiting.put_text(err, text);
+    waiting.write_out(err);
 }
 
-// Tells standard error that memory lacked, and answers the status.
-fn lack_memory<E: Sink>(err: &mut E) -> u8
-    ensures { (due : List Trouble) → (due ≡ [] → ⊥) → Complains due (E.state err.old) (E.state err.new) result }
-{
-    tell(err, NO_MEMORY.as_bytes());
-    5
-}
-
-// Tells standard error of the complaints in one write, and answers the status.
-fn complain<E: Sink>(alloc: Global, err: &mut E, complaints: &[Complaint<'_>]) -> u8
-    ensures { Complains (map trouble_of complaints.now) (E.state err.old) (E.state err.new) result }
-{
-    if complaints.is_empty() {
-        return 0;
-    }
-    match say(alloc, complaints) {
-        Ok(text) => {
-            tell(err, &text);
-            return status(complaints);
-        }
-        Err(_) => return lack_memory(err),
-    }
-}
-
-/// Tells standard error of the complaints that were made, and answers the status. Where memory lacked for them or for
-/// their text, that memory lacked is all that is told.
-pub fn complain_of<E: Sink>(
-    alloc: Global,
-    err: &mut E,
-    made: Result<Vec<Complaint<'_>>, Memory>,
-) -> u8
-    ensures { (due : List Trouble) → IfOk made.entry (λ all. map trouble_of all.items ≡ due) → OnErr made.entry (due ≡ [] → ⊥) → Complains due (E.state err.old) (E.state err.new) result }
-{
-    match made {
-        Ok(complaints) => return complain(alloc, err, &complaints),
-        Err(_) => return lack_memory(err),
-    }
-}
-
-/// Complains of words that are no command. It takes no memory.
+/// Complains of words that are no command.
 pub fn refuse_words<E: Sink>(err: &mut E)
     ensures { Takes (E.state err.old) (E.state err.new) (said (bad_words ∷ [])) }
 {
-    tell(err, BAD_WORDS.as_bytes());
+    tell(err, BAD_WORDS);
 }
 
-/// Complains of a want of memory for reading the words. It takes none itself.
+/// Complains of a want of memory for reading the words.
 pub fn refuse_for_memory<E: Sink>(err: &mut E)
     ensures { Takes (E.state err.old) (E.state err.new) (said (no_memory ∷ [])) }
 {
-    tell(err, NO_MEMORY.as_bytes());
+    tell(err, NO_MEMORY);
 }

@@ -1,12 +1,11 @@
 //! What the program says on standard error, and the status that it ends with.
-ghost use Rattle.std.specs.Prelude.{◌≡◌, ◌==◌, ◌++◌, IfOk, codes, decimal, map, string_bytes};
-ghost use Rattle.std.specs.List.{list_any};
-ghost use Rattle.json.specs.Print.{quoted};
-ghost use Rattle.command_base.specs.Texts.{trouble_of, compressed, flaw, unindexed_text, line_of, said, asked_status, status_of};
+ghost use Rattle.std.specs.Prelude.{◌≡◌, ◌++◌, codes};
+ghost use Rattle.std.specs.List.{flat_map, list_any};
+ghost use Rattle.command_base.specs.Texts.{trouble_of, complained, compressed, flaw, unindexed_text, about, at_offset, line_of, asked_status, is_asked, status_of};
+ghost use Rattle.command_base.specs.Putting.{Puts};
 
-use mcap_wire::Memory;
-use serde_json::Value;
-use std::alloc::{AllocError, Global};
+use crate::waiting::Waiting;
+use mcap_io::Sink;
 
 /// What standard error is told of words that are no command, with the usage.
 pub const BAD_WORDS: &str =
@@ -76,105 +75,100 @@ pub enum Complaint<'a> {
     NoMemory,
 }
 
-// A name as a JSON string (RFC 8259, section 7), which is one line whatever the name holds.
-fn quoted_name(alloc: Global, name: &str) -> Result<String, AllocError>
-    ensures { IfOk result (λ text. string_bytes text ≡ quoted name.now) }
-{
-    let value = Value::String(String::from_str(alloc, name)?);
-    value.to_string(alloc)
-}
-
 // The words for what a file lacks.
 fn words_for(why: Unindexed) -> &'static str
-    ensures { result.now ≡ codes "not indexed: " ++ unindexed_text why }
+    ensures { result.now ≡ codes ": not indexed: " ++ unindexed_text why }
 {
     match why {
-        Unindexed::NoSummary => "not indexed: no summary",
-        Unindexed::NoStatistics => "not indexed: no statistics",
-        Unindexed::ChunkCount => "not indexed: chunk count",
-        Unindexed::NoMessageIndex => "not indexed: no message index",
-        Unindexed::NoChannel => "not indexed: no channel",
+        Unindexed::NoSummary => ": not indexed: no summary",
+        Unindexed::NoStatistics => ": not indexed: no statistics",
+        Unindexed::ChunkCount => ": not indexed: chunk count",
+        Unindexed::NoMessageIndex => ": not indexed: no message index",
+        Unindexed::NoChannel => ": not indexed: no channel",
     }
 }
 
-// The line of what is the matter with a file.
-fn line_about(alloc: Global, name: &str, what: &str) -> Result<String, AllocError>
-    ensures { IfOk result (λ text. string_bytes text ≡ codes "mcaprec: " ++ (quoted name.now ++ (codes ": " ++ (what.now ++ codes "\n")))) }
+// Puts a name, and what stands behind it.
+fn put_about<E: Sink>(waiting: &mut Waiting, err: &mut E, name: &str, what: &str)
+    ensures { Puts (E.state err.old) waiting.old (E.state err.new) waiting.new (about name.now what.now) }
 {
-    let name = quoted_name(alloc, name)?;
-    format!(in alloc; "mcaprec: {name}: {what}\n")
+    waiting.put_text(err, "mcaprec: ");
+    waiting.put_quoted(err, name);
+    waiting.put_text(err, what);
 }
 
-// The line of what is the matter at an offset of a file.
-fn line_at(alloc: Global, name: &str, what: &str, offset: u64) -> Result<String, AllocError>
-    ensures { IfOk result (λ text. string_bytes text ≡ codes "mcaprec: " ++ (quoted name.now ++ (codes ": " ++ (what.now ++ (codes " at " ++ (decimal offset ++ codes "\n")))))) }
+// Puts an offset, and the end of the line.
+fn put_offset<E: Sink>(waiting: &mut Waiting, err: &mut E, offset: u64)
+    ensures { Puts (E.state err.old) waiting.old (E.state err.new) waiting.new (at_offset offset) }
 {
-    let name = quoted_name(alloc, name)?;
-    format!(in alloc; "mcaprec: {name}: {what} at {offset}\n")
+    waiting.put_text(err, " at ");
+    waiting.put_number(err, offset);
+    waiting.put_text(err, "\n");
 }
 
-// The line of a chunk that is compressed.
+// Puts the line of what is the matter with a file.
+fn put_file<E: Sink>(waiting: &mut Waiting, err: &mut E, name: &str, what: &str)
+    ensures { Puts (E.state err.old) waiting.old (E.state err.new) waiting.new (about name.now (what.now ++ codes "\n")) }
+{
+    put_about(waiting, err, name, what);
+    waiting.put_text(err, "\n");
+}
+
+// Puts the line of what is the matter at an offset of a file.
+fn put_place<E: Sink>(waiting: &mut Waiting, err: &mut E, name: &str, what: &str, offset: u64)
+    ensures { Puts (E.state err.old) waiting.old (E.state err.new) waiting.new (about name.now (what.now ++ at_offset offset)) }
+{
+    put_about(waiting, err, name, what);
+    put_offset(waiting, err, offset);
+}
+
+// Puts the line of a chunk that is compressed.
 #[tactic(auto, unfolding(crate::specs::Texts::line_of))]
-fn compressed_line(
-    alloc: Global,
+fn put_compressed<E: Sink>(
+    waiting: &mut Waiting,
+    err: &mut E,
     name: &str,
     compression: &str,
     offset: u64,
-) -> Result<String, AllocError>
-    ensures { IfOk result (λ text. string_bytes text ≡ line_of (compressed name.now compression.now offset)) }
+)
+    ensures { Puts (E.state err.old) waiting.old (E.state err.new) waiting.new (line_of (compressed name.now compression.now offset)) }
 {
-    let name = quoted_name(alloc, name)?;
-    let compression = quoted_name(alloc, compression)?;
-    format!(in alloc; "mcaprec: {name}: compressed {compression} at {offset}\n")
+    put_about(waiting, err, name, ": compressed ");
+    waiting.put_quoted(err, compression);
+    put_offset(waiting, err, offset);
 }
 
-// The line of a rule that fails.
+// Puts the line of a rule that fails.
 #[tactic(auto, unfolding(crate::specs::Texts::line_of))]
-fn flaw_line(alloc: Global, name: &str, rule: u8, offset: u64) -> Result<String, AllocError>
-    ensures { IfOk result (λ text. string_bytes text ≡ line_of (flaw name.now rule offset)) }
+fn put_flaw<E: Sink>(waiting: &mut Waiting, err: &mut E, name: &str, rule: u8, offset: u64)
+    ensures { Puts (E.state err.old) waiting.old (E.state err.new) waiting.new (line_of (flaw name.now rule offset)) }
 {
-    let name = quoted_name(alloc, name)?;
-    format!(in alloc; "mcaprec: {name}: flaw V{rule} at {offset}\n")
+    put_about(waiting, err, name, ": flaw V");
+    waiting.put_number(err, rule as u64);
+    put_offset(waiting, err, offset);
 }
 
-// The line of a complaint, or the lines.
+/// Puts the line of a complaint, and behind that of bad words the usage. Names are quoted as JSON strings.
 #[tactic(auto, unfolding(crate::specs::Texts::line_of))]
-fn complaint_line(alloc: Global, complaint: &Complaint<'_>) -> Result<String, AllocError>
-    ensures { IfOk result (λ text. string_bytes text ≡ line_of (trouble_of complaint.now)) }
+pub(crate) fn put_line<E: Sink>(waiting: &mut Waiting, err: &mut E, complaint: &Complaint<'_>)
+    ensures { Puts (E.state err.old) waiting.old (E.state err.new) waiting.new (line_of (trouble_of complaint.now)) }
 {
     match complaint {
-        Complaint::BadWords => String::from_str(alloc, BAD_WORDS),
-        Complaint::Fault { name } => line_about(alloc, name, "fault"),
-        Complaint::OutputFault => String::from_str(alloc, "mcaprec: output: fault\n"),
-        Complaint::Grammar { name, offset } => line_at(alloc, name, "grammar", *offset),
+        Complaint::BadWords => waiting.put_text(err, BAD_WORDS),
+        Complaint::Fault { name } => put_file(waiting, err, name, ": fault"),
+        Complaint::OutputFault => waiting.put_text(err, "mcaprec: output: fault\n"),
+        Complaint::Grammar { name, offset } => put_place(waiting, err, name, ": grammar", *offset),
         Complaint::Compressed {
             name,
             compression,
             offset,
-        } => compressed_line(alloc, name, compression, *offset),
-        Complaint::Limit { name, offset } => line_at(alloc, name, "limit", *offset),
-        Complaint::OutputLimit { name } => line_about(alloc, name, "limit"),
-        Complaint::NotIndexed { name, why } => line_about(alloc, name, words_for(*why)),
-        Complaint::Flaw { name, rule, offset } => flaw_line(alloc, name, *rule, *offset),
-        Complaint::NoMemory => String::from_str(alloc, NO_MEMORY),
+        } => put_compressed(waiting, err, name, compression, *offset),
+        Complaint::Limit { name, offset } => put_place(waiting, err, name, ": limit", *offset),
+        Complaint::OutputLimit { name } => put_file(waiting, err, name, ": limit"),
+        Complaint::NotIndexed { name, why } => put_file(waiting, err, name, words_for(*why)),
+        Complaint::Flaw { name, rule, offset } => put_flaw(waiting, err, name, *rule, *offset),
+        Complaint::NoMemory => waiting.put_text(err, NO_MEMORY),
     }
-}
-
-/// What standard error is told of the complaints, in their order: a line for each, and after bad words the usage.
-/// Names are quoted as JSON strings.
-pub fn say(alloc: Global, complaints: &[Complaint<'_>]) -> Result<Vec<u8>, Memory>
-    ensures { IfOk result (λ text. text.items ≡ said (map trouble_of complaints.now)) }
-{
-    let mut text = Vec::new(alloc);
-    'complaints: for complaint in complaints {
-        let Ok(line) = complaint_line(alloc, complaint) else {
-            return Err(Memory);
-        };
-        let Ok(()) = text.extend_from_slice(line.as_bytes()) else {
-            return Err(Memory);
-        };
-    }
-    Ok(text)
 }
 
 // The status that a complaint asks for by itself.
@@ -191,19 +185,29 @@ fn own_status(complaint: &Complaint<'_>) -> u8
     }
 }
 
-// Whether a complaint asks for the status.
-fn asks_for(complaints: &[Complaint<'_>], status: u8) -> bool
-    ensures { result ≡ list_any (λ c. asked_status (trouble_of c) == status) complaints.now }
+// Whether there is a complaint, and it asks for the status.
+fn asks(complaint: &Option<Complaint<'_>>, status: u8) -> bool
+    ensures { result ≡ is_asked (complained complaint.now) status }
 {
-    complaints.iter().any(|c| own_status(c) == status)
+    match complaint {
+        Some(complaint) => own_status(complaint) == status,
+        None => false,
+    }
+}
+
+// Whether one of the complaints asks for the status.
+fn asks_for(complaints: &[Option<Complaint<'_>>], status: u8) -> bool
+    ensures { result ≡ list_any (λ c. is_asked (complained c) status) complaints.now }
+{
+    complaints.iter().any(|c| asks(c, status))
 }
 
 /// The status that the program ends with: 2 where the words are bad, or else 5 where memory lacked, or else 3 where
 /// the outside failed, or else 4 where a limit was passed, or else 1 where a feed or a file was refused, and 0 where
 /// there is no complaint.
-#[tactic(auto, using(crate::proofs::Mapped::list_any_of_map))]
-pub fn status(complaints: &[Complaint<'_>]) -> u8
-    ensures { result ≡ status_of (map trouble_of complaints.now) }
+#[tactic(auto, using(crate::proofs::Asked::any_in_all))]
+pub(crate) fn status(complaints: &[Option<Complaint<'_>>]) -> u8
+    ensures { result ≡ status_of (flat_map complained complaints.now) }
 {
     if asks_for(complaints, 2) {
         2

@@ -7,9 +7,10 @@ mod complaint;
 mod faults;
 mod line;
 mod one_file;
+mod waiting;
 
-pub use complaining::{complain_of, push_some, push_when, refuse_for_memory, refuse_words};
-pub use complaint::{Complaint, Unindexed, say, status};
+pub use complaining::{complain_of, due_when, refuse_for_memory, refuse_words};
+pub use complaint::{Complaint, Unindexed};
 pub use faults::{Counts, has_failed, rose};
 pub use line::{LINE_ROOM, Line};
 pub use one_file::{Faults, answer_file, faults_of};

@@ -1,6 +1,5 @@
 -- What the troubles of a printing say of it, and of its file.
 use Rattle.std.proofs.Common.{◌≡◌, ◌⊎◌, ℕ, ◌^◌, ◌<◌, Bool, true, List, [], ◌∷◌, Some, Result, refl, ap, subst, inl, inr, ◌∙◌, arith}
-use Rattle.std.proofs.lemmas.Bool.{both_ways}
 use Rattle.std.specs.Option.{option_map}
 use Rattle.mcap_io.specs.Outside.{HasCause, CountsStand, added, Keeping, Told, Opening, opened, with_opening, went_well, SourceState, WorldState, TellsName, KeepsSource}
 use Rattle.mcap_io.specs.declared.outside.Failed.{Failed}
@@ -158,12 +157,9 @@ printed asked file old new played broke faults answer parts =
       read = parts.name.reading;
       ran = ran;
       decided = λ told bytes tops halt here there halts quiet.
-          let (calm, is) = ran.calm quiet in
-          elim is [
-            | inr five ↦ inr five
-            | inl same ↦ elim (name_halted asked file bytes tops halt halts old.world told parts.name.entries played.reading parts.name.reading here there (λ e. both_ways ran.failed calm (ran.sure e))) [
-              | inl decides ↦ inl (same ∙ decides)
-              | inr five ↦ inr (same ∙ five)
-            ]
+          let (unnamed, unfailing, same) = ran.calm quiet in
+          elim (name_halted asked file bytes tops halt halts old.world told parts.name.entries played.reading parts.name.reading here there unfailing) [
+            | inl decides ↦ inl (same ∙ decides)
+            | inr five ↦ inr (same ∙ five)
           ];
     }

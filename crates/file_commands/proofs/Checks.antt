@@ -1,7 +1,7 @@
 -- What the troubles of a check say of it, and of its file.
 use Rattle.std.proofs.Common.{◌≡◌, ◌⊎◌, ℕ, zero, suc, Bool, true, List, [], ◌∷◌, codes, Some, refl, sym, ap, subst, inl, inr, ◌∙◌, arith}
 use Rattle.std.specs.Prelude.{if◌then◌else◌}
-use Rattle.std.proofs.lemmas.Bool.{both_ways, ne_eqb}
+use Rattle.std.proofs.lemmas.Bool.{ne_eqb}
 use Rattle.mcap_io.specs.Outside.{SinkState, Told, Opening, WorldState}
 use Rattle.mcap_io.specs.Stores.{StoreState}
 use Rattle.mcap_io.specs.declared.outside.ObjectKind.TheVariants as kinds
@@ -99,31 +99,26 @@ sure file store faults (judgements.Refused refusals.Memory) well unused comes e 
 
 -- the status where nothing failed
 abbrev Calm : List ℕ → Judgement → ℕ → Type 0
-Calm file judgement complained = (complained ≡ ending_status (ending_of file judgement)) ⊎ (complained ≡ 5)
+Calm file judgement complained = complained ≡ ending_status (ending_of file judgement)
 
-given_ends : (verdict : Verdict) (complained answer : ℕ) → answer ≡ final_status complained (verdict_status verdict) → (complained ≡ 0) ⊎ (complained ≡ 5) → (answer ≡ verdict_status verdict) ⊎ (answer ≡ 5)
-given_ends verdict complained answer final (inl none) = inl (final ∙ final_none complained (verdict_status verdict) none)
-given_ends verdict complained answer final (inr five) = inr (final ∙ final_same complained (verdict_status verdict) (λ none. omega (arith, none, five)) ∙ five)
-
-halted_ends : (own complained answer n : ℕ) → answer ≡ final_status complained own → (complained ≡ suc n) ⊎ (complained ≡ 5) → (answer ≡ suc n) ⊎ (answer ≡ 5)
-halted_ends own complained answer n final (inl is) = inl (final ∙ final_same complained own (λ none. omega (arith, none, is)) ∙ is)
-halted_ends own complained answer n final (inr five) = inr (final ∙ final_same complained own (λ none. omega (arith, none, five)) ∙ five)
+halted_ends : (own complained answer n : ℕ) → answer ≡ final_status complained own → complained ≡ suc n → answer ≡ suc n
+halted_ends own complained answer n final is = final ∙ final_same complained own (λ none. omega (arith, none, is)) ∙ is
 
 decides_so : (file bytes : List ℕ) (store : StoreState) (faults : ℕ) (judgement : Judgement) (complained answer : ℕ) → store.bytes ≡ Some bytes → CheckComesTo store faults judgement → (ending_of file judgement ≡ failing → ⊥)
     → Calm file judgement complained → answer ≡ final_status complained (judgement_status judgement) → Decides bytes judgement answer
 decides_so file bytes store faults judgements.Unopened complained answer here comes other why final = comes
-decides_so file bytes store faults (judgements.Given verdict) complained answer here comes other why final = (comes.checks bytes here, given_ends verdict complained answer final why)
+decides_so file bytes store faults (judgements.Given verdict) complained answer here comes other why final = (comes.checks bytes here, final ∙ final_none complained (verdict_status verdict) why)
 decides_so file bytes store faults (judgements.Refused (refusals.Fault count)) complained answer here comes other why final = absurd (other refl)
 decides_so file bytes store faults (judgements.Refused (refusals.Compressed n name)) complained answer here comes other why final = (comes.checks bytes here, halted_ends 0 complained answer 0 final why)
 decides_so file bytes store faults (judgements.Refused (refusals.Limit n)) complained answer here comes other why final = (comes.checks bytes here, halted_ends 0 complained answer 3 final why)
-decides_so file bytes store faults (judgements.Refused refusals.Memory) complained answer here comes other why final = elim (halted_ends 0 complained answer 4 final why) [ inl is ↦ is | inr is ↦ is ]
+decides_so file bytes store faults (judgements.Refused refusals.Memory) complained answer here comes other why final = halted_ends 0 complained answer 4 final why
 
 decides : (file bytes : List ℕ) (world : WorldState) (told : Told) (entries : List Opening) (judgement : Judgement) (complained answer : ℕ) → IsJudged file world entries judgement → world.told ≡ Some told → told.names file ≡ Some bytes
     → (ending_of file judgement ≡ failing → ⊥) → Calm file judgement complained → answer ≡ final_status complained (judgement_status judgement) → Decides bytes judgement answer
 decides file bytes world told [] judgement complained answer is here there other why final =
     let so : Calm file (judgements.Refused refusals.Memory) complained = subst (λ (j : Judgement). Calm file j complained) is why in
     let last : answer ≡ final_status complained 0 = final ∙ ap (λ (j : Judgement). final_status complained (judgement_status j)) is in
-    subst (λ (j : Judgement). Decides bytes j answer) (sym is) (elim (halted_ends 0 complained answer 4 last so) [ inl five ↦ five | inr five ↦ five ])
+    subst (λ (j : Judgement). Decides bytes j answer) (sym is) (halted_ends 0 complained answer 4 last so)
 decides file bytes world told (entry ∷ more) judgement complained answer (inl refused) here there other why final = absurd (other (ap (ending_of file) refused.1))
 decides file bytes world told (entry ∷ more) judgement complained answer (inr (keeping, is, under)) here there other why final =
     decides_so file bytes under.store keeping.faults judgement complained answer ((under.tells told here).0 ∙ there) under.comes other why final
@@ -163,14 +158,17 @@ checked file old new judged broke faults complained answer parts final =
       complained = complained;
       ran = ran;
       status_is = final;
-      rose = λ risen. halted_ends (judgement_status judged.judgement) complained answer 2 final (ran.rose risen);
+      rose = λ risen. elim (ran.rose risen) [
+        | inl is ↦ inl (halted_ends (judgement_status judged.judgement) complained answer 2 final is)
+        | inr is ↦ inr (halted_ends (judgement_status judged.judgement) complained answer 4 final is)
+      ];
       three = λ is. ran.three (of_troubles complained judged.judgement answer 1 final is);
       decided = λ told bytes here there quiet.
-          let (calm, is) = ran.calm quiet in
-          decides file bytes old.world told parts.name.entries judged.judgement complained answer parts.name.reading here there (λ e. both_ways ran.failed calm (ran.sure e)) is final;
+          let (unnamed, unfailing, is) = ran.calm quiet in
+          decides file bytes old.world told parts.name.entries judged.judgement complained answer parts.name.reading here there unfailing is final;
       whole = λ zero_is.
           let none : complained ≡ 0 = none_complained complained (judgement_status judged.judgement) (sym final ∙ zero_is) in
-          let (calm, read) = ran.whole none in
+          let (unnamed, read) = ran.whole none in
           let given = given_of file judged.judgement read.0 read.1 in
           let own : judgement_status judged.judgement ≡ 0 = sym (final ∙ final_none complained (judgement_status judged.judgement) none) ∙ zero_is in
           (given.0, given.1, sym (ap judgement_status given.1) ∙ own, subst (λ (l : List ℕ). TellsAll old.out new.out l) given.2 read.2);

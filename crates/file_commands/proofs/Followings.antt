@@ -1,6 +1,5 @@
 -- What the endings of a printing by the indexes say of it, and of its file.
 use Rattle.std.proofs.Common.{◌≡◌, ℕ, List, [], ◌∷◌, Bool, true, Some, refl, sym, ap, subst, inl, inr, ◌∙◌, arith}
-use Rattle.std.proofs.lemmas.Bool.{both_ways}
 use Rattle.mcap_io.specs.Outside.{Told, Opening, WorldState}
 use Rattle.mcap_io.specs.Stores.{StoreState}
 use Rattle.mcap_io.specs.declared.outside.ObjectKind.TheVariants as kinds
@@ -100,8 +99,8 @@ printed asked file old new followed broke faults answer parts =
       followed = parts.name.reading;
       ran = ran;
       decided = λ told bytes here there quiet.
-          let (calm, is) = ran.calm quiet in
-          (shows_bytes asked file bytes old.world told parts.name.entries followed.following parts.name.reading here there (λ e. both_ways ran.failed calm (ran.sure e)), is);
+          let (unnamed, unfailing, is) = ran.calm quiet in
+          shows_bytes asked file bytes old.world told parts.name.entries followed.following parts.name.reading here there unfailing;
       scanned = λ told bytes tops end messages here there full halts scan.
           scan_bytes asked file bytes tops end messages full halts scan old.world told parts.name.entries followed.following parts.name.reading here there;
     }

@@ -1,6 +1,5 @@
 -- What the endings of a telling say of it, and of its file.
 use Rattle.std.proofs.Common.{◌≡◌, ℕ, List, [], ◌∷◌, Some, refl, sym, ap, subst, inl, inr, ◌∙◌, Bool, true, arith}
-use Rattle.std.proofs.lemmas.Bool.{both_ways}
 use Rattle.mcap_io.specs.Outside.{Told, Opening, WorldState}
 use Rattle.mcap_io.specs.Stores.{StoreState}
 use Rattle.mcap_io.specs.declared.outside.ObjectKind.TheVariants as kinds
@@ -97,9 +96,9 @@ describes file old new described broke faults answer parts =
       described = parts.name.reading;
       ran = ran;
       decided = λ told bytes here there quiet.
-          let (calm, is) = ran.calm quiet in
-          (shows_bytes file bytes old.world told parts.name.entries described.description parts.name.reading here there (λ e. both_ways ran.failed calm (ran.sure e)), is);
+          let (unnamed, unfailing, is) = ran.calm quiet in
+          shows_bytes file bytes old.world told parts.name.entries described.description parts.name.reading here there unfailing;
       whole = λ zero_is.
-          let (calm, read) = ran.whole zero_is in
+          let (unnamed, read) = ran.whole zero_is in
           (read.0, line_of file described.description read.0 read.1, read.2);
     }

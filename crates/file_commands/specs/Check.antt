@@ -91,13 +91,13 @@ judgement_status (judgements.Refused why) = 0
 abbrev pub final_status : ℕ → ℕ → ℕ
 final_status complained own = if complained == 0 then own else complained
 
--- Where nothing failed, the judgement is one of these bytes, and decides the status, which is 5 where memory lacks.
+-- Where nothing failed, the judgement is one of these bytes, and decides the status.
 abbrev pub Decides : List ℕ → Judgement → ℕ → Type 0
 Decides bytes judgements.Unopened status = ⊥
-Decides bytes (judgements.Given verdict) status = IsSo bytes verdict × ((status ≡ verdict_status verdict) ⊎ (status ≡ 5))
+Decides bytes (judgements.Given verdict) status = IsSo bytes verdict × (status ≡ verdict_status verdict)
 Decides bytes (judgements.Refused (refusals.Fault faults)) status = ⊥
-Decides bytes (judgements.Refused (refusals.Compressed n name)) status = HaltsBefore bytes (names n name) × ((status ≡ 1) ⊎ (status ≡ 5))
-Decides bytes (judgements.Refused (refusals.Limit n)) status = MeetsLimit bytes n × ((status ≡ 4) ⊎ (status ≡ 5))
+Decides bytes (judgements.Refused (refusals.Compressed n name)) status = HaltsBefore bytes (names n name) × (status ≡ 1)
+Decides bytes (judgements.Refused (refusals.Limit n)) status = MeetsLimit bytes n × (status ≡ 4)
 Decides bytes (judgements.Refused refusals.Memory) status = status ≡ 5
 
 -- ---- the command

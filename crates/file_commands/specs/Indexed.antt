@@ -24,7 +24,7 @@ use Rattle.command_base.specs.declared.complaint.Unindexed.{Unindexed}
 use Rattle.command_base.specs.declared.complaint.Unindexed.TheVariants as unindexed
 use Rattle.command_base.specs.Texts.{compressed, limit, not_indexed, flaw}
 use Rattle.command_base.specs.Ran.{Scene, counts_in, AnyRose}
-use Rattle.command_base.specs.OneFile.{Ending, was_read, halted, failing, lacked, ending_status, ReadsOne}
+use Rattle.command_base.specs.OneFile.{Ending, was_read, halted, failing, lacked, ReadsOne}
 use Rattle.file_commands.specs.Names.{StoreUnder, IsOpened, NameEnds}
 use Rattle.file_commands.specs.Cat.{Selection}
 
@@ -117,9 +117,9 @@ pub record IndexedCats (asked : Selection) (file : List ℕ) (old new : Scene) (
   pub followed : IsFollowed asked file old.world entries following
   -- standard output takes the lines of the messages, and standard error the troubles
   pub ran : ReadsOne kinds.Store file old new entries (ending_of file following) status
-  -- where the world tells, the bytes under the name decide, unless a count rises
+  -- where the world tells, the bytes under the name decide what it came to, unless a count rises
   pub decided : (told : Told) (bytes : List ℕ) → old.world.told ≡ Some told → told.names file ≡ Some bytes
-      → (AnyRose (counts_in old) (counts_in new) → ⊥) → ShowsLed asked bytes following × ((status ≡ ending_status (ending_of file following)) ⊎ (status ≡ 5))
+      → (AnyRose (counts_in old) (counts_in new) → ⊥) → ShowsLed asked bytes following
   -- and a fully indexed file that is read to its Data End is printed as its scan is
   pub scanned : (told : Told) (bytes : List ℕ) (tops : List Top) (end : ℕ) (messages : List Seen) → old.world.told ≡ Some told → told.names file ≡ Some bytes
       → IsFullyIndexed bytes → Halts reading_limits bytes tops (at_end end) → Scan tops messages → ShowsScan asked messages following

@@ -15,7 +15,7 @@ use Rattle.command_base.specs.declared.complaint.Unindexed.TheVariants as uninde
 use Rattle.command_base.specs.Printing.{TellsAll}
 use Rattle.command_base.specs.Texts.{grammar, limit, not_indexed}
 use Rattle.command_base.specs.Ran.{Scene, counts_in, AnyRose}
-use Rattle.command_base.specs.OneFile.{Ending, was_read, halted, failing, lacked, ending_status, ReadsOne}
+use Rattle.command_base.specs.OneFile.{Ending, was_read, halted, failing, lacked, ReadsOne}
 use Rattle.file_commands.specs.Names.{StoreUnder, IsOpened, NameEnds}
 
 -- ---- the file
@@ -92,8 +92,8 @@ pub record Describes (file : List ℕ) (old new : Scene) (status : ℕ) : Type 0
   pub described : IsDescribed file old.world entries description
   -- standard output takes the line, and standard error the troubles
   pub ran : ReadsOne kinds.Store file old new entries (ending_of file description) status
-  -- where the world tells, the bytes under the name decide, unless a count rises
+  -- where the world tells, the bytes under the name decide what it came to, unless a count rises
   pub decided : (told : Told) (bytes : List ℕ) → old.world.told ≡ Some told → told.names file ≡ Some bytes
-      → (AnyRose (counts_in old) (counts_in new) → ⊥) → DescribesBytes bytes description × ((status ≡ ending_status (ending_of file description)) ⊎ (status ≡ 5))
+      → (AnyRose (counts_in old) (counts_in new) → ⊥) → DescribesBytes bytes description
   -- the status 0 says that all of the line was taken
   pub whole : status ≡ 0 → (text : List ℕ) × (description ≡ descriptions.Line text) × TellsAll old.out new.out text

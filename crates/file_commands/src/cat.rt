@@ -184,5 +184,5 @@ pub fn print_file<W: World, O: Sink, E: Sink>(
     let now = Counts::of(world, out);
     let faults = faults_of(&before, &now, played.failed, broke);
     let halt = reading_complaint(file, &played.reading);
-    answer_file(alloc, err, file, halt, has_lacked(&played.reading), faults)
+    answer_file(err, file, halt, has_lacked(&played.reading), faults)
 }

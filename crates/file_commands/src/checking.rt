@@ -191,6 +191,6 @@ pub fn check_file<W: World, O: Sink, E: Sink>(
     let faults = faults_of(&before, &now, judged.failed, broke);
     let halt = judgement_complaint(file, &judged.judgement);
     let lacked = has_lacked(&judged.judgement);
-    let complained = answer_file(alloc, err, file, halt, lacked, faults);
+    let complained = answer_file(err, file, halt, lacked, faults);
     status_of(complained, &judged.judgement)
 }

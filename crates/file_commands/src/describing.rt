@@ -191,5 +191,5 @@ pub fn describe_file<W: World, O: Sink, E: Sink>(
     let faults = faults_of(&before, &now, described.failed, broke);
     let halt = description_complaint(file, &described.description);
     let lacked = has_lacked(&described.description);
-    answer_file(alloc, err, file, halt, lacked, faults)
+    answer_file(err, file, halt, lacked, faults)
 }

@@ -214,5 +214,5 @@ pub fn print_indexed<W: World, O: Sink, E: Sink>(
     let faults = faults_of(&before, &now, followed.failed, broke);
     let halt = following_complaint(file, &followed.following);
     let lacked = has_lacked(&followed.following);
-    answer_file(alloc, err, file, halt, lacked, faults)
+    answer_file(err, file, halt, lacked, faults)
 }

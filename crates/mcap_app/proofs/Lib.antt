@@ -12,6 +12,7 @@ mod MatchLemmas
 mod CommandLemmas
 mod LineLemmas
 mod OptionLemmas
+mod Due
 mod Statuses
 mod Whole
 mod Held

@@ -1,16 +1,11 @@
 -- Lines one after another, and what printing them in turn leaves.
-use Rattle.std.proofs.Common.{◌≡◌, ℕ, ◌+◌, ◌<◌, List, [], ◌∷◌, ◌++◌, length, take, drop, get_or, Option, Some, Result, Ok, Err, append_assoc, add-zero, subst, ap, sym, ◌∙◌, arith, length-append, take-append-drop}
-use Rattle.std.proofs.lemmas.List.{append-nil, take-append-le, take_more, length-take-le}
-use Rattle.mcap_io.specs.Outside.{SinkState, RisesOnce, Adds, AddsPart}
+use Rattle.std.proofs.Common.{◌≡◌, ℕ, ◌+◌, ◌<◌, List, [], ◌∷◌, ◌++◌, length, take, drop, get_or, Option, append_assoc, add-zero, subst, ap, sym, ◌∙◌, arith, take-append-drop}
+use Rattle.std.proofs.lemmas.List.{append-nil, take_more, length-take-le}
+use Rattle.mcap_io.specs.Outside.{Adds, AddsPart}
 use Rattle.mcap_io.proofs.Calls.{adds-adds, adds-part}
-use Rattle.mcap_io.specs.declared.outside.Failed.{Failed}
-use Rattle.command_base.specs.Printing.{TellsAll, Prints}
+use Rattle.command_base.proofs.Behind.{part-longer}
 use Rattle.feed_lane.specs.declared.report.FeedReport.{FeedReport}
 use Rattle.mcap_app.specs.ReportTexts.{feed_line, feed_lines}
-
--- a count that stood still and then rose by one rose by one
-pub rises_on : (before middle now : ℕ) → middle ≡ before → RisesOnce middle now → RisesOnce before now
-rises_on before middle now still rises = subst (λ (n : ℕ). RisesOnce n now) still rises
 
 -- the lines of more feeds stand behind the lines of the first
 pub feed_lines-append : (j : ℕ) (xs ys : List FeedReport) → feed_lines j (xs ++ ys) ≡ feed_lines j xs ++ feed_lines (j + length xs) ys
@@ -28,16 +23,6 @@ feed_lines-more fs i d within =
     ∙ feed_lines-append 1 (take i fs) (get_or fs i d ∷ [])
     ∙ ap (λ n. feed_lines 1 (take i fs) ++ (feed_line n (get_or fs i d) ++ [])) number
     ∙ ap (λ l. feed_lines 1 (take i fs) ++ l) (append-nil (feed_line (i + 1) (get_or fs i d)))
-
--- a first part of a text is one of every longer text
-pub part-longer : (old new : Option (List ℕ)) (least : ℕ) (xs ys : List ℕ) → AddsPart old new least xs → AddsPart old new 0 (xs ++ ys)
-part-longer old new least xs ys part before told =
-    let p = part before told in (
-      p.0,
-      omega arith,
-      omega (arith, p.2, length-append xs ys),
-      p.3 ∙ ap (λ l. Some (before ++ l)) (sym (take-append-le p.0 xs ys p.2)),
-    )
 
 -- a line that was printed behind the lines of the feeds below an index
 pub feed_lines-adds : (old mid new : Option (List ℕ)) (fs : List FeedReport) (i : ℕ) (f : FeedReport) (line : List ℕ) → i < length fs → f ≡ get_or fs i f → line ≡ feed_line (i + 1) f → Adds old mid (feed_lines 1 (take i fs)) → Adds mid new line → Adds old new (feed_lines 1 (take (i + 1) fs))
@@ -58,11 +43,3 @@ feed_lines-part old mid new fs i f line within at is so_far part =
     ap (λ l. l ++ rest) more ∙ sym (feed_lines-append 1 (take (i + 1) fs) (drop (i + 1) fs)) ∙ ap (feed_lines 1) (take-append-drop (i + 1) fs) in
     let P : List ℕ → Type 0 = λ l. AddsPart old new 0 l in
     subst P whole (part-longer old new _ shown rest (adds-part old mid new _ line 0 so_far part))
-
--- a text that was printed behind one that was
-pub prints-behind : (old mid new : SinkState) (xs ys : List ℕ) (r : Result Unit Failed) → TellsAll old mid xs → Prints mid new ys r → Prints old new (xs ++ ys) r
-prints-behind old mid new xs ys (Ok it) first prints = record { still = prints.still ∙ first.still; adds = adds-adds old.took mid.took new.took xs ys first.adds prints.adds }
-prints-behind old mid new xs ys (Err why) first prints = record {
-  rises = rises_on old.faults mid.faults new.faults first.still prints.rises;
-  adds = let whole = adds-part old.took mid.took new.took xs ys 0 first.adds prints.adds in λ before told. let p = whole before told in (p.0, omega arith, p.2, p.3);
-}

@@ -21,18 +21,15 @@ use Rattle.file_commands.specs.declared.cat.Reading.{Reading}
 use Rattle.file_commands.specs.declared.cat.Reading.TheVariants as readings
 use Rattle.command_base.specs.Ran.{Scene, counts_in, AnyRose, world_faults}
 use Rattle.recorder.specs.declared.options.RecordOptions.{RecordOptions}
-use Rattle.mcap_app.specs.Record.{AreAllowed, EndsWith, Records}
+use Rattle.mcap_app.specs.Record.{AreAllowed, Records}
 use Rattle.mcap_scan.specs.declared.answers.ScanRefused.TheVariants as refusals
 use Rattle.command_base.specs.OneFile.{was_read}
 use Rattle.command_base.specs.Printing.{TellsAll}
 use Rattle.file_commands.specs.Cat.{ComesTo, IsReading, IsPrinted, ending_of}
 use Rattle.mcap_app.specs.Laws.{everything, RecordingsArePrinted}
+use Rattle.mcap_app.proofs.Whole.{calm}
 
 -- ---- the recording
-
--- with the status 0 no count rose
-calm : (old new : Scene) (report : Option Report) → EndsWith (counts_in old) (counts_in new) report 0 → AnyRose (counts_in old) (counts_in new) → ⊥
-calm old new report came risen = elim (came.rose risen) [ inl three ↦ omega (arith, three) | inr five ↦ omega (arith, five) ]
 
 -- a keeping went well where the world's count stood still
 kept_well : (before now : ℕ) (source live : Bool) → now ≡ added before ((if source then 0 else 1) + (if live then 0 else 1)) → (Rose before now → ⊥) → live ≡ true
@@ -83,7 +80,7 @@ closed_left options out feed old new r told allowed text it here =
     let is = it.reported r refl in
     let all = it.whole refl in
     let closed : r.writer.end ≡ ends.Closed = subst (λ (x : Report). x.writer.end ≡ ends.Closed) (same_Some all.0 r (sym all.1)) all.2.closed in
-    let risen = calm old new (Some r) it.ended in
+    let risen = calm (counts_in old) (counts_in new) (Some r) it.lacked 0 it.ended refl in
     let counts = it.ran.counts.world ∙ ap (λ (es : List Opening). added old.world.faults (world_faults es)) is.kept_are in
     let well : is.live_kept ≡ true = kept_well old.world.faults new.world.faults is.source_kept is.live_kept (omega (arith, counts)) (λ rose. risen (inl rose)) in
     let left = it.ran.leaves told here in

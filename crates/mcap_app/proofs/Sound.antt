@@ -123,7 +123,7 @@ said_of options file (verdicts.Indexed n) exact (tops, full, counted) = λ none.
 said_of options file (verdicts.Plain n) exact (tops, valid, missing, counted) = plain_said options.chunk file exact.sound.indexed missing
 said_of options file (verdicts.Flawed rule offset) exact so = flaws_exclude_validity file rule offset so exact.sound.valid
 
-verdict_ends : (chunk : Option ℕ) (verdict : Verdict) (answer : ℕ) → IsSaid chunk verdict → (answer ≡ verdict_status verdict) ⊎ (answer ≡ 5) → (answer ≡ 0) ⊎ (answer ≡ 5)
+verdict_ends : (chunk : Option ℕ) (verdict : Verdict) (answer : ℕ) → IsSaid chunk verdict → answer ≡ verdict_status verdict → answer ≡ 0
 verdict_ends chunk (verdicts.Indexed n) answer said why = why
 verdict_ends chunk (verdicts.Plain n) answer said why = why
 verdict_ends chunk (verdicts.Flawed rule offset) answer said why = absurd said
@@ -141,7 +141,7 @@ meets_none options file offset sound meets =
 ends_well : (options : FileOptions) (file : List ℕ) (tops : List Top) (end : ℕ) (judgement : Judgement) (answer : ℕ) → IsExact options file → Halts reading_limits file tops (at_end end)
     → Decides file judgement answer → (answer ≡ 0) ⊎ (answer ≡ 5)
 ends_well options file tops end judgements.Unopened answer exact halts is = absurd is
-ends_well options file tops end (judgements.Given verdict) answer exact halts is = verdict_ends options.chunk verdict answer (said_of options file verdict exact is.0) is.1
+ends_well options file tops end (judgements.Given verdict) answer exact halts is = inl (verdict_ends options.chunk verdict answer (said_of options file verdict exact is.0) is.1)
 ends_well options file tops end (judgements.Refused (refusals.Fault faults)) answer exact halts is = absurd is
 ends_well options file tops end (judgements.Refused (refusals.Compressed n name)) answer exact halts is = absurd (reads_on file tops end halts (names n name) (λ e. absurd cc) is.0)
 ends_well options file tops end (judgements.Refused (refusals.Limit n)) answer exact halts is = absurd (meets_none options file n exact.sound is.0)

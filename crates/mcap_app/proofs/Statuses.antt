@@ -36,7 +36,7 @@ found out halts limited lacked = record { halts = halts; limits = when limited (
 -- the status of the parts that failed, of a want of memory, of a limit, and of the feed's end
 abbrev status_is : List ℕ → List ℕ → List Trouble → ℕ → Bool → Bool → Bool → Bool → Bool → Type 0
 status_is out feed halts number limited lacked f o p =
-    status_of (troubles_of (found out halts limited lacked) (names_of out feed (parts f o p)) p) ≡ cond lacked 5 (cond (any f o p) 3 (cond limited 4 number))
+    status_of (troubles_of (found out halts limited lacked) (names_of out feed f o) p) ≡ cond lacked 5 (cond (any f o p) 3 (cond limited 4 number))
 
 -- where the end of the feed is no trouble
 silent_status : (out feed : List ℕ) (limited lacked f o p : Bool) → status_is out feed [] 0 limited lacked f o p
@@ -110,20 +110,16 @@ number_is_not_two : (report : Option Report) → number_of report ≡ 2 → ⊥
 number_is_not_two None e = omega (arith, e)
 number_is_not_two (Some r) e = first_is_not_two r.feeds.items e
 
-pub two_is_none : (some limited : Bool) (report : Option Report) → cond some 3 (cond limited 4 (number_of report)) ≡ 2 → ⊥
-two_is_none true limited report e = omega (arith, e)
-two_is_none false true report e = omega (arith, e)
-two_is_none false false report e = number_is_not_two report e
+pub two_is_none : (lacked some limited : Bool) (report : Option Report) → cond lacked 5 (cond some 3 (cond limited 4 (number_of report))) ≡ 2 → ⊥
+two_is_none true some limited report e = omega (arith, e)
+two_is_none false true limited report e = omega (arith, e)
+two_is_none false false true report e = omega (arith, e)
+two_is_none false false false report e = number_is_not_two report e
 
--- the status is 5, or no memory lacked and it is that of the parts that failed, of a limit and of the feed's end
-pub five_or : (out feed : List ℕ) (report : Option Report) (failed : Failures) (lacked : Bool) (troubles : List Trouble) (answer : ℕ)
-    → (troubles ≡ troubles_of (findings_of out feed report lacked) (names_of out feed failed) failed.printing) ⊎ (troubles ≡ no_memory ∷ []) → status_of troubles ≡ answer
-    → (answer ≡ 5) ⊎ ((lacked ≡ false) × (answer ≡ cond (any failed.feed failed.out failed.printing) 3 (cond (limit_passed report) 4 (number_of report))))
-five_or out feed report failed true troubles answer (inl is) status =
-    inl (sym status ∙ ap status_of is ∙ status_of_parts out feed report (limit_passed report) true failed.feed failed.out failed.printing)
-five_or out feed report failed false troubles answer (inl is) status =
-    inr (refl, sym status ∙ ap status_of is ∙ status_of_parts out feed report (limit_passed report) false failed.feed failed.out failed.printing)
-five_or out feed report failed lacked troubles answer (inr alone) status = inl (sym status ∙ ap status_of alone)
+-- the status is 5 where memory lacked, and else that of the parts that failed, of a limit and of the feed's end
+pub status_of_due : (out feed : List ℕ) (report : Option Report) (failed : Failures) (lacked : Bool)
+    → status_of (troubles_of (findings_of out feed report lacked) (names_of out feed failed.feed failed.out) failed.printing) ≡ cond lacked 5 (cond (any failed.feed failed.out failed.printing) 3 (cond (limit_passed report) 4 (number_of report)))
+status_of_due out feed report failed lacked = status_of_parts out feed report (limit_passed report) lacked failed.feed failed.out failed.printing
 
 -- some part failed: 3
 pub some_failed : (f o p : Bool) → PartFailed (parts f o p) → any f o p ≡ true
@@ -138,7 +134,11 @@ none_failed false true p none = absurd (none (inr (inl refl)))
 none_failed false false true none = absurd (none (inr (inr refl)))
 none_failed false false false none = refl
 
--- a want of memory is answered by 5
-pub five_where_lacked : (answer other : ℕ) (lacked : Bool) → (answer ≡ 5) ⊎ ((lacked ≡ false) × (answer ≡ other)) → lacked ≡ true → answer ≡ 5
-five_where_lacked answer other lacked (inl five) is = five
-five_where_lacked answer other lacked (inr calm) is = absurd (both_ways lacked calm.0 is)
+-- a want of memory is answered by 5, and nothing else
+pub where_lacked : (lacked : Bool) (n answer : ℕ) → answer ≡ cond lacked 5 n → lacked ≡ true → answer ≡ 5
+where_lacked true n answer is lacks = is
+where_lacked false n answer is lacks = absurd cc
+
+pub where_enough : (lacked : Bool) (n answer : ℕ) → answer ≡ cond lacked 5 n → lacked ≡ false → answer ≡ n
+where_enough true n answer is enough = absurd cc
+where_enough false n answer is enough = is

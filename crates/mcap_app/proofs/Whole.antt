@@ -3,7 +3,7 @@ use Rattle.std.proofs.Common.{◌≡◌, ◌⊎◌, ℕ, ◌^◌, ◌<◌, ◌�
 use Rattle.std.specs.List.{list_any}
 use Rattle.std.proofs.lemmas.List.Folds.{list_any_at}
 use Rattle.std.proofs.lemmas.Option.{get_or_from_slice_get, slice_get_within}
-use Rattle.std.proofs.lemmas.Bool.{or_right}
+use Rattle.std.proofs.lemmas.Bool.{both_ways, false_from_ne_true, or_right}
 use Rattle.mcap_io.specs.Outside.{Rose, added, WorldState, Told, Opening}
 use Rattle.mcap_model.specs.declared.ends.End.{End}
 use Rattle.mcap_model.specs.declared.ends.End.TheVariants as ends
@@ -31,7 +31,7 @@ use Rattle.command_base.specs.declared.faults.Counts.{Counts}
 use Rattle.command_base.specs.Texts.{halt_status}
 use Rattle.command_base.specs.Ran.{Scene, counts_in, AnyRose, CountsKept, input_faults, output_faults}
 use Rattle.recorder.proofs.Unfull.{none_full}
-use Rattle.mcap_app.specs.Record.{Reported, EndsWith, RecordsAll, end_status, is_over, is_limit, is_memory, is_memory_end, is_memory_writer, passes_limit, lacks_memory, limit_passed}
+use Rattle.mcap_app.specs.Record.{Reported, EndsWith, RecordsAll, end_status, is_over, is_limit, is_memory, is_memory_end, is_memory_writer, passes_limit, lacks_memory, limit_passed, LackIsTold}
 
 -- ---- what a report names
 
@@ -183,45 +183,44 @@ module _ (options : RecordOptions) (out feed : List ℕ) (old new : WorldState) 
 
 -- ---- the status
 
--- where a limit would be passed, or not
-limited_status : (limited : Bool) (number want answer : ℕ) → answer ≡ (if limited then 4 else number) → number ≡ want → (answer ≡ want) ⊎ ((answer ≡ 4) × (limited ≡ true))
-limited_status true number want answer is same = inr (is, refl)
-limited_status false number want answer is same = inl (is ∙ same)
-
 four_where : (limited : Bool) (number answer : ℕ) → answer ≡ (if limited then 4 else number) → limited ≡ true → answer ≡ 4
 four_where true number answer is yes_it = is
 four_where false number answer is yes_it = absurd cc
+
+unlimited : (limited : Bool) (number answer : ℕ) → answer ≡ (if limited then 4 else number) → limited ≡ false → answer ≡ number
+unlimited true number answer is none = absurd cc
+unlimited false number answer is none = is
 
 unlimited_status : (limited : Bool) (number answer : ℕ) → answer ≡ (if limited then 4 else number) → answer ≡ 0 → number ≡ 0
 unlimited_status true number answer is zero_is = absurd (omega (arith, is, zero_is))
 unlimited_status false number answer is zero_is = sym is ∙ zero_is
 
-abbrev Settled : Option Report → ℕ → ℕ → Type 0
-Settled report answer want = (answer ≡ want) ⊎ ((answer ≡ 5) ⊎ ((answer ≡ 4) × (limit_passed report ≡ true)))
-
 -- the bytes decide the status, unless a count rises, memory lacks, or a limit would be passed
-pub decided : (options : RecordOptions) (out feed : List ℕ) (old new : Scene) (report : Option Report) (entries : List Opening) (answer : ℕ) → old.world.input_faults < 2 ^ 64 → old.world.output_faults < 2 ^ 64 → CountsKept old.world new.world entries
-    → ((r : Report) → report ≡ Some r → Reported options out feed old.world new.world entries r) → EndsWith (counts_in old) (counts_in new) report answer
+pub decided : (options : RecordOptions) (out feed : List ℕ) (old new : Scene) (report : Option Report) (lacked : Bool) (entries : List Opening) (answer : ℕ) → old.world.input_faults < 2 ^ 64 → old.world.output_faults < 2 ^ 64 → CountsKept old.world new.world entries
+    → ((r : Report) → report ≡ Some r → Reported options out feed old.world new.world entries r) → LackIsTold (counts_in old) (counts_in new) report lacked → EndsWith (counts_in old) (counts_in new) report lacked answer
     → (told : Told) (bytes : List ℕ) (tops : List Top) (halt : Halt) → old.world.told ≡ Some told → told.names feed ≡ Some bytes → Halts reading_limits bytes tops halt
-    → (AnyRose (counts_in old) (counts_in new) → ⊥) → Settled report answer (halt_status halt)
-decided options out feed old new None entries answer inputs_fit outputs_fit kept reported came told bytes tops halt here there halts quiet = inr (inl (came.no_report quiet refl))
-decided options out feed old new (Some r) entries answer inputs_fit outputs_fit kept reported came told bytes tops halt here there halts quiet =
+    → (AnyRose (counts_in old) (counts_in new) → ⊥) → lacked ≡ false → limit_passed report ≡ false → answer ≡ halt_status halt
+decided options out feed old new None lacked entries answer inputs_fit outputs_fit kept reported lacking came told bytes tops halt here there halts quiet enough within = absurd (both_ways lacked enough (lacking.0 quiet))
+decided options out feed old new (Some r) lacked entries answer inputs_fit outputs_fit kept reported lacking came told bytes tops halt here there halts quiet enough within =
     let is = reported r refl in
     let left : is.given.source.left ≡ Some bytes = (is.tells told here).0 ∙ there in
-    elim (came.calm quiet r is.recorded.feed refl is.recorded.only) [
-      | inr five ↦ inr (inl five)
-      | inl status ↦ elim (decided_or options out feed old.world new.world entries r is kept inputs_fit outputs_fit bytes tops halt halts left) [
-        | inl same ↦ elim (limited_status (passes_limit r) (end_status is.recorded.feed.end) (halt_status halt) answer status same) [ inl want ↦ inl want | inr four ↦ inr (inr four) ]
-        | inr (inl inputs) ↦ absurd (quiet (inr (inl inputs)))
-        | inr (inr (inl outputs)) ↦ absurd (quiet (inr (inr (inl outputs))))
-        | inr (inr (inr (inl lacks))) ↦ inr (inl (came.memory r refl lacks))
-        | inr (inr (inr (inr passes))) ↦ inr (inr (four_where (passes_limit r) (end_status is.recorded.feed.end) answer status passes, passes))
-      ]
+    let status = came.calm enough quiet r is.recorded.feed refl is.recorded.only in
+    elim (decided_or options out feed old.world new.world entries r is kept inputs_fit outputs_fit bytes tops halt halts left) [
+      | inl same ↦ unlimited (passes_limit r) (end_status is.recorded.feed.end) answer status within ∙ same
+      | inr (inl inputs) ↦ absurd (quiet (inr (inl inputs)))
+      | inr (inr (inl outputs)) ↦ absurd (quiet (inr (inr (inl outputs))))
+      | inr (inr (inr (inl lacks))) ↦ absurd (both_ways lacked enough (lacking ∙ lacks))
+      | inr (inr (inr (inr passes))) ↦ absurd (both_ways (passes_limit r) within passes)
     ]
 
--- with the status 0 no count rose
-calm : (before now : Counts) (report : Option Report) (answer : ℕ) → EndsWith before now report answer → answer ≡ 0 → AnyRose before now → ⊥
-calm before now report answer came is risen = elim (came.rose risen) [ inl three ↦ omega (arith, three, is) | inr five ↦ omega (arith, five, is) ]
+-- with the status 0 memory was enough, and no count rose
+enough_memory : (before now : Counts) (report : Option Report) (lacked : Bool) (answer : ℕ) → EndsWith before now report lacked answer → answer ≡ 0 → lacked ≡ false
+enough_memory before now report lacked answer came is = false_from_ne_true lacked (λ lacks. let five = came.memory lacks in omega (arith, five, is))
+
+pub calm : (before now : Counts) (report : Option Report) (lacked : Bool) (answer : ℕ) → EndsWith before now report lacked answer → answer ≡ 0 → AnyRose before now → ⊥
+calm before now report lacked answer came is risen =
+    let three = came.rose (enough_memory before now report lacked answer came is) risen in
+    omega (arith, three, is)
 
 -- a list without a member is empty
 none_there : (xs : List Refused) → ((k : ℕ) (x : Refused) → At xs k x → ⊥) → xs ≡ []
@@ -229,19 +228,21 @@ none_there [] none = refl
 none_there (x ∷ xs) none = absurd (none 0 x refl)
 
 -- the status 0 says that all of the feed was recorded
-pub whole : (options : RecordOptions) (out feed : List ℕ) (old new : Scene) (report : Option Report) (entries : List Opening) (answer : ℕ) → old.world.input_faults < 2 ^ 64 → old.world.output_faults < 2 ^ 64 → CountsKept old.world new.world entries
-    → ((r : Report) → report ≡ Some r → Reported options out feed old.world new.world entries r) → EndsWith (counts_in old) (counts_in new) report answer
+pub whole : (options : RecordOptions) (out feed : List ℕ) (old new : Scene) (report : Option Report) (lacked : Bool) (entries : List Opening) (answer : ℕ) → old.world.input_faults < 2 ^ 64 → old.world.output_faults < 2 ^ 64 → CountsKept old.world new.world entries
+    → ((r : Report) → report ≡ Some r → Reported options out feed old.world new.world entries r) → LackIsTold (counts_in old) (counts_in new) report lacked → EndsWith (counts_in old) (counts_in new) report lacked answer
     → answer ≡ 0 → (r : Report) × (report ≡ Some r) × RecordsAll r
-whole options out feed old new None entries answer inputs_fit outputs_fit kept reported came zero_is =
-    absurd (let five = came.no_report (calm (counts_in old) (counts_in new) None answer came zero_is) refl in omega (arith, five, zero_is))
-whole options out feed old new (Some r) entries answer inputs_fit outputs_fit kept reported came zero_is =
+whole options out feed old new None lacked entries answer inputs_fit outputs_fit kept reported lacking came zero_is =
+    let enough = enough_memory (counts_in old) (counts_in new) None lacked answer came zero_is in
+    absurd (both_ways lacked enough (lacking.0 (calm (counts_in old) (counts_in new) None lacked answer came zero_is)))
+whole options out feed old new (Some r) lacked entries answer inputs_fit outputs_fit kept reported lacking came zero_is =
     let is = reported r refl in
-    let quiet = calm (counts_in old) (counts_in new) (Some r) answer came zero_is in
-    let status : answer ≡ (if passes_limit r then 4 else end_status is.recorded.feed.end) = elim (came.calm quiet r is.recorded.feed refl is.recorded.only) [ inl same ↦ same | inr five ↦ absurd (omega (arith, five, zero_is)) ] in
+    let enough = enough_memory (counts_in old) (counts_in new) (Some r) lacked answer came zero_is in
+    let quiet = calm (counts_in old) (counts_in new) (Some r) lacked answer came zero_is in
+    let status : answer ≡ (if passes_limit r then 4 else end_status is.recorded.feed.end) = came.calm enough quiet r is.recorded.feed refl is.recorded.only in
     let free : Hindered old.world new.world r → ⊥ = λ why. elim why [
       | inl inputs ↦ quiet (inr (inl inputs))
       | inr (inl outputs) ↦ quiet (inr (inr (inl outputs)))
-      | inr (inr (inl lacks)) ↦ let five = came.memory r refl lacks in omega (arith, five, zero_is)
+      | inr (inr (inl lacks)) ↦ both_ways lacked enough (lacking ∙ lacks)
       | inr (inr (inr passes)) ↦ let four = four_where (passes_limit r) (end_status is.recorded.feed.end) answer status passes in omega (arith, four, zero_is)
     ] in (
       r,

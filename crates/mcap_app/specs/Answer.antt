@@ -14,7 +14,8 @@ PartFailed failed = (failed.feed ≡ true) ⊎ ((failed.out ≡ true) ⊎ (faile
 
 -- what a recording told of failures and what the counts tell: which parts failed
 pub record FaultsShow (before now : Counts) (outcome : Outcome) (failed : Failures) : Type 0 where
-  pub causes : Causes before now failed
+  pub causes : Causes before now failed.feed failed.out
+  pub printing : (failed.printing ≡ true) ↔ Rose before.printing now.printing
   pub any : AnyRose before now → PartFailed failed
   -- nothing else is blamed where each count that rose shows in what the recording told
   pub feed : (Rose before.inputs now.inputs → outcome.feed_failed ≡ true) → failed.feed ≡ outcome.feed_failed
@@ -30,4 +31,4 @@ LacksMemory (Some r) failed lacked = lacked ≡ lacks_memory r
 pub record Answers (out feed : List ℕ) (report : Option Report) (failed : Failures) (before now : SinkState) (status : ℕ) : Type 0 where
   pub lacked : Bool
   pub lacks : LacksMemory report failed lacked
-  pub told : Complains (troubles_of (findings_of out feed report lacked) (names_of out feed failed) failed.printing) before now status
+  pub told : Complains (troubles_of (findings_of out feed report lacked) (names_of out feed failed.feed failed.out) failed.printing) before now status

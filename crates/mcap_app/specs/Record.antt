@@ -23,7 +23,6 @@ use Rattle.recorder.specs.declared.report.Report.{Report}
 use Rattle.recorder.specs.declared.report.WriterReport.{WriterReport}
 use Rattle.recorder.specs.Recorded.{Sides, IsOnlyFeed, Recorded}
 use Rattle.command_base.specs.declared.faults.Counts.{Counts}
-use Rattle.mcap_app.specs.declared.answering.Failures.{Failures}
 use Rattle.mcap_app.specs.declared.answering.Outcome.{Outcome}
 use Rattle.command_base.specs.Texts.{Trouble, grammar, compressed, limit, output_limit, halt_status}
 use Rattle.mcap_app.specs.ReportTexts.{printed}
@@ -186,33 +185,26 @@ abbrev pub LackIsTold : Counts → Counts → Option Report → Bool → Type 0
 LackIsTold before now None lacked = (AnyRose before now → ⊥) ↔ (lacked ≡ true)
 LackIsTold before now (Some r) lacked = lacked ≡ lacks_memory r
 
--- which parts failed, as the counts tell: each with its cause, and none is left out
-pub record Causes (before now : Counts) (failed : Failures) : Type 0 where
-  pub feed : failed.feed ≡ true → Rose before.world now.world ⊎ Rose before.inputs now.inputs
-  pub out : failed.out ≡ true → Rose before.world now.world ⊎ Rose before.outputs now.outputs
-  pub printing : failed.printing ≡ true → Rose before.printing now.printing
-  -- and each count that rose is told of
-  pub inputs_told : Rose before.inputs now.inputs → failed.feed ≡ true
-  pub outputs_told : Rose before.outputs now.outputs → failed.out ≡ true
-  pub printing_told : Rose before.printing now.printing → failed.printing ≡ true
-  pub world_told : Rose before.world now.world → (failed.feed ≡ true) ⊎ (failed.out ≡ true)
+-- which of both names is blamed, as the counts tell: each with its cause, and none is left out
+pub record Causes (before now : Counts) (feed out : Bool) : Type 0 where
+  pub feed_cause : feed ≡ true → Rose before.world now.world ⊎ Rose before.inputs now.inputs
+  pub out_cause : out ≡ true → Rose before.world now.world ⊎ Rose before.outputs now.outputs
+  pub inputs_told : Rose before.inputs now.inputs → feed ≡ true
+  pub outputs_told : Rose before.outputs now.outputs → out ≡ true
+  pub world_told : Rose before.world now.world → (feed ≡ true) ⊎ (out ≡ true)
 
--- the names of the parts that failed
-abbrev pub names_of : List ℕ → List ℕ → Failures → List (List ℕ)
-names_of out feed failed = named_when failed.feed feed ++ (named_when failed.out out ++ [])
+-- the names that are blamed
+abbrev pub names_of : List ℕ → List ℕ → Bool → Bool → List (List ℕ)
+names_of out feed feed_blamed out_blamed = named_when feed_blamed feed ++ (named_when out_blamed out ++ [])
 
 -- ---- the status
 
--- 5 for want of memory; else 3 exactly where a count rose; else 4 where a limit would be passed; else that of the feed's end.
--- A want of memory that the report names is answered as one; and where there is nothing to tell, none is.
-pub record EndsWith (before now : Counts) (report : Option Report) (status : ℕ) : Type 0 where
-  pub rose : AnyRose before now → (status ≡ 3) ⊎ (status ≡ 5)
-  pub calm : (AnyRose before now → ⊥) → (r : Report) (f : FeedReport) → report ≡ Some r → IsOnlyFeed r f
-      → (status ≡ (if passes_limit r then 4 else end_status f.end)) ⊎ (status ≡ 5)
-  pub no_report : (AnyRose before now → ⊥) → report ≡ None → status ≡ 5
-  pub memory : (r : Report) → report ≡ Some r → lacks_memory r ≡ true → status ≡ 5
-  pub sure : (AnyRose before now → ⊥) → (r : Report) (f : FeedReport) → report ≡ Some r → IsOnlyFeed r f
-      → lacks_memory r ≡ false → passes_limit r ≡ false → end_status f.end ≡ 0 → status ≡ 0
+-- 5 where memory lacked; else 3 where a count rose; else 4 where a limit would be passed; else that of the feed's end
+pub record EndsWith (before now : Counts) (report : Option Report) (lacked : Bool) (status : ℕ) : Type 0 where
+  pub memory : lacked ≡ true → status ≡ 5
+  pub rose : lacked ≡ false → AnyRose before now → status ≡ 3
+  pub calm : lacked ≡ false → (AnyRose before now → ⊥) → (r : Report) (f : FeedReport) → report ≡ Some r → IsOnlyFeed r f
+      → status ≡ (if passes_limit r then 4 else end_status f.end)
 
 -- the whole feed was recorded: its Data End was read, none of its messages was refused, and the file was closed
 pub record RecordsAll (r : Report) : Type 0 where
@@ -236,17 +228,16 @@ pub record Records (options : RecordOptions) (out feed : List ℕ) (old new : Sc
   pub lacked : Bool
   pub lacks : LackIsTold (counts_in old) (counts_in new) report lacked
   pub ran : Ran (files_of out feed) old new entries (report_text report) (findings_of out feed report lacked) status
-  pub failed : Failures
-  pub causes : Causes (counts_in old) (counts_in new) failed
-  pub names_are : ran.failed ≡ names_of out feed failed
-  pub printing_is : ran.printing ≡ failed.printing
+  pub feed_blamed : Bool
+  pub out_blamed : Bool
+  pub names_are : ran.failed ≡ names_of out feed feed_blamed out_blamed
+  pub causes : Causes (counts_in old) (counts_in new) feed_blamed out_blamed
   -- the status says what became of it
-  pub ended : EndsWith (counts_in old) (counts_in new) report status
+  pub ended : EndsWith (counts_in old) (counts_in new) report lacked status
   -- where the world tells, the bytes under the feed's name decide the status, unless a count rises, memory lacks, or a limit
   -- would be passed
   pub decided : (told : Told) (bytes : List ℕ) (tops : List Top) (halt : Halt) → old.world.told ≡ Some told → told.names feed ≡ Some bytes → Halts reading_limits bytes tops halt
-      → (AnyRose (counts_in old) (counts_in new) → ⊥)
-      → (status ≡ halt_status halt) ⊎ ((status ≡ 5) ⊎ ((status ≡ 4) × (limit_passed report ≡ true)))
+      → (AnyRose (counts_in old) (counts_in new) → ⊥) → lacked ≡ false → limit_passed report ≡ false → status ≡ halt_status halt
   -- the status 0 says that all of the feed was recorded
   pub whole : status ≡ 0 → (r : Report) × (report ≡ Some r) × RecordsAll r
 

@@ -1,6 +1,6 @@
 //! The answer to a recording: what standard error is told, and the status.
 ghost use Rattle.std.specs.List.{list_any};
-ghost use Rattle.std.specs.Prelude.{◌≡◌, ◌⊎◌, ◌↔◌, ◌||◌, [], ◌∷◌, ◌++◌, List, true, map, IfOk, OnOk, OnErr};
+ghost use Rattle.std.specs.Prelude.{◌≡◌, ◌⊎◌, ◌↔◌, ◌||◌, [], ◌∷◌, ◌++◌, List, true};
 ghost use Rattle.mcap_io.specs.Outside.{Rose};
 ghost use Rattle.command_base.specs.Texts.{Trouble, trouble_of, complained, bad_words, said};
 ghost use Rattle.command_base.specs.Printing.{Takes};
@@ -8,12 +8,10 @@ ghost use Rattle.mcap_app.specs.Answer.{Answers, LacksMemory, FaultsShow};
 ghost use Rattle.command_base.specs.Ran.{when, troubles_of, Complains};
 ghost use Rattle.mcap_app.specs.Record.{end_troubles, first_end, is_over, is_limit, passes_limit, is_memory, is_memory_stop, is_memory_end, is_memory_writer, lacks_memory as report_lacks, limit_passed, ends_in, findings_of, names_of};
 
-use command_base::{Complaint, Counts, complain_of, push_some, push_when, rose};
+use command_base::{Complaint, Counts, complain_of, due_when, rose};
 use mcap_io::Sink;
 use mcap_model::{End, Stop};
-use mcap_wire::Memory;
 use recorder::{Cause, FeedEnd, FeedReport, Refused, Report};
-use std::alloc::Global;
 
 /// What a recording came to: its report, and which of its names couldn't be opened or kept.
 #[derive(Drop)]
@@ -222,44 +220,24 @@ fn lacks_memory(report: &Option<Report>, failed: Failures) -> bool
     }
 }
 
-// The complaints of a recording, in their order.
-fn complaints_of<'a>(
-    alloc: Global,
+/// Complains of what went wrong in a recording, and answers the status.
+pub fn answer<'a, E: Sink>(
+    err: &mut E,
     out: &'a str,
     feed: &'a str,
     report: &'a Option<Report>,
-    failed: Failures,
-    lacked: bool,
-) -> Result<Vec<Complaint<'a>>, Memory>
-    ensures are { IfOk result (λ all. map trouble_of all.items ≡ troubles_of (findings_of out.now feed.now report.now lacked) (names_of out.now feed.now failed) failed.printing) }
-    ensures some { OnErr result (troubles_of (findings_of out.now feed.now report.now lacked) (names_of out.now feed.now failed) failed.printing ≡ [] → ⊥) }
-{
-    let mut all = Vec::new(alloc);
-    push_some(&mut all, end_complaint(feed, report))?;
-    push_when(&mut all, failed.feed, Complaint::Fault { name: feed })?;
-    push_when(&mut all, failed.out, Complaint::Fault { name: out })?;
-    let is_limited = has_limit(report);
-    push_when(&mut all, is_limited, Complaint::OutputLimit { name: out })?;
-    push_when(&mut all, failed.printing, Complaint::OutputFault)?;
-    push_when(&mut all, lacked, Complaint::NoMemory)?;
-    Ok(all)
-}
-
-/// Complains of what went wrong in a recording, and answers the status.
-pub fn answer<E: Sink>(
-    alloc: Global,
-    err: &mut E,
-    out: &str,
-    feed: &str,
-    report: &Option<Report>,
     failed: Failures,
 ) -> u8
     ensures { Answers out.now feed.now report.now failed (E.state err.old) (E.state err.new) result }
 {
     let lacked = lacks_memory(report, failed);
-    complain_of(
-        alloc,
-        err,
-        complaints_of(alloc, out, feed, report, failed, lacked),
-    )
+    let complaints = [
+        end_complaint(feed, report),
+        due_when(failed.feed, Complaint::Fault { name: feed }),
+        due_when(failed.out, Complaint::Fault { name: out }),
+        due_when(has_limit(report), Complaint::OutputLimit { name: out }),
+        due_when(failed.printing, Complaint::OutputFault),
+        due_when(lacked, Complaint::NoMemory),
+    ];
+    complain_of(err, &complaints)
 }

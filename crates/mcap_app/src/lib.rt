@@ -16,7 +16,7 @@ mod verbs;
 
 pub use answering::{Failures, Outcome, answer, failed_parts};
 pub use command::{Command, WordsRefused};
-pub use command_base::{Complaint, Counts, rose, say, status};
+pub use command_base::{Complaint, Counts, rose};
 pub use mcap_model::{End, Stop};
 pub use parse::parse_words;
 pub use print::print_report;

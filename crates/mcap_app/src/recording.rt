@@ -122,7 +122,7 @@ pub fn record_file<W: World, O: Sink, E: Sink>(
     print_outcome(out, &outcome.report);
     let now = Counts::of(world, out);
     let failed = failed_parts(&before, &now, &outcome);
-    let status = answer(alloc, err, out_name, feed_name, &outcome.report, failed);
+    let status = answer(err, out_name, feed_name, &outcome.report, failed);
     Ended {
         status,
         report: outcome.report,

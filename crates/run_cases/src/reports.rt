@@ -92,8 +92,7 @@ fn is_answered(
     complaints: &str,
 ) -> bool {
     let mut err = MemorySink::new(alloc, Vec::new(alloc));
-    answer(alloc, &mut err, "OUT", "F", report, failed) == status
-        && err.bytes() == complaints.as_bytes()
+    answer(&mut err, "OUT", "F", report, failed) == status && err.bytes() == complaints.as_bytes()
 }
 
 // The cause, whether memory lacked for the other feed, the file's end, what failed besides; and what is told.

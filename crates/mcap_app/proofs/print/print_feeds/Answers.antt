@@ -1,6 +1,7 @@
 -- A line that was printed is one more; after one that failed a first part of all lines was printed.
 use Rattle.std.proofs.Common.{◌∙◌}
-use Rattle.mcap_app.proofs.Lines.{feed_lines-adds, feed_lines-part, rises_on}
+use Rattle.command_base.proofs.Behind.{rises_on}
+use Rattle.mcap_app.proofs.Lines.{feed_lines-adds, feed_lines-part}
 use Rattle.mcap_app.proofs.print.print_feeds.Goals as goal
 
 pub returns-in-Err : goal.returns-in-Err

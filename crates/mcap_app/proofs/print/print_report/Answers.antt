@@ -1,5 +1,5 @@
 -- The line of the file stands behind those of the feeds.
-use Rattle.mcap_app.proofs.Lines.{prints-behind}
+use Rattle.command_base.proofs.Behind.{prints-behind}
 use Rattle.mcap_app.proofs.print.print_report.Goals as goal
 
 pub returns-in-Ok : goal.returns-in-Ok
