@@ -85,15 +85,15 @@ not_two file old new answer all two =
     one_not_two kinds.Store file old new all.entries (ending_of file all.judgement) all.complained (well file all.judgement) all.ran (of_troubles all.complained all.judgement answer 0 all.status_is two)
 
 -- a check that failed has a store that failed
-pub sure : (file : List ℕ) (store : StoreState) (faults : ℕ) (judgement : Judgement) (well : Bool) → store.faults ≡ 0 → CheckComesTo store faults judgement → ending_of file judgement ≡ failing → failed_so well faults ≡ true
-sure file store faults judgements.Unopened well unused comes e = absurd comes
-sure file store faults (judgements.Given verdict) well unused comes e = read_sure _ (failed_so well faults) e
-sure file store faults (judgements.Refused (refusals.Fault count)) well unused comes e =
+pub sure : (file : List ℕ) (store : StoreState) (faults asked : ℕ) (judgement : Judgement) (well : Bool) → store.faults ≡ 0 → CheckComesTo store faults asked judgement → ending_of file judgement ≡ failing → failed_so well faults ≡ true
+sure file store faults asked judgements.Unopened well unused comes e = absurd comes
+sure file store faults asked (judgements.Given verdict) well unused comes e = read_sure _ (failed_so well faults) e
+sure file store faults asked (judgements.Refused (refusals.Fault count)) well unused comes e =
     let rises = comes.cause.0 in
     failed_often well faults (λ none. omega (arith, rises.once, none, unused))
-sure file store faults (judgements.Refused (refusals.Compressed n name)) well unused comes e = halted_sure _ (failed_so well faults) e
-sure file store faults (judgements.Refused (refusals.Limit n)) well unused comes e = halted_sure _ (failed_so well faults) e
-sure file store faults (judgements.Refused refusals.Memory) well unused comes e = lacked_sure (failed_so well faults) e
+sure file store faults asked (judgements.Refused (refusals.Compressed n name)) well unused comes e = halted_sure _ (failed_so well faults) e
+sure file store faults asked (judgements.Refused (refusals.Limit n)) well unused comes e = halted_sure _ (failed_so well faults) e
+sure file store faults asked (judgements.Refused refusals.Memory) well unused comes e = lacked_sure (failed_so well faults) e
 
 -- ---- the bytes decide
 
@@ -104,14 +104,14 @@ Calm file judgement complained = complained ≡ ending_status (ending_of file ju
 halted_ends : (own complained answer n : ℕ) → answer ≡ final_status complained own → complained ≡ suc n → answer ≡ suc n
 halted_ends own complained answer n final is = final ∙ final_same complained own (λ none. omega (arith, none, is)) ∙ is
 
-decides_so : (file bytes : List ℕ) (store : StoreState) (faults : ℕ) (judgement : Judgement) (complained answer : ℕ) → store.bytes ≡ Some bytes → CheckComesTo store faults judgement → (ending_of file judgement ≡ failing → ⊥)
+decides_so : (file bytes : List ℕ) (store : StoreState) (faults asked : ℕ) (judgement : Judgement) (complained answer : ℕ) → store.bytes ≡ Some bytes → CheckComesTo store faults asked judgement → (ending_of file judgement ≡ failing → ⊥)
     → Calm file judgement complained → answer ≡ final_status complained (judgement_status judgement) → Decides bytes judgement answer
-decides_so file bytes store faults judgements.Unopened complained answer here comes other why final = comes
-decides_so file bytes store faults (judgements.Given verdict) complained answer here comes other why final = (comes.checks bytes here, final ∙ final_none complained (verdict_status verdict) why)
-decides_so file bytes store faults (judgements.Refused (refusals.Fault count)) complained answer here comes other why final = absurd (other refl)
-decides_so file bytes store faults (judgements.Refused (refusals.Compressed n name)) complained answer here comes other why final = (comes.checks bytes here, halted_ends 0 complained answer 0 final why)
-decides_so file bytes store faults (judgements.Refused (refusals.Limit n)) complained answer here comes other why final = (comes.checks bytes here, halted_ends 0 complained answer 3 final why)
-decides_so file bytes store faults (judgements.Refused refusals.Memory) complained answer here comes other why final = halted_ends 0 complained answer 4 final why
+decides_so file bytes store faults asked judgements.Unopened complained answer here comes other why final = comes
+decides_so file bytes store faults asked (judgements.Given verdict) complained answer here comes other why final = (comes.checks bytes here, final ∙ final_none complained (verdict_status verdict) why)
+decides_so file bytes store faults asked (judgements.Refused (refusals.Fault count)) complained answer here comes other why final = absurd (other refl)
+decides_so file bytes store faults asked (judgements.Refused (refusals.Compressed n name)) complained answer here comes other why final = (comes.checks bytes here, halted_ends 0 complained answer 0 final why)
+decides_so file bytes store faults asked (judgements.Refused (refusals.Limit n)) complained answer here comes other why final = (comes.checks bytes here, halted_ends 0 complained answer 3 final why)
+decides_so file bytes store faults asked (judgements.Refused refusals.Memory) complained answer here comes other why final = halted_ends 0 complained answer 4 final why
 
 decides : (file bytes : List ℕ) (world : WorldState) (told : Told) (entries : List Opening) (judgement : Judgement) (complained answer : ℕ) → IsJudged file world entries judgement → world.told ≡ Some told → told.names file ≡ Some bytes
     → (ending_of file judgement ≡ failing → ⊥) → Calm file judgement complained → answer ≡ final_status complained (judgement_status judgement) → Decides bytes judgement answer
@@ -121,7 +121,7 @@ decides file bytes world told [] judgement complained answer is here there other
     subst (λ (j : Judgement). Decides bytes j answer) (sym is) (halted_ends 0 complained answer 4 last so)
 decides file bytes world told (entry ∷ more) judgement complained answer (inl refused) here there other why final = absurd (other (ap (ending_of file) refused.1))
 decides file bytes world told (entry ∷ more) judgement complained answer (inr (keeping, is, under)) here there other why final =
-    decides_so file bytes under.store keeping.faults judgement complained answer ((under.tells told here).0 ∙ there) under.comes other why final
+    decides_so file bytes under.store keeping.faults keeping.asked judgement complained answer ((under.tells told here).0 ∙ there) under.comes other why final
 
 -- ---- the status 0
 

@@ -1,5 +1,5 @@
 -- What the check of a file did: to the names of the world, to both outputs, and how it ended.
-use Rattle.std.specs.Prelude.{◌≡◌, ◌⊎◌, ◌==◌, ℕ, List, ◌++◌, codes, decimal, if◌then◌else◌, Some, Result, Ok, Err}
+use Rattle.std.specs.Prelude.{◌≡◌, ◌⊎◌, ◌==◌, ◌+◌, ◌≤◌, ℕ, List, ◌++◌, length, codes, decimal, if◌then◌else◌, Some, Result, Ok, Err}
 use Rattle.mcap_io.specs.Outside.{WorldState, Told, Opening}
 use Rattle.mcap_io.specs.Stores.{StoreState}
 use Rattle.mcap_io.specs.declared.outside.ObjectKind.TheVariants as kinds
@@ -9,7 +9,7 @@ use Rattle.mcap_model.specs.declared.checked.Verdict.TheVariants as verdicts
 use Rattle.mcap_model.specs.Kept.{compressed as names}
 use Rattle.file_check.specs.declared.refusals.CheckRefused.{CheckRefused}
 use Rattle.file_check.specs.declared.refusals.CheckRefused.TheVariants as refusals
-use Rattle.file_check.specs.Checking.{IsSo, HaltsBefore, MeetsLimit, Checks, CheckCause}
+use Rattle.file_check.specs.Checking.{IsSo, HaltsBefore, MeetsLimit, Checks, CheckCause, margin}
 use Rattle.file_commands.specs.declared.checking.Judgement.{Judgement}
 use Rattle.file_commands.specs.declared.checking.Judgement.TheVariants as judgements
 use Rattle.file_commands.specs.declared.checking.Judged.{Judged}
@@ -21,21 +21,23 @@ use Rattle.file_commands.specs.Names.{StoreUnder, IsOpened, NameEnds}
 
 -- ---- the file
 
--- the bytes of the store, where it told them, have this answer; its count says whether it failed
-pub record HasAnswer (store : StoreState) (faults : ℕ) (answer : Result Verdict CheckRefused) : Type 0 where
+-- the bytes of the store, where it told them, have this answer; its count says whether it failed; and it was asked for little
+-- more than its bytes
+pub record HasAnswer (store : StoreState) (faults asked : ℕ) (answer : Result Verdict CheckRefused) : Type 0 where
   pub checks : Checks store.bytes answer
   pub cause : CheckCause store.faults faults answer
+  pub asks : (file : List ℕ) → store.bytes ≡ Some file → asked ≤ store.asked + (length file + margin)
 
--- what the check of a store came to, whose count stands there then
-abbrev pub CheckComesTo : StoreState → ℕ → Judgement → Type 0
-CheckComesTo store faults judgements.Unopened = ⊥
-CheckComesTo store faults (judgements.Given verdict) = HasAnswer store faults (Ok verdict)
-CheckComesTo store faults (judgements.Refused why) = HasAnswer store faults (Err why)
+-- what the check of a store came to, whose counts of faults and of bytes asked for stand there then
+abbrev pub CheckComesTo : StoreState → ℕ → ℕ → Judgement → Type 0
+CheckComesTo store faults asked judgements.Unopened = ⊥
+CheckComesTo store faults asked (judgements.Given verdict) = HasAnswer store faults asked (Ok verdict)
+CheckComesTo store faults asked (judgements.Refused why) = HasAnswer store faults asked (Err why)
 
 -- what its opening as a store came to
 abbrev pub IsJudged : List ℕ → WorldState → List Opening → Judgement → Type 0
 IsJudged file world entries judgement = IsOpened kinds.Store file entries (judgement ≡ judgements.Refused refusals.Memory) (judgement ≡ judgements.Unopened)
-    (StoreUnder file world (λ store faults asked. CheckComesTo store faults judgement))
+    (StoreUnder file world (λ store faults asked. CheckComesTo store faults asked judgement))
 
 -- ---- the line
 

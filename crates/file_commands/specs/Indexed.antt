@@ -16,7 +16,7 @@ use Rattle.indexed_replay.specs.declared.answers.ReplayRefused.TheVariants as re
 use Rattle.indexed_replay.specs.declared.answers.NotIndexed.{NotIndexed}
 use Rattle.indexed_replay.specs.declared.answers.NotIndexed.TheVariants as lacks
 use Rattle.indexed_replay.specs.Replaying.{IsReason, Plays, TellsChunks, TellsNoSummary, PlaysScan, ReplayCause}
-use Rattle.indexed_replay.specs.Played.{AsksIndexed, AsksBound}
+use Rattle.indexed_replay.specs.Played.{AsksIndexed, AsksUnloaded, AsksBound}
 use Rattle.file_commands.specs.declared.indexed.Following.{Following}
 use Rattle.file_commands.specs.declared.indexed.Following.TheVariants as followings
 use Rattle.file_commands.specs.declared.indexed.Followed.{Followed}
@@ -44,6 +44,8 @@ pub record Replays (asked : Selection) (store now : StoreState) (answer : Result
   pub scanned : PlaysScan store.bytes asked.range asked.topic answer
   -- of the file no more is asked for than its ends, its summary, and what the indexes lead to
   pub asks : AsksIndexed asked.range store now
+  -- of one whose summary can't be loaded no more than its ends and the summary
+  pub unloaded : AsksUnloaded store now
   -- and of a fully indexed file no more than the Message Indexes and the messages in the range besides
   pub bounded : AsksBound asked.range store now
   pub cause : ReplayCause store.faults now.faults answer

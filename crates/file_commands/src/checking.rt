@@ -33,7 +33,7 @@ pub struct Judged {
 
 // Checks the file that a store holds.
 fn judge_store<T: Store>(alloc: Global, store: &mut T) -> Judgement
-    ensures { CheckComesTo (T.state store.old) (T.state store.new).faults result }
+    ensures { CheckComesTo (T.state store.old) (T.state store.new).faults (T.state store.new).asked result }
 {
     match check(alloc, store) {
         Ok(verdict) => Judgement::Given { verdict },

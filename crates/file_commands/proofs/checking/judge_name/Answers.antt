@@ -30,7 +30,7 @@ returns g c =
     let kept = c.keep_store-kept.result in
     let judgement = c.judge_store-judgement.result in
     let failed : failed_so (went_well kept) store_now.faults ≡ c.has_failed.result = sym (c.has_failed.ensures ∙ ap (failed_so (went_well kept)) c.faults-faults.ensures) in
-    store_ends file (λ entries. IsJudged file world entries judgement) (λ store faults asked. CheckComesTo store faults judgement) (ending_of file judgement) c.has_failed.result
+    store_ends file (λ entries. IsJudged file world entries judgement) (λ store faults asked. CheckComesTo store faults asked judgement) (ending_of file judgement) c.has_failed.result
     world (g.W.World.state c.store.new.self) (g.W.World.state c.keep_store-kept.new.self) store store_now kept (record {
       opens = c.in-Ok.ensures.opens;
       stands = c.in-Ok.ensures.counts;
@@ -45,4 +45,4 @@ returns g c =
       world_fits = c.requires.world_fits;
       inputs_fit = c.requires.inputs_fit;
       outputs_fit = c.requires.outputs_fit;
-    }) failed (sure file store store_now.faults judgement (went_well kept) c.in-Ok.ensures.unused.faults c.judge_store-judgement.ensures) (λ under. inr (store_keeping store_now kept, refl, under))
+    }) failed (sure file store store_now.faults store_now.asked judgement (went_well kept) c.in-Ok.ensures.unused.faults c.judge_store-judgement.ensures) (λ under. inr (store_keeping store_now kept, refl, under))
