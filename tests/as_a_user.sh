@@ -270,7 +270,7 @@ mcaprec cat --indexed many-chunks.mcap >many-indexed
 [ "$(wc -l <many-indexed)" -eq 8192 ] || say_wrong 'cat --indexed of many.mcap has other lines'
 cmp -s many-scanned many-indexed || say_wrong 'cat --indexed of many.mcap is not its cat'
 expect 1 '' 'mcaprec: "session-out.mcap": not indexed: no summary' mcaprec cat --indexed session-out.mcap
-expect 1 '' 'mcaprec: "none.mcap": flaw V17 at 0' mcaprec cat --indexed none.mcap
+expect 1 '' 'mcaprec: "none.mcap": flaw V1 at 0' mcaprec cat --indexed none.mcap
 expect 3 '' 'mcaprec: "folder": fault' mcaprec cat --indexed folder
 expect 3 '' 'mcaprec: "missing.mcap": fault' mcaprec cat --indexed missing.mcap
 expect 2 '' "$usage" mcaprec cat --start session-chunks.mcap
@@ -314,17 +314,46 @@ expect 0 '5 9 1 3 "/imu" 77
 12 9 2 1 "/log" -
 20 9 2 2 "/log" 71' '' mcaprec cat "$other"
 
-# What is cut ends with no magic: each first part of two files, by the program that the launcher built. Of what is left a sound
-# file is made.
+# The offsets at which the records of a file begin, up to the one behind its Data End.
+places() {
+    place=8
+    while :; do
+        printf '%s ' "$place"
+        opcode=$(od -An -tu1 -j "$place" -N 1 -- "$1" | tr -d ' ')
+        place=$((place + 9 + $(od -An -tu8 -j $((place + 1)) -N 8 -- "$1" | tr -d ' ')))
+        [ "$opcode" -ne 15 ] || break
+    done
+    printf '%s\n' "$place"
+}
+# What a check says of the first bytes of a file, so many, whose records begin there: where its data ends, or that the last magic
+# isn't there, where no more is left of a record than that.
+cut_flaw() {
+    if [ "$1" -lt 8 ]; then
+        echo 'flaw V1 at 0'
+        return
+    fi
+    begin=8
+    for place in $2; do
+        [ "$place" -gt "$1" ] || begin=$place
+    done
+    if [ "$begin" -eq "${2##* }" ] || [ $(($1 - begin)) -le 8 ]; then
+        echo "flaw V2 at $(($1 - 8))"
+    else
+        echo "flaw V4 at $begin"
+    fi
+}
+
+# Each first part of two files, by the program that the launcher built. Of what is left a sound file is made.
 for cut in one session-chunks; do
     if [ "$cut" = one ]; then whole=$one; else whole=$cut.mcap; fi
     size=$(($(wc -c <"$whole")))
+    begins=$(places "$whole")
     n=0
     while [ "$n" -lt "$size" ]; do
         head -c "$n" -- "$whole" >checked.mcap
         said=$("$root/crates/mcap_cli/out/mcap_cli" check checked.mcap 2>&1)
         compare "the status of a check of $n bytes of $cut" 1 $?
-        compare "a check of $n bytes of $cut" "flaw V2 at $((n < 8 ? 0 : n - 8))" "$said"
+        compare "a check of $n bytes of $cut" "$(cut_flaw "$n" "$begins")" "$said"
         n=$((n + 1))
     done
 done
@@ -382,7 +411,11 @@ cat -- "$one" >pipe 2>/dev/null &
 expect 3 '' 'mcaprec: "pipe": fault' mcaprec check pipe
 wait
 expect 3 '' 'mcaprec: "/dev/null": fault' mcaprec check /dev/null
-expect 1 'flaw V2 at 0' '' mcaprec check none.mcap
+expect 1 'flaw V1 at 0' '' mcaprec check none.mcap
+printf 'timestamp,value\n' >text.csv
+expect 1 'flaw V1 at 0' '' mcaprec check text.csv
+expect 1 '' 'mcaprec: "text.csv": flaw V1 at 0' mcaprec cat --indexed text.csv
+expect 1 '' 'mcaprec: "text.csv": grammar at 0' mcaprec info text.csv
 # shellcheck disable=SC2016  # the inner shell is to expand it
 expect 3 '' 'mcaprec: output: fault' sh -c 'mcaprec check "$1" >/dev/full' sh "$one"
 
