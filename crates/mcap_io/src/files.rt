@@ -28,6 +28,7 @@ use std::os::unix::fs::FileExt;
 use std::rt::Files;
 
 /// A source over a file. It reads up to 262,144 bytes ahead; a larger read goes past its buffer.
+#[derive(Drop)]
 pub struct FileSource<F> {
     ahead: ReadAhead<F>,
     id: FileId,
@@ -150,6 +151,7 @@ impl<F: FileExt + Drop> LiveView<Stretch> for FileView<F> {
 /// A live store over a file. Pieces wait in a buffer of 262,144 bytes until it is full or the store is kept; a
 /// larger piece goes past it. Once a write has failed, each append fails. A view can be made of a file that may be read
 /// too, and of no pipe or device.
+#[derive(Drop)]
 pub struct FileLive<F> {
     gather: Gather<WriterSink<F>>,
     // The same file, opened once more to be read.

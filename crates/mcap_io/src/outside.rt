@@ -198,13 +198,13 @@ pub trait LiveStore {
 
 /// The names that the program reads and writes. Each object that it opens comes back by a keep call.
 pub trait World {
-    type Source: Source + Send;
+    type Source: Source + Send + Drop;
 
     type Store: Store + Send;
 
     type Sink: Sink + Send;
 
-    type Live: LiveStore + Send;
+    type Live: LiveStore<Extent: Send + Sync> + Send + Drop;
 
     /// What it tells of its names and openings, how often an opening or a keeping has failed, and the faults of what was
     /// taken back.
