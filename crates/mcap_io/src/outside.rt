@@ -204,7 +204,7 @@ pub trait World {
 
     type Sink: Sink + Send;
 
-    type Live: LiveStore<Extent: Send + Sync> + Send + Drop;
+    type Live: LiveStore<Extent: Send + Sync, View: Send> + Send + Drop;
 
     /// What it tells of its names and openings, how often an opening or a keeping has failed, and the faults of what was
     /// taken back.
