@@ -14,6 +14,7 @@ ghost use Rattle.buffer_swap.specs.Turns.{newcomer};
 ghost use Rattle.buffer_swap.specs.Plays.{desk_of, HasDesk, IsIdle, Took, MayCount, NamedAt, LacksAt, missing, counts, hands_over, closes, stops, frees, same_pass, with_full_hand, with_name, with_lacking};
 ghost use Rattle.buffer_swap.specs.Calls.{counts_message, pass_published, counts_declared, pass_declared, PublishedInTurn, DeclaredInTurn, TriedInTurn, pass_named, NamedInTurn, hands_if, SwappedInTurn, closes_if, ClosedInTurn, stops_if, StoppedInTurn};
 
+use crate::doorbell::Doorbell;
 use crate::plays::{
     Close, Count, Free, FreeFull, FreeLacking, FreeNamed, HandOver, Said, Stop, Take,
 };
@@ -25,12 +26,24 @@ use rec_data::ChannelDef;
 use record_cache::Cache;
 use record_core::{DeclareRefused, Declared, Desk, Empty, Found, NewMessage, PublishRefused};
 use std::alloc::Global;
+use std::hint::spin_loop;
 use std::marker::Brand;
 use std::sync::Wait;
+use std::sync::atomic::AtomicU64;
+use std::sync::atomic::Ordering::SeqCst;
 
 pub(crate) const TURN: usize = 0;
 
 pub(crate) const EVENTS: usize = 1;
+
+// From how many bytes on a buffer is worth a swap, where the limit isn't less.
+const RIPE: u64 = 262_144;
+
+// How often a turn that is taken is looked at before a sleep: most turns are shorter than a sleep.
+const LOOKS: u32 = 100;
+
+// What a message has in a buffer before its data: opcode, length and the other fields.
+const BEFORE_DATA: u64 = 31;
 
 impl Board {
     pub(crate) fn open(alloc: Global, desk: Desk) -> Result<(Board, Seat), Memory>
@@ -47,7 +60,14 @@ impl Board {
             Ok(made) => made,
             Err(NoTable { slots: _ }) => return Err(Memory),
         };
-        Ok((Board { table }, seat))
+        let board = Board {
+            table,
+            turn_sleepers: AtomicU64::new(0),
+            room_sleepers: AtomicU64::new(0),
+            ripe: limit.min(RIPE),
+            doorbell: Doorbell::new(),
+        };
+        Ok((board, seat))
     }
 
     // ---- taking the turn
@@ -63,6 +83,31 @@ impl Board {
         self.table.shared.compare_exchange::<Take>(seat, TURN, 0, 1) == 0
     }
 
+    // Whether the turn was seen free in a short while.
+    fn sees_free_turn(&self) -> bool {
+        for _ in 0..LOOKS {
+            if self.table.shared.peek(TURN) == 0 {
+                return true;
+            }
+            spin_loop();
+        }
+        false
+    }
+
+    // Sleeps while the turn is taken, and may return early. It is counted before the sleep looks at the turn.
+    fn sleep_for_turn<R: Wait>(&self, rt: &R) {
+        self.turn_sleepers.fetch_add(1, SeqCst);
+        self.table.shared.park(rt, TURN, 1);
+        self.turn_sleepers.fetch_sub(1, SeqCst);
+    }
+
+    // Wakes one who sleeps until the turn is free, if there is any. The turn was freed before.
+    fn wake_for_turn(&self) {
+        if self.turn_sleepers.load(SeqCst) != 0 {
+            self.table.shared.wake_one(TURN);
+        }
+    }
+
     /// Takes the turn, and waits for it.
     pub(crate) fn wait<R: Wait>(&self, rt: &R, seat: &mut Seat)
         requires id { seat.old.table_id ≡ self.now.table.shared.table_id }
@@ -74,7 +119,9 @@ impl Board {
             if self.take(seat) {
                 return;
             }
-            self.table.shared.park(rt, TURN, 1);
+            if !self.sees_free_turn() {
+                self.sleep_for_turn(rt);
+            }
         }
         unreachable!()
     }
@@ -230,7 +277,7 @@ impl Board {
         ensures me { seat.new.me ≡ (frees seat.old.me.0 (same_pass seat.old.me.0), []) }
     {
         self.table.shared.store::<Free>(seat, TURN, 0);
-        self.table.shared.wake_one(TURN);
+        self.wake_for_turn();
     }
 
     // Shows that the buffer was full.
@@ -241,7 +288,7 @@ impl Board {
         ensures me { seat.new.me ≡ (frees seat.old.me.0 (with_full_hand seat.old.me.0), []) }
     {
         self.table.shared.store::<FreeFull>(seat, TURN, 0);
-        self.table.shared.wake_one(TURN);
+        self.wake_for_turn();
     }
 
     // Shows the id that a channel got.
@@ -254,7 +301,7 @@ impl Board {
         ensures me { seat.new.me ≡ (frees seat.old.me.0 (with_name (_channel, _def.now) seat.old.me.0), []) }
     {
         self.table.shared.store::<FreeNamed<N>>(seat, TURN, 0);
-        self.table.shared.wake_one(TURN);
+        self.wake_for_turn();
     }
 
     // Shows that no id was left for a channel.
@@ -267,7 +314,7 @@ impl Board {
         ensures me { seat.new.me ≡ (frees seat.old.me.0 (with_lacking (_def.now, _why) seat.old.me.0), []) }
     {
         self.table.shared.store::<FreeLacking<N>>(seat, TURN, 0);
-        self.table.shared.wake_one(TURN);
+        self.wake_for_turn();
     }
 
     // ---- a turn that was taken
@@ -307,11 +354,12 @@ impl Board {
         }
     }
 
-    /// Publishes a message in a turn that was taken, and frees it.
+    /// Publishes a message in a turn that was taken and found the buffer to hold so many bytes, and frees it.
     pub(crate) fn publish_in_turn(
         &self,
         seat: &mut Seat,
         m: &NewMessage<'_>,
+        held: u64,
     ) -> Result<u64, PublishRefused>
         requires id { seat.old.table_id ≡ self.now.table.shared.table_id }
         requires desk { HasDesk seat.old.me }
@@ -322,6 +370,7 @@ impl Board {
         let answer = self.publish_out(seat, m);
         self.count_message(seat, m, &answer);
         self.free_published(seat, &answer);
+        self.ring_behind_message(held, m);
         answer
     }
 
@@ -392,11 +441,12 @@ impl Board {
         }
     }
 
-    /// Declares a channel in a turn that was taken, and frees it.
+    /// Declares a channel in a turn that was taken and found the buffer to hold so many bytes, and frees it.
     pub(crate) fn declare_in_turn(
         &self,
         seat: &mut Seat,
         channel: &ChannelDef,
+        held: u64,
     ) -> Result<Declared, DeclareRefused>
         requires id { seat.old.table_id ≡ self.now.table.shared.table_id }
         requires desk { HasDesk seat.old.me }
@@ -408,6 +458,7 @@ impl Board {
         let answer = self.declare_out(seat, channel);
         self.count_declared(seat, channel, &answer);
         self.free_declared(seat, channel, &answer);
+        self.ring_if_ripe(held);
         answer
     }
 
@@ -430,7 +481,8 @@ impl Board {
         }
     }
 
-    /// Swaps in a turn that was taken, and frees it. Whoever waits for a swap is woken.
+    /// Swaps in a turn that was taken, and frees it. Whoever waits for a swap is woken, and what the drain was told before is
+    /// forgotten.
     pub(crate) fn swap_in_turn(&self, seat: &mut Seat, empty: Cache) -> Result<Cache, Empty>
         requires id { seat.old.table_id ≡ self.now.table.shared.table_id }
         requires desk { HasDesk seat.old.me }
@@ -441,8 +493,9 @@ impl Board {
     {
         let answer = self.swap_out(seat, empty);
         self.hand_swapped(seat, &answer);
+        self.doorbell.forget(self.table.shared.peek(EVENTS));
         self.free(seat);
-        self.table.shared.wake_all(EVENTS);
+        self.wake_for_room();
         answer
     }
 
@@ -474,7 +527,8 @@ impl Board {
         let at = self.close_out(seat);
         self.close_if(seat, found.end);
         self.free(seat);
-        self.table.shared.wake_all(EVENTS);
+        self.wake_for_room();
+        self.doorbell.ring_for_good();
         at
     }
 
@@ -507,17 +561,19 @@ impl Board {
         let at = self.stop_out(seat, stop);
         self.stop_if(seat, found.end, stop);
         self.free(seat);
-        self.table.shared.wake_all(EVENTS);
+        self.wake_for_room();
+        self.doorbell.ring_for_good();
         at
     }
 
     // ---- a turn that shows nothing of a full buffer
 
-    /// Publishes a message in a turn that was taken, and frees it.
+    /// Publishes a message in a turn that was taken and found the buffer to hold so many bytes, and frees it.
     pub(crate) fn try_in_turn(
         &self,
         seat: &mut Seat,
         m: &NewMessage<'_>,
+        held: u64,
     ) -> Result<u64, PublishRefused>
         requires id { seat.old.table_id ≡ self.now.table.shared.table_id }
         requires desk { HasDesk seat.old.me }
@@ -528,6 +584,7 @@ impl Board {
         let answer = self.publish_out(seat, m);
         self.count_message(seat, m, &answer);
         self.free(seat);
+        self.ring_behind_message(held, m);
         answer
     }
 
@@ -552,11 +609,12 @@ impl Board {
         }
     }
 
-    /// Declares a channel in a turn that was taken, and frees it.
+    /// Declares a channel in a turn that was taken and found the buffer to hold so many bytes, and frees it.
     pub(crate) fn name_in_turn(
         &self,
         seat: &mut Seat,
         channel: &ChannelDef,
+        held: u64,
     ) -> Result<Declared, DeclareRefused>
         requires id { seat.old.table_id ≡ self.now.table.shared.table_id }
         requires desk { HasDesk seat.old.me }
@@ -568,6 +626,7 @@ impl Board {
         let answer = self.declare_out(seat, channel);
         self.count_declared(seat, channel, &answer);
         self.free_tried(seat, channel, &answer);
+        self.ring_if_ripe(held);
         answer
     }
 
@@ -579,7 +638,44 @@ impl Board {
 
     /// Sleeps until a swap, a close or a stop behind these events, and may return early. Where records were counted since, it
     /// doesn't sleep; where some are counted while it sleeps, that doesn't wake it.
-    pub(crate) fn sleep<R: Wait>(&self, rt: &R, events: u32) {
+    pub(crate) fn sleep_for_room<R: Wait>(&self, rt: &R, events: u32) {
+        self.room_sleepers.fetch_add(1, SeqCst);
         self.table.shared.park(rt, EVENTS, events);
+        self.room_sleepers.fetch_sub(1, SeqCst);
+    }
+
+    // Wakes all who sleep until there is room, if there are any. The events were counted before.
+    fn wake_for_room(&self) {
+        if self.room_sleepers.load(SeqCst) != 0 {
+            self.table.shared.wake_all(EVENTS);
+        }
+    }
+
+    // ---- the drain's rest
+
+    // Whether records were accepted since the last swap. The last swap is read first, so that no event of it is missed.
+    fn has_more(&self) -> bool {
+        let swapped_at = self.doorbell.swapped_at();
+        self.table.shared.peek(EVENTS) != swapped_at
+    }
+
+    /// Rouses the drain where records were accepted since the last swap.
+    pub(crate) fn rouse(&self) {
+        if self.has_more() {
+            self.doorbell.rouse();
+        }
+    }
+
+    // Rings where the buffer holds enough for a swap.
+    fn ring_if_ripe(&self, held: u64) {
+        if held >= self.ripe && self.has_more() {
+            self.doorbell.ring();
+        }
+    }
+
+    // The same behind a message, before which the buffer held so many bytes.
+    fn ring_behind_message(&self, held: u64, m: &NewMessage<'_>) {
+        let framed = BEFORE_DATA.saturating_add(m.payload.len() as u64);
+        self.ring_if_ripe(held.saturating_add(framed));
     }
 }

@@ -29,4 +29,14 @@ impl Drain<'_> {
         self.board.wait(rt, &mut self.seat);
         self.board.stop_in_turn(&mut self.seat, stop)
     }
+
+    /// Sleeps until there may be something to take: until a publisher finds or leaves 262,144 bytes or more in the buffer, or
+    /// as many as the limit if that is less; until a `Rouser` is called while something waits to be taken, and a millisecond
+    /// more, in which more may gather; until an end is set. What came of these since the last swap isn't slept through: it
+    /// returns at once then, and behind an end always. So whoever swaps again after each rest, and rests only after a swap,
+    /// misses nothing. Less than that may wait in the buffer all the while. It may return early, and waits for ever where nobody
+    /// does any of these. One thread at a time rests.
+    pub fn rest<R: Wait>(&self, rt: &R) {
+        self.board.doorbell.rest(rt);
+    }
 }

@@ -9,7 +9,7 @@ ghost use Rattle.record_core.specs.Sights.{DefFits};
 ghost use Rattle.buffer_swap.specs.Calls.{Publishes, Declares, TriesBy, answer_of, LooksOn, NotFull, NeverFull};
 
 use crate::answers::TryRefused;
-use crate::seats::{EndedPass, Publisher};
+use crate::seats::{EndedPass, Publisher, Rouser};
 use rec_data::ChannelDef;
 use record_core::{DeclareRefused, Declared, Found, NewMessage, PublishRefused, declared_size};
 use std::sync::Wait;
@@ -62,7 +62,7 @@ impl<'t> Publisher<'t> {
         }
         let found = self.board.found_out(&mut self.seat);
         self.found = Some(found);
-        match self.board.publish_in_turn(&mut self.seat, m) {
+        match self.board.publish_in_turn(&mut self.seat, m, found.held) {
             Ok(place) => return Ok(place),
             Err(why) => return Err(TryRefused::Refused { why }),
         }
@@ -81,7 +81,7 @@ impl<'t> Publisher<'t> {
         self.board.wait(rt, &mut self.seat);
         let found = self.board.found_out(&mut self.seat);
         self.found = Some(found);
-        self.board.publish_in_turn(&mut self.seat, m)
+        self.board.publish_in_turn(&mut self.seat, m, found.held)
     }
 
     /// Declares a channel with its schema, and answers its id and the places of the records that this added. It may wait for
@@ -103,7 +103,8 @@ impl<'t> Publisher<'t> {
         self.board.wait(rt, &mut self.seat);
         let found = self.board.found_out(&mut self.seat);
         self.found = Some(found);
-        self.board.declare_in_turn(&mut self.seat, channel)
+        self.board
+            .declare_in_turn(&mut self.seat, channel, found.held)
     }
 
     // One turn of a call that waits while the buffer is full.
@@ -117,7 +118,7 @@ impl<'t> Publisher<'t> {
         self.board.wait(rt, &mut self.seat);
         let found = self.board.found_out(&mut self.seat);
         self.found = Some(found);
-        self.board.try_in_turn(&mut self.seat, m)
+        self.board.try_in_turn(&mut self.seat, m, found.held)
     }
 
     /// Publishes a message, and answers its place. It may wait for the turn, and while the buffer is full.
@@ -141,7 +142,7 @@ impl<'t> Publisher<'t> {
             if !met_full(&answer) {
                 return answer;
             }
-            self.board.sleep(rt, events);
+            self.board.sleep_for_room(rt, events);
         }
         unreachable!()
     }
@@ -162,7 +163,7 @@ impl<'t> Publisher<'t> {
         self.board.wait(rt, &mut self.seat);
         let found = self.board.found_out(&mut self.seat);
         self.found = Some(found);
-        self.board.name_in_turn(&mut self.seat, channel)
+        self.board.name_in_turn(&mut self.seat, channel, found.held)
     }
 
     /// Declares a channel with its schema, and answers its id and the places of the records that this added. It may wait for
@@ -188,9 +189,14 @@ impl<'t> Publisher<'t> {
             if !found_full(&answer) {
                 return answer;
             }
-            self.board.sleep(rt, events);
+            self.board.sleep_for_room(rt, events);
         }
         unreachable!()
+    }
+
+    /// A handle by which the drain is roused: a call of it behind the last message before a pause lets that message be taken.
+    pub fn rouser(&self) -> Rouser<'t> {
+        Rouser { board: self.board }
     }
 
     /// Ends its calls.

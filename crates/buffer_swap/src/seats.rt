@@ -3,11 +3,13 @@ ghost use Rattle.std.specs.Prelude.{◌≡◌, ℕ, [], true, false};
 ghost use Rattle.buffer_swap.specs.Posts.{publisher_post, drain_post};
 ghost use Rattle.buffer_swap.specs.Plays.{IsIdle};
 
+use crate::doorbell::Doorbell;
 use crate::plays::Order;
 use crate::view::View;
 use atomic_table::Table;
 use record_core::{Desk, Found};
 use std::alloc::Global;
+use std::sync::atomic::AtomicU64;
 
 pub(crate) type Seat = atomic_table::Seat<Desk, View>;
 
@@ -15,6 +17,13 @@ pub(crate) type Seat = atomic_table::Seat<Desk, View>;
 #[derive(Drop)]
 pub(crate) struct Board {
     pub table: Table<Desk, View, u64, Order, Global>,
+    // How many threads sleep until the turn is free, or until there is room, or are about to. Where there are none, nobody is
+    // woken, which is a call of the system.
+    pub turn_sleepers: AtomicU64,
+    pub room_sleepers: AtomicU64,
+    // From how many bytes on the buffer is worth a swap.
+    pub ripe: u64,
+    pub doorbell: Doorbell,
     ghost sized_words: { table.shared.table_id.words ≡ 2 },
     ghost sized_slots: { table.shared.table_id.slots ≡ 1 },
 }
@@ -30,6 +39,12 @@ pub struct Publisher<'t> {
     ghost idle: { IsIdle seat.me },
     ghost kind: { seat.me.0.post ≡ publisher_post number },
     ghost found_is: { found ≡ seat.me.0.pass.found },
+}
+
+/// It rouses the drain, from any thread.
+#[derive(Clone, Copy)]
+pub struct Rouser<'t> {
+    pub(crate) board: &'t Board,
 }
 
 /// A publisher that makes no more calls.

@@ -1,0 +1,109 @@
+//! How a drain that rests is told that there may be something for it. It is told by flags, so that a ring is never lost: a ring
+//! before the drain rests lets it not rest at all. What a ring or a rest does to threads is no part of any contract.
+use std::sync::Wait;
+use std::sync::atomic::Ordering::SeqCst;
+use std::sync::atomic::{AtomicBool, AtomicU64};
+use std::thread::Parker;
+use std::time::Duration;
+
+// How long a drain that was only roused lets more gather, in nanoseconds: a feed that goes on doesn't cost a swap for each
+// message then, and what a slow one sent is taken within that time.
+const GATHERING: u64 = 1_000_000;
+
+#[derive(Drop)]
+pub(crate) struct Doorbell {
+    // Since the last swap the buffer was seen to be worth one.
+    ripe: AtomicBool,
+    // Since the last swap somebody waits for what there is.
+    roused: AtomicBool,
+    // An end was set: the drain rests no more.
+    ended: AtomicBool,
+    // The drain rests, or is about to.
+    resting: AtomicBool,
+    // How many events there were at the last swap.
+    swapped_at: AtomicU64,
+    parker: Parker,
+}
+
+impl Doorbell {
+    pub(crate) fn new() -> Doorbell {
+        Doorbell {
+            ripe: AtomicBool::new(false),
+            roused: AtomicBool::new(false),
+            ended: AtomicBool::new(false),
+            resting: AtomicBool::new(false),
+            swapped_at: AtomicU64::new(0),
+            parker: Parker::new(),
+        }
+    }
+
+    // The flags stand before this looks whether the drain rests, and the drain says that it rests before it looks at the flags:
+    // so one of both sees the other.
+    fn wake(&self) {
+        if self.resting.load(SeqCst) {
+            self.parker.unpark();
+        }
+    }
+
+    /// Wakes the drain where it rests, and lets it not rest before its next swap. Behind an earlier ring it does nothing.
+    pub(crate) fn ring(&self) {
+        if self.ripe.load(SeqCst) {
+            return;
+        }
+        self.ripe.store(true, SeqCst);
+        self.wake();
+    }
+
+    /// The same, but the drain may let more gather for a moment.
+    pub(crate) fn rouse(&self) {
+        if self.roused.load(SeqCst) {
+            return;
+        }
+        self.roused.store(true, SeqCst);
+        self.wake();
+    }
+
+    /// Wakes the drain where it rests, and lets it never rest again.
+    pub(crate) fn ring_for_good(&self) {
+        self.ended.store(true, SeqCst);
+        self.wake();
+    }
+
+    /// Forgets the rings so far, in the turn of a swap: all that they were of is taken then.
+    pub(crate) fn forget(&self, events: u64) {
+        self.swapped_at.store(events, SeqCst);
+        self.ripe.store(false, SeqCst);
+        self.roused.store(false, SeqCst);
+    }
+
+    /// How many events there were at the last swap.
+    pub(crate) fn swapped_at(&self) -> u64 {
+        self.swapped_at.load(SeqCst)
+    }
+
+    fn is_due(&self) -> bool {
+        self.ripe.load(SeqCst) || self.ended.load(SeqCst)
+    }
+
+    // Sleeps until there is a ring, if there was none since the last swap.
+    fn sleep<R: Wait>(&self, rt: &R) {
+        for _ in rt.forever() {
+            if self.is_due() || self.roused.load(SeqCst) {
+                return;
+            }
+            self.parker.park(rt);
+        }
+    }
+
+    /// Sleeps until there is a ring, if there was none since the last swap; where it was only roused it lets more gather. One
+    /// thread at a time rests.
+    pub(crate) fn rest<R: Wait>(&self, rt: &R) {
+        self.resting.store(true, SeqCst);
+        self.sleep(rt);
+        if !self.is_due() {
+            self.parker
+                .park_timeout(rt, Duration::from_nanos(GATHERING));
+        }
+        self.resting.store(false, SeqCst);
+    }
+}
