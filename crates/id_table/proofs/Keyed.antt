@@ -1,9 +1,8 @@
 -- Keys and the channels for which they stand.
 use Rattle.std.proofs.Common.{◌≡◌, ℕ, zero, suc, ◌<◌, ◌-◌, ◌≤◌, List, [], ◌∷◌, ◌++◌, length, slice_get, Option, Some, None, inl, inr, refl, sym, ap, subst, ◌∙◌, append-nil, length-append, arith}
-use Rattle.std.specs.Prelude.{◌⊎◌, IfSome, map, take, drop, option_to_list}
+use Rattle.std.specs.Prelude.{◌⊎◌, IfSome, map, option_to_list}
 use Rattle.std.proofs.lemmas.Bool.{cases_lt}
-use Rattle.std.proofs.lemmas.List.{length-map, length-take, take-map, take-append-drop}
-use Rattle.std.proofs.lemmas.Grind.{common_steps}
+use Rattle.std.proofs.lemmas.List.{length-map}
 use Rattle.mcap_wire.specs.Limits.{id_limit}
 use Rattle.std.specs.Option.{option_map}
 use Rattle.std.proofs.lemmas.Option.{slice_get-map, get_or_from_slice_get, none-some, same_Some}
@@ -14,7 +13,7 @@ use Rattle.id_table.specs.declared.keys.ChannelKey.{ChannelKey}
 use Rattle.id_table.specs.declared.given.Given.{Given}
 use Rattle.id_table.specs.declared.given.Given.TheVariants.{Known, New}
 use Rattle.id_table.specs.declared.given.GivenIds.{GivenIds}
-use Rattle.id_table.specs.Given.{Lacks, EachOnce, FoundAt, Offers, OffersTo, IsFull, IsFullTo, fresh_to, place_given, KeptKey, with_given, with_given_to, without_given, without_given_to, without, SchemaStands, SchemasStand}
+use Rattle.id_table.specs.Given.{Lacks, EachOnce, FoundAt, Offers, OffersTo, IsFull, IsFullTo, fresh_to, place_given, KeptKey, with_given, with_given_to}
 use Rattle.id_table.specs.Ids.{Ids}
 use Rattle.id_table.proofs.Places.{at_end}
 use Rattle.id_table.specs.Parts.{Grows, StandAt}
@@ -289,77 +288,3 @@ module _ (old : Stock) (schemas : List SchemaDef) (texts : List (List ℕ)) (map
 
 pub same_ids : (schemas s : List SchemaDef) (channels c : List ChannelDef) → schemas ≡ s → channels ≡ c → ids schemas channels ≡ ids s c
 same_ids schemas s channels c one other = ap (λ (l : List SchemaDef). ids l channels) one ∙ ap (λ (l : List ChannelDef). ids s l) other
-
--- ---- taking back
-
-taken_front : {X : Type 0} (xs : List X) (n m : ℕ) (x : X) → slice_get (take n xs) m ≡ Some x → slice_get xs m ≡ Some x
-taken_front {X} xs n m x at = subst (λ (l : List X). slice_get l m ≡ Some x) (take-append-drop n xs) (read_front (take n xs) (drop n xs) m x at)
-
-front_of : (xs : List SchemaDef) (s : Option Given) → Grows (without_given_to xs s) xs
-front_of xs None = ([], sym (append-nil xs))
-front_of xs (Some (Known id)) = ([], sym (append-nil xs))
-front_of xs (Some (New id)) = (drop (id - 1) xs, sym (take-append-drop (id - 1) xs))
-
-module _ (old : Stock) (keys : List ChannelKey) (g : GivenIds) (once : EachOnce old.schemas) (all : AllStand old keys)
-    (rest : SchemasStand (without (ids old.schemas (map (content_at old) keys)) g)) where
-  abbrev pub left : Stock
-  left = stocked (without_given_to old.schemas g.schema) old.texts old.maps
-
-  behind : Stocks left old
-  behind = record { schemas = front_of old.schemas g.schema; texts = ([], sym (append-nil old.texts)); maps = ([], sym (append-nil old.maps)) }
-
-  schema_left : (place : Option ℕ) (schema : Option SchemaDef) → ShowsSchema old.schemas place schema → SchemaStands (without_given_to old.schemas g.schema) schema → ShowsSchema (without_given_to old.schemas g.schema) place schema
-  schema_left None None shows there = tt
-  schema_left None (Some s) shows there = absurd shows
-  schema_left (Some n) None shows there = absurd shows
-  schema_left (Some n) (Some s) shows there =
-      let at = grown (without_given_to old.schemas g.schema) old.schemas (front_of old.schemas g.schema) there.0 s there.1 in
-      subst (λ (m : ℕ). slice_get (without_given_to old.schemas g.schema) m ≡ Some s) (once there.0 n s at shows) there.1
-
-  key_left : (m : ℕ) (k : ChannelKey) → slice_get keys m ≡ Some k → SchemaStands (without_given_to old.schemas g.schema) (content_at old k).schema → Stands left k
-  key_left m k at there =
-      let shows = all m k at in
-      stands left k (content_at old k) (record { schema = schema_left k.schema (content_at old k).schema shows.schema there; parts = shows.parts })
-
-  kept_front : (c : Given) (m : ℕ) (k : ChannelKey) → slice_get (without_given keys c) m ≡ Some k → (slice_get keys m ≡ Some k) × (slice_get (without_given (map (content_at old) keys) c) m ≡ Some (content_at old k))
-  kept_front (Known id) m k at = (at, content_there old keys m k (content_at old k) at (all m k at))
-  kept_front (New id) m k at =
-      let here = taken_front keys (id - 1) m k at in (
-        here,
-        ap (λ (l : List ChannelDef). slice_get l m) (take-map (content_at old) (id - 1) keys) ∙ content_there old (take (id - 1) keys) m k (content_at old k) at (all m k here),
-      )
-
-  pub stand_left : AllStand left (without_given keys g.channel)
-  stand_left m k at =
-      let here = kept_front g.channel m k at in
-      key_left m k here.0 (rest m (content_at old k) here.1)
-
-  same_front : (c : Given) → map (content_at old) (without_given keys c) ≡ without_given (map (content_at old) keys) c
-  same_front (Known id) = refl
-  same_front (New id) = sym (take-map (content_at old) (id - 1) keys)
-
-  pub contents_left : map (content_at left) (without_given keys g.channel) ≡ without_given (map (content_at old) keys) g.channel
-  contents_left = sym (contents_stay left old (without_given keys g.channel) behind stand_left) ∙ same_front g.channel
-
-pub few_left : (xs : List SchemaDef) (s : Option Given) → length (without_given_to xs s) ≤ length xs
-few_left xs s =
-    let front = front_of xs s in
-    let long = ap (λ (l : List SchemaDef). length l) front.1 in
-    omega (arith, long, length-append (without_given_to xs s) front.0)
-
-pub few_keys_left : (keys : List ChannelKey) (c : Given) → length (without_given keys c) ≤ length keys
-few_keys_left keys (Known id) = omega arith
-few_keys_left keys (New id) = omega (arith, length-take (id - 1) keys)
-
-front_taken : {X : Type 0} (before : List X) (x : X) (n : ℕ) → n ≡ length before → take n (before ++ x ∷ []) ≡ before
-front_taken before x n is = grind (arith, common_steps)
-
-pub restored : {X : Type 0} (before xs : List X) (x : X) (c : Given) → Offers before x c → xs ≡ with_given before x c → without_given xs c ≡ before
-restored before xs x (Known id) offers is = is
-restored before xs x (New id) offers is = ap (take (id - 1)) is ∙ front_taken before x (id - 1) (omega (arith, offers.1))
-
-pub restored_to : {X : Type 0} (before xs : List X) (x : Option X) (s : Option Given) → OffersTo before x s → xs ≡ with_given_to before x s → without_given_to xs s ≡ before
-restored_to before xs None None offers is = is
-restored_to before xs None (Some given) offers is = absurd offers
-restored_to before xs (Some x) None offers is = absurd offers
-restored_to before xs (Some x) (Some given) offers is = restored before xs x given offers is

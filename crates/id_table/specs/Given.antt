@@ -1,7 +1,6 @@
 -- Which id a content has or gets.
-use Rattle.std.specs.Prelude.{◌≡◌, ◌⊎◌, ℕ, ◌+◌, ◌-◌, ◌<◌, ◌≤◌, List, [], ◌∷◌, ◌++◌, length, take, Option, Some, None, slice_get}
+use Rattle.std.specs.Prelude.{◌≡◌, ◌⊎◌, ℕ, ◌+◌, ◌-◌, ◌<◌, ◌≤◌, List, [], ◌∷◌, ◌++◌, length, Option, Some, None, slice_get}
 use Rattle.mcap_wire.specs.Limits.{id_limit}
-use Rattle.rec_data.specs.declared.schema.SchemaDef.{SchemaDef}
 use Rattle.rec_data.specs.declared.channel.ChannelDef.{ChannelDef}
 use Rattle.id_table.specs.declared.keys.ChannelKey.{ChannelKey}
 use Rattle.id_table.specs.Parts.{StandAt}
@@ -83,23 +82,6 @@ module _ {X : Type 0} where
   GivesOrFull xs x None = IsFull xs x
   GivesOrFull xs x (Some g) = Offers xs x g × (IsFull xs x → ⊥)
 
-  -- the last id is taken back, where it was new
-  abbrev pub IsLast : List X → Given → Type 0
-  IsLast xs (Known id) = Unit {0}
-  IsLast xs (New id) = (1 ≤ id) × (id ≡ length xs)
-
-  abbrev pub without_given : List X → Given → List X
-  without_given xs (Known id) = xs
-  without_given xs (New id) = take (id - 1) xs
-
-  abbrev pub IsLastTo : List X → Option Given → Type 0
-  IsLastTo xs None = Unit {0}
-  IsLastTo xs (Some g) = IsLast xs g
-
-  abbrev pub without_given_to : List X → Option Given → List X
-  without_given_to xs None = xs
-  without_given_to xs (Some g) = without_given xs g
-
 -- the id at a place, or the next one, or none
 abbrev pub PlaceGives : Option ℕ → ℕ → Option Given → Type 0
 PlaceGives (Some i) count (Some (Known id)) = id ≡ i + 1
@@ -142,18 +124,3 @@ abbrev pub Refuses : Ids → ChannelDef → IdRefused → Type 0
 Refuses ids d TooManySchemas = IsFullTo ids.schemas d.schema
 Refuses ids d TooManyChannels = (IsFullTo ids.schemas d.schema → ⊥) × IsFull ids.channels d
 Refuses ids d Memory = NeedsId ids d × (IsFullTo ids.schemas d.schema → ⊥) × (IsFull ids.channels d → ⊥)
-
--- ---- taking back
-
--- the schema has an id, if there is one
-abbrev pub SchemaStands : List SchemaDef → Option SchemaDef → Type 0
-SchemaStands schemas None = Unit {0}
-SchemaStands schemas (Some s) = (n : ℕ) × (slice_get schemas n ≡ Some s)
-
--- the schema of each channel has an id
-abbrev pub SchemasStand : Ids → Type 0
-SchemasStand ids = (n : ℕ) (c : ChannelDef) → slice_get ids.channels n ≡ Some c → SchemaStands ids.schemas c.schema
-
--- the ids without those that are new
-abbrev pub without : Ids → GivenIds → Ids
-without ids g = record { schemas = without_given_to ids.schemas g.schema; channels = without_given ids.channels g.channel }

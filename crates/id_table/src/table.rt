@@ -1,15 +1,15 @@
 //! The table of ids.
-ghost use Rattle.std.specs.Prelude.{◌≡◌, ◌+◌, ◌<◌, ◌≤◌, ◌++◌, [], length, map, IfOk, IfErr, IfSome, OnOk, OnErr, option_to_list};
+ghost use Rattle.std.specs.Prelude.{◌≡◌, ◌+◌, ◌<◌, ◌≤◌, ◌++◌, [], length, map, true, Some, slice_get, IfOk, IfErr, IfSome, OnOk, OnErr, option_to_list};
 ghost use Rattle.mcap_wire.specs.Limits.{id_limit};
 ghost use Rattle.rec_data.specs.declared.channel.ChannelDef.{ChannelDef};
 ghost use Rattle.indexmap.specs.IndexSet.{spare};
 ghost use Rattle.id_table.specs.Ids.{Ids};
 ghost use Rattle.id_table.specs.Parts.{Grows};
-ghost use Rattle.id_table.specs.Keys.{stocked, content_at, AllStand};
-ghost use Rattle.id_table.specs.Given.{SchemasStand, without, place_given, KeptKey, IsNew, Lacks, LacksTo, EachOnce, Found, FoundAt, Offers, OffersTo, fresh, fresh_to, IsFullTo, Declares, Refuses, IsLast, IsLastTo, without_given, without_given_to, PlaceGives, GivesOrFull};
+ghost use Rattle.id_table.specs.Keys.{FoundKey, stocked, content_at, AllStand};
+ghost use Rattle.id_table.specs.Given.{place_given, KeptKey, IsNew, Lacks, LacksTo, EachOnce, Found, FoundAt, Offers, OffersTo, fresh, fresh_to, IsFullTo, Declares, Refuses, PlaceGives, GivesOrFull};
 
 use crate::given::{Given, GivenIds, IdRefused};
-use crate::keys::{ChannelKey, key_of};
+use crate::keys::{ChannelKey, key_of, key_with, place_given};
 use crate::parts::{Parts, parts_differ};
 use indexmap::IndexSet;
 use mcap_wire::Memory;
@@ -27,6 +27,8 @@ const MAX_IDS: usize = 65535;
 pub struct IdTable {
     alloc: Global,
     schemas: IndexSet<SchemaDef>,
+    // Where the schema stands that was declared last.
+    last_schema: usize,
     parts: Parts,
     channels: IndexSet<ChannelKey>,
 }
@@ -51,6 +53,7 @@ impl IdTable {
         Ok(IdTable {
             alloc,
             schemas: IndexSet::new(alloc),
+            last_schema: 0,
             parts: Parts::new(alloc),
             channels: IndexSet::new(alloc),
         })
@@ -61,7 +64,8 @@ impl IdTable {
         ensures found { Found self.now.channels d.now result }
         ensures once { EachOnce self.now.channels }
     {
-        match place_of_channel(&self.schemas, &self.parts, &self.channels, d) {
+        let key = key_of(&self.schemas, &self.parts, d, self.last_schema);
+        match place_of_channel(&self.schemas, &self.parts, &self.channels, d, key) {
             Some(i) => return Some((i + 1) as u16),
             None => return None,
         }
@@ -74,11 +78,12 @@ impl IdTable {
         ensures err { OnErr result (self.new ≡ self.old) }
         ensures why { IfErr result (Refuses self.old d.now) }
     {
-        let schema = match given_to_schema(&self.schemas, &d.schema) {
+        let schema = match given_to_schema(&self.schemas, &d.schema, self.last_schema) {
             Ok(given) => given,
             Err(refused) => return Err(refused),
         };
-        let channel = match given_to_channel(&self.schemas, &self.parts, &self.channels, d) {
+        let key = key_with(&self.schemas, &self.parts, d, schema);
+        let channel = match given_to_channel(&self.schemas, &self.parts, &self.channels, d, key) {
             Some(given) => given,
             None => return Err(IdRefused::TooManyChannels),
         };
@@ -98,6 +103,7 @@ impl IdTable {
             Ok(kept) => kept,
             Err(_) => return Err(IdRefused::Memory),
         };
+        self.last_schema = place_given(schema).unwrap_or(self.last_schema);
         enter_schema(&mut self.schemas, kept_schema);
         enter_channel(&mut self.channels, kept_channel);
         return Ok(GivenIds { schema, channel });
@@ -120,47 +126,52 @@ impl IdTable {
     {
         count_of_channels(&self.schemas, &self.parts, &self.channels) as u32
     }
+}
 
-    /// Takes back those of these ids that are new, which are the last ones of their kinds; no other channel has a schema that
-    /// is taken back. Behind the `declare` that gave them the table is as it was before. It takes no memory.
-    pub fn take_back(&mut self, g: &GivenIds)
-        requires schema { IsLastTo self.old.schemas g.now.schema }
-        requires channel { IsLast self.old.channels g.now.channel }
-        requires rest { SchemasStand (without self.old g.now) }
-        ensures schemas { self.new.schemas ≡ without_given_to self.old.schemas g.now.schema }
-        ensures channels { self.new.channels ≡ without_given self.old.channels g.now.channel }
-        ensures restores { (before : Ids) (d : ChannelDef) → Declares before d g.now self.old → self.new ≡ before }
-    {
-        let _schemas = count_of_schemas(&self.schemas);
-        drop_schema(&mut self.schemas, g.schema);
-        drop_channel(&mut self.channels, g.channel);
+// Whether a schema stands at a place.
+fn stands_at(set: &IndexSet<SchemaDef>, place: usize, schema: &SchemaDef) -> bool
+    ensures { result ≡ true → slice_get set.now.keys place ≡ Some schema.now }
+{
+    match set.get_index(place) {
+        Some(there) => return there == schema,
+        None => return false,
     }
 }
 
-// The index of a schema in the order of ids.
-pub(crate) fn place_of_schema(set: &IndexSet<SchemaDef>, schema: &SchemaDef) -> Option<usize>
+// The index of a schema in the order of ids. It is looked for at one place first, since a schema may be long, and many
+// channels with one schema come one behind the other.
+pub(crate) fn place_of_schema(
+    set: &IndexSet<SchemaDef>,
+    schema: &SchemaDef,
+    first: usize,
+) -> Option<usize>
     ensures found { FoundAt set.now.keys schema.now result }
     ensures once { EachOnce set.now.keys }
 {
     let _len = set.len();
+    if stands_at(set, first, schema) {
+        return Some(first);
+    }
     set.get_index_of(schema)
 }
 
-// The index of a channel in the order of ids.
+// The index of a channel in the order of ids, by its key.
 fn place_of_channel(
     schemas: &IndexSet<SchemaDef>,
     parts: &Parts,
     channels: &IndexSet<ChannelKey>,
-    d: &ChannelDef,
+    _d: &ChannelDef,
+    key: Option<ChannelKey>,
 ) -> Option<usize>
-    requires { AllStand (stocked schemas.now.keys parts.now.texts.keys parts.now.maps.keys) channels.now.keys }
-    ensures found { FoundAt (map (content_at (stocked schemas.now.keys parts.now.texts.keys parts.now.maps.keys)) channels.now.keys) d.now result }
+    requires stand { AllStand (stocked schemas.now.keys parts.now.texts.keys parts.now.maps.keys) channels.now.keys }
+    requires key { FoundKey (stocked schemas.now.keys parts.now.texts.keys parts.now.maps.keys) _d.now key }
+    ensures found { FoundAt (map (content_at (stocked schemas.now.keys parts.now.texts.keys parts.now.maps.keys)) channels.now.keys) _d.now result }
     ensures once { EachOnce (map (content_at (stocked schemas.now.keys parts.now.texts.keys parts.now.maps.keys)) channels.now.keys) }
 {
     let _schemas = count_of_schemas(schemas);
     parts_differ(parts);
     let _channels = channels.len();
-    match key_of(schemas, parts, d) {
+    match key {
         Some(key) => return channels.get_index_of(&key),
         None => return None,
     }
@@ -210,6 +221,7 @@ fn given(place: Option<usize>, count: usize) -> Option<Given>
 fn given_to_schema(
     set: &IndexSet<SchemaDef>,
     schema: &Option<SchemaDef>,
+    first: usize,
 ) -> Result<Option<Given>, IdRefused>
     requires { length set.now.keys ≤ id_limit }
     ensures ok { IfOk result (λ g. OffersTo set.now.keys schema.now g) }
@@ -218,7 +230,7 @@ fn given_to_schema(
 {
     match schema {
         None => return Ok(None),
-        Some(schema) => match given(place_of_schema(set, schema), set.len()) {
+        Some(schema) => match given(place_of_schema(set, schema, first), set.len()) {
             Some(given) => return Ok(Some(given)),
             None => return Err(IdRefused::TooManySchemas),
         },
@@ -231,26 +243,17 @@ fn given_to_channel(
     parts: &Parts,
     channels: &IndexSet<ChannelKey>,
     d: &ChannelDef,
+    key: Option<ChannelKey>,
 ) -> Option<Given>
     requires few { length channels.now.keys ≤ id_limit }
     requires stand { AllStand (stocked schemas.now.keys parts.now.texts.keys parts.now.maps.keys) channels.now.keys }
+    requires key { FoundKey (stocked schemas.now.keys parts.now.texts.keys parts.now.maps.keys) d.now key }
     ensures { GivesOrFull (map (content_at (stocked schemas.now.keys parts.now.texts.keys parts.now.maps.keys)) channels.now.keys) d.now result }
 {
     given(
-        place_of_channel(schemas, parts, channels, d),
+        place_of_channel(schemas, parts, channels, d, key),
         channels.len(),
     )
-}
-
-// Where a schema with that id stands, if there is one.
-fn place_given(schema: Option<Given>) -> Option<usize>
-    ensures { result ≡ place_given schema }
-{
-    match schema {
-        None => return None,
-        Some(Given::Known(id)) => return Some((id as usize).saturating_sub(1)),
-        Some(Given::New(id)) => return Some((id as usize).saturating_sub(1)),
-    }
 }
 
 // A copy of a schema whose id is new, for which the set has room.
@@ -337,31 +340,5 @@ fn enter_channel(set: &mut IndexSet<ChannelKey>, kept: Option<ChannelKey>)
             Ok(_) => {}
             Err(_) => unreachable!(),
         },
-    }
-}
-
-// Drops the last schema, where its id was new.
-fn drop_schema(set: &mut IndexSet<SchemaDef>, given: Option<Given>)
-    requires { IsLastTo set.old.keys given }
-    ensures { set.new.keys ≡ without_given_to set.old.keys given }
-{
-    match given {
-        Some(Given::New(_)) => {
-            let _last = set.pop();
-        }
-        _ => {}
-    }
-}
-
-// Drops the last channel, where its id was new.
-fn drop_channel(set: &mut IndexSet<ChannelKey>, given: Given)
-    requires { IsLast set.old.keys given }
-    ensures { set.new.keys ≡ without_given set.old.keys given }
-{
-    match given {
-        Given::New(_) => {
-            let _last = set.pop();
-        }
-        Given::Known(_) => {}
     }
 }
