@@ -43,6 +43,10 @@ pub record IsOn (records : List Top) (index channel : ℕ) : Type 0 where
 
 -- ---- declarations
 
+-- a schema of a declaration by its fields
+abbrev pub definition_of : List ℕ → List ℕ → List ℕ → SchemaDef
+definition_of name encoding payload = record { name = name; encoding = encoding; payload = payload }
+
 -- the record of that place shows a Schema of that id with the fields of the declaration's schema
 pub record ShowsDef (records : List Top) (id : ℕ) (s : SchemaDef) : Type 0 where
   pub place : ℕ

@@ -1,30 +1,33 @@
 //! A channel of a feed as it is declared.
-ghost use Rattle.std.specs.Prelude.{List, IfOk};
+ghost use Rattle.std.specs.Prelude.{◌≡◌, true, Some, List, IfOk};
 ghost use Rattle.mcap_model.specs.Tops.{Top};
 ghost use Rattle.mcap_model.specs.Declarations.{TablesOf};
 ghost use Rattle.record_core.specs.Sights.{SchemaFits, DefFits};
-ghost use Rattle.feed_lane.specs.Lanes.{SchemaShown, Describes};
+ghost use Rattle.feed_lane.specs.Lanes.{definition_of, SchemaShown, Describes};
 
 use mcap_model::Tables;
 use mcap_wire::{Bytes, Memory, Pairs, Text};
 use rec_data::{Channel, ChannelDef, Schema, SchemaDef};
 use std::alloc::Global;
 
-// The schema of that id, or none for 0. A channel's schema is always there.
-fn schema_of(alloc: Global, tables: &Tables, id: u16) -> Result<Option<SchemaDef>, Memory>
-    ensures shows { IfOk result (λ s. (records : List Top) → TablesOf records tables.now → SchemaShown records id s) }
-    ensures fits { IfOk result SchemaFits }
+// Whether a schema was kept that is this one.
+fn is_kept(kept: &Option<SchemaDef>, schema: &Schema<'_>) -> bool
+    ensures { result ≡ true → kept.now ≡ Some (definition_of schema.now.name.now schema.now.encoding.now schema.now.payload.now) }
 {
-    if id == 0 {
-        return Ok(None);
+    match kept {
+        None => return false,
+        Some(kept) => {
+            return kept.name.as_str() == schema.name
+                && kept.encoding.as_str() == schema.encoding
+                && kept.payload.as_slice() == schema.payload;
+        }
     }
-    let Some(content) = tables.schemas.find(id) else {
-        return Err(Memory);
-    };
-    let schema = match Schema::parse(content) {
-        Ok(schema) => schema,
-        Err(_) => return Err(Memory),
-    };
+}
+
+// A copy of a schema.
+fn copied(alloc: Global, schema: &Schema<'_>) -> Result<Option<SchemaDef>, Memory>
+    ensures { IfOk result (λ s. s ≡ Some (definition_of schema.now.name.now schema.now.encoding.now schema.now.payload.now)) }
+{
     let Ok(name) = Text::copied(alloc, schema.name) else {
         return Err(Memory);
     };
@@ -41,8 +44,61 @@ fn schema_of(alloc: Global, tables: &Tables, id: u16) -> Result<Option<SchemaDef
     }));
 }
 
+// The schema that was kept, if it is this one, and else a copy: many channels may have one long schema.
+fn kept_or_copied(
+    alloc: Global,
+    schema: &Schema<'_>,
+    kept: Option<SchemaDef>,
+) -> Result<Option<SchemaDef>, Memory>
+    ensures { IfOk result (λ s. s ≡ Some (definition_of schema.now.name.now schema.now.encoding.now schema.now.payload.now)) }
+{
+    if is_kept(&kept, schema) {
+        return Ok(kept);
+    }
+    return copied(alloc, schema);
+}
+
+// The schema of that id, or none for 0. A channel's schema is always there.
+fn schema_of(
+    alloc: Global,
+    tables: &Tables,
+    id: u16,
+    kept: Option<SchemaDef>,
+) -> Result<Option<SchemaDef>, Memory>
+    ensures shows { IfOk result (λ s. (records : List Top) → TablesOf records tables.now → SchemaShown records id s) }
+    ensures fits { IfOk result SchemaFits }
+{
+    if id == 0 {
+        return Ok(None);
+    }
+    let Some(content) = tables.schemas.find(id) else {
+        return Err(Memory);
+    };
+    let schema = match Schema::parse(content) {
+        Ok(schema) => schema,
+        Err(_) => return Err(Memory),
+    };
+    match kept_or_copied(alloc, &schema, kept) {
+        Ok(shown) => return Ok(shown),
+        Err(memory) => return Err(memory),
+    }
+}
+
 /// The channel of that id with its schema, its metadata in order. The channel of a message is always there.
 pub fn definition(alloc: Global, tables: &Tables, source: u16) -> Result<ChannelDef, Memory>
+    ensures describes { IfOk result (λ d. (records : List Top) → TablesOf records tables.now → Describes records source d) }
+    ensures fits { IfOk result DefFits }
+{
+    definition_over(alloc, tables, source, None)
+}
+
+/// The same, without a copy of the schema where that is the one that is handed in.
+pub(crate) fn definition_over(
+    alloc: Global,
+    tables: &Tables,
+    source: u16,
+    kept: Option<SchemaDef>,
+) -> Result<ChannelDef, Memory>
     ensures describes { IfOk result (λ d. (records : List Top) → TablesOf records tables.now → Describes records source d) }
     ensures fits { IfOk result DefFits }
 {
@@ -62,7 +118,7 @@ pub fn definition(alloc: Global, tables: &Tables, source: u16) -> Result<Channel
     let Ok(metadata) = Pairs::sorted(alloc, &channel.metadata) else {
         return Err(Memory);
     };
-    match schema_of(alloc, tables, channel.schema_id) {
+    match schema_of(alloc, tables, channel.schema_id, kept) {
         Ok(schema) => return Ok(ChannelDef {
             topic,
             message_encoding,

@@ -3,6 +3,7 @@ ghost use Rattle.std.specs.Prelude.{◌≡◌, ℕ, set, IfOk};
 ghost use Rattle.mcap_model.specs.Places.{At};
 
 use mcap_wire::Memory;
+use rec_data::{ChannelDef, SchemaDef};
 use std::alloc::Global;
 use std::marker::Model;
 
@@ -10,6 +11,8 @@ use std::marker::Model;
 #[derive(Drop)]
 pub(crate) struct Ids {
     given: Vec<u16>,
+    // The schema of the channel that was declared last, for the next one, which may have the same. Contracts see nothing of it.
+    kept: Option<SchemaDef>,
 }
 
 impl Model for Ids {
@@ -28,7 +31,7 @@ impl Ids {
     {
         let mut given = Vec::new(alloc);
         match given.resize(65_536, 0) {
-            Ok(()) => return Ok(Ids { given }),
+            Ok(()) => return Ok(Ids { given, kept: None }),
             Err(_) => return Err(Memory),
         }
     }
@@ -43,5 +46,19 @@ impl Ids {
         ensures { self.new ≡ set self.old source id }
     {
         self.given[source as usize] = id;
+    }
+
+    /// Hands out the schema that is kept.
+    pub(crate) fn take_schema(&mut self) -> Option<SchemaDef>
+        ensures { self.new ≡ self.old }
+    {
+        self.kept.take()
+    }
+
+    /// Keeps the schema of a channel.
+    pub(crate) fn keep_schema(&mut self, channel: ChannelDef)
+        ensures { self.new ≡ self.old }
+    {
+        self.kept = channel.schema;
     }
 }

@@ -8,7 +8,7 @@ ghost use Rattle.feed_lane.specs.Lanes.{messages, IsOn, Describes};
 ghost use Rattle.record_core.specs.Sights.{DefFits};
 ghost use Rattle.feed_lane.specs.Steps.{lists_of, LaneStands, ListsStand, Roomy, AreKnown, AtHand, IsDue, HasId, ThenShows, ChannelFound, MessageTaken, goes_on as goes_on_behind, publish_cause as cause_of_publishing, declare_cause as cause_of_declaring, full_cause as cause_of_full, fields_of};
 
-use crate::describing::definition;
+use crate::describing::definition_over;
 use crate::ids::Ids;
 use crate::pass::Pass;
 use crate::report::{Accepted, Cause, DeclaredAt, Refused};
@@ -211,8 +211,13 @@ impl Lane {
         ensures accepted { self.new.accepted ≡ self.old.accepted }
         ensures refused { self.new.refused ≡ self.old.refused }
     {
-        match definition(alloc, tables, source) {
-            Ok(channel) => return self.declare_as(source, &channel, pass),
+        let kept = self.ids.take_schema();
+        match definition_over(alloc, tables, source, kept) {
+            Ok(channel) => {
+                let found = self.declare_as(source, &channel, pass);
+                self.ids.keep_schema(channel);
+                return found;
+            }
             Err(_) => return Err(Cause::Memory),
         }
     }

@@ -1,8 +1,13 @@
-use Rattle.feed_lane.proofs.Definitions.{shows_def}
+use Rattle.std.specs.Prelude.{Option}
+use Rattle.std.proofs.Common.{sym, subst, arith}
+use Rattle.rec_data.specs.declared.schema.SchemaDef.{SchemaDef}
+use Rattle.record_core.specs.Sights.{SchemaFits}
+use Rattle.feed_lane.specs.Lanes.{SchemaShown}
+use Rattle.feed_lane.proofs.Definitions.{schema_lengths, shows_def}
 use Rattle.feed_lane.proofs.describing.schema_of.Goals as goal
 
-pub returns-clause-shows : goal.returns-clause-shows
-returns-clause-shows c = λ records are.
+pub returns-in-Ok-kept_or_copied-clause-shows : goal.returns-in-Ok-kept_or_copied-clause-shows
+returns-in-Ok-kept_or_copied-clause-shows c = λ records are.
     let s = c.in-Ok.schema in
-    rw (c.in-Ok-copied.ensures, c.in-Ok-copied-2.ensures, c.in-Ok-copied-3.ensures)
+    subst (λ (o : Option SchemaDef). SchemaShown records c.args.id o) (sym c.in-Ok-kept_or_copied.ensures)
     (shows_def records c.args.tables.now c.args.id s.id c.in-Some.content.now s.name.now s.encoding.now s.payload.now are c.in-Some.ensures c.in-Ok.ensures.shown)

@@ -1,7 +1,9 @@
-use Rattle.std.proofs.Common.{refl}
+use Rattle.std.proofs.Common.{ℕ, List, refl, sym, subst, Err}
 use Rattle.mcap_model.proofs.Places.{at_within}
+use Rattle.mcap_model.specs.Places.{At}
+use Rattle.feed_lane.specs.declared.report.Cause.TheVariants as causes
 use Rattle.feed_lane.specs.Lanes.{messages}
-use Rattle.feed_lane.specs.Steps.{lists_of}
+use Rattle.feed_lane.specs.Steps.{lists_of, ListsStand, ChannelFound}
 use Rattle.feed_lane.proofs.Growing.{may_declare, undeclared_yet}
 use Rattle.feed_lane.proofs.Calls.{unchanged, memory_tried}
 use Rattle.feed_lane.proofs.lane.Lane.declare.Goals as goal
@@ -12,16 +14,30 @@ returns-in-Err-clause-found g c = λ begun before since. (
   before,
   since,
   refl,
-  λ records handled stands known on none. record {
-    before = before;
-    stands = may_declare records handled c.args.self.now.ids (lists_of c.args.self.now) before stands;
-    refusal = unchanged records handled before;
-    some = at_within (messages records) handled on.top on.at;
-    tried = memory_tried records c.args.self.now.declared.items handled (undeclared_yet records handled c.args.source c.args.self.now.declared.items c.args.self.now.ids stands.ids_stand none on);
-  },
+  λ records handled stands known on none.
+      let l = c.args.self.now in
+      subst (λ (ids : List ℕ). ChannelFound (record l { ids = ids }) records handled c.args.source before (Err causes.Memory)) (sym c.take_schema-kept.ensures) (record {
+        before = before;
+        stands = may_declare records handled l.ids (lists_of l) before stands;
+        refusal = unchanged records handled before;
+        some = at_within (messages records) handled on.top on.at;
+        tried = memory_tried records l.declared.items handled (undeclared_yet records handled c.args.source l.declared.items l.ids stands.ids_stand none on);
+      }),
 )
 
 pub returns-in-Ok-clause-found : goal.returns-in-Ok-clause-found
 returns-in-Ok-clause-found g c = λ begun before since.
-    let shown = c.declare_as.ensures.found begun before since in
-    (shown.0, shown.1, shown.2, λ records handled stands known on none. shown.3 records handled stands (c.in-Ok.ensures.describes records known.tables_are) on none)
+    let l = c.args.self.now in
+    let call = c.declare_as-found in
+    let same = sym c.take_schema-kept.ensures in
+    let shown = call.ensures.found begun before since in (
+      shown.0,
+      shown.1,
+      shown.2,
+      λ records handled stands known on none.
+          let now = shown.3 records handled
+          (subst (λ (ids : List ℕ). ListsStand records handled handled ids (lists_of l) before) same stands)
+          (c.in-Ok.ensures.describes records known.tables_are) on
+          (subst (λ (ids : List ℕ). At ids c.args.source 0) same none) in
+          subst (λ (ids : List ℕ). ChannelFound (record call.new.self { ids = ids }) records handled c.args.source shown.0 call.result) (sym c.keep_schema.ensures) now,
+    )

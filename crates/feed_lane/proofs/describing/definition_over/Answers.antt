@@ -1,6 +1,6 @@
 use Rattle.std.proofs.Common.{length, ap, arith}
 use Rattle.feed_lane.proofs.Definitions.{channel_made, channel_lengths, pairs_length, source_shows}
-use Rattle.feed_lane.proofs.describing.definition.Goals as goal
+use Rattle.feed_lane.proofs.describing.definition_over.Goals as goal
 
 pub returns-in-Ok-schema_of-clause-describes : goal.returns-in-Ok-schema_of-clause-describes
 returns-in-Ok-schema_of-clause-describes c = λ records are.
