@@ -1,5 +1,6 @@
 -- What a recording did to its store.
-use Rattle.std.proofs.Common.{◌≡◌, ℕ, List, [], Some, refl, sym, subst, inl, inr, arith}
+use Rattle.std.proofs.Common.{◌≡◌, ℕ, Bool, List, [], ◌∷◌, Some, refl, sym, subst, inl, inr, arith}
+use Rattle.std.specs.List.{AllZip}
 use Rattle.rec_data.specs.declared.owned.Rec.{Rec}
 use Rattle.mcap_io.specs.Outside.{SourceState, LiveState}
 use Rattle.mcap_model.specs.declared.ends.End.TheVariants as ends
@@ -17,28 +18,38 @@ use Rattle.recorder.specs.Onto.{IsWritten, IsAll, IsReported}
 same_report : {a b : Report} → Some a ≡ Some b → a ≡ b
 same_report e = cc
 
-recorded_so : (options : RecordOptions) (before now : Sides) (history : List Rec) (r : Report) → IsReported options.limit before.source now.source history r
+recorded_so : (options : RecordOptions) (before now : Sides) (history : List Rec) (r : Report) → IsReported options.limit options.lossless before.sources now.sources history r
     → WriterRecorded options.file before.live now.live history r.writer → IsAll history r.writer → Recorded options before now r
 recorded_so options before now history r reported writer all = record {
   history = history;
-  feed = reported.feed;
-  only = reported.only;
-  pass = reported.pass;
-  reports = reported.reports;
-  unfull = reported.unfull;
+  feeds = reported.feeds;
+  are = reported.are;
   assembled = reported.assembled;
+  unfull = reported.unfull;
   kept = all.kept;
   writer = writer;
 }
 
-module _ {L : Type 0} (state : L → LiveState) (options : RecordOptions) (source now : SourceState) where
+-- what was reported of lanes that were made so
+pub reported_so : (l limit : ℕ) (b lossless : Bool) (s sources now : List SourceState) (history : List Rec) (r : Report) → l ≡ limit → b ≡ lossless → s ≡ sources
+    → IsReported l b s now history r → IsReported limit lossless sources now history r
+reported_so l limit b lossless s sources now history r limits losses same it =
+    subst (λ (n : ℕ). IsReported n lossless sources now history r) limits
+    (subst (λ (w : Bool). IsReported l w sources now history r) losses
+    (subst (λ (m : List SourceState). IsReported l b m now history r) same it))
+
+pub zip_same : {X : Type 0} (R : X → X → Type 0) → ((x : X) → R x x) → (xs : List X) → AllZip R xs xs
+zip_same R same [] = tt
+zip_same R same (x ∷ xs) = (same x, zip_same R same xs)
+
+module _ {L : Type 0} (state : L → LiveState) (options : RecordOptions) (sources now : List SourceState) where
   -- onto a scribe
-  pub onto_scribe : (live : LiveState) (first last : Scribe L) (store : L) (limit : ℕ) (history : List Rec) (report r : Report) → Some report ≡ Some r → limit ≡ options.limit → store ≡ store_of last
-      → Writes state options.file [] live [] first → (state (store_of first)).faults ≡ live.faults → IsReported limit source now history report
+  pub onto_scribe : (live : LiveState) (first last : Scribe L) (store : L) (history : List Rec) (report r : Report) → Some report ≡ Some r → store ≡ store_of last
+      → Writes state options.file [] live [] first → (state (store_of first)).faults ≡ live.faults → IsReported options.limit options.lossless sources now history report
       → IsWritten (λ before after records. Grows state before after records) (λ before after written end. EndsFile state before after written end) (λ s. (state (store_of s)).faults) first last history report.writer
-      → IsAll history report.writer → Recorded options (sides source live) (sides now (state store)) r
-  onto_scribe live first last store limit history report r is limited stored stands still reported written all =
-      let before = sides source live in
+      → IsAll history report.writer → Recorded options (sides sources live) (sides now (state store)) r
+  onto_scribe live first last store history report r is stored stands still reported written all =
+      let before = sides sources live in
       let w = report.writer in
       let ended = written.ended options.file [] live history (written.grown options.file [] live [] stands) in
       let writer : WriterRecorded options.file live (state (store_of last)) history w = record {
@@ -51,15 +62,14 @@ module _ {L : Type 0} (state : L → LiveState) (options : RecordOptions) (sourc
       } in
       subst (Recorded options before (sides now (state store))) (same_report is)
       (subst (λ (l : L). Recorded options before (sides now (state l)) report) (sym stored)
-      (recorded_so options before (sides now (state (store_of last))) history report
-      (subst (λ (n : ℕ). IsReported n source now history report) limited reported) writer all))
+      (recorded_so options before (sides now (state (store_of last))) history report reported writer all))
 
   -- nothing was begun
-  pub onto_nothing : (live : LiveState) (store : L) (limit : ℕ) (stop : Stop) (report r : Report) → Some report ≡ Some r → limit ≡ options.limit
-      → IsReported limit source now [] report → report.writer ≡ record { records = 0; blocks = 0; bytes = 0; end = ends.Stopped stop }
+  pub onto_nothing : (live : LiveState) (store : L) (stop : Stop) (report r : Report) → Some report ≡ Some r
+      → IsReported options.limit options.lossless sources now [] report → report.writer ≡ record { records = 0; blocks = 0; bytes = 0; end = ends.Stopped stop }
       → StopsAt options.file [] [] live.held (state store).held stop 0 0 → StopCause live.faults (state store).faults stop
-      → Recorded options (sides source live) (sides now (state store)) r
-  onto_nothing live store limit stop report r is limited reported written stops cause =
+      → Recorded options (sides sources live) (sides now (state store)) r
+  onto_nothing live store stop report r is reported written stops cause =
       let none : WriterReport = record { records = 0; blocks = 0; bytes = 0; end = ends.Stopped stop } in
       let writer : WriterRecorded options.file live (state store) [] none = record {
         records = refl;
@@ -74,8 +84,8 @@ module _ {L : Type 0} (state : L → LiveState) (options : RecordOptions) (sourc
         within = record { few = omega arith; small = omega arith };
         kept = λ n x at. absurd (at_none n x at);
       } in
-      subst (Recorded options (sides source live) (sides now (state store))) (same_report is)
-      (recorded_so options (sides source live) (sides now (state store)) [] report
-      (subst (λ (n : ℕ). IsReported n source now [] report) limited reported)
+      subst (Recorded options (sides sources live) (sides now (state store))) (same_report is)
+      (recorded_so options (sides sources live) (sides now (state store)) [] report
+      reported
       (subst (WriterRecorded options.file live (state store) []) (sym written) writer)
       (subst (IsAll []) (sym written) all))

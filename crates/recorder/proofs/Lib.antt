@@ -1,16 +1,14 @@
-mod Growing
-mod Publishing
 mod Draining
-mod Rooms
-mod Handing
-mod Ending
+mod Gathering
+mod Collecting
+mod Assembling
 mod Filing
 pub mod ReadBack
 mod ShortFiles
 pub mod Validity
 mod AgreedFields
 pub mod OneHistory
-mod OneFeed
+mod FeedsGiven
 pub mod Unfull
 mod BlockStretches
 pub mod EntriesFollow

@@ -1,22 +1,62 @@
--- That a recording on one thread refuses no message for a full buffer.
-use Rattle.std.proofs.Common.{◌≡◌, ℕ, List, [], subst}
-use Rattle.mcap_model.specs.Places.{Has, Each}
+-- Which recordings refuse no message for a full buffer.
+use Rattle.std.proofs.Common.{◌≡◌, ℕ, ◌+◌, ◌-◌, ◌≤◌, List, [], ◌++◌, length, take, drop, sym, ap, subst, ◌∙◌, length-append, arith}
+use Rattle.std.proofs.lemmas.Grind.{flat_map-append}
+use Rattle.std.proofs.lemmas.List.{take-append-drop}
+use Rattle.rec_data.specs.declared.owned.Rec.{Rec}
+use Rattle.rec_data.specs.Owned.{rec_bytes}
+use Rattle.mcap_model.specs.Places.{At, Has, Each}
 use Rattle.mcap_model.specs.Tops.{flat}
+use Rattle.mcap_model.specs.History.{history_bytes}
 use Rattle.mcap_model.proofs.Places.{at_none}
+use Rattle.feed_lane.specs.declared.report.FeedReport.{FeedReport}
 use Rattle.feed_lane.specs.declared.report.Cause.{Cause}
-use Rattle.feed_lane.specs.declared.report.Cause.TheVariants as causes
 use Rattle.feed_lane.specs.Pass.{FullAt}
 use Rattle.feed_lane.specs.Lanes.{CauseFits}
+use Rattle.buffer_swap.specs.Shown.{HeldThere}
 use Rattle.recorder.specs.declared.options.RecordOptions.{RecordOptions}
 use Rattle.recorder.specs.declared.report.Report.{Report}
-use Rattle.recorder.specs.Recorded.{Sides, Recorded}
+use Rattle.recorder.specs.Assembled.{LanePartStands}
+use Rattle.recorder.specs.Recorded.{FeedRecorded, lane_of, Sides, Recorded}
+use Rattle.recorder.specs.Laws.{RefusesNoneAsFull, FullBuffersAreNeeded, LosslessRefusesNoneAsFull}
+use Rattle.recorder.proofs.Assembling.{map_at, at_map}
 
 has_none : (full : FullAt) → Has [] full → ⊥
 has_none full (n, at) = at_none n full at
 
-pub none_full : (options : RecordOptions) (before now : Sides) (r : Report) (it : Recorded options before now r)
-    → Each (λ x. (held from to : ℕ) → x.cause ≡ causes.Full held from to → ⊥) it.feed.refused.items
-none_full options before now r it n x at = λ held from to full.
-    let fits = it.reports.fits.refuses n x at in
-    let there = subst (λ (cause : Cause). CauseFits (flat it.reports.tops) it.reports.handled it.pass x.index cause) full fits in
-    has_none (record { from = from; to = to; held = held }) (subst (λ (fulls : List FullAt). Has fulls (record { from = from; to = to; held = held })) it.unfull there.0)
+-- some records of a history have no more bytes than all
+bytes_within : (history : List Rec) (from many : ℕ) → length (history_bytes (take many (drop from history))) ≤ length (history_bytes history)
+bytes_within history from many =
+    let behind = drop from history in
+    let whole : take from history ++ behind ≡ history = take-append-drop from history in
+    let parts : take many behind ++ drop many behind ≡ behind = take-append-drop many behind in
+    let all : length (history_bytes (take from history)) + length (history_bytes behind) ≡ length (history_bytes history) =
+    sym (length-append (history_bytes (take from history)) (history_bytes behind)) ∙ ap length (sym (flat_map-append rec_bytes (take from history) behind)) ∙ ap (λ (l : List Rec). length (history_bytes l)) whole in
+    let some : length (history_bytes (take many behind)) + length (history_bytes (drop many behind)) ≡ length (history_bytes behind) =
+    sym (length-append (history_bytes (take many behind)) (history_bytes (drop many behind))) ∙ ap length (sym (flat_map-append rec_bytes (take many behind) (drop many behind))) ∙ ap (λ (l : List Rec). length (history_bytes l)) parts in
+    omega (arith, all, some)
+
+-- a lane refuses none where it met no full buffer
+none_full : (f : FeedRecorded) → ((full : FullAt) → Has f.pass.fulls full → f.pass.limit ≤ full.held → ⊥) → RefusesNoneAsFull f.feed
+none_full f never n x at = λ held from to is.
+    let fits = f.reports.fits.refuses n x at in
+    let there = subst (λ (cause : Cause). CauseFits (flat f.reports.tops) f.reports.handled f.pass x.index cause) is fits in
+    never (record { from = from; to = to; held = held }) there.0 there.1
+
+each_report : (options : RecordOptions) (before now : Sides) (r : Report) (it : Recorded options before now r) → ((k : ℕ) (f : FeedRecorded) → At it.feeds k f → RefusesNoneAsFull f.feed) → Each RefusesNoneAsFull r.feeds.items
+each_report options before now r it each k report at =
+    let (f, at_f, is) = at_map (λ (x : FeedRecorded). x.feed) it.feeds k report (subst (λ (l : List FeedReport). At l k report) it.are.reports_are at) in
+    subst RefusesNoneAsFull (sym is) (each k f at_f)
+
+pub full_buffers_are_needed : FullBuffersAreNeeded
+full_buffers_are_needed options before now r it less =
+    each_report options before now r it (λ k f at. none_full f (λ full (n, there) over.
+    let stands : LanePartStands options.limit it.history r.writer.end (lane_of f) = it.assembled.stand k (lane_of f) (map_at lane_of it.feeds k f at) in
+    let limit : f.pass.limit ≡ options.limit = stands.limit_is in
+    let here : HeldThere it.history full = stands.shown.fulls n full there in
+    let held : full.held ≡ length (history_bytes (take (full.to - full.from) (drop full.from it.history))) = here.held in
+    let within = bytes_within it.history full.from (full.to - full.from) in
+    omega (arith, less, over, limit, held, within)))
+
+pub lossless_refuses_none_as_full : LosslessRefusesNoneAsFull
+lossless_refuses_none_as_full options before now r it lossless =
+    each_report options before now r it (λ k f at. none_full f (λ full has over. has_none full (subst (λ (l : List FullAt). Has l full) (it.unfull lossless k f at) has)))

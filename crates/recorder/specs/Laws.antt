@@ -1,9 +1,10 @@
 -- Laws of recordings.
-use Rattle.std.specs.Prelude.{◌≡◌, ℕ, ◌≤◌, List, [], length, filter, false, Some, IsUtf8, ◌-◌}
+use Rattle.std.specs.Prelude.{◌≡◌, ℕ, ◌<◌, ◌≤◌, List, [], length, filter, true, false, Some, IsUtf8, ◌-◌}
 use Rattle.std.specs.List.{AllZip}
 use Rattle.mcap_wire.specs.Layout.{content_limit}
 use Rattle.mcap_wire.specs.Limits.{chunk_size_limit}
 use Rattle.rec_data.specs.declared.owned.Rec.{Rec}
+use Rattle.mcap_io.specs.Outside.{SourceState}
 use Rattle.mcap_model.specs.declared.ends.End.{End}
 use Rattle.mcap_model.specs.declared.ends.End.TheVariants as ends
 use Rattle.mcap_model.specs.declared.options.FileOptions.{FileOptions}
@@ -12,7 +13,7 @@ use Rattle.mcap_model.specs.Tops.{Top, flat}
 use Rattle.mcap_model.specs.Rules.{Agrees}
 use Rattle.mcap_model.specs.Kept.{Halts, reading_limits, is_beyond, at_end}
 use Rattle.mcap_model.specs.Scan.{Seen, Scan}
-use Rattle.mcap_model.specs.History.{is_message, flat_history}
+use Rattle.mcap_model.specs.History.{is_message, flat_history, history_bytes}
 use Rattle.mcap_model.specs.File.{file_of}
 use Rattle.mcap_model.specs.Whole.{offset_of, IsWhole}
 use Rattle.mcap_model.specs.Valid.{IsValid, IsFullyIndexed}
@@ -20,6 +21,8 @@ use Rattle.mcap_model.specs.Laws.{HoldsSeen, CanBeWritten}
 use Rattle.recorder.specs.declared.options.RecordOptions.{RecordOptions}
 use Rattle.recorder.specs.declared.report.Report.{Report}
 use Rattle.recorder.specs.Assembled.{LanePart, Assembled}
+use Rattle.feed_lane.specs.declared.report.FeedReport.{FeedReport}
+use Rattle.feed_lane.specs.declared.report.Cause.TheVariants as causes
 use Rattle.recorder.specs.Recorded.{Sides, Recorded}
 
 -- ---- recordings are read back
@@ -89,7 +92,7 @@ abbrev pub HistoriesAreGiven : Type 0
 HistoriesAreGiven = (one other : Assembly) → Each (λ lane. EachBehind Agrees lane.records) one.lanes
     → AllZip SameLists one.lanes other.lanes → one.history ≡ other.history
 
--- a recording of one feed: how it was to be made, what was seen of its source and its store, and its report
+-- a recording: how it was to be made, what was seen of its sources and its store, and its report
 pub record Account : Type 0 where
   pub options : RecordOptions
   pub before : Sides
@@ -97,7 +100,27 @@ pub record Account : Type 0 where
   pub report : Report
   pub is : Recorded options before now report
 
--- The bytes of a feed and the report on it decide the history, whatever the options and the store.
+-- these are the bytes of the sources, in order
+abbrev pub AreLeft : List SourceState → List (List ℕ) → Type 0
+AreLeft sources all = AllZip (λ (s : SourceState) (bytes : List ℕ). s.left ≡ Some bytes) sources all
+
+-- The bytes of the feeds and the reports on them decide the history, whatever the options and the store.
 abbrev pub RecordingsAreGiven : Type 0
-RecordingsAreGiven = (bytes : List ℕ) (one other : Account) → one.before.source.left ≡ Some bytes → other.before.source.left ≡ Some bytes
+RecordingsAreGiven = (all : List (List ℕ)) (one other : Account) → AreLeft one.before.sources all → AreLeft other.before.sources all
     → one.report.feeds.items ≡ other.report.feeds.items → one.is.history ≡ other.is.history
+
+-- ---- full buffers
+
+-- the report has no refusal for a full buffer
+abbrev pub RefusesNoneAsFull : FeedReport → Type 0
+RefusesNoneAsFull f = Each (λ r. (held from to : ℕ) → r.cause ≡ causes.Full held from to → ⊥) f.refused.items
+
+-- A message is refused for a full buffer only where the frames of all that was recorded have as many bytes as fill a buffer.
+abbrev pub FullBuffersAreNeeded : Type 0
+FullBuffersAreNeeded = (options : RecordOptions) (before now : Sides) (r : Report) (it : Recorded options before now r)
+    → length (history_bytes it.history) < options.limit → Each RefusesNoneAsFull r.feeds.items
+
+-- Where lanes wait for room, none is.
+abbrev pub LosslessRefusesNoneAsFull : Type 0
+LosslessRefusesNoneAsFull = (options : RecordOptions) (before now : Sides) (r : Report) → Recorded options before now r
+    → options.lossless ≡ true → Each RefusesNoneAsFull r.feeds.items

@@ -1,8 +1,7 @@
 pub mod Assembled
 pub mod Recorded
-pub mod Lone
 pub mod Writing
-pub mod Intakes
+pub mod Lanes
 pub mod Onto
 pub mod Laws
 pub mod Entries

@@ -1,5 +1,5 @@
--- What a recording of one feed did to its source and to its store.
-use Rattle.std.specs.Prelude.{◌≡◌, ◌⊎◌, ◌≤◌, ℕ, List, [], ◌∷◌, length, Result, Ok, Err, OnOk}
+-- What a recording did to its sources and to its store.
+use Rattle.std.specs.Prelude.{◌≡◌, ◌⊎◌, ◌≤◌, ℕ, List, [], map, length, true, Result, Ok, Err, OnOk}
 use Rattle.rec_data.specs.declared.owned.Rec.{Rec}
 use Rattle.mcap_io.specs.Outside.{SourceState, LiveState}
 use Rattle.mcap_model.specs.declared.ends.End.{End}
@@ -21,13 +21,26 @@ use Rattle.recorder.specs.declared.report.Report.{Report}
 use Rattle.recorder.specs.declared.report.WriterReport.{WriterReport}
 use Rattle.recorder.specs.Assembled.{LanePart, Assembled}
 
--- there is one feed, and its report is this
-abbrev pub IsOnlyFeed : Report → FeedReport → Type 0
-IsOnlyFeed r f = r.feeds.items ≡ f ∷ []
+-- ---- a feed
 
--- the lane of a feed that was reported on
-abbrev pub lane_of : {before now : SourceState} {pass : PassState} {f : FeedReport} → Reports before now pass f → LanePart
-lane_of {before} {now} {pass} {f} reports = record { records = flat reports.tops; handled = reports.handled; lists = reported f; pass = pass }
+-- What came of a feed: its source as it was and is now, the report on it, and what the pass of its lane showed, of which the
+-- report is true.
+pub record FeedRecorded : Type 0 where
+  pub before : SourceState
+  pub now : SourceState
+  pub feed : FeedReport
+  pub pass : PassState
+  pub reports : Reports before now pass feed
+
+-- its lane
+abbrev pub lane_of : FeedRecorded → LanePart
+lane_of f = record { records = flat f.reports.tops; handled = f.reports.handled; lists = reported f.feed; pass = f.pass }
+
+-- these are the feeds of a recording whose sources were and are so, and these are the reports on them, in the same order
+pub record AreFeeds (feeds : List FeedRecorded) (before now : List SourceState) (reports : List FeedReport) : Type 0 where
+  pub before_are : before ≡ map (λ (f : FeedRecorded). f.before) feeds
+  pub now_are : now ≡ map (λ (f : FeedRecorded). f.now) feeds
+  pub reports_are : reports ≡ map (λ (f : FeedRecorded). f.feed) feeds
 
 -- ---- the writer
 
@@ -53,25 +66,22 @@ pub record WriterRecorded (options : FileOptions) (before now : LiveState) (hist
 
 -- ---- the recording
 
--- what is seen of the source and of the store
+-- what is seen of the sources and of the store
 pub record Sides : Type 0 where
-  pub source : SourceState
+  pub sources : List SourceState
   pub live : LiveState
 
-abbrev pub sides : SourceState → LiveState → Sides
-sides source live = record { source = source; live = live }
+abbrev pub sides : List SourceState → LiveState → Sides
+sides sources live = record { sources = sources; live = live }
 
--- What a recording of one feed came to: what its lane read and showed, and the history, which its report describes and the
--- store holds.
+-- What a recording came to: what its lanes read and showed, and the history, which its report describes and the store holds.
 pub record Recorded (options : RecordOptions) (before now : Sides) (r : Report) : Type 0 where
   pub history : List Rec
-  pub feed : FeedReport
-  pub only : IsOnlyFeed r feed
-  pub pass : PassState
-  pub reports : Reports before.source now.source pass feed
-  -- no call of the lane met a full buffer
-  pub unfull : pass.fulls ≡ []
-  pub assembled : Assembled options.limit (lane_of reports ∷ []) history r.writer.end
+  pub feeds : List FeedRecorded
+  pub are : AreFeeds feeds before.sources now.sources r.feeds.items
+  pub assembled : Assembled options.limit (map lane_of feeds) history r.writer.end
+  -- where lanes wait for room, no call met a full buffer
+  pub unfull : options.lossless ≡ true → Each (λ (f : FeedRecorded). f.pass.fulls ≡ []) feeds
   -- each record can be framed, and is read back from its frame
   pub kept : Each IsKept history
   pub writer : WriterRecorded options.file before.live now.live history r.writer

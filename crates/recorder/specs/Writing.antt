@@ -1,21 +1,16 @@
--- A tape beside a desk: what a step of the writer makes of the desk, and how far both have come.
-use Rattle.std.specs.Prelude.{◌≡◌, ℕ, []}
-use Rattle.mcap_model.specs.declared.ends.End.TheVariants as ends
+-- A tape beside a drain: how far the steps of a writer have come.
+use Rattle.std.specs.Prelude.{◌≡◌, ℕ, List, [], ◌++◌, All, Option, Some}
+use Rattle.rec_data.specs.declared.owned.Rec.{Rec}
 use Rattle.mcap_model.specs.declared.ends.Stop.{Stop}
-use Rattle.record_cache.specs.Buffers.{Buffer}
-use Rattle.record_core.specs.Desk.{DeskView, accepted, swapped, ended, IsCause}
+use Rattle.record_cache.specs.Buffers.{Buffer, IsKept}
+use Rattle.record_core.specs.Desk.{IsCause}
 use Rattle.chunk_writer.specs.declared.phase.Phase.{Phase}
 use Rattle.chunk_writer.specs.declared.phase.Phase.TheVariants as phases
 use Rattle.chunk_writer.specs.Stops.{StopCause}
+use Rattle.buffer_swap.specs.Posts.{Post}
 
 abbrev pub empty_buffer : ℕ → Buffer
 empty_buffer limit = record { limit = limit; records = [] }
-
--- the desk behind a step that took its records: where the tape stopped, the desk is stopped
-abbrev pub written : DeskView → Phase → DeskView
-written d phases.Going = swapped d
-written d (phases.Stopped stop) = ended (swapped d) (ends.Stopped stop)
-written d phases.Ended = swapped d
 
 -- The tape hasn't ended; where it stopped, that has a cause.
 pub record MayWrite (phase : Phase) : Type 0 where
@@ -28,7 +23,18 @@ Continues phases.Going before now = now ≡ before
 Continues (phases.Stopped stop) before now = StopCause before now stop
 Continues phases.Ended before now = ⊥
 
--- the desk is empty, and has accepted what it had
-pub record IsDrained (d after : DeskView) : Type 0 where
-  pub empty : after.primary ≡ []
-  pub count : accepted after ≡ accepted d
+-- the drain stopped the intake only for what the tape stopped
+abbrev pub StopsWith : Option Stop → Phase → Type 0
+StopsWith halt phase = (stop : Stop) → halt ≡ Some stop → phase ≡ phases.Stopped stop
+
+-- The tape, which was the first one, got the records by which what the drain took has grown, and no others. What is seen of a
+-- tape is handed in.
+pub record WritesOn {T : Type 0} (grows : T → T → List Rec → Type 0) (phase : T → Phase) (failures : T → ℕ) (first now : T) (before : List Rec) (post : Post) : Type 0 where
+  pub more : List Rec
+  pub taken : post.taken ≡ before ++ more
+  pub grown : grows first now more
+  pub records : All IsKept more
+  pub may : MayWrite (phase now)
+  pub stops : StopsWith post.stop (phase now)
+  pub goes : phase first ≡ phases.Going → Continues (phase now) (failures first) (failures now)
+  pub kept : (stop : Stop) → phase first ≡ phases.Stopped stop → now ≡ first

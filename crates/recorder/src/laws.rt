@@ -1,5 +1,5 @@
 //! Laws of recordings, each as the contract of a function that does nothing.
-ghost use Rattle.recorder.specs.Laws.{RecordingsAreReadBack, RecordingsAreValid, HistoriesAreGiven, RecordingsAreGiven};
+ghost use Rattle.recorder.specs.Laws.{RecordingsAreReadBack, RecordingsAreValid, HistoriesAreGiven, RecordingsAreGiven, FullBuffersAreNeeded, LosslessRefusesNoneAsFull};
 ghost use Rattle.recorder.specs.Entries.{RecordedEntriesFollow, FrontsAreTold, EntriesAreGathered};
 
 use mcap_io::Extent;
@@ -20,9 +20,19 @@ pub fn histories_are_given()
     ensures { HistoriesAreGiven }
 {}
 
-/// The bytes of a feed and the report on it decide the history.
+/// The bytes of the feeds and the reports on them decide the history.
 pub fn recordings_are_given()
     ensures { RecordingsAreGiven }
+{}
+
+/// A message is refused for a full buffer only where what was recorded could fill one.
+pub fn full_buffers_are_needed()
+    ensures { FullBuffersAreNeeded }
+{}
+
+/// Where lanes wait for room, no message is refused for a full buffer.
+pub fn lossless_refuses_none_as_full()
+    ensures { LosslessRefusesNoneAsFull }
 {}
 
 /// The entries of the first blocks of a recording follow one another.

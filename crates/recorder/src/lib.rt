@@ -1,13 +1,14 @@
-//! Recording a feed into a file: a lane reads it and publishes into the intake, the intake's records go to a tape, and the
-//! report says what became of each message.
+//! Recording feeds into a file: a lane reads each of them and publishes into the intake, the intake's records go to a tape
+//! beside the lanes, and the report says what became of each message.
 #![tactic(auto)]
 
-mod intake;
+mod lanes;
 pub mod laws;
-mod lone;
 mod options;
 mod recording;
 mod report;
+mod rousing;
+mod unopened;
 mod writer;
 
 pub use feed_lane::{Accepted, Cause, DeclaredAt, FeedEnd, FeedReport, Refused};

@@ -1,178 +1,252 @@
-//! Recording one feed into one store.
-ghost use Rattle.std.specs.Prelude.{◌≡◌, ◌≤◌, ℕ, List, [], ◌∷◌, length, vec_capacity, None, Some, IfOk};
+//! Recording feeds into one store.
+ghost use Rattle.std.specs.Prelude.{◌≡◌, ◌≤◌, ℕ, List, [], length, map, vec_len, vec_capacity, None, Some, IfOk};
+ghost use Rattle.std.specs.List.{AllZip};
 ghost use Rattle.mcap_wire.specs.Layout.{content_limit};
 ghost use Rattle.mcap_wire.specs.Limits.{buffer_limit, chunk_size_limit};
 ghost use Rattle.rec_data.specs.declared.owned.Rec.{Rec};
-ghost use Rattle.record_core.specs.Desk.{IsCause};
+ghost use Rattle.mcap_model.specs.declared.ends.Stop.{Stop as Why};
+ghost use Rattle.mcap_model.specs.declared.ends.End.{End as Last};
+ghost use Rattle.mcap_model.specs.declared.ends.End.TheVariants.{Stopped};
+ghost use Rattle.mcap_model.specs.Places.{Each};
 ghost use Rattle.chunk_writer.specs.declared.phase.Phase.TheVariants as phases;
-ghost use Rattle.recorder.specs.Onto.{IsRoom, IsWritten, IsAll, IsReported};
+ghost use Rattle.feed_lane.specs.Pass.{no_calls};
+ghost use Rattle.buffer_swap.specs.Calls.{first_limit, IsNewTurn, IsOver};
+ghost use Rattle.recorder.specs.Writing.{empty_buffer};
+ghost use Rattle.recorder.specs.Lanes.{IsFresh, LanesRan};
+ghost use Rattle.recorder.specs.Onto.{IsWritten, IsAll, IsReported};
 ghost use Rattle.recorder.specs.Recorded.{sides, Recorded};
 
-use crate::intake::{Ended, Intake};
-use crate::lone::LoneDesk;
+use crate::lanes::{Lane, Lanes};
 use crate::options::RecordOptions;
-use crate::report::{Report, WriterReport};
+use crate::report::Report;
+use crate::unopened::{run_unwritten, stop_unread};
+use crate::writer::{Writer, Written};
+use buffer_swap::laws::places_are_known;
+use buffer_swap::{Turn, meet};
 use chunk_writer::{Scribe, Tape};
-use feed_lane::{FeedReport, publish_feed};
+use feed_lane::FeedReport;
 use mcap_io::{LiveStore, Source};
-use mcap_model::{End, Stop};
 use mcap_wire::Memory;
 use record_cache::Cache;
 use record_core::Desk;
 use std::alloc::Global;
+use std::sync::Wait;
+use std::thread::{Threads, join};
 
-/// A recording's report, with the source and the store that it was handed. There is no report only where memory
-/// lacked before anything was read or appended.
+/// A recording's report, with the feeds and the store that it was handed. There is no report only where memory lacked before
+/// anything was read or appended.
+#[derive(Drop)]
 pub struct Recording<S, L> {
     pub report: Option<Report>,
-    pub feed: S,
+    pub feeds: Vec<S>,
     pub live: L,
 }
 
-// Room for a report, and the two buffers of a recording.
+// What a recording needs before its first record: the turn, the second buffer, and room for the feeds and for the reports.
 #[derive(Drop)]
-struct Room {
-    feeds: Vec<FeedReport>,
-    desk: Desk,
+struct Room<S> {
+    turn: Turn,
     spare: Cache,
+    feeds: Vec<S>,
+    reports: Vec<FeedReport>,
 }
 
-// A report, with the source and the tape.
+// A report, with the feeds and the tape.
+#[derive(Drop)]
 struct Onto<S, T> {
     report: Report,
-    feed: S,
+    feeds: Vec<S>,
     tape: T,
 }
 
-// A report, with the source.
-struct Nowhere<S> {
-    report: Report,
-    feed: S,
-}
-
-// Makes the room for a recording.
-fn make_room(alloc: Global, limit: u64) -> Result<Room, Memory>
+// Makes the room for a recording of so many feeds.
+fn make_room<S: Drop>(alloc: Global, limit: u64, many: usize) -> Result<Room<S>, Memory>
     requires some { 1 ≤ limit }
     requires small { limit ≤ buffer_limit }
-    ensures { IfOk result (λ room. IsRoom limit room) }
+    ensures turn { IfOk result (λ room. IsNewTurn room.turn.board.table.shared.table_id room.turn.first × (first_limit room.turn.first ≡ limit)) }
+    ensures spare { IfOk result (λ room. room.spare ≡ empty_buffer limit) }
+    ensures feeds { IfOk result (λ room. (room.feeds.items ≡ []) × (many ≤ vec_capacity room.feeds)) }
+    ensures reports { IfOk result (λ room. (room.reports.items ≡ []) × (many ≤ vec_capacity room.reports)) }
 {
     let mut feeds = Vec::new(alloc);
-    match feeds.reserve(1) {
-        Ok(()) => {}
-        Err(_) => return Err(Memory),
+    let mut reports = Vec::new(alloc);
+    match (feeds.reserve(many), reports.reserve(many)) {
+        (Ok(()), Ok(())) => {}
+        _ => return Err(Memory),
     }
     let desk = match Desk::open(alloc, limit) {
         Ok(desk) => desk,
         Err(memory) => return Err(memory),
     };
-    match Cache::new(alloc, limit) {
-        Ok(spare) => return Ok(Room { feeds, desk, spare }),
+    let spare = match Cache::new(alloc, limit) {
+        Ok(spare) => spare,
+        Err(memory) => return Err(memory),
+    };
+    match Turn::open(alloc, desk) {
+        Ok(turn) => {
+            return Ok(Room {
+                turn,
+                spare,
+                feeds,
+                reports,
+            });
+        }
         Err(memory) => return Err(memory),
     }
 }
 
-// The report of a recording whose only feed came to this.
-fn report_of(feeds: Vec<FeedReport>, feed: FeedReport, writer: WriterReport) -> Report
-    requires none { feeds.items ≡ [] }
-    requires one { 1 ≤ vec_capacity feeds }
-    ensures feeds { result.feeds.items ≡ feed ∷ [] }
-    ensures writer { result.writer ≡ writer }
+// Makes room for so many lanes.
+fn lane_room<'t, R: Wait, S: Drop>(
+    alloc: Global,
+    many: usize,
+) -> Result<Vec<Lane<'t, R, S>>, Memory>
+    ensures { IfOk result (λ lanes. (lanes.items ≡ []) × (many ≤ vec_capacity lanes)) }
 {
-    let mut feeds = feeds;
-    feeds.push_reserved(feed);
-    Report { feeds, writer }
+    let mut lanes = Vec::new(alloc);
+    match lanes.reserve(many) {
+        Ok(()) => return Ok(lanes),
+        Err(_) => return Err(Memory),
+    }
 }
 
-// Records the feed onto a tape.
-fn record_onto<S: Source, T: Tape>(alloc: Global, room: Room, feed: S, tape: T) -> Onto<S, T>
-    requires room { IsRoom room.desk.limit room }
-    requires going { T.phase tape ≡ phases.Going }
-    ensures reported { (history : List Rec) × IsReported room.desk.limit (S.state feed) (S.state result.feed) history result.report
-        × IsWritten T.grows T.ends T.failures tape result.tape history result.report.writer × IsAll history result.report.writer }
-    ensures stays { S.stays feed result.feed }
+// A recording for which memory lacked before anything was read or appended.
+fn refused<S, L>(feeds: Vec<S>, live: L) -> Recording<S, L>
+    ensures { result ≡ record { report = None; feeds = feeds; live = live } }
 {
-    let Room { feeds, desk, spare } = room;
-    let mut feed = feed;
-    let mut intake = Intake::new(desk, spare, tape);
-    let lane = publish_feed(alloc, &mut feed, &mut intake);
-    let Ended { tape, writer } = intake.end();
+    Recording {
+        report: None,
+        feeds,
+        live,
+    }
+}
+
+// Runs the lanes beside the writer, and makes the report. The control closes the intake once all lanes have ended, while the
+// writer still takes what is left.
+fn run_beside<R: Threads + Wait + Sync, S: Source + Drop + Send, T: Tape<X: Send> + Drop + Send>(
+    rt: &R,
+    alloc: Global,
+    lanes: Lanes<'_, R, S>,
+    writer: Writer<'_, T>,
+    spare: Cache,
+) -> Onto<S, T>
+    requires same_turn { writer.drain.seat.table_id ≡ lanes.control.seat.table_id }
+    requires turns { Each (λ lane. lane.pass.publisher.seat.table_id ≡ lanes.control.seat.table_id) lanes.lanes.items }
+    requires new { Each (λ lane. lane.pass.publisher.seat.me.0.pass ≡ no_calls lanes.control.seat.me.0.pass.limit) lanes.lanes.items }
+    requires waits { Each (λ lane. lane.pass.lossless ≡ lanes.lossless) lanes.lanes.items }
+    requires fresh { IsFresh lanes.control.seat.me.0.post (vec_len lanes.lanes) }
+    requires feeds { (lanes.feeds.items ≡ []) × (vec_len lanes.lanes ≤ vec_capacity lanes.feeds) }
+    requires reports { (lanes.reports.items ≡ []) × (vec_len lanes.lanes ≤ vec_capacity lanes.reports) }
+    requires spare { spare ≡ empty_buffer writer.drain.seat.me.0.pass.limit }
+    requires none { writer.drain.seat.me.0.post.taken ≡ [] }
+    requires unstopped { writer.drain.seat.me.0.post.stop ≡ None }
+    requires going { T.phase writer.tape ≡ phases.Going }
+    ensures reported { (history : List Rec) × IsReported lanes.entry.control.seat.me.0.pass.limit lanes.entry.lossless (map (λ lane. S.state lane.source) lanes.entry.lanes.items) (map S.state result.feeds.items) history result.report
+        × IsWritten T.grows T.ends T.failures writer.entry.tape result.tape history result.report.writer × IsAll history result.report.writer }
+    ensures stays { AllZip S.stays (map (λ lane. lane.source) lanes.entry.lanes.items) result.feeds.items }
+{
+    let (written, lanes) = join(
+        rt,
+        ||
+            requires spare { spare ≡ empty_buffer writer.drain.seat.me.0.pass.limit }
+            requires none { writer.drain.seat.me.0.post.taken ≡ [] }
+            requires unstopped { writer.drain.seat.me.0.post.stop ≡ None }
+            requires going { T.phase writer.tape ≡ phases.Going }
+            ensures turn { result.drain.seat.table_id ≡ writer.entry.drain.seat.table_id }
+            ensures over { (end : Last) × IsOver result.drain.seat.me.0.pass result.drain.seat.me.0.post end }
+            ensures written { IsWritten T.grows T.ends T.failures writer.entry.tape result.tape result.drain.seat.me.0.post.taken result.report }
+            ensures all { IsAll result.drain.seat.me.0.post.taken result.report }
+            ensures stops { (stop : Why) → result.drain.seat.me.0.post.stop ≡ Some stop → result.report.end ≡ Stopped stop }
+        { writer.run(rt, spare) },
+        ||
+            requires turn { Each (λ lane. lane.pass.publisher.seat.table_id ≡ lanes.control.seat.table_id) lanes.lanes.items }
+            requires new { Each (λ lane. lane.pass.publisher.seat.me.0.pass ≡ no_calls lanes.control.seat.me.0.pass.limit) lanes.lanes.items }
+            requires waits { Each (λ lane. lane.pass.lossless ≡ lanes.lossless) lanes.lanes.items }
+            requires fresh { IsFresh lanes.control.seat.me.0.post (vec_len lanes.lanes) }
+            requires feeds { (lanes.feeds.items ≡ []) × (vec_len lanes.lanes ≤ vec_capacity lanes.feeds) }
+            requires reports { (lanes.reports.items ≡ []) × (vec_len lanes.lanes ≤ vec_capacity lanes.reports) }
+            ensures turn { result.control.seat.table_id ≡ lanes.entry.control.seat.table_id }
+            ensures ran { LanesRan lanes.entry.control.seat.me.0.pass.limit lanes.entry.lossless (map (λ lane. S.state lane.source) lanes.entry.lanes.items) (map S.state result.feeds.items) result.reports.items result.control.seat.me.0.post }
+            ensures stays { AllZip S.stays (map (λ lane. lane.source) lanes.entry.lanes.items) result.feeds.items }
+        { lanes.run(rt, alloc) },
+    );
+    let Written {
+        mut drain,
+        tape,
+        report,
+    } = written;
+    let Lanes {
+        mut control,
+        lossless: _,
+        lanes: _,
+        feeds,
+        reports,
+    } = lanes;
+    meet(&mut control, &mut drain);
+    places_are_known();
     Onto {
-        report: report_of(feeds, lane, writer),
-        feed,
+        report: Report {
+            feeds: reports,
+            writer: report,
+        },
+        feeds,
         tape,
     }
 }
 
-// Runs the lane of a feed whose file couldn't be begun, for that reason: the intake is stopped before its first record.
-fn record_nowhere<S: Source>(alloc: Global, room: Room, feed: S, stop: Stop) -> Nowhere<S>
-    requires room { IsRoom room.desk.limit room }
-    requires cause { IsCause stop }
-    ensures reported { IsReported room.desk.limit (S.state feed) (S.state result.feed) [] result.report }
-    ensures writer { result.report.writer ≡ record { records = 0; blocks = 0; bytes = 0; end = End.Stopped stop } }
-    ensures stays { S.stays feed result.feed }
-{
-    let Room {
-        feeds,
-        desk,
-        spare: _,
-    } = room;
-    let mut feed = feed;
-    let mut desk = desk;
-    desk.stop(stop);
-    let mut lone = LoneDesk { desk, found: None };
-    let lane = publish_feed(alloc, &mut feed, &mut lone);
-    let writer = WriterReport {
-        records: 0,
-        blocks: 0,
-        bytes: 0,
-        end: End::Stopped { stop },
-    };
-    Nowhere {
-        report: report_of(feeds, lane, writer),
-        feed,
-    }
-}
-
-/// Records the feed into the store, behind what the store holds, which is nothing where the file is to be read back.
-/// What waits is written out before the buffer is full, so that no message is refused for that.
-pub fn record<S: Source, L: LiveStore>(
-    alloc: Global,
-    options: &RecordOptions,
-    feed: S,
-    live: L,
-) -> Recording<S, L>
+/// Records the feeds into the store, behind what the store holds, which is nothing where the file is to be read back. Each feed
+/// has a lane of its own, and the lanes run beside the writer.
+pub fn record<
+    R: Threads + Wait + Sync,
+    S: Source + Drop + Send,
+    L: LiveStore<Extent: Send, View: Send> + Drop + Send,
+>(rt: &R, alloc: Global, options: &RecordOptions, feeds: Vec<S>, live: L) -> Recording<S, L>
     requires some { 1 ≤ options.now.limit }
     requires small { options.now.limit ≤ buffer_limit }
     requires size { (n : ℕ) → options.now.file.chunk ≡ Some n → (1 ≤ n) × (n ≤ chunk_size_limit) }
     requires profile { length options.now.file.profile ≤ content_limit }
-    ensures refused { result.report ≡ None → (result.feed ≡ feed) × (result.live ≡ live) }
-    ensures stays { S.stays feed result.feed }
-    ensures recorded { (r : _) → result.report ≡ Some r → Recorded options.now (sides (S.state feed) (L.state live)) (sides (S.state result.feed) (L.state result.live)) r }
+    requires feeds { (1 ≤ vec_len feeds) × (vec_len feeds ≤ 64) }
+    ensures refused { result.report ≡ None → (result.feeds.items ≡ feeds.items) × (result.live ≡ live) }
+    ensures stays { AllZip S.stays feeds.items result.feeds.items }
+    ensures recorded { (r : _) → result.report ≡ Some r → Recorded options.now (sides (map S.state feeds.items) (L.state live)) (sides (map S.state result.feeds.items) (L.state result.live)) r }
 {
-    let room = match make_room(alloc, options.limit) {
+    let Room {
+        mut turn,
+        spare,
+        feeds: back,
+        reports,
+    } = match make_room(alloc, options.limit, feeds.len()) {
         Ok(room) => room,
-        Err(_) => {
-            return Recording {
-                report: None,
-                feed,
-                live,
-            };
-        }
+        Err(_) => return refused(feeds, live),
+    };
+    let (control, mut drain) = turn.start();
+    let lanes = match lane_room(alloc, feeds.len()) {
+        Ok(lanes) => lanes,
+        Err(_) => return refused(feeds, live),
+    };
+    let mut lanes = Lanes {
+        control,
+        lossless: options.lossless,
+        lanes,
+        feeds: back,
+        reports,
     };
     match Scribe::open(alloc, live, &options.file) {
-        Ok(scribe) => {
-            let Onto { report, feed, tape } = record_onto(alloc, room, feed, scribe);
+        Ok(tape) => {
+            lanes.add_all(rt, feeds);
+            let onto = run_beside(rt, alloc, lanes, Writer { drain, tape }, spare);
             return Recording {
-                report: Some(report),
-                feed,
-                live: tape.into_store(),
+                report: Some(onto.report),
+                feeds: onto.feeds,
+                live: onto.tape.into_store(),
             };
         }
         Err((live, stop)) => {
-            let Nowhere { report, feed } = record_nowhere(alloc, room, feed, stop);
+            stop_unread(rt, &mut lanes.control, &mut drain, spare, stop);
+            lanes.add_all(rt, feeds);
+            let unwritten = run_unwritten(rt, alloc, lanes, drain, stop);
             return Recording {
-                report: Some(report),
-                feed,
+                report: Some(unwritten.report),
+                feeds: unwritten.feeds,
                 live,
             };
         }

@@ -1,39 +1,84 @@
 //! The writer's part: it takes what was accepted, buffer by buffer, and hands it to a tape.
-ghost use Rattle.std.specs.Prelude.{◌≡◌, ℕ, [], true, false, All};
+ghost use Rattle.std.specs.Prelude.{◌≡◌, [], length, IfSome, None, Some};
 ghost use Rattle.mcap_model.specs.declared.ends.Stop.{Stop as Why};
-ghost use Rattle.record_cache.specs.Buffers.{IsKept};
+ghost use Rattle.mcap_model.specs.declared.ends.End.{End as Last};
+ghost use Rattle.mcap_model.specs.declared.ends.End.TheVariants.{Stopped};
 ghost use Rattle.chunk_writer.specs.declared.phase.Phase.TheVariants as phases;
-ghost use Rattle.recorder.specs.Writing.{empty_buffer, written, MayWrite, Continues, IsDrained};
+ghost use Rattle.buffer_swap.specs.Calls.{IsOver};
+ghost use Rattle.recorder.specs.Recorded.{answer_of};
+ghost use Rattle.recorder.specs.Writing.{empty_buffer, MayWrite, StopsWith, WritesOn};
+ghost use Rattle.recorder.specs.Onto.{IsWritten, IsAll};
 
+use crate::report::WriterReport;
+use buffer_swap::Drain;
 use chunk_writer::Tape;
+use mcap_model::{End, Stop};
 use record_cache::Cache;
-use record_core::Desk;
+use record_core::Empty;
+use std::sync::Wait;
 
-/// What a step of the writer came to: the empty buffer that it has then, and whether there was anything to take.
+/// The drain of a recording and its tape.
 #[derive(Drop)]
-pub(crate) struct Step {
-    pub spare: Cache,
-    pub took: bool,
+pub(crate) struct Writer<'t, T> {
+    pub drain: Drain<'t>,
+    pub tape: T,
 }
 
-/// One step: takes the buffer of the desk for an empty one, hands its records to the tape, and stops the desk where the tape
-/// stopped.
-pub(crate) fn write_once<T: Tape>(tape: &mut T, desk: &mut Desk, spare: Cache) -> Step
-    requires spare { spare ≡ empty_buffer desk.old.limit }
-    requires may { MayWrite (T.phase tape.old) }
-    ensures spare { result.spare ≡ empty_buffer desk.old.limit }
-    ensures none { result.took ≡ false → (desk.old.primary ≡ []) × (desk.new ≡ desk.old) × (tape.new ≡ tape.old) }
-    ensures some { result.took ≡ true → desk.old.primary ≡ [] → ⊥ }
-    ensures wrote { result.took ≡ true → (desk.new ≡ written desk.old (T.phase tape.new)) × T.grows tape.old tape.new desk.old.primary × All IsKept desk.old.primary }
-    ensures goes { T.phase tape.old ≡ phases.Going → Continues (T.phase tape.new) (T.failures tape.old) (T.failures tape.new) }
-    ensures kept { (stop : Why) → T.phase tape.old ≡ phases.Stopped stop → tape.new ≡ tape.old }
+/// How a writer ended: the drain, the tape, and what the writer has to report.
+#[derive(Drop)]
+pub(crate) struct Written<'t, T> {
+    pub drain: Drain<'t>,
+    pub tape: T,
+    pub report: WriterReport,
+}
+
+// What a step of the writer came to: the empty buffer that it has then, and how many records were taken in all, where the
+// intake has ended and nothing is left.
+#[derive(Drop)]
+struct Step {
+    spare: Cache,
+    over: Option<u64>,
+}
+
+// The end that a tape's answer is.
+fn end_by(answer: Result<(), Stop>) -> End
+    ensures { answer_of result ≡ answer }
 {
-    let full = match desk.swap(spare) {
+    match answer {
+        Ok(()) => return End::Closed,
+        Err(stop) => return End::Stopped { stop },
+    }
+}
+
+// How many records the intake has, where it has ended.
+fn over_at(empty: &Empty) -> Option<u64>
+    ensures { IfSome result (λ at. (at ≡ empty.now.at) × (end : Last) × (empty.now.end ≡ Some end)) }
+{
+    match empty.end {
+        Some(_) => return Some(empty.at),
+        None => return None,
+    }
+}
+
+// One step: takes the buffer of the intake for an empty one, hands its records to the tape, and stops the intake where the tape
+// stopped. What comes behind a stop is dropped by the tape.
+fn write_once<R: Wait, T: Tape>(rt: &R, drain: &mut Drain<'_>, tape: &mut T, spare: Cache) -> Step
+    requires spare { spare ≡ empty_buffer drain.old.seat.me.0.pass.limit }
+    requires may { MayWrite (T.phase tape.old) }
+    requires stops { StopsWith drain.old.seat.me.0.post.stop (T.phase tape.old) }
+    ensures turn { drain.new.seat.table_id ≡ drain.old.seat.table_id }
+    ensures limit { drain.new.seat.me.0.pass.limit ≡ drain.old.seat.me.0.pass.limit }
+    ensures spare { result.spare ≡ empty_buffer drain.new.seat.me.0.pass.limit }
+    ensures writes { WritesOn T.grows T.phase T.failures tape.old tape.new drain.old.seat.me.0.post.taken drain.new.seat.me.0.post }
+    ensures over { IfSome result.over (λ at. (at ≡ length drain.new.seat.me.0.post.taken) × (end : Last) × IsOver drain.new.seat.me.0.pass drain.new.seat.me.0.post end) }
+{
+    let full = match drain.swap(rt, spare) {
         Ok(full) => full,
         Err(empty) => {
+            let over = over_at(&empty);
             return Step {
                 spare: empty.cache,
-                took: false,
+                over,
             };
         }
     };
@@ -43,35 +88,70 @@ pub(crate) fn write_once<T: Tape>(tape: &mut T, desk: &mut Desk, spare: Cache) -
         Ok(()) => {
             return Step {
                 spare: taken.cache,
-                took: true,
+                over: None,
             };
         }
         Err(stop) => {
-            desk.stop(stop);
+            drain.stop(rt, stop);
             return Step {
                 spare: taken.cache,
-                took: true,
+                over: None,
             };
         }
     }
 }
 
-/// Steps until nothing is left to take. What comes behind a stop of the tape is dropped by the tape.
-pub(crate) fn drain<T: Tape>(tape: &mut T, desk: &mut Desk, spare: Cache)
-    requires spare { spare ≡ empty_buffer desk.old.limit }
+// Hands all that is accepted to the tape, up to the end of the intake, and answers how many records that were. It rests until a
+// lane has filled the buffer far enough, or is about to wait for its feed.
+fn write_all<R: Wait, T: Tape>(rt: &R, drain: &mut Drain<'_>, tape: &mut T, spare: Cache) -> u64
+    requires spare { spare ≡ empty_buffer drain.old.seat.me.0.pass.limit }
     requires may { MayWrite (T.phase tape.old) }
-    ensures drained { IsDrained desk.old desk.new }
-    ensures grows { T.grows tape.old tape.new desk.old.primary }
-    ensures records { All IsKept desk.old.primary }
-    ensures goes { T.phase tape.old ≡ phases.Going → Continues (T.phase tape.new) (T.failures tape.old) (T.failures tape.new) }
-    ensures kept { (stop : Why) → T.phase tape.old ≡ phases.Stopped stop → tape.new ≡ tape.old }
+    requires stops { StopsWith drain.old.seat.me.0.post.stop (T.phase tape.old) }
+    ensures turn { drain.new.seat.table_id ≡ drain.old.seat.table_id }
+    ensures writes { WritesOn T.grows T.phase T.failures tape.old tape.new drain.old.seat.me.0.post.taken drain.new.seat.me.0.post }
+    ensures count { result ≡ length drain.new.seat.me.0.post.taken }
+    ensures over { (end : Last) × IsOver drain.new.seat.me.0.pass drain.new.seat.me.0.post end }
 {
     let mut spare = spare;
-    'steps: loop {
-        let step = write_once(tape, desk, spare);
-        if !step.took {
-            return;
+    'steps: for _ in rt.forever() {
+        let step = write_once(rt, drain, tape, spare);
+        if let Some(at) = step.over {
+            return at;
         }
         spare = step.spare;
+        drain.rest(rt);
+    }
+    unreachable!()
+}
+
+impl<'t, T: Tape + Drop> Writer<'t, T> {
+    /// Writes all that is accepted, and ends the tape.
+    pub(crate) fn run<R: Wait>(self, rt: &R, spare: Cache) -> Written<'t, T>
+        requires spare { spare ≡ empty_buffer self.drain.seat.me.0.pass.limit }
+        requires none { self.drain.seat.me.0.post.taken ≡ [] }
+        requires unstopped { self.drain.seat.me.0.post.stop ≡ None }
+        requires going { T.phase self.tape ≡ phases.Going }
+        ensures turn { result.drain.seat.table_id ≡ self.entry.drain.seat.table_id }
+        ensures over { (end : Last) × IsOver result.drain.seat.me.0.pass result.drain.seat.me.0.post end }
+        ensures written { IsWritten T.grows T.ends T.failures self.entry.tape result.tape result.drain.seat.me.0.post.taken result.report }
+        ensures all { IsAll result.drain.seat.me.0.post.taken result.report }
+        ensures stops { (stop : Why) → result.drain.seat.me.0.post.stop ≡ Some stop → result.report.end ≡ Stopped stop }
+    {
+        let Writer {
+            mut drain,
+            mut tape,
+        } = self;
+        let records = write_all(rt, &mut drain, &mut tape, spare);
+        let finished = tape.finish();
+        Written {
+            drain,
+            tape,
+            report: WriterReport {
+                records,
+                blocks: finished.blocks,
+                bytes: finished.bytes,
+                end: end_by(finished.end),
+            },
+        }
     }
 }

@@ -1,8 +1,7 @@
-//! The last ids, and ids that are taken back.
+//! The last ids.
 use crate::contents::{channel, schema};
 use crate::same::{holds, holds_at};
 use id_table::{Given, GivenIds, IdRefused, IdTable};
-use rec_data::ChannelDef;
 use std::alloc::Global;
 use std::test::Fail;
 
@@ -20,38 +19,6 @@ fn declared(
     }
     let d = channel(alloc, topic, NO_PAIRS, schema(alloc, wanted)?)?;
     Ok(table.declare(&d))
-}
-
-// Declares a channel with a schema in a table without ids, and takes their ids back. Says whether each was found so.
-fn are_taken_back(table: &mut IdTable, d: &ChannelDef) -> bool {
-    let new = GivenIds {
-        schema: Some(Given::New(1)),
-        channel: Given::New(1),
-    };
-    let is_given = table.find(d) == None && table.declare(d) == Ok(new) && table.find(d) == Some(1);
-    if table.schemas() == 1 && table.channels() == 1 {
-        table.take_back(&new);
-    }
-    is_given && table.schemas() == 0 && table.channels() == 0
-}
-
-// Whether the table, which has no ids, gives those again that it took back.
-fn gives_again(table: &mut IdTable, alloc: Global) -> Result<bool, Fail> {
-    let d = channel(alloc, "/a", NO_PAIRS, schema(alloc, Some(("s", &[1, 2])))?)?;
-    Ok(are_taken_back(table, &d) && are_taken_back(table, &d))
-}
-
-// The same of a new table. Each way out of a function that owns one is proved to drop it, so it has one.
-fn new_table_gives_again(alloc: Global) -> Result<bool, Fail> {
-    let mut table = IdTable::new(alloc)?;
-    gives_again(&mut table, alloc)
-}
-
-#[test]
-fn ids_that_are_taken_back_are_given_again(rt: HostRuntime) -> Result<(), Fail> {
-    let is_so = new_table_gives_again(rt.alloc())?;
-    holds(&rt, is_so);
-    Ok(())
 }
 
 // Gives all ids: the content with the number i gets the ids i and i.

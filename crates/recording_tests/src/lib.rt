@@ -20,9 +20,13 @@ mod merges;
 #[cfg(test)]
 mod passes;
 #[cfg(test)]
+mod recordings;
+#[cfg(test)]
 mod recoveries;
 #[cfg(test)]
 mod regions;
+#[cfg(test)]
+mod rests;
 #[cfg(test)]
 mod same;
 #[cfg(test)]

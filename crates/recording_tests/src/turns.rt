@@ -21,7 +21,7 @@ use std::time::{Clock, Duration};
 const NO_PAIRS: &[u8] = b"\0\0\0\0";
 
 // A message of one byte, of 32 bytes.
-fn message<'a>(channel: u16, sequence: u32, payload: &'a [u8]) -> NewMessage<'a>
+pub(crate) fn message<'a>(channel: u16, sequence: u32, payload: &'a [u8]) -> NewMessage<'a>
     ensures { result.payload.now ≡ payload.now }
 {
     NewMessage {
@@ -34,7 +34,7 @@ fn message<'a>(channel: u16, sequence: u32, payload: &'a [u8]) -> NewMessage<'a>
 }
 
 // The channel of a topic.
-fn plain(alloc: Global, topic: &str) -> Result<ChannelDef, Memory>
+pub(crate) fn plain(alloc: Global, topic: &str) -> Result<ChannelDef, Memory>
     requires { length topic.now < 2 ^ 32 }
     ensures { IfOk result DefFits }
 {
@@ -105,7 +105,7 @@ impl Lane<'_> {
     }
 }
 
-// Takes all bytes up to the end, which is answered.
+// Takes all bytes up to the end, which is answered. Behind each swap it rests.
 fn drain_all<R: Wait>(
     rt: &R,
     alloc: Global,
@@ -135,9 +135,9 @@ fn drain_all<R: Wait>(
                     return empty.end;
                 }
                 spare = empty.cache;
-                thread::yield_now();
             }
         }
+        drain.rest(rt);
     }
     unreachable!()
 }
@@ -203,7 +203,7 @@ fn all_there(bytes: &[u8], lane: &Lane<'_>) -> bool {
 
 // Four publishers beside a drain, over a buffer of so many bytes: whether each message stands once, each publisher's in
 // order, behind the one channel.
-fn four<R: Threads + Wait + Sync>(
+pub(crate) fn four<R: Threads + Wait + Sync>(
     rt: &R,
     alloc: Global,
     limit: u64,
@@ -289,7 +289,7 @@ enum Waker {
 const LOOKS: u32 = 300;
 
 // Waits for a flag, and gives up after three seconds: a wake that is missed fails a test, and doesn't hang it.
-fn is_set<R: Clock>(rt: &R, flag: &AtomicBool) -> bool {
+pub(crate) fn is_set<R: Clock>(rt: &R, flag: &AtomicBool) -> bool {
     for _ in 0..LOOKS {
         if flag.load(SeqCst) {
             return true;

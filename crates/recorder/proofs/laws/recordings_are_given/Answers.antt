@@ -1,4 +1,4 @@
-use Rattle.recorder.proofs.OneFeed.{recordings_are_given}
+use Rattle.recorder.proofs.FeedsGiven.{recordings_are_given}
 use Rattle.recorder.proofs.laws.recordings_are_given.Goals as goal
 
 pub returns : goal.returns

@@ -1,25 +1,39 @@
-use Rattle.std.proofs.Common.{[], ap}
-use Rattle.record_core.specs.Desk.{DeskView}
-use Rattle.recorder.proofs.Filing.{onto_scribe, onto_nothing}
+use Rattle.std.proofs.Common.{[], map, refl, sym, ap, ◌∙◌}
+use Rattle.feed_lane.specs.Pass.{PassState}
+use Rattle.buffer_swap.specs.declared.view.View.{View}
+use Rattle.recorder.proofs.Collecting.{map_map}
+use Rattle.recorder.proofs.Filing.{reported_so, zip_same, onto_scribe, onto_nothing}
 use Rattle.recorder.proofs.recording.record.Goals as goal
+
+-- nothing was read
+pub returns-in-Err-clause-stays : goal.returns-in-Err-clause-stays
+returns-in-Err-clause-stays g c = rw c.refused.ensures (zip_same g.S.Source.stays g.S.Source.stays_so _)
+
+pub returns-in-Err-lane_room-clause-stays : goal.returns-in-Err-lane_room-clause-stays
+returns-in-Err-lane_room-clause-stays g c = rw c.refused-in-Err-lane_room.ensures (zip_same g.S.Source.stays g.S.Source.stays_so _)
 
 pub returns-in-Ok-open-clause-recorded : goal.returns-in-Ok-open-clause-recorded
 returns-in-Ok-open-clause-recorded g c = λ r is.
     let state = g.L.LiveStore.state in
-    let onto = c.record_onto-report in
+    let source = g.S.Source.state in
+    let onto = c.run_beside-onto in
+    let added = c.add_all.ensures in
+    let lanes = c.add_all.new.self in
     let (history, reported, written, all) = onto.ensures.reported in
-    let limit = ap (λ (d : DeskView). d.limit) c.in-Ok.ensures.desk in
-    onto_scribe state c.args.options.now (g.S.Source.state c.args.feed) (g.S.Source.state onto.result.feed) (state c.args.live) c.in-Ok-open.scribe onto.result.tape c.into_store.result
-    c.in-Ok.room.desk.limit history onto.result.report r is limit c.into_store.ensures c.in-Ok-open.ensures.stands c.in-Ok-open.ensures.still reported written all
+    let limit = added.limit ∙ ap (λ (v : View). v.pass.limit) c.start-control.ensures.control ∙ c.in-Ok.ensures.turn.1 in
+    let sources = sym (map_map (λ lane. lane.source) source (λ lane. source lane.source) (λ x. refl) lanes.lanes.items) ∙ ap (map source) added.sources in
+    onto_scribe state c.args.options.now (map source c.args.feeds.items) (map source onto.result.feeds.items) (state c.args.live) c.in-Ok-open.tape onto.result.tape c.into_store.result
+    history onto.result.report r is c.into_store.ensures c.in-Ok-open.ensures.stands c.in-Ok-open.ensures.still
+    (reported_so _ _ _ _ _ _ _ history onto.result.report limit added.same.0 sources reported) written all
 
 pub returns-in-Err-open-clause-recorded : goal.returns-in-Err-open-clause-recorded
 returns-in-Err-open-clause-recorded g c = λ r is.
     let state = g.L.LiveStore.state in
-    let nowhere = c.record_nowhere-report in
-    let limit = ap (λ (d : DeskView). d.limit) c.in-Ok.ensures.desk in
-    onto_nothing state c.args.options.now (g.S.Source.state c.args.feed) (g.S.Source.state nowhere.result.feed) (state c.args.live) c.in-Err-open.live
-    c.in-Ok.room.desk.limit c.in-Err-open.stop nowhere.result.report r is limit nowhere.ensures.reported nowhere.ensures.writer (c.in-Err-open.ensures.refused [] []) c.in-Err-open.ensures.cause
-
--- nothing was read
-pub returns-in-Err-clause-stays : goal.returns-in-Err-clause-stays
-returns-in-Err-clause-stays g c = g.S.Source.stays_so _
+    let source = g.S.Source.state in
+    let ran = c.run_unwritten-unwritten in
+    let added = c.add_all-in-Err-open.ensures in
+    let lanes = c.add_all-in-Err-open.new.self in
+    let limit = added.limit ∙ ap (λ (p : PassState). p.limit) c.stop_unread.ensures.limit ∙ ap (λ (v : View). v.pass.limit) c.start-control.ensures.control ∙ c.in-Ok.ensures.turn.1 in
+    let sources = sym (map_map (λ lane. lane.source) source (λ lane. source lane.source) (λ x. refl) lanes.lanes.items) ∙ ap (map source) added.sources in
+    onto_nothing state c.args.options.now (map source c.args.feeds.items) (map source ran.result.feeds.items) (state c.args.live) c.in-Err-open.live c.in-Err-open.stop ran.result.report r is
+    (reported_so _ _ _ _ _ _ _ [] ran.result.report limit added.same.0 sources ran.ensures.reported) ran.ensures.writer (c.in-Err-open.ensures.refused [] []) c.in-Err-open.ensures.cause

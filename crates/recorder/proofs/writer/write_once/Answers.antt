@@ -1,56 +1,44 @@
-use Rattle.std.proofs.Common.{refl, sym, ap, subst, ◌∙◌}
-use Rattle.std.specs.Prelude.{All}
-use Rattle.std.proofs.lemmas.Bool.{false≢true}
-use Rattle.mcap_model.specs.declared.ends.End.TheVariants as ends
-use Rattle.record_core.specs.Desk.{DeskView, ended}
-use Rattle.record_cache.specs.Buffers.{Buffer, IsKept}
-use Rattle.recorder.specs.Writing.{empty_buffer}
-use Rattle.recorder.proofs.Draining.{may_later}
+use Rattle.std.proofs.Common.{◌≡◌, length, refl, sym, ap, ◌∙◌}
+use Rattle.mcap_model.specs.declared.ends.Stop.{Stop}
+use Rattle.chunk_writer.specs.declared.phase.Phase.TheVariants as phases
+use Rattle.feed_lane.specs.Pass.{PassState}
+use Rattle.buffer_swap.specs.Posts.{Post}
+use Rattle.recorder.specs.Writing.{StopsWith}
+use Rattle.recorder.proofs.Draining.{if_some, stopped_taken, stopped_with, may_later, stops_later, writes_none, writes_one}
 use Rattle.recorder.proofs.writer.write_once.Goals as goal
 
-pub returns-in-Err-clause-spare : goal.returns-in-Err-clause-spare
-returns-in-Err-clause-spare g c = c.in-Err.ensures.answer.1
+pub returns-in-Err-clause-writes : goal.returns-in-Err-clause-writes
+returns-in-Err-clause-writes g c =
+    let members = g.T.Tape in
+    let same = c.in-Err.ensures.swapped.6 in
+    writes_none members.grows members.phase members.failures members.grows_none c.args.tape.now c.args.drain.now.seat.me.0.post.taken _
+    (ap (λ (p : Post). p.taken) same) c.requires.may (λ stop is. c.requires.stops stop (ap (λ (p : Post). p.stop) (sym same) ∙ is))
 
-pub returns-in-Err-clause-none : goal.returns-in-Err-clause-none
-returns-in-Err-clause-none g c = λ is. (c.in-Err.ensures.answer.0, c.in-Err.ensures.answer.4, refl)
+pub returns-in-Err-clause-over : goal.returns-in-Err-clause-over
+returns-in-Err-clause-over g c =
+    let (found, so, cache, count, at, end, same) = c.in-Err.ensures.swapped in
+    if_some c.over_at-over.result _ _ c.over_at-over.ensures (λ n ended. (
+      ended.0 ∙ at ∙ ap (λ (p : Post). length p.taken) (sym same),
+      ended.1,
+      record {
+        found = found;
+        shown = ap (λ (p : PassState). p.found) so.1;
+        ended = sym end ∙ ended.2;
+        count = count ∙ ap (λ (p : Post). length p.taken) (sym same);
+      },
+    ))
 
-pub returns-in-Err-clause-some : goal.returns-in-Err-clause-some
-returns-in-Err-clause-some g c = λ is none. false≢true is
-
-pub returns-in-Err-clause-wrote : goal.returns-in-Err-clause-wrote
-returns-in-Err-clause-wrote g c = λ is. absurd (false≢true is)
-
-pub returns-in-Err-clause-goes : goal.returns-in-Err-clause-goes
-returns-in-Err-clause-goes g c = λ going. rw going refl
-
-pub returns-in-Err-clause-kept : goal.returns-in-Err-clause-kept
-returns-in-Err-clause-kept g c = λ stop stopped. refl
-
-pub returns-in-Ok-end-clause-spare : goal.returns-in-Ok-end-clause-spare
-returns-in-Ok-end-clause-spare g c = c.take-taken.ensures.cleared ∙ ap (λ (full : Buffer). empty_buffer full.limit) c.in-Ok.ensures.answer.0
-
-pub returns-in-Ok-end-clause-none : goal.returns-in-Ok-end-clause-none
-returns-in-Ok-end-clause-none g c = λ is. absurd (false≢true (sym is))
-
-pub returns-in-Ok-end-clause-some : goal.returns-in-Ok-end-clause-some
-returns-in-Ok-end-clause-some g c = λ is. c.in-Ok.ensures.answer.1
-
-pub returns-in-Ok-end-clause-wrote : goal.returns-in-Ok-end-clause-wrote
-returns-in-Ok-end-clause-wrote g c = λ is.
-    let on = rw c.in-Ok-end.is at c.take-taken.ensures.goes_on in
-    let full = c.in-Ok.ensures.answer.0 in (
-      rw on.1 c.in-Ok.ensures.answer.2,
-      subst (λ (b : Buffer). g.T.Tape.grows c.args.tape.now c.take-taken.new.self b.records) full c.take-taken.ensures.grows,
-      subst (λ (b : Buffer). All IsKept b.records) full c.held-held.ensures.kept,
-    )
-
-pub returns-in-Ok-end-clause-goes : goal.returns-in-Ok-end-clause-goes
-returns-in-Ok-end-clause-goes g c = λ going.
-    let on = rw c.in-Ok-end.is at c.take-taken.ensures.goes_on in
-    rw on.1 (rw c.in-Ok-end.is at (c.take-taken.ensures.cause going))
-
-pub returns-in-Ok-end-clause-kept : goal.returns-in-Ok-end-clause-kept
-returns-in-Ok-end-clause-kept g c = λ stop stopped. (c.take-taken.ensures.kept stop stopped).1
+pub returns-in-Ok-end-clause-writes : goal.returns-in-Ok-end-clause-writes
+returns-in-Ok-end-clause-writes g c =
+    let members = g.T.Tape in
+    let now = c.in-Ok.ensures.swapped.4 in
+    let take = c.take-taken.ensures in
+    let kept : (stop : Stop) → members.phase c.args.tape.now ≡ phases.Stopped stop → c.take-taken.new.self ≡ c.args.tape.now = λ stop stopped. (take.kept stop stopped).1 in
+    let stops : StopsWith c.swap.new.self.seat.me.0.post.stop (members.phase c.args.tape.now) = λ stop is. c.requires.stops stop (ap (λ (p : Post). p.stop) (sym now) ∙ is) in
+    writes_one members.grows members.phase members.failures c.args.tape.now c.take-taken.new.self c.args.drain.now.seat.me.0.post.taken c.in-Ok.full.records _
+    (ap (λ (p : Post). p.taken) now) take.grows c.held-held.ensures.kept c.requires.may
+    (λ going. let on = rw c.in-Ok-end.is at take.goes_on in rw on.1 (rw c.in-Ok-end.is at (take.cause going)))
+    kept (stops_later members.phase members.failures c.args.tape.now c.take-taken.new.self _ stops kept)
 
 pub stop-requires : goal.stop-requires
 stop-requires g c =
@@ -59,28 +47,19 @@ stop-requires g c =
     (λ stop was. (c.take-taken.ensures.kept stop was).1) in
     may.cause c.in-Err-end.stop stopped
 
-pub returns-in-Err-end-clause-spare : goal.returns-in-Err-end-clause-spare
-returns-in-Err-end-clause-spare g c = c.take-taken.ensures.cleared ∙ ap (λ (full : Buffer). empty_buffer full.limit) c.in-Ok.ensures.answer.0
-
-pub returns-in-Err-end-clause-none : goal.returns-in-Err-end-clause-none
-returns-in-Err-end-clause-none g c = λ is. absurd (false≢true (sym is))
-
-pub returns-in-Err-end-clause-some : goal.returns-in-Err-end-clause-some
-returns-in-Err-end-clause-some g c = λ is. c.in-Ok.ensures.answer.1
-
-pub returns-in-Err-end-clause-wrote : goal.returns-in-Err-end-clause-wrote
-returns-in-Err-end-clause-wrote g c = λ is.
-    let stopped = rw c.in-Err-end.is at c.take-taken.ensures.stopped in
-    let full = c.in-Ok.ensures.answer.0 in (
-      rw stopped (c.stop.ensures.answer ∙ ap (λ (d : DeskView). ended d (ends.Stopped c.in-Err-end.stop)) c.in-Ok.ensures.answer.2),
-      subst (λ (b : Buffer). g.T.Tape.grows c.args.tape.now c.take-taken.new.self b.records) full c.take-taken.ensures.grows,
-      subst (λ (b : Buffer). All IsKept b.records) full c.held-held.ensures.kept,
-    )
-
-pub returns-in-Err-end-clause-goes : goal.returns-in-Err-end-clause-goes
-returns-in-Err-end-clause-goes g c = λ going.
-    let stopped = rw c.in-Err-end.is at c.take-taken.ensures.stopped in
-    rw stopped (rw c.in-Err-end.is at (c.take-taken.ensures.cause going))
-
-pub returns-in-Err-end-clause-kept : goal.returns-in-Err-end-clause-kept
-returns-in-Err-end-clause-kept g c = λ stop stopped. (c.take-taken.ensures.kept stop stopped).1
+pub returns-in-Err-end-clause-writes : goal.returns-in-Err-end-clause-writes
+returns-in-Err-end-clause-writes g c =
+    let members = g.T.Tape in
+    let now = c.in-Ok.ensures.swapped.4 in
+    let take = c.take-taken.ensures in
+    let kept : (stop : Stop) → members.phase c.args.tape.now ≡ phases.Stopped stop → c.take-taken.new.self ≡ c.args.tape.now = λ stop stopped. (take.kept stop stopped).1 in
+    let stops : StopsWith c.swap.new.self.seat.me.0.post.stop (members.phase c.args.tape.now) = λ stop is. c.requires.stops stop (ap (λ (p : Post). p.stop) (sym now) ∙ is) in
+    let stopped = rw c.in-Err-end.is at take.stopped in
+    let by = c.stop.ensures.stopped in
+    let post = c.swap.new.self.seat.me.0.post in
+    writes_one members.grows members.phase members.failures c.args.tape.now c.take-taken.new.self c.args.drain.now.seat.me.0.post.taken c.in-Ok.full.records _
+    (ap (λ (p : Post). p.taken) by.stopped ∙ stopped_taken by.found.end c.in-Err-end.stop post ∙ ap (λ (p : Post). p.taken) now) take.grows c.held-held.ensures.kept c.requires.may
+    (λ going. rw stopped (rw c.in-Err-end.is at (take.cause going)))
+    kept
+    (λ stop is. stopped_with by.found.end c.in-Err-end.stop post (members.phase c.take-taken.new.self)
+    (stops_later members.phase members.failures c.args.tape.now c.take-taken.new.self post.stop stops kept) stopped stop (ap (λ (p : Post). p.stop) (sym by.stopped) ∙ is))
