@@ -13,5 +13,8 @@ pub mod Parts
 pub mod Refusing
 pub mod Fronted
 pub mod CutFlaws
+pub mod CutTold
 pub mod Judged
 pub mod RealLimits
+pub mod NoLimits
+pub mod Compressions

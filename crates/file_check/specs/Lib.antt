@@ -6,4 +6,5 @@ pub mod Gathering
 pub mod Reading
 pub mod Halting
 pub mod Checking
+pub mod CutFiles
 pub mod Laws

@@ -4,6 +4,7 @@ ghost use Rattle.mcap_io.specs.Stores.{StoreStays};
 ghost use Rattle.file_check.specs.declared.reading.SectionRefused.TheVariants as sections;
 ghost use Rattle.mcap_model.specs.declared.checked.Verdict.TheVariants as verdicts;
 ghost use Rattle.file_check.specs.Checking.{CheckCause, AsksFront, RefusedCause, TellsCutSection, TellsUnended};
+ghost use Rattle.file_check.specs.CutFiles.{TellsCutRefusal, TellsCutStore};
 
 use crate::checking::read_front;
 use crate::ends::tell_cut;
@@ -31,6 +32,7 @@ fn tell_scan<T: Store>(store: &mut T, len: u64, why: ScanRefused) -> Result<Verd
     requires known { len ≤ (T.state store.old).known }
     requires fits { len < 2 ^ 64 }
     ensures tells { TellsCutSection (T.state store.old).bytes len (sections.Scan why) result }
+    ensures cut { TellsCutRefusal (T.state store.old).bytes len (sections.Scan why) result }
     ensures cause { RefusedCause (T.state store.old).faults (T.state store.new).faults (sections.Scan why) result }
     ensures asks { (T.state store.new).asked ≤ (T.state store.old).asked + 9 }
     ensures keeps { StoreStays (T.state store.old) (T.state store.new) }
@@ -71,6 +73,7 @@ fn tell_section<T: Store>(
     requires known { len ≤ (T.state store.old).known }
     requires fits { len < 2 ^ 64 }
     ensures tells { TellsCutSection (T.state store.old).bytes len why result }
+    ensures cut { TellsCutRefusal (T.state store.old).bytes len why result }
     ensures cause { RefusedCause (T.state store.old).faults (T.state store.new).faults why result }
     ensures asks { (T.state store.new).asked ≤ (T.state store.old).asked + 9 }
     ensures keeps { StoreStays (T.state store.old) (T.state store.new) }
@@ -90,6 +93,7 @@ pub(crate) fn check_unended<T: Store>(
     requires known { len ≤ (T.state store.old).known }
     requires fits { len < 2 ^ 64 }
     ensures tells { TellsUnended (T.state store.old).bytes len result }
+    ensures cut { TellsCutStore (T.state store.old).bytes len result }
     ensures cause { CheckCause (T.state store.old).faults (T.state store.new).faults result }
     ensures asks { AsksFront (T.state store.old) len (T.state store.new) }
     ensures keeps { StoreStays (T.state store.old) (T.state store.new) }

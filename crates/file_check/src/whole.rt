@@ -1,6 +1,7 @@
 //! The check of a file.
 ghost use Rattle.mcap_io.specs.Stores.{LeavesStore};
 ghost use Rattle.file_check.specs.Checking.{Checks, CheckCause, AsksOnce};
+ghost use Rattle.file_check.specs.CutFiles.{TellsUnbegun, TellsCutFile};
 
 use crate::checking::check_records;
 use crate::ends::{begins_with_magic, ends_with_magic};
@@ -16,6 +17,8 @@ use std::alloc::Global;
 /// the rule at which the reading of its data section halts, or V2. The file is read once.
 pub fn check<T: Store>(alloc: Global, store: &mut T) -> Result<Verdict, CheckRefused>
     ensures checks { Checks (T.state store.old).bytes result }
+    ensures begun { TellsUnbegun (T.state store.old).bytes result }
+    ensures cut { TellsCutFile (T.state store.old).bytes result }
     ensures cause { CheckCause (T.state store.old).faults (T.state store.new).faults result }
     ensures asks { AsksOnce (T.state store.old) (T.state store.new) }
     ensures leaves { LeavesStore (T.state store.old) (T.state store.new) }

@@ -3,6 +3,7 @@ use Rattle.file_check.specs.declared.reading.SectionRefused.{SectionRefused}
 use Rattle.file_check.specs.Reading.{Reads}
 use Rattle.file_check.specs.Checking.{front_of, RefusedCause}
 use Rattle.file_check.proofs.Refusing.{index_read_cut}
+use Rattle.file_check.proofs.CutTold.{index_is_told}
 use Rattle.file_check.proofs.unended.tell_section.Goals as goal
 
 pub returns-in-Scan-clause-tells : goal.returns-in-Scan-clause-tells
@@ -17,3 +18,12 @@ pub returns-in-Index-clause-tells : goal.returns-in-Index-clause-tells
 returns-in-Index-clause-tells g c = λ old now same reads file told ended.
     let wrong = subst (λ (w : SectionRefused). Reads (front_of old c.args.len) now (Err w)) c.in-Index.is reads in
     index_read_cut old now (g.T.Store.state c.args.store.now).bytes file c.args.len c.in-Index.offset wrong.0 same told ended wrong.1
+
+pub returns-in-Scan-clause-cut : goal.returns-in-Scan-clause-cut
+returns-in-Scan-clause-cut g c = λ old now same reads file told size.
+    c.tell_scan.ensures.cut old now same (subst (λ (w : SectionRefused). Reads (front_of old c.args.len) now (Err w)) c.in-Scan.is reads) file told size
+
+pub returns-in-Index-clause-cut : goal.returns-in-Index-clause-cut
+returns-in-Index-clause-cut g c = λ old now same reads file told size.
+    let wrong = subst (λ (w : SectionRefused). Reads (front_of old c.args.len) now (Err w)) c.in-Index.is reads in
+    index_is_told old now (g.T.Store.state c.args.store.now).bytes file c.args.len c.in-Index.offset wrong.0 same told size wrong.1

@@ -1,9 +1,12 @@
 -- What the first magic, the last one and the records between them say; and what was asked for.
-use Rattle.std.proofs.Common.{ℕ, subst, sym, ◌∙◌, arith}
+use Rattle.std.proofs.Common.{ℕ, Ok, subst, sym, ◌∙◌, arith}
 use Rattle.std.proofs.lemmas.Bool.{both_ways}
 use Rattle.mcap_model.specs.Valid.{Flaw, flaw_1}
+use Rattle.mcap_model.specs.declared.checked.Verdict.TheVariants as verdicts
 use Rattle.file_check.specs.Checking.{CheckCause}
+use Rattle.file_check.specs.CutFiles.{NamesCut}
 use Rattle.file_check.proofs.Refusing.{too_short}
+use Rattle.file_check.proofs.CutTold.{short_told}
 use Rattle.file_check.proofs.whole.check.Goals as goal
 
 pub returns-in-Ok-false-clause-checks : goal.returns-in-Ok-false-clause-checks
@@ -68,3 +71,27 @@ returns-in-Ok-false-ends_with_magic-clause-leaves g c = record {
   bytes = c.check_unended.ensures.keeps.bytes ∙ c.in-Ok-false-ends_with_magic.ensures.keeps.bytes ∙ c.in-Ok-true.ensures.keeps.bytes ∙ c.in-Ok.ensures.bytes;
   known = omega (arith, c.check_unended.ensures.keeps.known, c.in-Ok-false-ends_with_magic.ensures.keeps.known, c.in-Ok-true.ensures.keeps.known, c.in-Ok.ensures.known);
 }
+
+-- ---- files without one of the magics
+
+pub returns-in-Ok-true-ends_with_magic-clause-begun : goal.returns-in-Ok-true-ends_with_magic-clause-begun
+returns-in-Ok-true-ends_with_magic-clause-begun g c = λ file told unbegun.
+    let measured = c.in-Ok.ensures in
+    let is = c.in-Ok-true.ensures.tells file (measured.bytes ∙ told) (sym (measured.tells file told)) in
+    absurd (unbegun (is.0 c.in-Ok-true.field-0-test))
+
+pub returns-then-len-lt16-clause-begun : goal.returns-then-len-lt16-clause-begun
+returns-then-len-lt16-clause-begun g c = λ file told unbegun.
+    let measured = c.in-Ok.ensures in
+    let is = c.in-Ok-true.ensures.tells file (measured.bytes ∙ told) (sym (measured.tells file told)) in
+    absurd (unbegun (is.0 c.in-Ok-true.field-0-test))
+
+pub returns-in-Ok-false-ends_with_magic-clause-begun : goal.returns-in-Ok-false-ends_with_magic-clause-begun
+returns-in-Ok-false-ends_with_magic-clause-begun g c = λ file told unbegun.
+    let measured = c.in-Ok.ensures in
+    let is = c.in-Ok-true.ensures.tells file (measured.bytes ∙ told) (sym (measured.tells file told)) in
+    absurd (unbegun (is.0 c.in-Ok-true.field-0-test))
+
+pub returns-then-len-lt16-clause-cut : goal.returns-then-len-lt16-clause-cut
+returns-then-len-lt16-clause-cut g c = λ file told v1 v2.
+    subst (λ (n : ℕ). NamesCut file (Ok (verdicts.Flawed 2 n))) (sym c.saturating_sub-offset.ensures) (short_told file c.in-Ok.len v1 (sym (c.in-Ok.ensures.tells file told)) c.if-len-lt16.true)

@@ -1,0 +1,81 @@
+-- What a check tells of a file that lacks one of its magics.
+use Rattle.std.specs.Prelude.{◌≡◌, ◌⊎◌, ℕ, List, length, Option, Some, Result, Ok, Err}
+use Rattle.mcap_io.specs.Outside.{SourceState}
+use Rattle.mcap_io.specs.Stores.{StoreState}
+use Rattle.mcap_model.specs.declared.checked.Verdict.{Verdict}
+use Rattle.mcap_model.specs.declared.checked.Verdict.TheVariants as verdicts
+use Rattle.mcap_model.specs.Tops.{Top, Tops}
+use Rattle.mcap_model.specs.Rules.{V1}
+use Rattle.mcap_model.specs.Kept.{reading_limits, Good, Halt, at_end, grammar, compressed, beyond, Halts}
+use Rattle.mcap_model.specs.Whole.{V2}
+use Rattle.file_check.specs.declared.flaws.FailedRule.{FailedRule}
+use Rattle.file_check.specs.declared.refusals.CheckRefused.{CheckRefused}
+use Rattle.file_check.specs.declared.refusals.CheckRefused.TheVariants as refusals
+use Rattle.file_check.specs.declared.reading.SectionRefused.{SectionRefused}
+use Rattle.file_check.specs.LastChunk.{IndexFails}
+use Rattle.file_check.specs.Reading.{Reads}
+use Rattle.file_check.specs.Halting.{lacks_magic, told_cut}
+use Rattle.file_check.specs.Checking.{IsFault, front_of}
+
+-- ---- the first magic
+
+-- V1 fails at the front, unless the store fails
+abbrev pub NamesFront : Result Verdict CheckRefused → Type 0
+NamesFront (Ok verdict) = verdict ≡ verdicts.Flawed 1 0
+NamesFront (Err why) = IsFault why
+
+-- so it is told of each file without the first magic
+abbrev pub TellsUnbegun : Option (List ℕ) → Result Verdict CheckRefused → Type 0
+TellsUnbegun told result = (file : List ℕ) → told ≡ Some file → (V1 file → ⊥) → NamesFront result
+
+-- ---- the last magic
+
+-- The rule that is told of a file of that length, whose reading halts so. Where the data section is whole, and where the
+-- reading halts for no rule, the last magic is missing.
+abbrev pub told_of : ℕ → Halt → FailedRule
+told_of len (at_end offset) = lacks_magic len
+told_of len (grammar offset rule) = told_cut len offset rule
+told_of len (compressed offset name) = lacks_magic len
+told_of len (beyond offset) = lacks_magic len
+
+-- the reading of the file halts, and this is told of it
+pub record HaltIsTold (file : List ℕ) (rule offset : ℕ) : Type 0 where
+  pub tops : List Top
+  pub halt : Halt
+  pub halts : Halts reading_limits file tops halt
+  pub rule_is : rule ≡ (told_of (length file) halt).rule
+  pub offset_is : offset ≡ (told_of (length file) halt).offset
+
+-- in front of that one of the good records breaks V9 there
+pub record IndexIsTold (file : List ℕ) (rule offset : ℕ) : Type 0 where
+  pub rule_is : rule ≡ 9
+  pub tops : List Top
+  pub rest : List ℕ
+  pub stand : Tops file tops rest
+  pub good : Good reading_limits tops
+  pub fails : IndexFails tops offset
+
+-- what ends the data of a file is told, unless the store fails or memory lacks
+abbrev pub NamesCut : List ℕ → Result Verdict CheckRefused → Type 0
+NamesCut file (Ok (verdicts.Indexed counts)) = ⊥
+NamesCut file (Ok (verdicts.Plain counts)) = ⊥
+NamesCut file (Ok (verdicts.Flawed rule offset)) = HaltIsTold file rule offset ⊎ IndexIsTold file rule offset
+NamesCut file (Err (refusals.Fault faults)) = Unit {0}
+NamesCut file (Err (refusals.Compressed offset name)) = ⊥
+NamesCut file (Err (refusals.Limit offset)) = ⊥
+NamesCut file (Err refusals.Memory) = Unit {0}
+
+-- so it is of each file that has the first magic, and is too short for both or hasn't the last one
+abbrev pub TellsCutFile : Option (List ℕ) → Result Verdict CheckRefused → Type 0
+TellsCutFile told result = (file : List ℕ) → told ≡ Some file → V1 file → (V2 file → ⊥) → NamesCut file result
+
+-- ---- the steps
+
+-- so it is told by a store of these bytes, of that length, whose data section was refused
+abbrev pub TellsCutRefusal : Option (List ℕ) → ℕ → SectionRefused → Result Verdict CheckRefused → Type 0
+TellsCutRefusal told len why result = (old : StoreState) (now : SourceState) → old.bytes ≡ told → Reads (front_of old len) now (Err why)
+    → (file : List ℕ) → told ≡ Some file → length file ≡ len → NamesCut file result
+
+-- of such a store, whatever became of its data section
+abbrev pub TellsCutStore : Option (List ℕ) → ℕ → Result Verdict CheckRefused → Type 0
+TellsCutStore told len result = (file : List ℕ) → told ≡ Some file → length file ≡ len → NamesCut file result
