@@ -1,5 +1,5 @@
 -- The front of a chunk.
-use Rattle.std.proofs.Common.{◌≡◌, ℕ, ◌+◌, ◌-◌, ◌^◌, ◌<◌, ◌≤◌, List, [], ◌++◌, length, take, drop, Result, Ok, Err, refl, sym, ap, subst, ◌∙◌, append_assoc, arith}
+use Rattle.std.proofs.Common.{◌≡◌, ℕ, ◌+◌, ◌-◌, ◌^◌, ◌<◌, ◌≤◌, List, [], ◌++◌, length, take, drop, refl, sym, ap, subst, ◌∙◌, append_assoc, arith}
 use Rattle.std.specs.Prelude.{◌≢◌}
 use Rattle.std.proofs.lemmas.List.{take-append-drop, drop-append-le, drop-drop, drop-take, take-take, take_at, drop_at, length-append}
 use Rattle.mcap_wire.specs.Layout.{le, number, prefixed}
@@ -10,10 +10,9 @@ use Rattle.mcap_model.specs.Tops.{Top, declared_length, first_top}
 use Rattle.mcap_model.specs.Fields.{IsChunk}
 use Rattle.mcap_model.specs.Led.{IsThere}
 use Rattle.mcap_model.proofs.Readings.{length-top}
-use Rattle.indexed_replay.specs.declared.answers.ReplayRefused.{ReplayRefused}
 use Rattle.indexed_replay.specs.Reaching.{EndsAt, LacksChunk}
 use Rattle.indexed_replay.specs.Steps.{FrontStands, LacksRecord}
-use Rattle.indexed_replay.specs.Chunks.{PackRefused, ChunkChecked}
+use Rattle.indexed_replay.specs.Chunks.{front_length, plain_length, FrontAsked}
 use Rattle.indexed_replay.proofs.Headed.{there_begun}
 
 -- ---- the compression in a content
@@ -84,18 +83,7 @@ lacks_name file out at op len value end front size there short = λ t g here is.
     let own = subst (λ (u : Top). IsChunk u g) same is in
     omega (arith, chunk_long (first_top (drop at file)) g own, name_length (first_top (drop at file)) g own, front_name file out at op len value end front size there, front_size file out at op len front, short)
 
-pub none_named : (file out : List ℕ) (at op len value end : ℕ) (t : Top) (g : ChunkFields) → FrontStands file at out op len → length out ≡ 49 → NumberAt 4 out 37 value end → IsThere file at t → IsChunk t g → g.compression ≡ [] → value ≡ 0
-none_named file out at op len value end t g front size there here is plain =
-    let only = front.only in
-    let own = subst (λ (u : Top). IsChunk u g) (only t here) is in
-    let none : length g.compression ≡ 0 = ap length plain in
-    omega (arith, none, name_length (first_top (drop at file)) g own, front_name file out at op len value end front size there)
-
 -- ---- a chunk that is looked at
-
-pub pack_checked : (file : List ℕ) (index at : ℕ) (result : Result ℕ ReplayRefused) → PackRefused file index at result → ChunkChecked file index at result
-pack_checked file index at (Ok end) refused = absurd refused
-pack_checked file index at (Err why) refused = refused
 
 -- where a chunk ends whose front was read
 pub chunk_ends : (file out : List ℕ) (at op len after end : ℕ) → FrontStands file at out op len → length out ≡ 49 → op ≡ 6 → NumberAt 4 out 37 0 after → end ≡ at + 9 + len → EndsAt file at end
@@ -106,3 +94,19 @@ chunk_ends file out at op len after end front size six none is = record {
   unpacked = front_name file out at op len 0 after front size none;
   is = omega (arith, is, length-top (first_top (drop at file)), front_size file out at op len front);
 }
+
+-- ---- what is asked for of it
+
+pub front_asked : (file : List ℕ) (at before now : ℕ) → now ≤ before + plain_length → FrontAsked file at before now
+front_asked file at before now few = record { packed = λ size is. omega (arith, few); plain = λ none. few }
+
+pub pack_asked : (file out : List ℕ) (at op len value end before now : ℕ) → FrontStands file at out op len → length out ≡ 49 → op ≡ 6 → NumberAt 4 out 37 value end → value ≢ 0 → front_length + value ≤ len → now ≤ before + (plain_length + (front_length + value)) → FrontAsked file at before now
+pack_asked file out at op len value end before now front size six there some room few =
+    let named = front_name file out at op len value end front size there in
+    record {
+      packed = λ n is.
+          let only = front.only in
+          let same = ap (λ (t : Top). text_length t.content 28) (only is.chunk is.there) in
+          omega (arith, few, same, named, is.named);
+      plain = λ none. absurd (none value (record { chunk = first_top (drop at file); there = front.there; kind = front.op_is ∙ six; named = named; some = some; room = omega (arith, room, front_size file out at op len front) }));
+    }

@@ -22,8 +22,10 @@ use Rattle.mcap_model.proofs.Readings.{length-top}
 use Rattle.mcap_model.proofs.Maps.{message_once, message_long}
 use Rattle.mcap_model.proofs.Once.{message_index_once}
 use Rattle.indexed_replay.specs.Steps.{message_cost, entry_cost, entries_cost}
-use Rattle.indexed_replay.specs.Chunks.{NamesCost}
+use Rattle.indexed_replay.specs.Lists.{own_list}
+use Rattle.indexed_replay.specs.Chunks.{NamesCost, no_name, next_name}
 use Rattle.indexed_replay.proofs.Headed.{there_begun}
+use Rattle.indexed_replay.proofs.Messaging.{whole_cost}
 use Rattle.indexed_replay.proofs.Weighed.{AreApart, apart_joined, weight_at, weight_is}
 
 -- ---- fields
@@ -76,7 +78,7 @@ timely_is range t channel time m is logs =
 entry_size : (file : List ℕ) (range : Range) (chunk channel : ℕ) (entry : ℕ × ℕ) (t : Top) (m : MessageFields) → IsMessage t channel m → entry.0 ≡ m.log_time → IsThere file (chunk + 49 + entry.1) t → entry_cost file range chunk entry ≡ timely_size range t
 entry_size file range chunk channel entry t m is time there =
     let begun = there_begun file (chunk + 49 + entry.1) t there in
-    let size : message_cost file (chunk + 49 + entry.1) ≡ length (top_bytes t) = omega (arith, begun.1, length-top t, message_long t channel m is) in
+    let size : message_cost file (chunk + 49 + entry.1) ≡ length (top_bytes t) = omega (arith, whole_cost file (chunk + 49 + entry.1) (omega (arith, begun.1, begun.3, length-top t)), begun.1, length-top t, message_long t channel m is) in
     ap (λ (b : Bool). cond b (message_cost file (chunk + 49 + entry.1)) 0) (sym (timely_is range t channel entry.0 m is time)) ∙ ap (λ (n : ℕ). cond (is_timely range t) n 0) size
 
 -- ---- entries
@@ -161,15 +163,15 @@ pub record MessageOf (records : List Top) (names : List (ℕ × ℕ)) (j : ℕ) 
 
 -- what the Message Indexes that are named cost, and where they stand and their messages
 pub record Spent (file : List ℕ) (range : Range) (chunk : ℕ) (indexes records : List Top) (names : List (ℕ × ℕ)) : Type 0 where
-  pub costs : List ℕ
-  pub are : NamesCost file range chunk names costs
+  pub cost : ℕ
+  pub are : NamesCost file range chunk names cost false
   pub lists : List ℕ
   pub lists_apart : AreApart lists
   pub lists_from : Each (ListOf indexes names) lists
   pub inner : List ℕ
   pub inner_apart : AreApart inner
   pub inner_from : Each (MessageOf records names) inner
-  pub few : sum_by (λ (n : ℕ). n) costs ≤ sum_by (weight_at top_size indexes) lists + sum_by (weight_at (timely_size range) records) inner
+  pub few : cost ≤ sum_by (weight_at top_size indexes) lists + sum_by (weight_at (timely_size range) records) inner
 
 abbrev KeysApart : ℕ × ℕ → ℕ × ℕ → Type 0
 KeysApart x y = x.0 ≢ y.0
@@ -211,7 +213,7 @@ pub record OneSpent (file : List ℕ) (range : Range) (chunk : ℕ) (indexes rec
 
 module _ (file : List ℕ) (range : Range) (chunk : ℕ) (indexes records : List Top) where
   pub spent : (names : List (ℕ × ℕ)) → KeysDiffer names → ((x : ℕ × ℕ) → Has names x → OneSpent file range chunk indexes records x) → Spent file range chunk indexes records names
-  spent [] differ each = record { costs = []; are = tt; lists = []; lists_apart = tt; lists_from = λ n q none. absurd (at_none n q none); inner = []; inner_apart = tt; inner_from = λ n j none. absurd (at_none n j none); few = omega arith }
+  spent [] differ each = record { cost = 0; are = no_name; lists = []; lists_apart = tt; lists_from = λ n q none. absurd (at_none n q none); inner = []; inner_apart = tt; inner_from = λ n j none. absurd (at_none n j none); few = omega arith }
   spent (x ∷ xs) differ each =
       let rest = spent xs (keys_behind x xs differ) (λ y has. each y (suc has.0, has.1)) in
       let one = each x (0, refl) in
@@ -223,8 +225,8 @@ module _ (file : List ℕ) (range : Range) (chunk : ℕ) (indexes records : List
       let here : ListOf indexes (x ∷ xs) one.place = record { name = x; has = (0, refl); entries = one.entries; top = one.top; at = one.at; is = one.is } in
       let weight = weight_is top_size indexes one.place one.top one.at in
       record {
-        costs = cost ∷ rest.costs;
-        are = (record { list = one.top; entries = one.entries; there = one.there; is = one.is; cost_is = refl }, rest.are);
+        cost = cost + rest.cost;
+        are = next_name x xs cost rest.cost false (own_list one.top one.entries one.there one.is) rest.are;
         lists = one.place ∷ rest.lists;
         lists_apart = (λ n q at. lists_differ indexes x xs one.place q differ here refl (lists_from n q at), rest.lists_apart);
         lists_from = each_cons (ListOf indexes (x ∷ xs)) one.place rest.lists here (λ n q at. list_later indexes x xs q (lists_from n q at));
@@ -233,5 +235,5 @@ module _ (file : List ℕ) (range : Range) (chunk : ℕ) (indexes records : List
         inner_from = each_joined (MessageOf records (x ∷ xs)) places.places rest.inner
             (λ n j at. let leads = from_one n j at in record { name = x; has = (0, refl); top = leads.top; message = leads.message; at = leads.at; is = leads.is })
             (λ n j at. message_later records x xs j (inner_from n j at));
-        few = omega (arith, weight, places.few, rest.few, sum_by-cons (λ (n : ℕ). n) cost rest.costs, sum_by-cons (weight_at top_size indexes) one.place rest.lists, sum_by-append (weight_at (timely_size range) records) places.places rest.inner);
+        few = omega (arith, weight, places.few, rest.few, sum_by-cons (weight_at top_size indexes) one.place rest.lists, sum_by-append (weight_at (timely_size range) records) places.places rest.inner);
       }

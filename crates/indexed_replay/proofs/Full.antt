@@ -33,75 +33,9 @@ use Rattle.indexed_replay.specs.declared.answers.ReplayRefused.TheVariants as re
 use Rattle.indexed_replay.specs.Reaching.{HasChunkIndex, IsReached, Names, LeadsTo, LacksChunk, LacksIndex, LacksMessage, IsElsewhere, Breaks, at_loading, no_chunk, no_index, index_elsewhere, IndexesStand, IsApart, index_apart, LeadsNowhere, no_message, IsPacked, CountsDiffer, NamesNone, LacksChannel, IsNotIndexed}
 use Rattle.indexed_replay.specs.Replaying.{IsReason, IsScanReplayed}
 use Rattle.indexed_replay.proofs.Summed.{summary_once}
+use Rattle.indexed_replay.proofs.Right as right_index
 use Rattle.indexed_replay.proofs.Counted.{statistics_count}
 use Rattle.indexed_replay.proofs.Sound.{some_summary, none_fails}
-
--- ---- Message Indexes behind a chunk
-
--- the length of the records up to one behind a place
-behind_size : (xs : List Top) (k p : ℕ) (t : Top) → At xs k t → (n : ℕ) → n ≡ suc k + p → length (spelled (take n xs)) ≡ length (spelled (take k xs)) + length (top_bytes t) + length (spelled (take p (drop (suc k) xs)))
-behind_size [] k p t at n is = absurd (at_none k t at)
-behind_size (x ∷ xs) k p t at zero is = absurd (omega (arith, is))
-behind_size (x ∷ xs) zero p t at (suc m) is =
-    let same : m ≡ p = omega (arith, is) in
-    omega (arith, ap (λ (u : Top). length (top_bytes u)) (same_Some x t at), length-append (top_bytes x) (spelled (take m xs)), ap (λ (q : ℕ). length (spelled (take q xs))) same)
-behind_size (x ∷ xs) (suc k) p t at (suc m) is =
-    omega (arith, behind_size xs k p t at m (omega (arith, is)), length-append (top_bytes x) (spelled (take m xs)), length-append (top_bytes x) (spelled (take k xs)))
-
--- a front of the first ones that keep a test is a front of all
-taken_while : (test : Top → Bool) (xs : List Top) (p : ℕ) (t : Top) → At (take_while test xs) p t → take p (take_while test xs) ≡ take p xs
-taken_while test xs p t at =
-    let n = prefix_len test xs in
-    let within : p < length (take n xs) = at_within (take_while test xs) p t at in
-    take-take p n xs (omega (arith, within, length-take n xs))
-
--- each of the first ones is a Message Index
-index_among : (xs : List Top) (n : ℕ) (u : Top) → At (take_while is_index xs) n u → is_index u ≡ true
-index_among xs n u at =
-    let (less, here) = has_taken xs (prefix_len is_index xs) n u at in
-    ap is_index (sym (get_or_from_slice_get xs n u u here)) ∙ prefix_len_passes is_index xs n u less
-
--- one of the Message Indexes behind the chunk at a place stands behind the chunk, and ends within their bytes
-index_behind : (tops : List Top) (k : ℕ) (chunk : Top) (p : ℕ) (t : Top) → At tops k chunk → At (indexes_behind tops k) p t
-    → (offset_of tops (suc k + p) ≡ offset_of tops k + length (top_bytes chunk) + length (spelled (take p (indexes_behind tops k)))) × (length (spelled (take p (indexes_behind tops k))) + 9 ≤ length (spelled (indexes_behind tops k)))
-index_behind tops k chunk p t at there =
-    let (more, cut) = cut_flat top_bytes (indexes_behind tops k) p t there in
-    let front = spelled (take p (indexes_behind tops k)) in (
-      omega (arith, behind_size tops k p chunk at (suc k + p) refl, ap (λ (l : List Top). length (spelled l)) (taken_while is_index (drop (suc k) tops) p t there)),
-      omega (arith, ap length cut, length-append front (top_bytes t ++ spelled more), length-append (top_bytes t) (spelled more), length-top t),
-    )
-
--- the Message Indexes behind a chunk up to one of them stand between both
-indexes_between : (file : List ℕ) (tops : List Top) → IsWhole file tops → (k : ℕ) (chunk : Top) (p : ℕ) (t : Top) → At tops k chunk → At (indexes_behind tops k) p t → (end offset : ℕ)
-    → end ≡ offset_of tops k + length (top_bytes chunk) → offset ≡ end + length (spelled (take p (indexes_behind tops k))) → IndexesStand file end offset
-indexes_between file tops whole k chunk p t at there end offset ends is =
-    let before = take p (indexes_behind tops k) in
-    let short = whole.short in
-    let taken : before ≡ take p (drop (suc k) tops) = taken_while is_index (drop (suc k) tops) p t there in
-    let at_end : end ≡ offset_of tops (suc k) = omega (arith, ends, behind_size tops k 0 chunk at (suc k) (omega arith)) in
-    let parts : drop end file ≡ spelled (drop (suc k) tops) ++ magic =
-    ap (λ (n : ℕ). drop n file) at_end ∙ ap (drop (offset_of tops (suc k))) (whole.split ∙ split_whole) ∙ drop_at (magic ++ spelled (take (suc k) tops)) (spelled (drop (suc k) tops) ++ magic) (offset_of tops (suc k)) (length-append magic (spelled (take (suc k) tops))) in
-    record {
-      indexes = before;
-      kinds = λ n u here. let (less, at_n) = has_taken (indexes_behind tops k) p n u here in eqb-true u.op 7 (index_among (drop (suc k) tops) n u at_n);
-      short = λ n u here. let (less, at_n) = has_taken (drop (suc k) tops) p n u (subst (λ (l : List Top). At l n u) taken here) in short (suc k + n) u (at_dropped tops (suc k) n u at_n (suc k + n) refl);
-      rest = spelled (drop p (drop (suc k) tops)) ++ magic;
-      split = parts ∙ ap (λ (l : List Top). spelled l ++ magic) (sym (take-append-drop p (drop (suc k) tops))) ∙ ap (λ (l : List ℕ). l ++ magic) (flat_map-append top_bytes (take p (drop (suc k) tops)) (drop p (drop (suc k) tops)))
-          ∙ append_assoc (spelled (take p (drop (suc k) tops))) (spelled (drop p (drop (suc k) tops))) magic
-          ∙ ap (λ (l : List Top). spelled l ++ (spelled (drop p (drop (suc k) tops)) ++ magic)) (sym taken);
-      there = is;
-    }
-  where
-    split_whole : magic ++ (spelled tops ++ magic) ≡ (magic ++ spelled (take (suc k) tops)) ++ (spelled (drop (suc k) tops) ++ magic)
-    split_whole =
-        ap (λ (l : List Top). magic ++ (spelled l ++ magic)) (sym (take-append-drop (suc k) tops))
-        ∙ ap (λ (l : List ℕ). magic ++ (l ++ magic)) (flat_map-append top_bytes (take (suc k) tops) (drop (suc k) tops))
-        ∙ ap (λ (l : List ℕ). magic ++ l) (append_assoc (spelled (take (suc k) tops)) (spelled (drop (suc k) tops)) magic)
-        ∙ sym (append_assoc magic (spelled (take (suc k) tops)) (spelled (drop (suc k) tops) ++ magic))
-
-names_size : (tops : List Top) (k : ℕ) (f : ChunkIndexFields) (channel offset : ℕ) → NamesIndexes tops k f → Has {X = ℕ × ℕ} f.indexes (channel, offset) → f.indexes_size ≡ length (spelled (indexes_behind tops k))
-names_size tops k f channel offset (inl none) (n, at) = absurd (at_none {X = ℕ × ℕ} n (channel, offset) (subst (λ (l : List (ℕ × ℕ)). At {X = ℕ × ℕ} l n (channel, offset)) none at))
-names_size tops k f channel offset (inr all) has = all.2
 
 -- a record in a chunk is among the flat ones
 flat_has : (tops : List Top) (c j : ℕ) (chunk u : Top) → At tops c chunk → chunk.op ≡ 6 → At (inner_tops chunk) j u → u.op ≡ 5 → Has (flat tops) u
@@ -171,11 +105,7 @@ module _ (file : List ℕ) (tops : List Top) (full : FullyIndexed file tops) (se
   -- ---- where Chunk Indexes lead
 
   some_chunk : (spot : ℕ) (f : ChunkIndexFields) → IsReached file range spot f → LacksChunk file f.offset → ⊥
-  some_chunk spot f reached lacks =
-      let c = of_chunk spot f reached.indexed in
-      let right = c.right in
-      let of = right.is in
-      lacks right.chunk right.shown c.there of.is
+  some_chunk spot f reached lacks = let c = of_chunk spot f reached.indexed in right_index.some_chunk file tops whole c.place f c.right lacks
 
   none_packed : (offset : ℕ) (name : List ℕ) → IsPacked file range offset name → ⊥
   none_packed offset name packed =
@@ -192,50 +122,15 @@ module _ (file : List ℕ) (tops : List Top) (full : FullyIndexed file tops) (se
       plain right.k right.chunk of.at name (subst (λ (t : Top). NamesCompression t name) same packed.packed)
 
   some_index : (spot : ℕ) (f : ChunkIndexFields) (channel offset : ℕ) → Names file range spot f channel offset → LacksIndex file channel offset → ⊥
-  some_index spot f channel offset names lacks =
-      let reached = names.reached in
-      let c = of_chunk spot f reached.indexed in
-      let right = c.right in
-      let (entries, named) = named_of tops right.k f channel offset right.names names.named in
-      let (rest, stands, short) = index_stands file tops full section more joined ended messages scan range right.k named.place offset named.top named.at named.there in
-      lacks named.top entries (is_there file offset named.top rest stands short) named.is
+  some_index spot f channel offset names lacks = let reached = names.reached in let c = of_chunk spot f reached.indexed in right_index.some_index file tops whole c.place f c.right channel offset names.named lacks
 
   -- a Message Index that a map names stands behind the chunk, within the bytes that the Chunk Index states
   none_elsewhere : (spot : ℕ) (f : ChunkIndexFields) (channel offset : ℕ) → Names file range spot f channel offset → IsElsewhere file f offset → ⊥
-  none_elsewhere spot f channel offset names elsewhere =
-      let reached = names.reached in
-      let c = of_chunk spot f reached.indexed in
-      let right = c.right in
-      let of = right.is in
-      let there = c.there in
-      let stands = there.stands in
-      let ends = elsewhere.ends in
-      let same = there_same file f.offset right.chunk ends.chunk stands.rest stands.there there.short ends.there in
-      let size : length (top_bytes ends.chunk) ≡ length (top_bytes right.chunk) = ap (λ (t : Top). length (top_bytes t)) same in
-      let (entries, named) = named_of tops right.k f channel offset right.names names.named in
-      let behind = index_behind tops right.k right.chunk named.place named.top of.at named.at in
-      let total : f.indexes_size ≡ length (spelled (indexes_behind tops right.k)) = names_size tops right.k f channel offset right.names names.named in
-      elim elsewhere.outside [
-        | inl early ↦ omega (arith, early, ends.is, size, of.offset, named.there, behind.0)
-        | inr late ↦ omega (arith, late, ends.is, size, of.offset, named.there, behind.0, behind.1, total)
-      ]
+  none_elsewhere spot f channel offset names elsewhere = let reached = names.reached in let c = of_chunk spot f reached.indexed in right_index.none_elsewhere file tops whole c.place f c.right channel offset names.named elsewhere
 
   -- up to it stand Message Indexes alone
   none_apart : (spot : ℕ) (f : ChunkIndexFields) (channel offset : ℕ) → Names file range spot f channel offset → IsApart file f offset → ⊥
-  none_apart spot f channel offset names apart =
-      let reached = names.reached in
-      let c = of_chunk spot f reached.indexed in
-      let right = c.right in
-      let of = right.is in
-      let there = c.there in
-      let stands = there.stands in
-      let ends = apart.ends in
-      let same = there_same file f.offset right.chunk ends.chunk stands.rest stands.there there.short ends.there in
-      let size : length (top_bytes ends.chunk) ≡ length (top_bytes right.chunk) = ap (λ (t : Top). length (top_bytes t)) same in
-      let (entries, named) = named_of tops right.k f channel offset right.names names.named in
-      let behind = index_behind tops right.k right.chunk named.place named.top of.at named.at in
-      let lies = apart.apart in
-      lies (indexes_between file tops whole right.k right.chunk named.place named.top of.at named.at apart.end offset (omega (arith, ends.is, size, of.offset)) (omega (arith, named.there, behind.0, ends.is, size, of.offset)))
+  none_apart spot f channel offset names apart = let reached = names.reached in let c = of_chunk spot f reached.indexed in right_index.none_apart file tops whole c.place f c.right channel offset names.named apart
 
   of_entry : (spot : ℕ) (f : ChunkIndexFields) (channel offset : ℕ) (entry : ℕ × ℕ) → LeadsTo file range spot f channel offset entry → OfEntry file tops f channel entry
   of_entry spot f channel offset entry leads =

@@ -1,5 +1,7 @@
 -- What the Chunk Indexes of a summary add.
-use Rattle.std.proofs.Common.{◌≡◌, ℕ, suc, ◌≤◌, List, take, subst, inl, inr, arith}
+use Rattle.std.proofs.Common.{◌≡◌, ℕ, suc, ◌+◌, ◌≤◌, Bool, true, false, List, ◌∷◌, take, refl, sym, subst, inl, inr, arith}
+use Rattle.std.proofs.lemmas.Bool.{both_ways}
+use Rattle.mcap_model.specs.declared.replay.Range.{Range}
 use Rattle.mcap_model.specs.declared.replay.Shown.{Shown}
 use Rattle.mcap_model.specs.Places.{At}
 use Rattle.mcap_model.specs.Tops.{Top}
@@ -9,8 +11,8 @@ use Rattle.mcap_model.proofs.Places.{at_none}
 use Rattle.mcap_model.proofs.Once.{chunk_index_once}
 use Rattle.indexed_replay.specs.declared.spots.Request.{Request}
 use Rattle.indexed_replay.specs.Steps.{Adds}
-use Rattle.indexed_replay.specs.Chunks.{IsLedAmong}
-use Rattle.indexed_replay.specs.Gathering.{IsLedFrom}
+use Rattle.indexed_replay.specs.Chunks.{IsLedAmong, ChunkCost}
+use Rattle.indexed_replay.specs.Gathering.{IsLedFrom, IndexesCost, next_index, last_index}
 use Rattle.indexed_replay.proofs.Adding.{taken_or, taken_front, taken_last, adds_none, adds_same, adds_both}
 
 from_front : (file : List ℕ) (request : Request) (tops : List Top) (i k : ℕ) (s : Shown) → i ≤ k → IsLedFrom file request (take i tops) s → IsLedFrom file request (take k tops) s
@@ -43,3 +45,32 @@ from_more file request tops i k t f old mid new at is shows meets first second =
     ])
     (λ s led. from_front file request tops i k s (omega (arith, is)) led)
     (λ s led. record { index = t; shown = f; there = taken_last tops i k t at (omega (arith, is)); is = shows; meets = meets; led = led })
+
+-- ---- what they cost
+
+-- the chunk of a Chunk Index that meets the range costs so much; and where a replay doesn't end there, the others behind it
+pub record IndexMet (file : List ℕ) (range : Range) (f : ChunkIndexFields) (others : List Top) (all : ℕ) : Type 0 where
+  pub cost : ℕ
+  pub ends : Bool
+  pub is : ChunkCost file range f cost ends
+  pub within : cost ≤ all
+  pub behind : ends ≡ false → (rest : ℕ) × IndexesCost file range others rest × (cost + rest ≤ all)
+
+-- the first Chunk Index, and those behind it
+pub record OneIndex (file : List ℕ) (range : Range) (f : ChunkIndexFields) (others : List Top) (all : ℕ) : Type 0 where
+  pub missed : (Meets range f → ⊥) → (rest : ℕ) × IndexesCost file range others rest × (rest ≤ all)
+  pub met : Meets range f → IndexMet file range f others all
+
+pub one_index : (file : List ℕ) (range : Range) (t : Top) (f : ChunkIndexFields) (others : List Top) (all : ℕ) → IsChunkIndex t f → IndexesCost file range (t ∷ others) all → OneIndex file range f others all
+one_index file range t f others all is (next_index u us cost rest costs more) = record {
+  missed = λ none. (rest, more, omega arith);
+  met = λ meets.
+      let (n, own, few) = costs f is meets in
+      record { cost = n; ends = false; is = own; within = omega (arith, few); behind = λ e. (rest, more, omega (arith, few)) };
+}
+one_index file range t f others all is (last_index u us g cost shows meets own) =
+    let same = chunk_index_once t g f shows is in
+    record {
+      missed = λ none. absurd (none (subst (λ (h : ChunkIndexFields). Meets range h) same meets));
+      met = λ here. record { cost = cost; ends = true; is = subst (λ (h : ChunkIndexFields). ChunkCost file range h cost true) same own; within = omega arith; behind = λ e. absurd (both_ways false refl (sym e)) };
+    }

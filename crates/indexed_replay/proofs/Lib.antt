@@ -13,6 +13,8 @@ pub mod Summed
 pub mod Playing
 pub mod Counted
 pub mod Telling
+pub mod Right
+pub mod Flawing
 pub mod Sound
 pub mod Full
 pub mod Weighed

@@ -3,7 +3,7 @@ use Rattle.std.proofs.Common.{◌≡◌, ℕ, ◌+◌, ◌≤◌, Bool, true, fa
 use Rattle.mcap_model.specs.declared.replay.Range.{Range}
 use Rattle.mcap_model.specs.declared.replay.Shown.{Shown}
 use Rattle.mcap_model.specs.Places.{Has}
-use Rattle.mcap_model.specs.Tops.{Top, top_bytes, declared_length}
+use Rattle.mcap_model.specs.Tops.{Top, top_bytes, first_top}
 use Rattle.mcap_model.specs.Made.{top}
 use Rattle.mcap_model.specs.Fields.{IsMessageIndex, ChunkIndexFields}
 use Rattle.mcap_model.specs.Plain.{asked_topic}
@@ -16,10 +16,10 @@ use Rattle.indexed_replay.specs.declared.answers.NotIndexed.{NotIndexed}
 use Rattle.indexed_replay.specs.declared.answers.NotIndexed.TheVariants as lacks
 use Rattle.indexed_replay.specs.declared.spots.Spot.{Spot}
 use Rattle.indexed_replay.specs.declared.spots.Request.{Request}
-use Rattle.indexed_replay.specs.Reaching.{Names, LeadsTo, LacksIndex, LacksMessage, no_index, IsTooLong, at_index, at_message}
+use Rattle.indexed_replay.specs.Reaching.{Names, LeadsTo, LacksIndex, LacksMessage, no_index, IsTooLong, at_index, at_message, head_length}
 use Rattle.indexed_replay.specs.Replaying.{IsReason}
-use Rattle.indexed_replay.specs.Steps.{Adds, IsListed, EntryRefused, EntriesShown, entries_cost}
-use Rattle.indexed_replay.specs.Lists.{Wanted, Undeclared, Knows, HasTimely, IsShownBy, ContentRefused, at_entry, no_channel, ContentShown, IsLedBy, ListRefused, ListShown, ListCost}
+use Rattle.indexed_replay.specs.Steps.{FrontStands, Adds, IsListed, EntryRefused, EntriesShown, entries_cost, ListAsked}
+use Rattle.indexed_replay.specs.Lists.{Wanted, Undeclared, Knows, HasTimely, IsShownBy, ContentRefused, at_entry, no_channel, ContentShown, IsLedBy, ListRefused, ListShown, ListCost, own_list, other_list, no_list, IsFound}
 use Rattle.indexed_replay.proofs.Headed.{there_begun}
 use Rattle.indexed_replay.proofs.Adding.{adds_none, adds_same, same_there}
 use Rattle.mcap_model.proofs.Once.{message_index_once}
@@ -117,18 +117,37 @@ lacks_reason file request at spot none = λ f place names. no_index at f spot.ch
 pub limit_reason : (file : List ℕ) (request : Request) (at : ℕ) (spot : Spot) (offset : ℕ) → (offset ≡ spot.list) × IsTooLong file offset → ListRefused file request at spot (refusals.Limit offset)
 limit_reason file request at spot offset (here, past) = λ f place names. at_index at f spot.channel offset (subst (λ (o : ℕ). Names file request.range at f spot.channel o) (sym here) names) past
 
+-- where messages are shown, or one of them is missing, the Message Index is there
+pub list_found : (file : List ℕ) (spot : Spot) (content : List ℕ) (entries : List (ℕ × ℕ)) (result : Result Bool ReplayRefused) → IsThere file spot.list (top 7 content) → ShowsMessageIndex content spot.channel entries → IsFound file spot result
+list_found file spot content entries (Ok it) there shows = λ lacks. lacks (top 7 content) entries there (record { kind = refl; layout = shows })
+list_found file spot content entries (Err why) there shows = tt
+
 -- ---- what is asked for
 
-pub record_size : (file : List ℕ) (at : ℕ) (t : Top) → IsThere file at t → 9 + declared_length (drop at file) ≡ length (top_bytes t)
-record_size file at t there = let b = there_begun file at t there in omega (arith, b.1, length-top t)
+-- only a head was asked for
+pub head_asked : (file : List ℕ) (at before now : ℕ) → now ≤ before + head_length → ListAsked file at before now
+head_asked file at before now few = record { there = λ t there seven. omega (arith, few, length-top t); none = λ lacks. few }
 
-pub cost_front : (file : List ℕ) (range : Range) (spot : Spot) (cost before now : ℕ) → ListCost file range spot cost → now ≤ before + (9 + declared_length (drop spot.list file)) → now ≤ before + cost
-cost_front file range spot cost before now is few = let all = is.cost_is in omega (arith, all, few, record_size file spot.list is.list is.there)
+-- all of a Message Index was asked for
+pub whole_asked : (file out : List ℕ) (at op len before now : ℕ) → FrontStands file at out op len → op ≡ 7 → now ≤ before + head_length + len → ListAsked file at before now
+whole_asked file out at op len before now front seven few = record {
+  there = λ t there kind. let b = there_begun file at t there in omega (arith, few, b.1, front.len_is, length-top t);
+  none = λ lacks. absurd (lacks (first_top (drop at file)) front.there (front.op_is ∙ seven));
+}
 
-pub cost_content : (file : List ℕ) (range : Range) (spot : Spot) (content : List ℕ) (cost before mid now : ℕ) (is : ListCost file range spot cost) → IsThere file spot.list (top 7 content) → mid ≤ before + (9 + declared_length (drop spot.list file))
-    → (ShowsMessageIndex content spot.channel is.entries → now ≤ mid + entries_cost file range spot.chunk is.entries) → now ≤ before + cost
-cost_content file range spot content cost before mid now is there few more =
-    let all = is.cost_is in
-    let same = same_there file spot.list is.list (top 7 content) is.there there in
-    let shows = subst (λ (t : Top). IsMessageIndex t spot.channel is.entries) same is.is in
-    omega (arith, all, few, record_size file spot.list is.list is.there, more shows.layout)
+-- no message of it was asked for
+pub cost_front : (file : List ℕ) (range : Range) (spot : Spot) (cost before now : ℕ) → ListCost file range spot cost → ListAsked file spot.list before now → now ≤ before + cost
+cost_front file range spot cost before now (own_list list entries there is) asked = let few = asked.there in omega (arith, few list there is.kind)
+cost_front file range spot cost before now (other_list list there seven lacks) asked = let few = asked.there in few list there seven
+cost_front file range spot cost before now (no_list lacks) asked = let few = asked.none in few lacks
+
+-- its messages were asked for too
+pub cost_content : (file : List ℕ) (range : Range) (spot : Spot) (content : List ℕ) (entries : List (ℕ × ℕ)) (cost before mid now : ℕ) → ListCost file range spot cost → IsThere file spot.list (top 7 content) → ShowsMessageIndex content spot.channel entries → ListAsked file spot.list before mid
+    → ((own : List (ℕ × ℕ)) → ShowsMessageIndex content spot.channel own → now ≤ mid + entries_cost file range spot.chunk own) → now ≤ before + cost
+cost_content file range spot content entries cost before mid now (own_list list own there is) here shows asked more =
+    let few = asked.there in
+    let same = same_there file spot.list list (top 7 content) there here in
+    let shown = subst (λ (t : Top). IsMessageIndex t spot.channel own) same is in
+    omega (arith, few list there is.kind, more own shown.layout)
+cost_content file range spot content entries cost before mid now (other_list list there seven lacks) here shows asked more = absurd (lacks (top 7 content) entries here (record { kind = refl; layout = shows }))
+cost_content file range spot content entries cost before mid now (no_list lacks) here shows asked more = absurd (lacks (top 7 content) here refl)

@@ -1,12 +1,13 @@
 -- A message that is read by its front.
-use Rattle.std.proofs.Common.{◌≡◌, ◌⊎◌, ℕ, ◌+◌, ◌-◌, ◌^◌, ◌<◌, ◌≤◌, List, [], ◌∷◌, ◌++◌, length, take, drop, refl, sym, ap, subst, inl, inr, ◌∙◌, append_assoc, arith}
-use Rattle.std.specs.Prelude.{◌≢◌}
+use Rattle.std.proofs.Common.{◌≡◌, ◌⊎◌, ℕ, ◌+◌, ◌-◌, ◌^◌, ◌<◌, ◌≤◌, Bool, List, [], ◌∷◌, ◌++◌, length, take, drop, refl, sym, ap, subst, inl, inr, ◌∙◌, append_assoc, arith}
+use Rattle.std.specs.Prelude.{◌≢◌, if◌then◌else◌}
+use Rattle.std.proofs.lemmas.Bool.{le-leb}
 use Rattle.std.proofs.lemmas.List.{take-append-drop, drop-append-le, drop-drop, take_at, take_all, length-drop}
 use Rattle.rec_data.specs.Fields.{MessageFields}
 use Rattle.rec_data.specs.Records.{message_text, ShowsMessage}
 use Rattle.rec_data.proofs.Contents.{length-message_text}
 use Rattle.mcap_model.specs.declared.replay.Shown.{Shown}
-use Rattle.mcap_model.specs.Tops.{Top, first_top}
+use Rattle.mcap_model.specs.Tops.{Top, declared_length, first_top}
 use Rattle.mcap_model.specs.Fields.{IsMessage}
 use Rattle.mcap_model.specs.Led.{IsThere}
 use Rattle.mcap_model.proofs.Readings.{length-top}
@@ -133,12 +134,17 @@ found file out p at op len chunk channel entry m s place front size five shows t
       stands = record { place = refl; top = first_top (drop at file); there = subst (λ (k : ℕ). IsThere file k (first_top (drop at file))) place front.there; is = front_message file out p at op len channel m front size five shows same };
     })
 
+-- what a whole record costs that stands there
+pub whole_cost : (file : List ℕ) (at : ℕ) → at + 9 + declared_length (drop at file) ≤ length file → message_cost file at ≡ 31 + (declared_length (drop at file) - 22)
+whole_cost file at whole =
+    let len = declared_length (drop at file) in
+    ap (λ (b : Bool). 31 + (if b then len - 22 else 0)) (le-leb (9 + len) (length (drop at file)) (omega (arith, whole, length-drop at file)))
+
 pub costs : (file out : List ℕ) (at chunk inner op len before now asked : ℕ) → at ≡ chunk + 49 + inner → FrontStands file at out op len → now ≤ before + 31 → asked ≤ now + (len - 22) → asked ≤ before + message_cost file (chunk + 49 + inner)
 costs file out at chunk inner op len before now asked place front first more =
     let cost : message_cost file at ≡ message_cost file (chunk + 49 + inner) = ap (message_cost file) place in
-    let is = front.len_is in
-    let size : message_cost file at ≡ 31 + (len - 22) = ap (λ (n : ℕ). 31 + (n - 22)) is in
-    omega (arith, cost, size, first, more)
+    let size = whole_cost file at (omega (arith, front.whole, front.len_is)) in
+    omega (arith, cost, size, front.len_is, first, more)
 
 pub front_shown : (out : List ℕ) (c : ℕ) (m : MessageFields) → length out ≡ 31 → ShowsMessage (take 22 (drop 9 out)) c m → ShowsMessage (drop 9 out) c m
 front_shown out c m size shows = subst (λ (l : List ℕ). ShowsMessage l c m) (take_all 22 (drop 9 out) (omega (arith, length-drop 9 out, size))) shows

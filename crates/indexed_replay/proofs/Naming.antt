@@ -1,70 +1,39 @@
 -- What the Message Indexes of a chunk add, and what they cost.
-use Rattle.std.proofs.Common.{◌≡◌, ℕ, zero, suc, ◌+◌, ◌≤◌, Result, Ok, Err, List, [], ◌∷◌, ◌++◌, length, take, map, sum, sum_by, refl, sym, ap, subst, inl, inr, ◌∙◌, arith}
-use Rattle.std.proofs.lemmas.List.Sums.{sum_by-append, sum-map}
+use Rattle.std.proofs.Common.{◌≡◌, ℕ, zero, suc, ◌+◌, ◌≤◌, Bool, false, Result, Ok, Err, List, [], ◌∷◌, length, take, drop, refl, sym, ap, subst, inl, inr, ◌∙◌, arith}
+use Rattle.std.proofs.lemmas.Option.{same_Some}
 use Rattle.std.specs.List.{AllZip}
-use Rattle.mcap_io.specs.Stores.{StoreState}
+use Rattle.mcap_wire.specs.Reading.{text_length}
 use Rattle.mcap_model.specs.declared.replay.Range.{Range}
 use Rattle.mcap_model.specs.declared.replay.Shown.{Shown}
 use Rattle.mcap_model.specs.Places.{At}
+use Rattle.mcap_model.specs.Tops.{Top}
 use Rattle.mcap_model.specs.Fields.{ChunkIndexFields}
 use Rattle.mcap_model.proofs.Places.{at_none}
 use Rattle.indexed_replay.specs.declared.answers.ReplayRefused.{ReplayRefused}
 use Rattle.indexed_replay.specs.declared.answers.ReplayRefused.TheVariants as refusals
 use Rattle.indexed_replay.specs.declared.spots.Request.{Request}
-use Rattle.indexed_replay.specs.Reaching.{IsReached, Breaks, no_chunk, at_chunk, NamesNone, AskedBeside}
+use Rattle.indexed_replay.specs.Reaching.{IsReached, EndsAt, LacksIndex, Breaks, no_chunk, at_chunk, NamesNone, AskedBeside}
 use Rattle.indexed_replay.specs.Replaying.{IsReason}
 use Rattle.indexed_replay.specs.Steps.{Adds}
-use Rattle.indexed_replay.specs.Lists.{IsLedBy}
-use Rattle.indexed_replay.specs.Chunks.{spot_of, IsLedAmong, ChunkRefused, ChunkAsked}
-use Rattle.indexed_replay.proofs.Adding.{sum_front, take_next, taken_or, taken_front, taken_last, adds_none, adds_both}
+use Rattle.indexed_replay.specs.Lists.{IsLedBy, ListCost}
+use Rattle.indexed_replay.specs.Chunks.{spot_of, IsLedAmong, ChunkRefused, ChunkAsked, plain_length, IsPackedAs, FrontAsked, NamesCost, no_name, next_name, last_name, ChunkCost, empty_map, plain_chunk, compressed_chunk, lacking_chunk}
+use Rattle.indexed_replay.proofs.Adding.{same_there, taken_or, taken_front, taken_last, adds_none, adds_both}
 
--- ---- lists beside one another
+-- ---- lists
 
 module _ {X Y : Type 0} (R : X → Y → Type 0) where
-  pub record LastZipped (xs : List X) (x : X) (ys : List Y) : Type 0 where
-    pub front : List Y
-    pub last : Y
-    pub joined : ys ≡ front ++ last ∷ []
-    pub zipped : AllZip R xs front
-    pub is : R x last
-
-  pub zip_last : (xs : List X) (x : X) (ys : List Y) → AllZip R (xs ++ x ∷ []) ys → LastZipped xs x ys
-  zip_last [] x [] zip = absurd zip
-  zip_last [] x (y ∷ []) zip = record { front = []; last = y; joined = refl; zipped = tt; is = zip.0 }
-  zip_last [] x (y ∷ (z ∷ ys)) zip = absurd zip.1
-  zip_last (w ∷ xs) x [] zip = absurd zip
-  zip_last (w ∷ xs) x (y ∷ ys) zip =
-      let more = zip_last xs x ys zip.1 in
-      record { front = y ∷ more.front; last = more.last; joined = ap (λ (l : List Y). y ∷ l) more.joined; zipped = (zip.0, more.zipped); is = more.is }
-
-  pub zip_taken : (n : ℕ) (xs : List X) (ys : List Y) → AllZip R xs ys → AllZip R (take n xs) (take n ys)
-  zip_taken zero xs ys zip = tt
-  zip_taken (suc n) [] [] zip = tt
-  zip_taken (suc n) [] (y ∷ ys) zip = absurd zip
-  zip_taken (suc n) (x ∷ xs) [] zip = absurd zip
-  zip_taken (suc n) (x ∷ xs) (y ∷ ys) zip = (zip.0, zip_taken n xs ys zip.1)
-
-  pub zip_next : (xs : List X) (i k : ℕ) (x : X) (ys : List Y) → At xs i x → k ≡ suc i → AllZip R (take k xs) ys → LastZipped (take i xs) x ys
-  zip_next xs i k x ys at is zip = zip_last (take i xs) x ys (subst (λ (l : List X). AllZip R l ys) (take_next xs i x at k is) zip)
-
   pub zip_all : (xs : List X) (ys : List Y) → ((n : ℕ) (x : X) → At xs n x → (y : Y) × R x y) → (zs : List Y) × AllZip R xs zs
   zip_all [] ys each = ([], tt)
   zip_all (x ∷ xs) ys each = let more = zip_all xs ys (λ n z at. each (suc n) z at) in let one = each 0 x refl in (one.0 ∷ more.0, (one.1, more.1))
 
-map_same : (xs : List ℕ) → map (λ (n : ℕ). n) xs ≡ xs
-map_same [] = refl
-map_same (x ∷ xs) = ap (λ (l : List ℕ). x ∷ l) (map_same xs)
-
-pub sum_is : (xs : List ℕ) → sum xs ≡ sum_by (λ (n : ℕ). n) xs
-sum_is xs = ap sum (sym (map_same xs)) ∙ sum-map (λ (n : ℕ). n) xs
-
-pub sum_joined : (xs : List ℕ) (y : ℕ) → sum (xs ++ y ∷ []) ≡ sum xs + y
-sum_joined xs y =
-    let one : sum_by (λ (n : ℕ). n) (y ∷ []) ≡ y = omega arith in
-    omega (arith, sum_by-append (λ (n : ℕ). n) xs (y ∷ []), one, sum_is (xs ++ y ∷ []), sum_is xs)
-
-pub sum_taken : (n : ℕ) (xs : List ℕ) → sum (take n xs) ≤ sum xs
-sum_taken n xs = omega (arith, sum_front (λ (m : ℕ). m) xs n, sum_is (take n xs), sum_is xs)
+-- what is left of a list is what stands there, and the rest behind it
+pub dropped : {X : Type 0} (xs : List X) (i k : ℕ) (x : X) → At xs i x → k ≡ suc i → drop i xs ≡ x ∷ drop k xs
+dropped {X} xs i k x at is = by xs i at ∙ ap (λ (n : ℕ). x ∷ drop n xs) (sym is)
+  where
+    by : (ys : List X) (j : ℕ) → At ys j x → drop j ys ≡ x ∷ drop (suc j) ys
+    by [] j at = absurd (at_none j x at)
+    by (y ∷ ys) zero at = ap (λ (z : X). z ∷ ys) (same_Some y x at)
+    by (y ∷ ys) (suc j) at = by ys j at
 
 -- ---- Message Indexes that are named
 
@@ -106,11 +75,61 @@ chunk_reason file request at f refusals.Memory refused reached = tt
 
 -- ---- what is asked for
 
+-- the first of those that are named costs so much; and where it is there, the others behind it
+pub record OneName (file : List ℕ) (range : Range) (chunk : ℕ) (named : ℕ × ℕ) (others : List (ℕ × ℕ)) (all : ℕ × Bool) : Type 0 where
+  pub cost : ℕ
+  pub is : ListCost file range (spot_of chunk named) cost
+  pub within : cost ≤ all.0
+  pub behind : (LacksIndex file named.0 named.1 → ⊥) → (rest : ℕ) × NamesCost file range chunk others rest all.1 × (cost + rest ≤ all.0)
+
+pub one_name : (file : List ℕ) (range : Range) (chunk : ℕ) (named : ℕ × ℕ) (others : List (ℕ × ℕ)) (all : ℕ) (ends : Bool) → NamesCost file range chunk (named ∷ others) all ends → OneName file range chunk named others (all, ends)
+one_name file range chunk named others all ends (next_name x xs cost rest last is more) = record { cost = cost; is = is; within = omega arith; behind = λ found. (rest, more, omega arith) }
+one_name file range chunk named others all ends (last_name x xs cost is lacks) = record { cost = cost; is = is; within = omega arith; behind = λ found. absurd (found lacks) }
+
+-- behind none of them a replay ends
+pub no_name_ends : (file : List ℕ) (range : Range) (chunk : ℕ) (names : List (ℕ × ℕ)) (cost : ℕ) (ends : Bool) → length names ≡ 0 → NamesCost file range chunk names cost ends → ends ≡ false
+no_name_ends file range chunk names cost ends none no_name = refl
+no_name_ends file range chunk names cost ends none (next_name named others own rest more is are) = absurd (omega (arith, none))
+no_name_ends file range chunk names cost ends none (last_name named others own is lacks) = absurd (omega (arith, none))
+
+no_names : (names : List (ℕ × ℕ)) → length names ≡ 0 → Rattle.std.proofs.Common.◌≡◌ {A = List (ℕ × ℕ)} names []
+no_names [] none = refl
+no_names (x ∷ xs) none = absurd (omega (arith, none))
+
+pub empty_goes_on : (file : List ℕ) (range : Range) (f : ChunkIndexFields) (cost : ℕ) (ends : Bool) → length f.indexes ≡ 0 → ChunkCost file range f cost ends → ends ≡ false
+empty_goes_on file range f cost ends none (empty_map is) = refl
+empty_goes_on file range f cost ends none (plain_chunk end names last stands are) = no_name_ends file range f.offset f.indexes names last none are
+empty_goes_on file range f cost ends none (compressed_chunk size some is) = absurd (some (no_names f.indexes none))
+empty_goes_on file range f cost ends none (lacking_chunk some no_end no_pack) = absurd (some (no_names f.indexes none))
+
+-- no chunk is packed and isn't
+plain_once : (file : List ℕ) (at end size : ℕ) → EndsAt file at end → IsPackedAs file at size → ⊥
+plain_once file at end size ends is =
+    let same = same_there file at ends.chunk is.chunk ends.there is.there in
+    let some = is.some in
+    some (sym is.named ∙ sym (ap (λ (t : Top). text_length t.content 28) same) ∙ ends.unpacked)
+
+-- what was asked for of a chunk's front is within what it costs
+pub front_enough : (file : List ℕ) (range : Range) (f : ChunkIndexFields) (cost : ℕ) (ends : Bool) (before now : ℕ) → (length f.indexes ≡ 0 → ⊥) → ChunkCost file range f cost ends → FrontAsked file f.offset before now → now ≤ before + cost
+front_enough file range f cost ends before now some (empty_map is) asked = absurd (some (ap (λ (l : List (ℕ × ℕ)). length l) is))
+front_enough file range f cost ends before now some (plain_chunk end names last stands are) asked = let few = asked.plain in omega (arith, few (λ size is. plain_once file f.offset end size stands is))
+front_enough file range f cost ends before now some (compressed_chunk size more is) asked = let few = asked.packed in few size is
+front_enough file range f cost ends before now some (lacking_chunk more no_end no_pack) asked = let few = asked.plain in few no_pack
+
 -- what was asked for of a chunk's front, and then of its Message Indexes
-pub asked_chunk : (file : List ℕ) (request : Request) (at : ℕ) (f : ChunkIndexFields) (names cost : ℕ) (old mid new : StoreState) (result : Result Unit ReplayRefused) → 49 + names ≤ cost → mid.asked ≤ old.asked + 49 → ChunkAsked file request at f names mid new result → ChunkAsked file request at f cost old new result
-asked_chunk file request at f names cost old mid new (Ok it) enough first more = omega (arith, enough, first, more)
-asked_chunk file request at f names cost old mid new (Err why) enough first more = λ knows reached. let (beside, is, few) = more knows reached in (beside, is, omega (arith, enough, first, few))
+asked_chunk : (file : List ℕ) (request : Request) (at : ℕ) (f : ChunkIndexFields) (names : ℕ) (ends : Bool) (before mid now : ℕ) (result : Result Unit ReplayRefused) → mid ≤ before + plain_length → ChunkAsked file request at f (names, ends) (mid, now) result → ChunkAsked file request at f (plain_length + names, ends) (before, now) result
+asked_chunk file request at f names ends before mid now (Ok it) first more = (omega (arith, first, more.0), more.1)
+asked_chunk file request at f names ends before mid now (Err why) first more = λ knows reached. let (beside, is, few) = more knows reached in (beside, is, omega (arith, first, few))
+
+pub names_enough : (file : List ℕ) (request : Request) (at : ℕ) (f : ChunkIndexFields) (end cost : ℕ) (ends : Bool) (before mid now : ℕ) (result : Result Unit ReplayRefused) → (length f.indexes ≡ 0 → ⊥) → EndsAt file f.offset end → FrontAsked file f.offset before mid
+    → ((names : ℕ) (last : Bool) → NamesCost file request.range f.offset f.indexes names last → ChunkAsked file request at f (names, last) (mid, now) result) → ChunkCost file request.range f cost ends → ChunkAsked file request at f (cost, ends) (before, now) result
+names_enough file request at f end cost ends before mid now result some stands asked more (empty_map is) = absurd (some (ap (λ (l : List (ℕ × ℕ)). length l) is))
+names_enough file request at f end cost ends before mid now result some stands asked more (plain_chunk other names last there are) =
+    let few = asked.plain in
+    asked_chunk file request at f names last before mid now result (few (λ size is. plain_once file f.offset end size stands is)) (more names last are)
+names_enough file request at f end cost ends before mid now result some stands asked more (compressed_chunk size nonempty is) = absurd (plain_once file f.offset end size stands is)
+names_enough file request at f end cost ends before mid now result some stands asked more (lacking_chunk nonempty no_end no_pack) = absurd (no_end end stands)
 
 -- the same of one among several
-pub asked_among : (file : List ℕ) (range : Range) (before mid now front last all : ℕ) → mid ≤ before + front → front + last ≤ all → AskedBeside file range mid now last → AskedBeside file range before now all
-asked_among file range before mid now front last all first joined (beside, is, few) = (beside, is, omega (arith, first, joined, few))
+pub asked_among : (file : List ℕ) (range : Range) (before mid now last all rest : ℕ) → mid + rest ≤ before + all → last ≤ rest → AskedBeside file range mid now last → AskedBeside file range before now all
+asked_among file range before mid now last all rest first within (beside, is, few) = (beside, is, omega (arith, first, within, few))

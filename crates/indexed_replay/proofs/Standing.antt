@@ -1,8 +1,7 @@
 -- Message Indexes that stand behind a chunk.
-use Rattle.std.proofs.Common.{◌≡◌, ℕ, suc, ◌+◌, ◌*◌, ◌^◌, ◌<◌, ◌≤◌, Result, Ok, Err, List, [], ◌∷◌, ◌++◌, length, drop, refl, sym, ap, subst, inl, inr, ◌∙◌, append_assoc, append-nil, arith}
+use Rattle.std.proofs.Common.{◌≡◌, ℕ, suc, ◌+◌, ◌*◌, ◌^◌, ◌<◌, ◌≤◌, Bool, Err, List, [], ◌∷◌, ◌++◌, length, drop, refl, sym, ap, subst, inl, inr, ◌∙◌, append_assoc, append-nil, arith}
 use Rattle.std.proofs.lemmas.Grind.{flat_map-append}
 use Rattle.std.proofs.lemmas.List.{length-append, drop-drop, drop_at}
-use Rattle.mcap_io.specs.Stores.{StoreState}
 use Rattle.mcap_model.specs.declared.replay.Range.{Range}
 use Rattle.mcap_model.specs.declared.replay.Shown.{Shown}
 use Rattle.mcap_model.specs.Places.{Each}
@@ -17,7 +16,7 @@ use Rattle.indexed_replay.specs.declared.answers.ReplayRefused.TheVariants as re
 use Rattle.indexed_replay.specs.declared.spots.Request.{Request}
 use Rattle.indexed_replay.specs.Reaching.{EndsAt, IndexesStand, LeadsNowhere, IsReached, Breaks, index_apart, no_message, behind_chunk, head_length, heads}
 use Rattle.indexed_replay.specs.Replaying.{IsReason}
-use Rattle.indexed_replay.specs.Belonging.{HeadsAsked, AstrayRefused, AstrayJudged}
+use Rattle.indexed_replay.specs.Belonging.{HeadsAsked, AstrayRefused}
 use Rattle.indexed_replay.specs.Lists.{Knows}
 use Rattle.indexed_replay.specs.Chunks.{ChunkShown, ChunkAsked}
 
@@ -89,17 +88,15 @@ astray_reason file range at f channel list end (refusals.Limit offset) nowhere e
 astray_reason file range at f channel list end refusals.Memory nowhere ends refused = absurd refused
 
 -- that is what the Chunk Index is refused for
-pub astray_shown : (file : List ℕ) (request : Request) (at : ℕ) (f : ChunkIndexFields) (channel list end : ℕ) (shown : List Shown × List Shown) (result : Result Unit ReplayRefused) → (IsReached file request.range at f → LeadsNowhere file request.range at f channel list) → EndsAt file f.offset end
-    → AstrayJudged file at end list result → ChunkShown file request at f shown result
-astray_shown file request at f channel list end shown (Ok it) nowhere ends judged = absurd judged
-astray_shown file request at f channel list end shown (Err why) nowhere ends judged = λ reached. astray_reason file request.range at f channel list end why (nowhere reached) ends judged
+pub astray_shown : (file : List ℕ) (request : Request) (at : ℕ) (f : ChunkIndexFields) (channel list end : ℕ) (shown : List Shown × List Shown) (why : ReplayRefused) → (IsReached file request.range at f → LeadsNowhere file request.range at f channel list) → EndsAt file f.offset end
+    → AstrayRefused file at end list why → ChunkShown file request at f shown (Err why)
+astray_shown file request at f channel list end shown why nowhere ends refused = λ reached. astray_reason file request.range at f channel list end why (nowhere reached) ends refused
 
 -- ---- what is asked for
 
 pub heads_asked : (file : List ℕ) (from at before now : ℕ) (walked : IndexesStand file from at) → now ≤ before + (head_length * length walked.indexes + head_length) → HeadsAsked file from before now
 heads_asked file from at before now walked few = (at, walked, few)
 
-pub astray_asked : (file : List ℕ) (request : Request) (at : ℕ) (f : ChunkIndexFields) (channel list end cost : ℕ) (old mid new : StoreState) (result : Result Unit ReplayRefused) → (Knows file request.tables.now.channels → IsReached file request.range at f → LeadsNowhere file request.range at f channel list) → EndsAt file f.offset end
-    → AstrayJudged file at end list result → mid.asked ≤ old.asked + cost → HeadsAsked file end mid.asked new.asked → ChunkAsked file request at f cost old new result
-astray_asked file request at f channel list end cost old mid new (Ok it) nowhere ends judged first asked = absurd judged
-astray_asked file request at f channel list end cost old mid new (Err why) nowhere ends judged first (place, walked, few) = λ knows reached. (head_length * length walked.indexes + head_length, heads at f channel list end place (nowhere knows reached) ends walked, omega (arith, first, few))
+pub astray_asked : (file : List ℕ) (request : Request) (at : ℕ) (f : ChunkIndexFields) (channel list end cost : ℕ) (last : Bool) (before mid now : ℕ) (why : ReplayRefused) → (Knows file request.tables.now.channels → IsReached file request.range at f → LeadsNowhere file request.range at f channel list) → EndsAt file f.offset end
+    → mid ≤ before + cost → HeadsAsked file end mid now → ChunkAsked file request at f (cost, last) (before, now) (Err why)
+astray_asked file request at f channel list end cost last before mid now why nowhere ends first (place, walked, few) = λ knows reached. (head_length * length walked.indexes + head_length, heads at f channel list end place (nowhere knows reached) ends walked, omega (arith, first, few))

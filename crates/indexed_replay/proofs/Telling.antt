@@ -42,7 +42,7 @@ short_all xs few n t at =
 -- ---- the ends of a file whose records are in order
 
 -- the Footer stands in front of the last magic
-footer_ends : (file : List ℕ) (before : List Top) (foot : Top) (f : Footer) → file ≡ magic ++ (spelled (before ++ foot ∷ []) ++ magic) → ShowsFooter foot f → EndsIn file f
+pub footer_ends : (file : List ℕ) (before : List Top) (foot : Top) (f : Footer) → file ≡ magic ++ (spelled (before ++ foot ∷ []) ++ magic) → ShowsFooter foot f → EndsIn file f
 footer_ends file before foot f split is = record {
   before = magic ++ spelled before;
   top = foot;
@@ -116,14 +116,14 @@ module _ (file : List ℕ) (tops : List Top) (whole : IsWhole file tops) (e : En
       some (sym (starts_there f ends) ∙ none)
 
   -- a record of the summary, as one of the file
-  record InFile (i : ℕ) (t : Top) : Type 0 where
-    place : ℕ
-    at : At tops place t
-    within : InSummary tops place
-    short : length t.content < 2 ^ 64
-    there : e.start + length (spelled (take i (summary_of e))) ≡ offset_of tops place
+  pub record InFile (i : ℕ) (t : Top) : Type 0 where
+    pub place : ℕ
+    pub at : At tops place t
+    pub within : InSummary tops place
+    pub short : length t.content < 2 ^ 64
+    pub there : e.start + length (spelled (take i (summary_of e))) ≡ offset_of tops place
 
-  in_file : (i : ℕ) (t : Top) → At (summary_of e) i t → InFile i t
+  pub in_file : (i : ℕ) (t : Top) → At (summary_of e) i t → InFile i t
   in_file i t at =
       let ends = e in
       let n = suc ends.end + i in

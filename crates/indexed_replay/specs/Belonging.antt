@@ -41,9 +41,5 @@ AstrayRefused file at end list (refusals.Compressed offset name) = ⊥
 AstrayRefused file at end list (refusals.Limit offset) = IndexesStand file end offset × (offset < list) × IsTooLong file offset
 AstrayRefused file at end list refusals.Memory = ⊥
 
-abbrev pub AstrayJudged : List ℕ → ℕ → ℕ → ℕ → Result Unit ReplayRefused → Type 0
-AstrayJudged file at end list (Ok it) = ⊥
-AstrayJudged file at end list (Err why) = AstrayRefused file at end list why
-
-abbrev pub JudgesAstray : Option (List ℕ) → ℕ → ℕ → ℕ → ℕ → Result Unit ReplayRefused → Type 0
-JudgesAstray told len at end list result = (file : List ℕ) → told ≡ Some file → length file ≡ len → AstrayJudged file at end list result
+abbrev pub JudgesAstray : Option (List ℕ) → ℕ → ℕ → ℕ → ℕ → ReplayRefused → Type 0
+JudgesAstray told len at end list why = (file : List ℕ) → told ≡ Some file → length file ≡ len → AstrayRefused file at end list why

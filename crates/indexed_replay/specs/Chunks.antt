@@ -1,6 +1,5 @@
 -- What a chunk adds to a replay.
-use Rattle.std.specs.Prelude.{◌≡◌, ◌≢◌, ℕ, ◌+◌, ◌≤◌, List, [], ◌∷◌, length, sum, Option, Some, Result, Ok, Err}
-use Rattle.std.specs.List.{AllZip}
+use Rattle.std.specs.Prelude.{◌≡◌, ◌≢◌, ℕ, ◌+◌, ◌≤◌, List, [], ◌∷◌, length, Bool, true, false, Option, Some, Result, Ok, Err}
 use Rattle.mcap_io.specs.Stores.{StoreState}
 use Rattle.mcap_wire.specs.Reading.{text_length}
 use Rattle.mcap_wire.specs.Contents.{Kind, a_number, a_text, ShowsRow}
@@ -8,14 +7,14 @@ use Rattle.mcap_model.specs.declared.replay.Range.{Range}
 use Rattle.mcap_model.specs.declared.replay.Shown.{Shown}
 use Rattle.mcap_model.specs.Places.{Has}
 use Rattle.mcap_model.specs.Tops.{Top}
-use Rattle.mcap_model.specs.Fields.{ChunkFields, IsChunk, ChunkIndexFields}
+use Rattle.mcap_model.specs.Fields.{ChunkIndexFields}
 use Rattle.mcap_model.specs.Kept.{NamesCompression}
 use Rattle.mcap_model.specs.Led.{IsThere}
 use Rattle.indexed_replay.specs.declared.answers.ReplayRefused.{ReplayRefused}
 use Rattle.indexed_replay.specs.declared.answers.ReplayRefused.TheVariants as refusals
 use Rattle.indexed_replay.specs.declared.spots.Spot.{Spot}
 use Rattle.indexed_replay.specs.declared.spots.Request.{Request}
-use Rattle.indexed_replay.specs.Reaching.{IsReached, EndsAt, LacksChunk, IsTooLong, AskedBeside}
+use Rattle.indexed_replay.specs.Reaching.{IsReached, EndsAt, LacksChunk, LacksIndex, IsTooLong, head_length, AskedBeside}
 use Rattle.indexed_replay.specs.Replaying.{IsReason}
 use Rattle.indexed_replay.specs.Steps.{Adds}
 use Rattle.indexed_replay.specs.Lists.{Knows, IsLedBy, ListCost}
@@ -52,17 +51,37 @@ ChunkChecked file index at (Err why) = ChunkRefused file index at why
 abbrev pub ChecksChunk : Option (List ℕ) → ℕ → ℕ → ℕ → Result ℕ ReplayRefused → Type 0
 ChecksChunk told len index at result = (file : List ℕ) → told ≡ Some file → length file ≡ len → ChunkChecked file index at result
 
-abbrev pub PackRefused : List ℕ → ℕ → ℕ → Result ℕ ReplayRefused → Type 0
-PackRefused file index at (Ok end) = ⊥
-PackRefused file index at (Err why) = ChunkRefused file index at why
-
 -- where a record of a chunk's opcode stands there, of a content of the first length and with a compression of the other
-abbrev pub NamesPack : Option (List ℕ) → ℕ → ℕ → ℕ → ℕ → Result ℕ ReplayRefused → Type 0
-NamesPack told index at len size result = (file : List ℕ) (t : Top) → told ≡ Some file → IsThere file at t → t.op ≡ 6 → length t.content ≡ len → text_length t.content 28 ≡ size → size ≢ 0 → PackRefused file index at result
+abbrev pub NamesPack : Option (List ℕ) → ℕ → ℕ → ℕ → ℕ → ReplayRefused → Type 0
+NamesPack told index at len size why = (file : List ℕ) (t : Top) → told ≡ Some file → IsThere file at t → t.op ≡ 6 → length t.content ≡ len → text_length t.content 28 ≡ size → size ≢ 0 → ChunkRefused file index at why
 
--- of a chunk without a compression no more is asked for
+-- ---- what is asked for of it
+
+-- how much of a chunk's content stands in front of its records, beside the compression
+abbrev pub front_length : ℕ
+front_length = 40
+
+-- the bytes of a chunk without a compression in front of its records
+abbrev pub plain_length : ℕ
+plain_length = head_length + front_length
+
+-- a record of a chunk's opcode stands there, whose content has room for a compression of that length, which isn't 0
+pub record IsPackedAs (file : List ℕ) (offset size : ℕ) : Type 0 where
+  pub chunk : Top
+  pub there : IsThere file offset chunk
+  pub kind : chunk.op ≡ 6
+  pub named : text_length chunk.content 28 ≡ size
+  pub some : size ≢ 0
+  pub room : front_length + size ≤ length chunk.content
+
+-- From the one count on no more was asked for than the bytes in front of the records of a chunk without a compression; where
+-- one is named, than these, and the front of the content with that name.
+pub record FrontAsked (file : List ℕ) (at before now : ℕ) : Type 0 where
+  pub packed : (size : ℕ) → IsPackedAs file at size → now ≤ before + (plain_length + (front_length + size))
+  pub plain : ((size : ℕ) → IsPackedAs file at size → ⊥) → now ≤ before + plain_length
+
 abbrev pub AsksFront : ℕ → ℕ → StoreState → StoreState → Type 0
-AsksFront len at old new = (file : List ℕ) (t : Top) (g : ChunkFields) → old.bytes ≡ Some file → length file ≡ len → IsThere file at t → IsChunk t g → g.compression ≡ [] → new.asked ≤ old.asked + 49
+AsksFront len at old new = (file : List ℕ) → old.bytes ≡ Some file → length file ≡ len → FrontAsked file at old.asked new.asked
 
 -- ---- the Message Indexes that are named
 
@@ -89,28 +108,32 @@ ShowsNames told request at end f shown result = (file : List ℕ) → told ≡ S
 
 -- ---- what is asked for
 
-abbrev pub NamesCost : List ℕ → Range → ℕ → List (ℕ × ℕ) → List ℕ → Type 0
-NamesCost file range chunk indexes costs = AllZip (λ named cost. ListCost file range (spot_of chunk named) cost) indexes costs
+-- What the Message Indexes that are named cost one after the other, up to the first that isn't there; and whether there is
+-- such a one, at which a replay ends.
+pub data NamesCost (file : List ℕ) (range : Range) (chunk : ℕ) : List (ℕ × ℕ) → ℕ → Bool → Type 0 where
+  no_name : NamesCost file range chunk [] 0 false
+  next_name : (named : ℕ × ℕ) (others : List (ℕ × ℕ)) (cost rest : ℕ) (ends : Bool) → ListCost file range (spot_of chunk named) cost → NamesCost file range chunk others rest ends → NamesCost file range chunk (named ∷ others) (cost + rest) ends
+  last_name : (named : ℕ × ℕ) (others : List (ℕ × ℕ)) (cost : ℕ) → ListCost file range (spot_of chunk named) cost → LacksIndex file named.0 named.1 → NamesCost file range chunk (named ∷ others) cost true
 
--- what a Chunk Index at that offset leads to was asked for; where it is refused, more beside
-abbrev pub ChunkAsked : List ℕ → Request → ℕ → ChunkIndexFields → ℕ → StoreState → StoreState → Result Unit ReplayRefused → Type 0
-ChunkAsked file request at f cost old new (Ok it) = new.asked ≤ old.asked + cost
-ChunkAsked file request at f cost old new (Err why) = Knows file request.tables.now.channels → IsReached file request.range at f → AskedBeside file request.range old.asked new.asked cost
+-- What a Chunk Index at that offset leads to was asked for; where it is refused, more beside. Behind one at which a replay ends
+-- it doesn't go on.
+abbrev pub ChunkAsked : List ℕ → Request → ℕ → ChunkIndexFields → (ℕ × Bool) → (ℕ × ℕ) → Result Unit ReplayRefused → Type 0
+ChunkAsked file request at f cost asked (Ok it) = (asked.1 ≤ asked.0 + cost.0) × (cost.1 ≡ false)
+ChunkAsked file request at f cost asked (Err why) = Knows file request.tables.now.channels → IsReached file request.range at f → AskedBeside file request.range asked.0 asked.1 cost.0
 
 -- the same where the chunk ends at that offset
 abbrev pub AsksNames : Request → ℕ → ℕ → ChunkIndexFields → StoreState → StoreState → Result Unit ReplayRefused → Type 0
-AsksNames request at end f old new result = (file : List ℕ) (costs : List ℕ) → old.bytes ≡ Some file → length file ≡ request.len → EndsAt file f.offset end → NamesCost file request.range f.offset f.indexes costs → ChunkAsked file request at f (sum costs) old new result
+AsksNames request at end f old new result = (file : List ℕ) (cost : ℕ) (ends : Bool) → old.bytes ≡ Some file → length file ≡ request.len → EndsAt file f.offset end → NamesCost file request.range f.offset f.indexes cost ends
+    → ChunkAsked file request at f (cost, ends) (old.asked, new.asked) result
 
--- of a chunk without a compression: its front, and what its Message Indexes ask for
-pub record ChunkCost (file : List ℕ) (range : Range) (f : ChunkIndexFields) (cost : ℕ) : Type 0 where
-  pub chunk : Top
-  pub shown : ChunkFields
-  pub there : IsThere file f.offset chunk
-  pub is : IsChunk chunk shown
-  pub plain : shown.compression ≡ []
-  pub costs : List ℕ
-  pub are : NamesCost file range f.offset f.indexes costs
-  pub enough : 49 + sum costs ≤ cost
+-- What a Chunk Index costs, and whether a replay ends there. An empty map costs nothing. Of a chunk without a compression it is
+-- what stands in front of its records, and what its Message Indexes cost; of one that names a compression its front with that
+-- name besides; and of what is no chunk as much as such a front has.
+pub data ChunkCost (file : List ℕ) (range : Range) (f : ChunkIndexFields) : ℕ → Bool → Type 0 where
+  empty_map : f.indexes ≡ [] → ChunkCost file range f 0 false
+  plain_chunk : (end cost : ℕ) (ends : Bool) → EndsAt file f.offset end → NamesCost file range f.offset f.indexes cost ends → ChunkCost file range f (plain_length + cost) ends
+  compressed_chunk : (size : ℕ) → f.indexes ≢ [] → IsPackedAs file f.offset size → ChunkCost file range f (plain_length + (front_length + size)) true
+  lacking_chunk : f.indexes ≢ [] → ((end : ℕ) → EndsAt file f.offset end → ⊥) → ((size : ℕ) → IsPackedAs file f.offset size → ⊥) → ChunkCost file range f plain_length true
 
 abbrev pub AsksChunk : Request → ℕ → ChunkIndexFields → StoreState → StoreState → Result Unit ReplayRefused → Type 0
-AsksChunk request at f old new result = (file : List ℕ) (cost : ℕ) → old.bytes ≡ Some file → length file ≡ request.len → ChunkCost file request.range f cost → ChunkAsked file request at f cost old new result
+AsksChunk request at f old new result = (file : List ℕ) (cost : ℕ) (ends : Bool) → old.bytes ≡ Some file → length file ≡ request.len → ChunkCost file request.range f cost ends → ChunkAsked file request at f (cost, ends) (old.asked, new.asked) result

@@ -1,6 +1,5 @@
 -- What the Chunk Indexes of a summary add to a replay, and the Channels that are known.
-use Rattle.std.specs.Prelude.{◌≡◌, ℕ, ◌+◌, ◌<◌, ◌≤◌, List, length, sum, Option, Some, Result, Ok, Err}
-use Rattle.std.specs.List.{AllZip}
+use Rattle.std.specs.Prelude.{◌≡◌, ℕ, ◌+◌, ◌<◌, ◌≤◌, List, [], ◌∷◌, length, true, false, Option, Some, Result, Ok, Err}
 use Rattle.mcap_io.specs.Stores.{StoreState}
 use Rattle.mcap_model.specs.declared.replay.Range.{Range}
 use Rattle.mcap_model.specs.declared.replay.Shown.{Shown}
@@ -66,14 +65,20 @@ Gathers told request tops offsets shown result = (file : List ℕ) → told ≡ 
 
 -- ---- what is asked for
 
--- so much of the chunk of that Chunk Index, where it meets the range
+-- At most so much of the chunk of that Chunk Index, where it meets the range; and a replay doesn't end there.
 abbrev pub CostsUpTo : List ℕ → Range → Top → ℕ → Type 0
-CostsUpTo file range t cost = (f : ChunkIndexFields) → IsChunkIndex t f → Meets range f → ChunkCost file range f cost
+CostsUpTo file range t cost = (f : ChunkIndexFields) → IsChunkIndex t f → Meets range f → (n : ℕ) × ChunkCost file range f n false × (n ≤ cost)
+
+-- what the Chunk Indexes cost one after the other, up to the first that meets the range and at which a replay ends
+pub data IndexesCost (file : List ℕ) (range : Range) : List Top → ℕ → Type 0 where
+  no_index : IndexesCost file range [] 0
+  next_index : (t : Top) (others : List Top) (cost rest : ℕ) → CostsUpTo file range t cost → IndexesCost file range others rest → IndexesCost file range (t ∷ others) (cost + rest)
+  last_index : (t : Top) (others : List Top) (f : ChunkIndexFields) (cost : ℕ) → IsChunkIndex t f → Meets range f → ChunkCost file range f cost true → IndexesCost file range (t ∷ others) cost
 
 -- what the Chunk Indexes lead to was asked for; where one is refused, more beside
-abbrev pub AllAsked : List ℕ → Request → List Top → List ℕ → ℕ → StoreState → StoreState → Result Unit ReplayRefused → Type 0
-AllAsked file request tops offsets cost old new (Ok it) = new.asked ≤ old.asked + cost
-AllAsked file request tops offsets cost old new (Err why) = Knows file request.tables.now.channels → AreIndexed file tops offsets → AskedBeside file request.range old.asked new.asked cost
+abbrev pub AllAsked : List ℕ → Request → List Top → List ℕ → ℕ → (ℕ × ℕ) → Result Unit ReplayRefused → Type 0
+AllAsked file request tops offsets cost asked (Ok it) = asked.1 ≤ asked.0 + cost
+AllAsked file request tops offsets cost asked (Err why) = Knows file request.tables.now.channels → AreIndexed file tops offsets → AskedBeside file request.range asked.0 asked.1 cost
 
 abbrev pub AsksAll : Request → List Top → List ℕ → StoreState → StoreState → Result Unit ReplayRefused → Type 0
-AsksAll request tops offsets old new result = (file : List ℕ) (costs : List ℕ) → old.bytes ≡ Some file → length file ≡ request.len → AllZip (CostsUpTo file request.range) tops costs → AllAsked file request tops offsets (sum costs) old new result
+AsksAll request tops offsets old new result = (file : List ℕ) (cost : ℕ) → old.bytes ≡ Some file → length file ≡ request.len → IndexesCost file request.range tops cost → AllAsked file request tops offsets cost (old.asked, new.asked) result

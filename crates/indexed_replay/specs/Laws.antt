@@ -1,13 +1,19 @@
 -- What holds of the definitions.
 use Rattle.std.specs.Prelude.{◌≢◌, ℕ, ◌^◌, ◌<◌, List, length}
 use Rattle.rec_data.specs.declared.footer.Footer.{Footer}
+use Rattle.mcap_model.specs.declared.replay.Range.{Range}
+use Rattle.mcap_model.specs.Places.{At, Each}
 use Rattle.mcap_model.specs.Tops.{Top}
-use Rattle.mcap_model.specs.Whole.{IsWhole, V11, V17}
-use Rattle.mcap_model.specs.Valid.{Keeps, Valid, Flaw}
+use Rattle.mcap_model.specs.Fields.{ChunkIndexFields, IsChunkIndex}
+use Rattle.mcap_model.specs.Rules.{V6, V8}
+use Rattle.mcap_model.specs.Whole.{IsWhole, StandsAt, V11, V17}
+use Rattle.mcap_model.specs.Valid.{Keeps, IsPlain, Valid, Flaw}
 use Rattle.summary_read.specs.declared.refusals.LoadRefused.{LoadRefused}
 use Rattle.summary_read.specs.declared.refusals.LoadRefused.TheVariants as load_refusals
-use Rattle.summary_read.specs.Reached.{EndsIn}
+use Rattle.summary_read.specs.Reached.{HasNoSummary, EndsIn}
 use Rattle.summary_read.specs.Loading.{IsRefused}
+use Rattle.indexed_replay.specs.declared.answers.ReplayRefused.TheVariants as refusals
+use Rattle.indexed_replay.specs.Replaying.{IsReason}
 
 -- The file is these whole records, of which the last is the only Footer; and what this and the order of the summary say is
 -- right (V11).
@@ -40,3 +46,16 @@ IsOutside load_refusals.Memory = Unit {0}
 abbrev pub FlawlessFilesAreLoaded : Type 0
 FlawlessFilesAreLoaded = (file : List ℕ) (tops : List Top) (footer : Footer) → IsFlawless file tops → length file < 2 ^ 64 → EndsIn file footer → footer.summary_start ≢ 0
     → (why : LoadRefused) → IsRefused file why → IsOutside why
+
+-- Besides each content can be read (V6), each chunk is right (V8), and none names a compression; and where a Chunk Index leads
+-- to, a record of the file stands.
+pub record IsReadable (file : List ℕ) (tops : List Top) : Type 0 where
+  pub ordered : IsInOrder file tops
+  pub layouts : Each V6 tops
+  pub chunks : Each V8 tops
+  pub plain : Each IsPlain tops
+  pub lead : (n : ℕ) (t : Top) (f : ChunkIndexFields) → At tops n t → IsChunkIndex t f → (c : Top) × StandsAt tops f.offset c
+
+-- a rule for which such a file isn't replayed by its index fails in the file, unless it has no summary
+abbrev pub ReplaysTellFlaws : Type 0
+ReplaysTellFlaws = (file : List ℕ) (tops : List Top) (range : Range) → IsReadable file tops → (HasNoSummary file → ⊥) → length file < 2 ^ 64 → (rule offset : ℕ) → IsReason file range (refusals.Flaw rule offset) → Flaw file rule offset

@@ -17,10 +17,10 @@ use Rattle.indexed_replay.specs.declared.answers.ReplayRefused.TheVariants as re
 use Rattle.indexed_replay.specs.declared.answers.NotIndexed.TheVariants as lacks
 use Rattle.indexed_replay.specs.declared.spots.Spot.{Spot}
 use Rattle.indexed_replay.specs.declared.spots.Request.{Request}
-use Rattle.indexed_replay.specs.Reaching.{Names, LeadsNowhere}
+use Rattle.indexed_replay.specs.Reaching.{Names, LeadsNowhere, LacksIndex, head_length}
 use Rattle.indexed_replay.specs.Replaying.{IsReason}
 use Rattle.time_player.specs.Ordering.{led_as}
-use Rattle.indexed_replay.specs.Steps.{Adds, IsListed, LacksListed, EntryRefused, entries_cost}
+use Rattle.indexed_replay.specs.Steps.{Adds, IsListed, LacksListed, EntryRefused, entries_cost, LacksList}
 
 -- ---- channels
 
@@ -99,13 +99,20 @@ ListShown file request at spot shown (Err why) = ListRefused file request at spo
 abbrev pub Shows : Option (List ℕ) → Request → ℕ → Spot → (List Shown × List Shown) → Result Bool ReplayRefused → Type 0
 Shows told request at spot shown result = (file : List ℕ) → told ≡ Some file → length file ≡ request.len → Knows file request.tables.now.channels → ListShown file request at spot shown result
 
--- what its reading asks for: all of it, and the messages in the range
-pub record ListCost (file : List ℕ) (range : Range) (spot : Spot) (cost : ℕ) : Type 0 where
-  pub list : Top
-  pub entries : List (ℕ × ℕ)
-  pub there : IsThere file spot.list list
-  pub is : IsMessageIndex list spot.channel entries
-  pub cost_is : cost ≡ length (top_bytes list) + entries_cost file range spot.chunk entries
+-- What its reading asks for: all of it and the messages in the range; or all of what stands there as a Message Index, which
+-- isn't one of that channel; or the head of what else stands there.
+pub data ListCost (file : List ℕ) (range : Range) (spot : Spot) : ℕ → Type 0 where
+  own_list : (list : Top) (entries : List (ℕ × ℕ)) → IsThere file spot.list list → IsMessageIndex list spot.channel entries → ListCost file range spot (length (top_bytes list) + entries_cost file range spot.chunk entries)
+  other_list : (list : Top) → IsThere file spot.list list → list.op ≡ 7 → LacksIndex file spot.channel spot.list → ListCost file range spot (length (top_bytes list))
+  no_list : LacksList file spot.list → ListCost file range spot head_length
 
 abbrev pub AsksList : Request → Spot → StoreState → StoreState → Type 0
 AsksList request spot old new = (file : List ℕ) (cost : ℕ) → old.bytes ≡ Some file → length file ≡ request.len → ListCost file request.range spot cost → new.asked ≤ old.asked + cost
+
+-- it is there, unless its messages aren't shown
+abbrev pub IsFound : List ℕ → Spot → Result Bool ReplayRefused → Type 0
+IsFound file spot (Ok it) = LacksIndex file spot.channel spot.list → ⊥
+IsFound file spot (Err why) = Unit {0}
+
+abbrev pub FindsList : Option (List ℕ) → ℕ → Spot → Result Bool ReplayRefused → Type 0
+FindsList told len spot result = (file : List ℕ) → told ≡ Some file → length file ≡ len → IsFound file spot result

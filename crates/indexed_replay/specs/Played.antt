@@ -1,6 +1,5 @@
 -- What the steps of a replay come to, from the summary on.
-use Rattle.std.specs.Prelude.{◌≡◌, ◌≢◌, ℕ, ◌+◌, ◌≤◌, List, length, sum, Option, Some, None, Result, Ok, Err}
-use Rattle.std.specs.List.{AllZip}
+use Rattle.std.specs.Prelude.{◌≡◌, ◌≢◌, ℕ, ◌+◌, ◌≤◌, List, length, Option, Some, None, Result, Ok, Err}
 use Rattle.mcap_io.specs.Stores.{StoreState}
 use Rattle.mcap_model.specs.declared.replay.Range.{Range}
 use Rattle.mcap_model.specs.declared.replay.Replayed.{Replayed}
@@ -19,7 +18,7 @@ use Rattle.indexed_replay.specs.declared.answers.ReplayRefused.{ReplayRefused}
 use Rattle.indexed_replay.specs.declared.answers.ReplayRefused.TheVariants as refusals
 use Rattle.indexed_replay.specs.Reaching.{AskedBeside}
 use Rattle.indexed_replay.specs.Replaying.{FileIsLed}
-use Rattle.indexed_replay.specs.Gathering.{CostsUpTo}
+use Rattle.indexed_replay.specs.Gathering.{IndexesCost}
 
 -- ---- counts
 
@@ -65,19 +64,21 @@ abbrev pub PlaysLoaded : Option (List ℕ) → Parts → Range → Option (List 
 PlaysLoaded told parts range topic result = (file : List ℕ) → told ≡ Some file → IsLoaded file parts → FileIsLed file range topic result
 
 abbrev pub AsksLoaded : Parts → Range → StoreState → StoreState → Type 0
-AsksLoaded parts range old new = (file : List ℕ) (costs : List ℕ) → old.bytes ≡ Some file → IsLoaded file parts → AllZip (CostsUpTo file range) parts.chunk_indexes costs → AskedBeside file range old.asked new.asked (sum costs)
+AsksLoaded parts range old new = (file : List ℕ) (cost : ℕ) → old.bytes ≡ Some file → IsLoaded file parts → IndexesCost file range parts.chunk_indexes cost → AskedBeside file range old.asked new.asked cost
 
 -- ---- what is asked for
 
--- Where these are the records of the summary and the Header, and these the costs of the chunks whose times meet the range,
--- no more is asked for than these, the magic and the Footer with the last magic, and what is asked for beside.
+-- Where these are the records of the summary and the Header, and this is what the Chunk Indexes cost whose times meet the
+-- range, up to the first at which a replay ends, no more is asked for than these, the magic and the Footer with the last magic,
+-- and what is asked for beside.
 abbrev pub AsksIndexed : Range → StoreState → StoreState → Type 0
-AsksIndexed range old new = (file : List ℕ) (start : ℕ) (summary : List Top) (header : Top) (costs : List ℕ) → old.bytes ≡ Some file → HasSummary file start summary → IsThere file 8 header → AllZip (CostsUpTo file range) (of_kind 8 summary) costs
-    → AskedBeside file range old.asked new.asked (8 + length (top_bytes header) + 37 + length (spelled summary) + sum costs)
+AsksIndexed range old new = (file : List ℕ) (start : ℕ) (summary : List Top) (header : Top) (cost : ℕ) → old.bytes ≡ Some file → HasSummary file start summary → IsThere file 8 header → IndexesCost file range (of_kind 8 summary) cost
+    → AskedBeside file range old.asked new.asked (8 + length (top_bytes header) + 37 + length (spelled summary) + cost)
 
--- Of a file whose summary can't be loaded no more is asked for than by loading.
+-- Of a file whose summary can't be loaded, or doesn't state as many chunks as it has Chunk Indexes, no more is asked for than
+-- by loading.
 abbrev pub AsksUnloaded : StoreState → StoreState → Type 0
-AsksUnloaded old new = (file : List ℕ) → old.bytes ≡ Some file → ((p : Parts) → IsLoaded file p → ⊥) → AskedFor file old.asked new.asked
+AsksUnloaded old new = (file : List ℕ) → old.bytes ≡ Some file → ((p : Parts) → IsLoaded file p → PartsAgree p → ⊥) → AskedFor file old.asked new.asked
 
 -- Of a fully indexed file that is read to its Data End no more is asked for than these, and of each chunk whose times meet
 -- the range its first 49 bytes, its Message Indexes and its messages in the range.

@@ -106,11 +106,14 @@ PlaysScan told range topic result = (file : List ℕ) (tops : List Top) (end : �
 -- ---- faults
 
 -- a fault comes where the store failed, and has the count; otherwise the count stands still
+abbrev pub RefusalCause : ℕ → ℕ → ReplayRefused → Type 0
+RefusalCause before now (refusals.Fault faults) = RisesOnce before now × (faults ≡ now)
+RefusalCause before now (refusals.NotIndexed why) = now ≡ before
+RefusalCause before now (refusals.Flaw rule offset) = now ≡ before
+RefusalCause before now (refusals.Compressed offset name) = now ≡ before
+RefusalCause before now (refusals.Limit offset) = now ≡ before
+RefusalCause before now refusals.Memory = now ≡ before
+
 abbrev pub ReplayCause : {P : Type 0} → ℕ → ℕ → Result P ReplayRefused → Type 0
 ReplayCause before now (Ok played) = now ≡ before
-ReplayCause before now (Err (refusals.Fault faults)) = RisesOnce before now × (faults ≡ now)
-ReplayCause before now (Err (refusals.NotIndexed why)) = now ≡ before
-ReplayCause before now (Err (refusals.Flaw rule offset)) = now ≡ before
-ReplayCause before now (Err (refusals.Compressed offset name)) = now ≡ before
-ReplayCause before now (Err (refusals.Limit offset)) = now ≡ before
-ReplayCause before now (Err refusals.Memory) = now ≡ before
+ReplayCause before now (Err why) = RefusalCause before now why

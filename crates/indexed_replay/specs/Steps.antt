@@ -7,7 +7,7 @@ use Rattle.mcap_model.specs.declared.replay.Place.{Place}
 use Rattle.mcap_model.specs.declared.replay.Range.{Range}
 use Rattle.mcap_model.specs.declared.replay.Shown.{Shown}
 use Rattle.mcap_model.specs.Places.{Has}
-use Rattle.mcap_model.specs.Tops.{Top, top_bytes, opcode, declared_length, first_top}
+use Rattle.mcap_model.specs.Tops.{Top, top_bytes, opcode, declared_length, is_whole, first_top}
 use Rattle.mcap_model.specs.Made.{top}
 use Rattle.mcap_model.specs.Plain.{is_within}
 use Rattle.mcap_model.specs.Scan.{InRange}
@@ -18,7 +18,7 @@ use Rattle.indexed_replay.specs.declared.answers.ReplayRefused.TheVariants as re
 use Rattle.indexed_replay.specs.declared.fronts.Front.{Front}
 use Rattle.indexed_replay.specs.declared.fronts.Front.TheVariants as fronts
 use Rattle.indexed_replay.specs.declared.spots.Spot.{Spot}
-use Rattle.indexed_replay.specs.Reaching.{LacksIndex, LacksMessage, IsTooLong}
+use Rattle.indexed_replay.specs.Reaching.{LacksIndex, LacksMessage, IsTooLong, head_length}
 
 -- ---- the front of a record
 
@@ -91,9 +91,9 @@ MessageIs file chunk channel entry shown (Err why) = EntryRefused file chunk ent
 abbrev pub TellsMessage : Option (List ℕ) → ℕ → ℕ → ℕ → ℕ × ℕ → (List Shown × List Shown) → Result Bool ReplayRefused → Type 0
 TellsMessage told len chunk channel entry shown result = (file : List ℕ) → told ≡ Some file → length file ≡ len → MessageIs file chunk channel entry shown result
 
--- what the reading of a message asks for: 31 bytes, and the payload that its head declares
+-- what the reading of a message asks for: 31 bytes, and the rest of the record, where a whole one stands there
 abbrev pub message_cost : List ℕ → ℕ → ℕ
-message_cost file at = 31 + (declared_length (drop at file) - 22)
+message_cost file at = 31 + (if is_whole (drop at file) then declared_length (drop at file) - 22 else 0)
 
 abbrev pub AsksMessage : ℕ → ℕ → StoreState → StoreState → Type 0
 AsksMessage len at old new = (file : List ℕ) → old.bytes ≡ Some file → length file ≡ len → new.asked ≤ old.asked + message_cost file at
@@ -132,10 +132,14 @@ AsksEntries len range chunk entries old new = (file : List ℕ) → old.bytes �
 
 -- ---- a Message Index
 
+-- no Message Index stands there, of whatever channel
+abbrev pub LacksList : List ℕ → ℕ → Type 0
+LacksList file at = (t : Top) → IsThere file at t → t.op ≡ 7 → ⊥
+
 -- the content of the Message Index that stands there, or none does
 abbrev pub ListIs : {Y : Type 0} → List ℕ → ℕ → Result (Option (Vec ℕ Y)) ReplayRefused → Type 0
 ListIs file at (Ok (Some content)) = IsThere file at (top 7 content.items)
-ListIs file at (Ok None) = (t : Top) → IsThere file at t → t.op ≡ 7 → ⊥
+ListIs file at (Ok None) = LacksList file at
 ListIs file at (Err (refusals.Fault faults)) = Unit {0}
 ListIs file at (Err (refusals.NotIndexed why)) = ⊥
 ListIs file at (Err (refusals.Flaw rule offset)) = ⊥
@@ -160,6 +164,10 @@ IndexIs file spot (Err refusals.Memory) = Unit {0}
 abbrev pub TellsIndex : {Y : Type 0} → Option (List ℕ) → ℕ → Spot → Result (Option (Vec ℕ Y)) ReplayRefused → Type 0
 TellsIndex told len spot result = (file : List ℕ) → told ≡ Some file → length file ≡ len → IndexIs file spot result
 
--- no more is asked for than the record there has
-abbrev pub AsksRecord : ℕ → ℕ → StoreState → StoreState → Type 0
-AsksRecord len at old new = (file : List ℕ) → old.bytes ≡ Some file → length file ≡ len → new.asked ≤ old.asked + (9 + declared_length (drop at file))
+-- from the one count on no more was asked for than the Message Index that stands there, or the head of what does
+pub record ListAsked (file : List ℕ) (at before now : ℕ) : Type 0 where
+  pub there : (t : Top) → IsThere file at t → t.op ≡ 7 → now ≤ before + length (top_bytes t)
+  pub none : LacksList file at → now ≤ before + head_length
+
+abbrev pub AsksListAt : ℕ → ℕ → StoreState → StoreState → Type 0
+AsksListAt len at old new = (file : List ℕ) → old.bytes ≡ Some file → length file ≡ len → ListAsked file at old.asked new.asked

@@ -2,7 +2,7 @@
 ghost use Rattle.std.specs.Prelude.{◌≤◌};
 ghost use Rattle.mcap_io.specs.Stores.{StoreStays};
 ghost use Rattle.indexed_replay.specs.Belonging.{AsksHeads, JudgesAstray, TellsWalk};
-ghost use Rattle.indexed_replay.specs.Replaying.{ReplayCause};
+ghost use Rattle.indexed_replay.specs.Replaying.{RefusalCause, ReplayCause};
 
 use crate::answers::ReplayRefused;
 use crate::fronts::{Front, read_front};
@@ -57,22 +57,22 @@ pub(crate) fn refuse_astray<T: Store>(
     at: u64,
     end: u64,
     list: u64,
-) -> Result<(), ReplayRefused>
+) -> ReplayRefused
     requires { len ≤ (T.state store.old).known }
     ensures told { JudgesAstray (T.state store.old).bytes len at end list result }
-    ensures cause { ReplayCause (T.state store.old).faults (T.state store.new).faults result }
+    ensures cause { RefusalCause (T.state store.old).faults (T.state store.new).faults result }
     ensures stays { StoreStays (T.state store.old) (T.state store.new) }
     ensures asks { AsksHeads len end (T.state store.old) (T.state store.new) }
 {
     match indexes_stand(store, len, end, list) {
-        Ok(true) => return Err(ReplayRefused::Flaw {
+        Ok(true) => return ReplayRefused::Flaw {
             rule: 9,
             offset: list,
-        }),
-        Ok(false) => return Err(ReplayRefused::Flaw {
+        },
+        Ok(false) => return ReplayRefused::Flaw {
             rule: 12,
             offset: at,
-        }),
-        Err(why) => return Err(why),
+        },
+        Err(why) => return why,
     }
 }

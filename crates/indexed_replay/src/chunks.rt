@@ -2,8 +2,9 @@
 ghost use Rattle.std.specs.Prelude.{◌+◌, ◌^◌, ◌<◌, ◌≤◌};
 ghost use Rattle.mcap_io.specs.Stores.{StoreStays};
 ghost use Rattle.rec_index.specs.Parsed.{chunk_index_fields};
-ghost use Rattle.indexed_replay.specs.Replaying.{ReplayCause};
-ghost use Rattle.indexed_replay.specs.Chunks.{AsksChunk, AsksFront, AsksNames, ChecksChunk, NamesPack, ShowsChunk, ShowsNames};
+ghost use Rattle.indexed_replay.specs.Replaying.{RefusalCause, ReplayCause};
+ghost use Rattle.indexed_replay.specs.Reaching.{head_length};
+ghost use Rattle.indexed_replay.specs.Chunks.{AsksChunk, AsksFront, AsksNames, ChecksChunk, NamesPack, ShowsChunk, ShowsNames, front_length};
 ghost use Rattle.time_player.specs.Keeping.{kept_in};
 
 use crate::answers::{NotIndexed, ReplayRefused};
@@ -34,13 +35,14 @@ fn refuse_packed<T: Store>(
     offset: u64,
     len: u64,
     name_length: u64,
-) -> Result<u64, ReplayRefused>
-    requires inside { 40 + name_length ≤ len }
-    requires fits { offset + 9 + len < 2 ^ 64 }
-    requires known { offset + 9 + len ≤ (T.state store.old).known }
+) -> ReplayRefused
+    requires inside { front_length + name_length ≤ len }
+    requires fits { offset + head_length + len < 2 ^ 64 }
+    requires known { offset + head_length + len ≤ (T.state store.old).known }
     ensures told { NamesPack (T.state store.old).bytes index offset len name_length result }
-    ensures cause { ReplayCause (T.state store.old).faults (T.state store.new).faults result }
+    ensures cause { RefusalCause (T.state store.old).faults (T.state store.new).faults result }
     ensures stays { StoreStays (T.state store.old) (T.state store.new) }
+    ensures asks { (T.state store.new).asked ≤ (T.state store.old).asked + (front_length + name_length) }
 {
     let missing = ReplayRefused::Flaw {
         rule: 12,
@@ -50,22 +52,22 @@ fn refuse_packed<T: Store>(
     let front = match read_part(alloc, store, offset + HEAD_LENGTH, front_length) {
         Ok(front) => front,
         Err(ReadRefused::Failed) => {
-            return Err(ReplayRefused::Fault {
+            return ReplayRefused::Fault {
                 faults: store.faults(),
-            });
+            };
         }
-        Err(ReadRefused::Memory) => return Err(ReplayRefused::Memory),
+        Err(ReadRefused::Memory) => return ReplayRefused::Memory,
     };
     let (name, size) = match take_packing(&front) {
         Ok(taken) => taken,
-        Err(_) => return Err(missing),
+        Err(_) => return missing,
     };
     if size > len - front_length {
-        return Err(missing);
+        return missing;
     }
     match Text::copied(alloc, name) {
-        Ok(name) => return Err(ReplayRefused::Compressed { offset, name }),
-        Err(Memory) => return Err(ReplayRefused::Memory),
+        Ok(name) => return ReplayRefused::Compressed { offset, name },
+        Err(Memory) => return ReplayRefused::Memory,
     }
 }
 
@@ -115,7 +117,8 @@ fn check_chunk<T: Store>(
     if name_length > head.len - FRONT_LENGTH {
         return Err(missing);
     }
-    return refuse_packed(alloc, store, index, offset, head.len, name_length);
+    let refused = refuse_packed(alloc, store, index, offset, head.len, name_length);
+    return Err(refused);
 }
 
 // Adds the messages to which the Message Indexes lead that a Chunk Index at that offset names. They stand behind the chunk,
@@ -150,7 +153,10 @@ fn show_names<T: Store>(
         }
         match show_list(alloc, store, request, at, spot, shown) {
             Ok(true) => {}
-            Ok(false) => return refuse_astray(store, request.len, at, end, list),
+            Ok(false) => {
+                let astray = refuse_astray(store, request.len, at, end, list);
+                return Err(astray);
+            }
             Err(why) => return Err(why),
         }
     }

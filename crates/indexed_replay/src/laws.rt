@@ -1,5 +1,5 @@
 //! What holds of the definitions, each law as the contract of a function that does nothing.
-ghost use Rattle.indexed_replay.specs.Laws.{FlawlessFilesAreLoaded, LoadsTellFlaws, ValidFilesAreFlawless};
+ghost use Rattle.indexed_replay.specs.Laws.{FlawlessFilesAreLoaded, LoadsTellFlaws, ReplaysTellFlaws, ValidFilesAreFlawless};
 
 /// A rule for which a summary isn't loaded fails in the file, where its records are whole and in order.
 pub fn loads_tell_flaws()
@@ -15,4 +15,10 @@ pub fn valid_files_are_flawless()
 /// memory lacks.
 pub fn flawless_files_are_loaded()
     ensures { FlawlessFilesAreLoaded }
+{}
+
+/// A rule for which a file isn't replayed by its index fails in the file, where its records are whole and in order, its
+/// contents and chunks right, and each Chunk Index leads to a record.
+pub fn replays_tell_flaws()
+    ensures { ReplaysTellFlaws }
 {}

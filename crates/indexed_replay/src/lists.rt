@@ -4,8 +4,8 @@ ghost use Rattle.mcap_io.specs.Stores.{StoreStays};
 ghost use Rattle.rec_index.specs.Records.{ShowsMessageIndex};
 ghost use Rattle.mcap_model.specs.Plain.{asked_topic, DeclareChannels};
 ghost use Rattle.indexed_replay.specs.Replaying.{ReplayCause};
-ghost use Rattle.indexed_replay.specs.Steps.{AsksRecord, TellsIndex, TellsList};
-ghost use Rattle.indexed_replay.specs.Lists.{AsksContent, AsksList, HasTimely, Shows, ShowsContent, Undeclared, Wanted};
+ghost use Rattle.indexed_replay.specs.Steps.{AsksListAt, TellsIndex, TellsList};
+ghost use Rattle.indexed_replay.specs.Lists.{AsksContent, AsksList, FindsList, HasTimely, Shows, ShowsContent, Undeclared, Wanted};
 ghost use Rattle.time_player.specs.Keeping.{kept_in};
 
 use crate::answers::{NotIndexed, ReplayRefused};
@@ -31,7 +31,7 @@ fn read_list<T: Store>(
     ensures told { TellsList (T.state store.old).bytes len at result }
     ensures cause { ReplayCause (T.state store.old).faults (T.state store.new).faults result }
     ensures stays { StoreStays (T.state store.old) (T.state store.new) }
-    ensures asks { AsksRecord len at (T.state store.old) (T.state store.new) }
+    ensures asks { AsksListAt len at (T.state store.old) (T.state store.new) }
 {
     let mut front = [0; 9];
     let found = match read_front(store, len, at, &mut front) {
@@ -73,7 +73,7 @@ fn read_index<T: Store>(
     ensures is { IfOk result (λ found. IfSome found (λ content. (entries : List (ℕ × ℕ)) × ShowsMessageIndex content.items spot.channel entries)) }
     ensures cause { ReplayCause (T.state store.old).faults (T.state store.new).faults result }
     ensures stays { StoreStays (T.state store.old) (T.state store.new) }
-    ensures asks { AsksRecord len spot.list (T.state store.old) (T.state store.new) }
+    ensures asks { AsksListAt len spot.list (T.state store.old) (T.state store.new) }
 {
     let found = match read_list(alloc, store, len, spot.list) {
         Ok(found) => found,
@@ -195,6 +195,7 @@ pub(crate) fn show_list<T: Store>(
 ) -> Result<bool, ReplayRefused>
     requires { request.now.len ≤ (T.state store.old).known }
     ensures told { Shows (T.state store.old).bytes request.now at spot (kept_in shown.old, kept_in shown.new) result }
+    ensures found { FindsList (T.state store.old).bytes request.now.len spot result }
     ensures cause { ReplayCause (T.state store.old).faults (T.state store.new).faults result }
     ensures stays { StoreStays (T.state store.old) (T.state store.new) }
     ensures asks { AsksList request.now spot (T.state store.old) (T.state store.new) }

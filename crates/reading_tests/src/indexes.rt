@@ -2,10 +2,11 @@
 use crate::replays::{Wanted, are_shown};
 use crate::same::holds_at;
 use crate::sources::TWO_CHUNKS;
-use indexed_replay::replay_indexed;
+use indexed_replay::{NotIndexed, ReplayRefused, replay_indexed};
 use mcap_io::{QuietStore, Store};
 use mcap_model::Range;
 use mcap_wire::Text;
+use std::alloc::Global;
 use std::test::Fail;
 use summary_read::{Loaded, load};
 
@@ -72,5 +73,92 @@ fn indexes_lead_to_messages_of_their_own(rt: HostRuntime) -> Result<(), Fail> {
         found && store.asked() == 37 + 34 + 336 + 2 * (49 + 31 + 32),
         &store.asked(),
     );
+    Ok(())
+}
+
+// What a replay by the indexes is refused for.
+#[derive(Clone, Copy)]
+enum End {
+    Flaw(u64),
+    Compressed(u64),
+    Counts(u32),
+}
+
+// Whether V12 fails at that offset, a chunk there names "lz4", or so many chunks are stated where there are two.
+fn is_end(why: &ReplayRefused, end: End) -> bool {
+    match why {
+        ReplayRefused::Flaw { rule: 12, offset } => matches!(end, End::Flaw(at) if at == *offset),
+        ReplayRefused::Compressed { offset, name } => {
+            name.is("lz4") && matches!(end, End::Compressed(at) if at == *offset)
+        }
+        ReplayRefused::NotIndexed {
+            why: NotIndexed::ChunkCount { stated, found: 2 },
+        } => matches!(end, End::Counts(n) if n == *stated),
+        _ => false,
+    }
+}
+
+// The file of two chunks with these bytes at that place.
+fn with_bytes(alloc: Global, place: usize, bytes: &[u8]) -> Option<Vec<u8>> {
+    let mut file = Vec::new(alloc);
+    for i in 0..TWO_CHUNKS.len() {
+        let byte = if i >= place && i - place < bytes.len() {
+            bytes[i - place]
+        } else {
+            TWO_CHUNKS[i]
+        };
+        if file.push(byte).is_err() {
+            return None;
+        }
+    }
+    Some(file)
+}
+
+// Whether its replay is refused so, and asks for so many bytes.
+fn is_refused(alloc: Global, place: usize, bytes: &[u8], end: End, asked: u128) -> bool {
+    let Some(file) = with_bytes(alloc, place, bytes) else {
+        return false;
+    };
+    let mut store = QuietStore::new(file);
+    let range = Range {
+        start: 10,
+        end: Some(12),
+    };
+    match replay_indexed(alloc, &mut store, range, None) {
+        Ok(_) => return false,
+        Err(why) => return is_end(&why, end) && store.asked() == asked,
+    }
+}
+
+// Behind the ends and the summary, of 407 bytes, a chunk is looked at by 49 bytes, a compression by 40 and its name besides, and
+// what is no Message Index by 9. The Chunk Indexes stand at 390 and 473.
+#[test]
+fn refused_replays_ask_for_little(rt: HostRuntime) -> Result<(), Fail> {
+    let rows: [(usize, &[u8], End, u128); 8] = [
+        // more chunks are stated than there are Chunk Indexes
+        (356, b"\x03", End::Counts(3), 407),
+        // no chunk; its compression doesn't fit, or its records don't; a compressed one
+        (34, b"\x10", End::Flaw(390), 407 + 49),
+        (71, b"<", End::Flaw(390), 407 + 49),
+        (71, b"\x03\0\0\0lz49", End::Flaw(390), 407 + 49 + 43),
+        (
+            71,
+            b"\x03\0\0\0lz48\0\0\0\0\0\0\0",
+            End::Compressed(34),
+            407 + 49 + 43,
+        ),
+        // no Message Index; one of another channel
+        (142, b"\x10", End::Flaw(390), 407 + 49 + 9),
+        (151, b"\x02", End::Flaw(390), 407 + 49 + 31),
+        // the second Chunk Index leads to none, behind the first chunk with its message
+        (173, b"\x10", End::Flaw(473), 407 + 49 + 31 + 32 + 49),
+    ];
+    for (place, bytes, end, asked) in rows {
+        holds_at(
+            &rt,
+            is_refused(rt.alloc(), place, bytes, end, asked),
+            &place,
+        );
+    }
     Ok(())
 }

@@ -1,7 +1,7 @@
 use Rattle.std.proofs.Common.{◌≡◌, ℕ, ◌+◌, length, refl, sym, subst, ◌∙◌, arith}
 use Rattle.mcap_wire.specs.Reading.{NumberAt}
 use Rattle.mcap_model.specs.Tops.{first_top}
-use Rattle.indexed_replay.proofs.Chunking.{lacks_front, lacks_name, none_named, front_name, front_size, pack_checked, chunk_ends}
+use Rattle.indexed_replay.proofs.Chunking.{lacks_front, lacks_name, front_name, front_size, chunk_ends, pack_asked, front_asked}
 use Rattle.indexed_replay.proofs.chunks.check_chunk.Goals as goal
 
 pub returns-in-Absent-clause-told : goal.returns-in-Absent-clause-told
@@ -25,13 +25,13 @@ pub returns-clause-told : goal.returns-clause-told
 returns-clause-told g c = λ file told size.
     let front = rw c.in-Whole.is at (c.in-Ok.ensures.told file told size) in
     let long : length c.read_front.new.out ≡ 49 = omega arith in
-    pack_checked file c.args.index c.args.offset c.refuse_packed.result
-    (c.refuse_packed.ensures.told file (first_top (Rattle.std.proofs.Common.drop c.args.offset file)) (c.in-Ok.ensures.takes.bytes ∙ told) front.there (front.op_is ∙ c.if-head-ne-CHUNK.false)
+    c.refuse_packed-refused.ensures.told file (first_top (Rattle.std.proofs.Common.drop c.args.offset file)) (c.in-Ok.ensures.takes.bytes ∙ told) front.there (front.op_is ∙ c.if-head-ne-CHUNK.false)
     (front_size file c.read_front.new.out c.args.offset c.in-Whole.head.op c.in-Whole.head.len front)
-    (front_name file c.read_front.new.out c.args.offset c.in-Whole.head.op c.in-Whole.head.len c.in-Ok-take_u32.read.0 c.in-Ok-take_u32.read.1 front long c.in-Ok-take_u32.ensures) c.if-name_length-eq0.false)
+    (front_name file c.read_front.new.out c.args.offset c.in-Whole.head.op c.in-Whole.head.len c.in-Ok-take_u32.read.0 c.in-Ok-take_u32.read.1 front long c.in-Ok-take_u32.ensures) c.if-name_length-eq0.false
 
 pub returns-clause-asks : goal.returns-clause-asks
-returns-clause-asks g c = λ file t f told size there is plain.
+returns-clause-asks g c = λ file told size.
     let front = rw c.in-Whole.is at (c.in-Ok.ensures.told file told size) in
     let long : length c.read_front.new.out ≡ 49 = omega arith in
-    absurd (c.if-name_length-eq0.false (none_named file c.read_front.new.out c.args.offset c.in-Whole.head.op c.in-Whole.head.len c.in-Ok-take_u32.read.0 c.in-Ok-take_u32.read.1 t f front long c.in-Ok-take_u32.ensures there is plain))
+    pack_asked file c.read_front.new.out c.args.offset c.in-Whole.head.op c.in-Whole.head.len c.in-Ok-take_u32.read.0 c.in-Ok-take_u32.read.1 (g.T.Store.state c.args.store.now).asked (g.T.Store.state c.refuse_packed-refused.new.store).asked front long c.if-head-ne-CHUNK.false c.in-Ok-take_u32.ensures c.if-name_length-eq0.false (omega arith)
+    (omega (arith, c.in-Ok.ensures.takes.asked, c.refuse_packed-refused.ensures.asks))

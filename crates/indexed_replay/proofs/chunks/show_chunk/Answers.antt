@@ -1,7 +1,7 @@
-use Rattle.std.proofs.Common.{sum, ◌∙◌, arith}
+use Rattle.std.proofs.Common.{◌∙◌, arith}
 use Rattle.rec_index.specs.Parsed.{chunk_index_fields}
 use Rattle.indexed_replay.specs.Reaching.{nothing}
-use Rattle.indexed_replay.proofs.Naming.{named_empty, chunk_reason, asked_chunk}
+use Rattle.indexed_replay.proofs.Naming.{named_empty, chunk_reason, empty_goes_on, front_enough, names_enough}
 use Rattle.time_player.specs.Keeping.{kept_in}
 use Rattle.indexed_replay.proofs.chunks.show_chunk.Goals as goal
 
@@ -12,16 +12,18 @@ pub returns-in-Err-clause-told : goal.returns-in-Err-clause-told
 returns-in-Err-clause-told g c = λ file told size knows reached. chunk_reason file c.args.request.now c.args.at (chunk_index_fields c.args.index.now) c.in-Err.why (c.in-Err.ensures.told file told size) reached
 
 pub returns-in-Err-clause-asks : goal.returns-in-Err-clause-asks
-returns-in-Err-clause-asks g c = λ file cost told size is knows reached.
-    let enough = is.enough in
-    (0, nothing, omega (arith, enough, c.in-Err.ensures.asks file is.chunk is.shown told size is.there is.is is.plain))
+returns-in-Err-clause-asks g c = λ file cost ends told size is knows reached.
+    (0, nothing, omega (arith, front_enough file c.args.request.now.range (chunk_index_fields c.args.index.now) cost ends (g.T.Store.state c.args.store.now).asked (g.T.Store.state c.check_chunk.new.store).asked (λ none. omega (arith, none, c.count.ensures.count, c.if-count-eq0.false)) is (c.in-Err.ensures.asks file told size)))
 
 pub returns-clause-asks : goal.returns-clause-asks
-returns-clause-asks g c = λ file cost told size is.
-    let enough = is.enough in
-    let first = c.in-Ok.ensures.asks file is.chunk is.shown told size is.there is.is is.plain in
-    let more = c.show_names.ensures.asks file is.costs (c.in-Ok.ensures.stays.bytes ∙ told) size (c.in-Ok.ensures.told file told size) is.are in
-    asked_chunk file c.args.request.now c.args.at (chunk_index_fields c.args.index.now) (sum is.costs) cost (g.T.Store.state c.args.store.now) (g.T.Store.state c.check_chunk.new.store) (g.T.Store.state c.show_names.new.store) c.show_names.result enough first more
+returns-clause-asks g c = λ file cost ends told size is.
+    names_enough file c.args.request.now c.args.at (chunk_index_fields c.args.index.now) c.in-Ok.end cost ends (g.T.Store.state c.args.store.now).asked (g.T.Store.state c.check_chunk.new.store).asked (g.T.Store.state c.show_names.new.store).asked c.show_names.result
+    (λ none. omega (arith, none, c.count.ensures.count, c.if-count-eq0.false)) (c.in-Ok.ensures.told file told size) (c.in-Ok.ensures.asks file told size)
+    (λ names last are. c.show_names.ensures.asks file names last (c.in-Ok.ensures.stays.bytes ∙ told) size (c.in-Ok.ensures.told file told size) are) is
 
 pub returns-then-count-eq0-clause-asks : goal.returns-then-count-eq0-clause-asks
-returns-then-count-eq0-clause-asks g c = λ file cost told size is knows reached. (0, nothing, omega arith)
+returns-then-count-eq0-clause-asks g c = λ file cost ends told size is knows reached. (0, nothing, omega arith)
+
+pub returns-then-index-eq0-2-clause-asks : goal.returns-then-index-eq0-2-clause-asks
+returns-then-index-eq0-2-clause-asks g c = λ file cost ends told size is.
+    (omega arith, empty_goes_on file c.args.request.now.range (chunk_index_fields c.args.index.now) cost ends (omega (arith, c.count.ensures.count, c.if-count-eq0.true)) is)

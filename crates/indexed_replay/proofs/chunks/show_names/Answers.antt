@@ -1,10 +1,9 @@
-use Rattle.std.proofs.Common.{◌≡◌, ℕ, List, ◌++◌, ◌∷◌, [], ◌+◌, ◌≤◌, take, sum, refl, ap, subst, inl, inr, ◌∙◌, arith}
-use Rattle.std.proofs.lemmas.List.{take_all}
+use Rattle.std.proofs.Common.{◌≡◌, ℕ, Bool, List, ◌∷◌, ◌+◌, ◌≤◌, length, drop, refl, subst, inl, inr, ◌∙◌, arith}
+use Rattle.std.proofs.lemmas.List.{take_all, length-drop}
 use Rattle.indexed_replay.specs.Steps.{Adds}
-use Rattle.indexed_replay.specs.Lists.{ListCost}
-use Rattle.indexed_replay.specs.Chunks.{spot_of, IsLedAmong}
+use Rattle.indexed_replay.specs.Chunks.{IsLedAmong, NamesCost}
 use Rattle.indexed_replay.proofs.Standing.{astray_shown, astray_asked}
-use Rattle.indexed_replay.proofs.Naming.{named_none, named_more, zip_next, zip_taken, sum_joined, sum_taken}
+use Rattle.indexed_replay.proofs.Naming.{named_none, named_more, dropped, one_name, no_name_ends}
 use Rattle.indexed_replay.specs.Reaching.{index_elsewhere, nothing}
 use Rattle.indexed_replay.proofs.chunks.show_names.Goals.{then-list-end-via-then-list-end, then-list-end-via-else-list-end+then-list-end-2}
 use Rattle.time_player.specs.Keeping.{kept_in}
@@ -15,12 +14,8 @@ names-init g c = record {
   stays = record { bytes = refl; known = refl };
   still = refl;
   shows = λ file told size knows. named_none file c.args.request.now c.args.index.now.chunk_start_offset c.args.index.now.message_index_offsets (kept_in c.args.shown.now);
-  asks = λ file costs told size are. omega arith;
+  asks = λ file cost ends told size are. (cost, are, omega arith);
 }
-
--- what was asked for with one Message Index more
-asked_more : (costs : List ℕ) (front : List ℕ) (last before mid now : ℕ) → costs ≡ front ++ last ∷ [] → mid ≤ before + sum front → now ≤ mid + last → now ≤ before + sum costs
-asked_more costs front last before mid now joined first more = omega (arith, ap sum joined, sum_joined front last, first, more)
 
 pub returns-then-list-end-clause-told : goal.returns-then-list-end-clause-told
 returns-then-list-end-clause-told g c = λ file told size knows ends reached.
@@ -35,10 +30,10 @@ returns-then-list-end-clause-told g c = λ file told size knows ends reached.
     })
 
 pub returns-then-list-end-clause-asks : goal.returns-then-list-end-clause-asks
-returns-then-list-end-clause-asks g c = λ file costs told size ends are knows reached.
+returns-then-list-end-clause-asks g c = λ file cost ends told size stands are knows reached.
     let i = c.names.invariant in
-    let R : ℕ × ℕ → ℕ → Type 0 = λ p cost. ListCost file c.args.request.now.range (spot_of c.args.index.now.chunk_start_offset p) cost in
-    (0, nothing, omega (arith, i.asks file (take c.names.i costs) told size (zip_taken R c.names.i c.args.index.now.message_index_offsets costs are), sum_taken c.names.i costs))
+    let (rest, left, few) = i.asks file cost ends told size are in
+    (0, nothing, omega (arith, few))
 
 pub returns-in-Err-clause-told : goal.returns-in-Err-clause-told
 returns-in-Err-clause-told g c = λ file told size knows ends reached.
@@ -46,12 +41,15 @@ returns-in-Err-clause-told g c = λ file told size knows ends reached.
     c.in-Err.ensures.told file (i.stays.bytes ∙ told) size knows (Rattle.rec_index.specs.Parsed.chunk_index_fields c.args.index.now) refl (record { reached = reached; named = (c.names.i, c.item-channel.ensures) })
 
 pub returns-in-Err-clause-asks : goal.returns-in-Err-clause-asks
-returns-in-Err-clause-asks g c = λ file costs told size ends are knows reached.
+returns-in-Err-clause-asks g c = λ file cost ends told size stands are knows reached.
     let i = c.names.invariant in
-    let R : ℕ × ℕ → ℕ → Type 0 = λ p cost. ListCost file c.args.request.now.range (spot_of c.args.index.now.chunk_start_offset p) cost in
-    let last = zip_next R c.args.index.now.message_index_offsets c.names.i (c.names.i + 1) c.item-channel.result (take (c.names.i + 1) costs) c.item-channel.ensures (omega arith) (zip_taken R (c.names.i + 1) c.args.index.now.message_index_offsets costs are) in
-    let all = asked_more (take (c.names.i + 1) costs) last.front last.last (g.T.Store.state c.args.store.now).asked (g.T.Store.state c.names.store).asked (g.T.Store.state c.show_list.new.store).asked last.joined (i.asks file last.front told size last.zipped) (c.in-Err.ensures.asks file last.last (i.stays.bytes ∙ told) size last.is) in
-    (0, nothing, omega (arith, all, sum_taken (c.names.i + 1) costs))
+    let range = c.args.request.now.range in
+    let chunk = c.args.index.now.chunk_start_offset in
+    let names = c.args.index.now.message_index_offsets in
+    let next = c.names.i + 1 in
+    let (rest, left, few) = i.asks file cost ends told size are in
+    let one = one_name file range chunk c.item-channel.result (drop next names) rest ends (subst (λ (l : List (ℕ × ℕ)). NamesCost file range chunk l rest ends) (dropped {X = ℕ × ℕ} names c.names.i next c.item-channel.result c.item-channel.ensures (omega arith)) left) in
+    (0, nothing, omega (arith, few, one.within, c.in-Err.ensures.asks file one.cost (i.stays.bytes ∙ told) size one.is))
 
 pub returns-in-Ok-false-clause-told : goal.returns-in-Ok-false-clause-told
 returns-in-Ok-false-clause-told g c = λ file told size knows ends.
@@ -59,21 +57,24 @@ returns-in-Ok-false-clause-told g c = λ file told size knows ends.
     let e = c.in-Ok-false.ensures in
     let f = Rattle.rec_index.specs.Parsed.chunk_index_fields c.args.index.now in
     let astray = rw c.in-Ok-false.field-0-test at c.in-Ok-false.ensures.told file (i.stays.bytes ∙ told) size knows in
-    astray_shown file c.args.request.now c.args.at f c.item-channel.result.0 c.item-channel.result.1 c.args.end ((kept_in c.args.shown.now), (kept_in c.show_list.new.shown)) c.refuse_astray.result
-    (λ reached. astray f refl (record { reached = reached; named = (c.names.i, c.item-channel.ensures) })) ends (c.refuse_astray.ensures.told file (e.stays.bytes ∙ (i.stays.bytes ∙ told)) size)
+    astray_shown file c.args.request.now c.args.at f c.item-channel.result.0 c.item-channel.result.1 c.args.end ((kept_in c.args.shown.now), (kept_in c.show_list.new.shown)) c.refuse_astray-astray.result
+    (λ reached. astray f refl (record { reached = reached; named = (c.names.i, c.item-channel.ensures) })) ends (c.refuse_astray-astray.ensures.told file (e.stays.bytes ∙ (i.stays.bytes ∙ told)) size)
 
 pub returns-in-Ok-false-clause-asks : goal.returns-in-Ok-false-clause-asks
-returns-in-Ok-false-clause-asks g c = λ file costs told size ends are.
+returns-in-Ok-false-clause-asks g c = λ file cost ends told size stands are.
     let i = c.names.invariant in
+    let range = c.args.request.now.range in
+    let chunk = c.args.index.now.chunk_start_offset in
+    let names = c.args.index.now.message_index_offsets in
+    let next = c.names.i + 1 in
+    let (rest, left, few) = i.asks file cost ends told size are in
+    let one = one_name file range chunk c.item-channel.result (drop next names) rest ends (subst (λ (l : List (ℕ × ℕ)). NamesCost file range chunk l rest ends) (dropped {X = ℕ × ℕ} names c.names.i next c.item-channel.result c.item-channel.ensures (omega arith)) left) in
     let e = c.in-Ok-false.ensures in
     let f = Rattle.rec_index.specs.Parsed.chunk_index_fields c.args.index.now in
-    let R : ℕ × ℕ → ℕ → Type 0 = λ p cost. ListCost file c.args.request.now.range (spot_of c.args.index.now.chunk_start_offset p) cost in
-    let last = zip_next R c.args.index.now.message_index_offsets c.names.i (c.names.i + 1) c.item-channel.result (take (c.names.i + 1) costs) c.item-channel.ensures (omega arith) (zip_taken R (c.names.i + 1) c.args.index.now.message_index_offsets costs are) in
-    let all = asked_more (take (c.names.i + 1) costs) last.front last.last (g.T.Store.state c.args.store.now).asked (g.T.Store.state c.names.store).asked (g.T.Store.state c.show_list.new.store).asked last.joined (i.asks file last.front told size last.zipped) (e.asks file last.last (i.stays.bytes ∙ told) size last.is) in
     let told_2 = e.stays.bytes ∙ (i.stays.bytes ∙ told) in
-    astray_asked file c.args.request.now c.args.at f c.item-channel.result.0 c.item-channel.result.1 c.args.end (sum costs) (g.T.Store.state c.args.store.now) (g.T.Store.state c.show_list.new.store) (g.T.Store.state c.refuse_astray.new.store) c.refuse_astray.result
+    astray_asked file c.args.request.now c.args.at f c.item-channel.result.0 c.item-channel.result.1 c.args.end cost ends (g.T.Store.state c.args.store.now).asked (g.T.Store.state c.show_list.new.store).asked (g.T.Store.state c.refuse_astray-astray.new.store).asked c.refuse_astray-astray.result
     (λ knows reached. let astray = rw c.in-Ok-false.field-0-test at c.in-Ok-false.ensures.told file (i.stays.bytes ∙ told) size knows in astray f refl (record { reached = reached; named = (c.names.i, c.item-channel.ensures) }))
-    ends (c.refuse_astray.ensures.told file told_2 size) (omega (arith, all, sum_taken (c.names.i + 1) costs)) (c.refuse_astray.ensures.asks file told_2 size)
+    stands (omega (arith, few, one.within, e.asks file one.cost (i.stays.bytes ∙ told) size one.is)) (c.refuse_astray-astray.ensures.asks file told_2 size)
 
 pub names-preserved : goal.names-preserved
 names-preserved g c =
@@ -83,10 +84,16 @@ names-preserved g c =
       stays = record { bytes = e.stays.bytes ∙ i.stays.bytes; known = e.stays.known ∙ i.stays.known };
       still = e.cause ∙ i.still;
       shows = λ file told size knows. named_more file c.args.request.now c.args.index.now.chunk_start_offset c.args.index.now.message_index_offsets c.names.i (c.names.i + 1) c.item-channel.result (kept_in c.args.shown.now) (kept_in c.names.shown) (kept_in c.show_list.new.shown) c.item-channel.ensures (omega arith) (i.shows file told size knows) (rw c.in-Ok-true.field-0-test at c.in-Ok-true.ensures.told file (i.stays.bytes ∙ told) size knows);
-      asks = λ file costs told size are.
-          let R : ℕ × ℕ → ℕ → Type 0 = λ p cost. ListCost file c.args.request.now.range (spot_of c.args.index.now.chunk_start_offset p) cost in
-          let last = zip_next R c.args.index.now.message_index_offsets c.names.i (c.names.i + 1) c.item-channel.result costs c.item-channel.ensures (omega arith) are in
-          asked_more costs last.front last.last (g.T.Store.state c.args.store.now).asked (g.T.Store.state c.names.store).asked (g.T.Store.state c.show_list.new.store).asked last.joined (i.asks file last.front told size last.zipped) (e.asks file last.last (i.stays.bytes ∙ told) size last.is);
+      asks = λ file cost ends told size are.
+          let range = c.args.request.now.range in
+          let chunk = c.args.index.now.chunk_start_offset in
+          let names = c.args.index.now.message_index_offsets in
+          let next = c.names.i + 1 in
+          let (rest, left, few) = i.asks file cost ends told size are in
+          let one = one_name file range chunk c.item-channel.result (drop next names) rest ends (subst (λ (l : List (ℕ × ℕ)). NamesCost file range chunk l rest ends) (dropped {X = ℕ × ℕ} names c.names.i next c.item-channel.result c.item-channel.ensures (omega arith)) left) in
+          let behind = one.behind in
+          let (more, are_more, enough) = behind (e.found file (i.stays.bytes ∙ told) size) in
+          (more, are_more, omega (arith, few, enough, e.asks file one.cost (i.stays.bytes ∙ told) size one.is));
     }
 
 pub returns-clause-told : goal.returns-clause-told
@@ -94,3 +101,10 @@ returns-clause-told g c = λ file told size knows ends.
     let i = c.names.invariant in
     let whole = take_all c.names.i c.args.index.now.message_index_offsets (omega arith) in
     subst (λ (l : List (ℕ × ℕ)). Adds (IsLedAmong file c.args.request.now c.args.index.now.chunk_start_offset l) (kept_in c.args.shown.now) (kept_in c.names.shown)) whole (i.shows file told size knows)
+
+pub returns-clause-asks : goal.returns-clause-asks
+returns-clause-asks g c = λ file cost ends told size stands are.
+    let i = c.names.invariant in
+    let names = c.args.index.now.message_index_offsets in
+    let (rest, left, few) = i.asks file cost ends told size are in
+    (omega (arith, few), no_name_ends file c.args.request.now.range c.args.index.now.chunk_start_offset (drop c.names.i names) rest ends (omega (arith, length-drop c.names.i names)) left)

@@ -1,4 +1,4 @@
-use Rattle.std.proofs.Common.{◌≡◌, ℕ, ◌+◌, ◌≤◌, List, length, take, sum, Some}
+use Rattle.std.proofs.Common.{◌≡◌, ℕ, ◌+◌, ◌≤◌, Bool, List, length, take, drop, Some}
 use Rattle.mcap_io.specs.Stores.{StoreStays}
 use Rattle.indexed_replay.specs.Steps.{Adds}
 use Rattle.indexed_replay.specs.Lists.{Knows}
@@ -11,5 +11,6 @@ invariant-names g l = record {
   stays : StoreStays (g.T.Store.state l.fn.store) (g.T.Store.state l.store);
   still : (g.T.Store.state l.store).faults ≡ (g.T.Store.state l.fn.store).faults;
   shows : (file : List ℕ) → (g.T.Store.state l.fn.store).bytes ≡ Some file → length file ≡ l.request.len → Knows file l.request.tables.now.channels → Adds (IsLedAmong file l.request l.index.chunk_start_offset (take l.i l.index.message_index_offsets)) (kept_in l.fn.shown) (kept_in l.shown);
-  asks : (file : List ℕ) (costs : List ℕ) → (g.T.Store.state l.fn.store).bytes ≡ Some file → length file ≡ l.request.len → NamesCost file l.request.range l.index.chunk_start_offset (take l.i l.index.message_index_offsets) costs → (g.T.Store.state l.store).asked ≤ (g.T.Store.state l.fn.store).asked + sum costs;
+  asks : (file : List ℕ) (cost : ℕ) (ends : Bool) → (g.T.Store.state l.fn.store).bytes ≡ Some file → length file ≡ l.request.len → NamesCost file l.request.range l.index.chunk_start_offset l.index.message_index_offsets cost ends
+      → (rest : ℕ) × NamesCost file l.request.range l.index.chunk_start_offset (drop l.i l.index.message_index_offsets) rest ends × ((g.T.Store.state l.store).asked + rest ≤ (g.T.Store.state l.fn.store).asked + cost);
 }

@@ -1,9 +1,8 @@
-use Rattle.std.proofs.Common.{◌≡◌, ℕ, ◌+◌, ◌≤◌, List, length, take, sum, Some}
+use Rattle.std.proofs.Common.{◌≡◌, ℕ, ◌+◌, ◌≤◌, List, length, take, drop, Some}
 use Rattle.mcap_io.specs.Stores.{StoreStays}
-use Rattle.std.specs.List.{AllZip}
 use Rattle.indexed_replay.specs.Steps.{Adds}
 use Rattle.indexed_replay.specs.Lists.{Knows}
-use Rattle.indexed_replay.specs.Gathering.{IsLedFrom, CostsUpTo}
+use Rattle.indexed_replay.specs.Gathering.{IsLedFrom, IndexesCost}
 use Rattle.time_player.specs.Keeping.{kept_in}
 use Rattle.indexed_replay.proofs.gathering.gather.Given as goal
 
@@ -12,5 +11,6 @@ invariant-chunks g l = record {
   stays : StoreStays (g.T.Store.state l.fn.store) (g.T.Store.state l.store);
   still : (g.T.Store.state l.store).faults ≡ (g.T.Store.state l.fn.store).faults;
   shows : (file : List ℕ) → (g.T.Store.state l.fn.store).bytes ≡ Some file → length file ≡ l.request.len → Knows file l.request.tables.now.channels → Adds (IsLedFrom file l.request (take l.i l.loaded.chunk_indexes)) (kept_in l.fn.shown) (kept_in l.shown);
-  asks : (file : List ℕ) (costs : List ℕ) → (g.T.Store.state l.fn.store).bytes ≡ Some file → length file ≡ l.request.len → AllZip (CostsUpTo file l.request.range) (take l.i l.loaded.chunk_indexes) costs → (g.T.Store.state l.store).asked ≤ (g.T.Store.state l.fn.store).asked + sum costs;
+  asks : (file : List ℕ) (cost : ℕ) → (g.T.Store.state l.fn.store).bytes ≡ Some file → length file ≡ l.request.len → IndexesCost file l.request.range l.loaded.chunk_indexes cost
+      → (rest : ℕ) × IndexesCost file l.request.range (drop l.i l.loaded.chunk_indexes) rest × ((g.T.Store.state l.store).asked + rest ≤ (g.T.Store.state l.fn.store).asked + cost);
 }

@@ -6,7 +6,7 @@ use Rattle.indexed_replay.specs.declared.spots.Spot.{Spot}
 use Rattle.indexed_replay.specs.declared.spots.Request.{Request}
 use Rattle.indexed_replay.specs.Steps.{IndexIs}
 use Rattle.indexed_replay.specs.Lists.{ListRefused}
-use Rattle.indexed_replay.proofs.Listing.{list_shown, lacks_reason, limit_reason, cost_front, cost_content}
+use Rattle.indexed_replay.proofs.Listing.{list_shown, list_found, lacks_reason, limit_reason, cost_front, cost_content}
 use Rattle.time_player.specs.Keeping.{kept_in}
 use Rattle.indexed_replay.proofs.lists.show_list.Goals as goal
 
@@ -43,8 +43,13 @@ pub returns-in-Some-clause-asks : goal.returns-in-Some-clause-asks
 returns-in-Some-clause-asks g c = λ file cost told size is.
     let here = rw c.in-Some.is at (c.in-Ok.ensures.told file told size) in
     let told_1 = c.in-Ok.ensures.stays.bytes ∙ told in
-    cost_content file c.args.request.now.range c.args.spot c.in-Some.content.items cost (g.T.Store.state c.args.store.now).asked (g.T.Store.state c.read_index.new.store).asked (g.T.Store.state c.show_content.new.store).asked is here.0 (c.in-Ok.ensures.asks file told size)
-    (λ shows. c.show_content.ensures.asks file is.entries told_1 size (subst (λ (l : List ℕ). ShowsMessageIndex l c.args.spot.channel is.entries) (sym c.deref.ensures.value) shows))
+    cost_content file c.args.request.now.range c.args.spot c.in-Some.content.items here.1.0 cost (g.T.Store.state c.args.store.now).asked (g.T.Store.state c.read_index.new.store).asked (g.T.Store.state c.show_content.new.store).asked is here.0 here.1.1 (c.in-Ok.ensures.asks file told size)
+    (λ entries shows. c.show_content.ensures.asks file entries told_1 size (subst (λ (l : List ℕ). ShowsMessageIndex l c.args.spot.channel entries) (sym c.deref.ensures.value) shows))
+
+pub returns-in-Some-clause-found : goal.returns-in-Some-clause-found
+returns-in-Some-clause-found g c = λ file told size.
+    let here = rw c.in-Some.is at (c.in-Ok.ensures.told file told size) in
+    list_found file c.args.spot c.in-Some.content.items here.1.0 c.show_content.result here.0 here.1.1
 
 pub returns-in-None-clause-told : goal.returns-in-None-clause-told
 returns-in-None-clause-told g c = λ file told size knows. lacks_reason file c.args.request.now c.args.at c.args.spot (rw c.in-None.is at (c.in-Ok.ensures.told file told size))

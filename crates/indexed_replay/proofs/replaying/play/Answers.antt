@@ -28,17 +28,17 @@ returns-in-Ok-topics_of_kept-clause-plays g c = λ file told loaded.
     (subst (λ (l : List Shown). IsOrdered (kept_in c.gather.new.shown) l) shown c.put_in_order_without_doubles.ensures) named
 
 pub returns-in-Err-clause-asks : goal.returns-in-Err-clause-asks
-returns-in-Err-clause-asks g c = λ file costs told loaded are. (0, nothing, omega arith)
+returns-in-Err-clause-asks g c = λ file cost told loaded are. (0, nothing, omega arith)
 
 pub returns-in-Err-gather-clause-asks : goal.returns-in-Err-gather-clause-asks
-returns-in-Err-gather-clause-asks g c = λ file costs told loaded are.
+returns-in-Err-gather-clause-asks g c = λ file cost told loaded are.
     let size = sym (c.requires.measured file told) in
     let known = knows file c.args.loaded.now loaded c.in-Ok.tables.channels c.in-Ok.ensures in
     let listed = loaded.listed in
-    c.in-Err-gather.ensures.asks file costs told size are known (are_indexed file ((c.args.loaded.now).footer).summary_start loaded.tops (c.args.loaded.now).chunk_indexes (c.args.loaded.now).chunk_index_offsets (loaded_summary file c.args.loaded.now loaded) listed.chunk_indexes loaded.placed)
+    c.in-Err-gather.ensures.asks file cost told size are known (are_indexed file ((c.args.loaded.now).footer).summary_start loaded.tops (c.args.loaded.now).chunk_indexes (c.args.loaded.now).chunk_index_offsets (loaded_summary file c.args.loaded.now loaded) listed.chunk_indexes loaded.placed)
 
 pub returns-in-Ok-topics_of_kept-clause-asks : goal.returns-in-Ok-topics_of_kept-clause-asks
-returns-in-Ok-topics_of_kept-clause-asks g c = λ file costs told loaded are. (0, nothing, omega (arith, c.in-Ok-gather.ensures.asks file costs told (sym (c.requires.measured file told)) are))
+returns-in-Ok-topics_of_kept-clause-asks g c = λ file cost told loaded are. (0, nothing, omega (arith, c.in-Ok-gather.ensures.asks file cost told (sym (c.requires.measured file told)) are))
 
 pub returns-in-Err-topics_of_kept-clause-asks : goal.returns-in-Err-topics_of_kept-clause-asks
-returns-in-Err-topics_of_kept-clause-asks g c = λ file costs told loaded are. (0, nothing, omega (arith, c.in-Ok-gather.ensures.asks file costs told (sym (c.requires.measured file told)) are))
+returns-in-Err-topics_of_kept-clause-asks g c = λ file cost told loaded are. (0, nothing, omega (arith, c.in-Ok-gather.ensures.asks file cost told (sym (c.requires.measured file told)) are))

@@ -1,12 +1,11 @@
-use Rattle.std.proofs.Common.{ℕ, ◌^◌, ◌<◌, Err, List, length, sum, inl, sym, subst, ◌∙◌, arith}
-use Rattle.std.specs.List.{AllZip}
+use Rattle.std.proofs.Common.{ℕ, ◌^◌, ◌<◌, Err, List, length, inl, sym, subst, ◌∙◌, arith}
 use Rattle.mcap_model.specs.Tops.{Top}
 use Rattle.mcap_model.specs.Plain.{asked_topic}
 use Rattle.indexed_replay.specs.declared.answers.ReplayRefused.{ReplayRefused}
 use Rattle.indexed_replay.specs.declared.answers.ReplayRefused.TheVariants as refusals
 use Rattle.indexed_replay.specs.Reaching.{nothing}
 use Rattle.indexed_replay.specs.Replaying.{IsReason}
-use Rattle.indexed_replay.specs.Gathering.{CostsUpTo}
+use Rattle.indexed_replay.specs.Gathering.{IndexesCost}
 use Rattle.summary_read.specs.Parts.{of_kind}
 use Rattle.summary_read.specs.Loading.{AskedFor}
 use Rattle.indexed_replay.proofs.Summed.{loaded_summary, summary_once}
@@ -24,12 +23,12 @@ returns-in-Err-load-clause-scanned g c = λ file tops end messages told full hal
     scan_replayed file tops end messages c.args.range (asked_topic c.args.topic) (Err c.refuse_load.result) few full halts scan (subst (λ (w : ReplayRefused). IsReason file c.args.range w) (sym c.refuse_load.ensures) reason)
 
 pub returns-in-Err-load-clause-asks : goal.returns-in-Err-load-clause-asks
-returns-in-Err-load-clause-asks g c = λ file start summary header costs told has there are.
-    asked_unplayed file c.args.range start summary header (g.T.Store.state c.args.store.now).asked (g.T.Store.state c.len.new.self).asked (g.T.Store.state c.load.new.store).asked (sum costs) has there (c.in-Err-load.ensures.asks file (c.in-Ok.ensures.bytes ∙ told)) (omega (arith, c.in-Ok.ensures.asked))
+returns-in-Err-load-clause-asks g c = λ file start summary header cost told has there are.
+    asked_unplayed file c.args.range start summary header (g.T.Store.state c.args.store.now).asked (g.T.Store.state c.len.new.self).asked (g.T.Store.state c.load.new.store).asked cost has there (c.in-Err-load.ensures.asks file (c.in-Ok.ensures.bytes ∙ told)) (omega (arith, c.in-Ok.ensures.asked))
 
 pub returns-in-Err-load-clause-bounded : goal.returns-in-Err-load-clause-bounded
 returns-in-Err-load-clause-bounded g c = λ file tops end bound told full halts asked.
-    asked_bound file tops end bound (g.T.Store.state c.args.store.now).asked (g.T.Store.state c.load.new.store).asked c.args.range full halts asked (λ start summary header costs. returns-in-Err-load-clause-asks g c file start summary header costs told)
+    asked_bound file tops end bound (g.T.Store.state c.args.store.now).asked (g.T.Store.state c.load.new.store).asked c.args.range full halts asked (λ start summary header cost. returns-in-Err-load-clause-asks g c file start summary header cost told)
 
 pub returns-in-Err-judge_counts-clause-plays : goal.returns-in-Err-judge_counts-clause-plays
 returns-in-Err-judge_counts-clause-plays g c = λ file told. counts_reason file c.args.range c.in-Ok-load.loaded c.in-Err-judge_counts.why (c.in-Ok-load.ensures.loads file (c.in-Ok.ensures.bytes ∙ told)).0 c.in-Err-judge_counts.ensures
@@ -41,12 +40,12 @@ returns-in-Err-judge_counts-clause-scanned g c = λ file tops end messages told 
     (counts_reason file c.args.range c.in-Ok-load.loaded c.in-Err-judge_counts.why (c.in-Ok-load.ensures.loads file (c.in-Ok.ensures.bytes ∙ told)).0 c.in-Err-judge_counts.ensures)
 
 pub returns-in-Err-judge_counts-clause-asks : goal.returns-in-Err-judge_counts-clause-asks
-returns-in-Err-judge_counts-clause-asks g c = λ file start summary header costs told has there are.
-    asked_unplayed file c.args.range start summary header (g.T.Store.state c.args.store.now).asked (g.T.Store.state c.len.new.self).asked (g.T.Store.state c.load.new.store).asked (sum costs) has there (c.in-Ok-load.ensures.asks file (c.in-Ok.ensures.bytes ∙ told)) (omega (arith, c.in-Ok.ensures.asked))
+returns-in-Err-judge_counts-clause-asks g c = λ file start summary header cost told has there are.
+    asked_unplayed file c.args.range start summary header (g.T.Store.state c.args.store.now).asked (g.T.Store.state c.len.new.self).asked (g.T.Store.state c.load.new.store).asked cost has there (c.in-Ok-load.ensures.asks file (c.in-Ok.ensures.bytes ∙ told)) (omega (arith, c.in-Ok.ensures.asked))
 
 pub returns-in-Err-judge_counts-clause-bounded : goal.returns-in-Err-judge_counts-clause-bounded
 returns-in-Err-judge_counts-clause-bounded g c = λ file tops end bound told full halts asked.
-    asked_bound file tops end bound (g.T.Store.state c.args.store.now).asked (g.T.Store.state c.load.new.store).asked c.args.range full halts asked (λ start summary header costs. returns-in-Err-judge_counts-clause-asks g c file start summary header costs told)
+    asked_bound file tops end bound (g.T.Store.state c.args.store.now).asked (g.T.Store.state c.load.new.store).asked c.args.range full halts asked (λ start summary header cost. returns-in-Err-judge_counts-clause-asks g c file start summary header cost told)
 
 pub returns-clause-scanned : goal.returns-clause-scanned
 returns-clause-scanned g c = λ file tops end messages told full halts scan.
@@ -55,17 +54,17 @@ returns-clause-scanned g c = λ file tops end messages told full halts scan.
     scan_replayed file tops end messages c.args.range (asked_topic c.args.topic) c.play.result few full halts scan (c.play.ensures.plays file (c.in-Ok-load.ensures.leaves.bytes ∙ now) (c.in-Ok-load.ensures.loads file now).0)
 
 pub returns-clause-asks : goal.returns-clause-asks
-returns-clause-asks g c = λ file start summary header costs told has there are.
+returns-clause-asks g c = λ file start summary header cost told has there are.
     let now = c.in-Ok.ensures.bytes ∙ told in
     let loaded = (c.in-Ok-load.ensures.loads file now).0 in
     let listed = loaded.listed in
     let same = summary_once file start ((c.in-Ok-load.loaded).footer).summary_start summary loaded.tops has (loaded_summary file c.in-Ok-load.loaded loaded) in
-    let zip = subst (λ (l : List Top). AllZip (CostsUpTo file c.args.range) l costs) (sym listed.chunk_indexes) (subst (λ (l : List Top). AllZip (CostsUpTo file c.args.range) (of_kind 8 l) costs) same are) in
-    asked_played file c.args.range start summary header (g.T.Store.state c.args.store.now).asked (g.T.Store.state c.len.new.self).asked (g.T.Store.state c.load.new.store).asked (g.T.Store.state c.play.new.store).asked (sum costs) has there (c.in-Ok-load.ensures.asks file now) (omega (arith, c.in-Ok.ensures.asked)) (c.play.ensures.asks file costs (c.in-Ok-load.ensures.leaves.bytes ∙ now) loaded zip)
+    let own = subst (λ (l : List Top). IndexesCost file c.args.range l cost) (sym listed.chunk_indexes) (subst (λ (l : List Top). IndexesCost file c.args.range (of_kind 8 l) cost) same are) in
+    asked_played file c.args.range start summary header (g.T.Store.state c.args.store.now).asked (g.T.Store.state c.len.new.self).asked (g.T.Store.state c.load.new.store).asked (g.T.Store.state c.play.new.store).asked cost has there (c.in-Ok-load.ensures.asks file now) (omega (arith, c.in-Ok.ensures.asked)) (c.play.ensures.asks file cost (c.in-Ok-load.ensures.leaves.bytes ∙ now) loaded own)
 
 pub returns-clause-bounded : goal.returns-clause-bounded
 returns-clause-bounded g c = λ file tops end bound told full halts asked.
-    asked_bound file tops end bound (g.T.Store.state c.args.store.now).asked (g.T.Store.state c.play.new.store).asked c.args.range full halts asked (λ start summary header costs. returns-clause-asks g c file start summary header costs told)
+    asked_bound file tops end bound (g.T.Store.state c.args.store.now).asked (g.T.Store.state c.play.new.store).asked c.args.range full halts asked (λ start summary header cost. returns-clause-asks g c file start summary header cost told)
 
 pub returns-clause-counted : goal.returns-clause-counted
 returns-clause-counted g c = λ file told. counts_agree file c.in-Ok-load.loaded c.play.result (c.in-Ok-load.ensures.loads file (c.in-Ok.ensures.bytes ∙ told)).0 c.in-Ok-judge_counts.ensures
@@ -77,10 +76,10 @@ pub returns-in-Err-load-clause-unloaded : goal.returns-in-Err-load-clause-unload
 returns-in-Err-load-clause-unloaded g c = λ file told none. subst (λ (n : ℕ). AskedFor file n (g.T.Store.state c.load.new.store).asked) c.in-Ok.ensures.asked (c.in-Err-load.ensures.asks file (c.in-Ok.ensures.bytes ∙ told))
 
 pub returns-in-Err-judge_counts-clause-unloaded : goal.returns-in-Err-judge_counts-clause-unloaded
-returns-in-Err-judge_counts-clause-unloaded g c = λ file told none. absurd (none c.in-Ok-load.loaded (c.in-Ok-load.ensures.loads file (c.in-Ok.ensures.bytes ∙ told)).0)
+returns-in-Err-judge_counts-clause-unloaded g c = λ file told none. subst (λ (n : ℕ). AskedFor file n (g.T.Store.state c.load.new.store).asked) c.in-Ok.ensures.asked (c.in-Ok-load.ensures.asks file (c.in-Ok.ensures.bytes ∙ told))
 
 pub returns-clause-unloaded : goal.returns-clause-unloaded
-returns-clause-unloaded g c = λ file told none. absurd (none c.in-Ok-load.loaded (c.in-Ok-load.ensures.loads file (c.in-Ok.ensures.bytes ∙ told)).0)
+returns-clause-unloaded g c = λ file told none. absurd (none c.in-Ok-load.loaded (c.in-Ok-load.ensures.loads file (c.in-Ok.ensures.bytes ∙ told)).0 c.in-Ok-judge_counts.ensures)
 
 pub returns-in-Err-clause-asks : goal.returns-in-Err-clause-asks
-returns-in-Err-clause-asks g c = λ file start summary header costs told has there are. (0, nothing, omega (arith, c.in-Err.ensures.asked))
+returns-in-Err-clause-asks g c = λ file start summary header cost told has there are. (0, nothing, omega (arith, c.in-Err.ensures.asked))
