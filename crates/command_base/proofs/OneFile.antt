@@ -16,8 +16,8 @@ use Rattle.command_base.specs.declared.faults.Counts.{Counts}
 use Rattle.command_base.specs.declared.one_file.Faults.{Faults}
 use Rattle.command_base.specs.Printing.{TellsAll, Takes}
 use Rattle.command_base.specs.Texts.{Trouble, bad_words, fault, output_fault, grammar, compressed, limit, output_limit, not_indexed, flaw, no_memory, asked_status, status_of}
-use Rattle.command_base.specs.Ran.{Scene, counts_in, AnyRose, IsCaused, Blames, kept, refused, failed_so, source_faults, live_faults, named_when, failed_names, troubles_of, Complains}
-use Rattle.command_base.specs.OneFile.{Ending, was_read, halted, failing, lacked, text_of, is_lack, findings_of, ending_status, IsHalt, HaltsWell, files_of, NameRead, PrintsEnding, AskedRose, ShowsFaults, ReadsOne}
+use Rattle.command_base.specs.Ran.{Scene, counts_in, AnyRose, IsCaused, Blames, kept, refused, failed_so, source_faults, live_faults, named_when, failed_names, Failed as WhichFailed, troubles_of, Complains}
+use Rattle.command_base.specs.OneFile.{Ending, was_read, halted, failing, lacked, text_of, is_lack, findings_of, one_troubles, ending_status, IsHalt, HaltsWell, files_of, NameRead, PrintsEnding, AskedRose, ShowsFaults, ReadsOne}
 use Rattle.command_base.proofs.Counting.{added_none, kept_adds, kept_well, still_where, blamed, not_risen}
 use Rattle.command_base.proofs.Opened.{tells_more, SameNames, leaves_same}
 use Rattle.command_base.proofs.Blamed.{each_one, some_one}
@@ -53,9 +53,6 @@ each_two P tt_is tf_is ft_is ff_is false true = ft_is
 each_two P tt_is tf_is ft_is ff_is false false = ff_is
 
 -- ---- the status
-
-abbrev pub one_troubles : List ℕ → Ending → Bool → Bool → List Trouble
-one_troubles file ending broken printing = troubles_of (findings_of ending) (named_when broken file ++ []) printing
 
 -- what the ending asks for besides a want of memory and a fault
 abbrev own : Ending → ℕ
@@ -134,8 +131,8 @@ three_or false false n answer risen is = absurd cc
 -- the status is not that of bad words
 pub one_not_two : (kind : ObjectKind) (file : List ℕ) (old new : Scene) (entries : List Opening) (ending : Ending) (answer : ℕ) → HaltsWell ending → ReadsOne kind file old new entries ending answer → answer ≡ 2 → ⊥
 one_not_two kind file old new entries ending answer well all two =
-    let due : troubles_of (findings_of ending) all.ran.failed all.ran.printing ≡ one_troubles file ending all.blamed all.ran.printing =
-    ap (λ (l : List (List ℕ)). troubles_of (findings_of ending) l all.ran.printing) all.blame in
+    let due : troubles_of (files_of kind file) (findings_of ending) all.ran.failed all.ran.printing ≡ one_troubles file ending all.blamed all.ran.printing =
+    ap (λ (f : WhichFailed). troubles_of (files_of kind file) (findings_of ending) f all.ran.printing) all.blame in
     let told : Complains (one_troubles file ending all.blamed all.ran.printing) old.err new.err answer =
     subst (λ (l : List Trouble). Complains l old.err new.err answer) due all.ran.said in
     let is = answered file ending all.blamed all.ran.printing old.err new.err answer well told in
@@ -299,7 +296,7 @@ module _ (kind : ObjectKind) (file : List ℕ) (old new : Scene) (entries : List
       leaves = parts.name.leaves;
       counts = parts.name.counts;
       printed = parts.takes;
-      failed = named_when faults.file file ++ [];
+      failed = record { inputs = faults.file ∷ []; outputs = [] };
       blames = blames;
       printing = faults.printing;
       blames_output = (printing_rose, λ risen. parts.shows.printing_told (inr risen));

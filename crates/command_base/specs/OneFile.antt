@@ -6,8 +6,8 @@ use Rattle.mcap_io.specs.declared.outside.ObjectKind.{ObjectKind}
 use Rattle.command_base.specs.declared.faults.Counts.{Counts}
 use Rattle.command_base.specs.declared.one_file.Faults.{Faults}
 use Rattle.command_base.specs.Printing.{TellsAll, TellsPart}
-use Rattle.command_base.specs.Texts.{Trouble, asked_status}
-use Rattle.command_base.specs.Ran.{Scene, counts_in, AnyRose, Files, wanted, AreOpened, Leaves, CountsKept, named_when, failed_names, Findings, Ran}
+use Rattle.command_base.specs.Texts.{Trouble, fault, output_fault, no_memory, asked_status}
+use Rattle.command_base.specs.Ran.{Scene, counts_in, AnyRose, Files, wanted, AreOpened, Leaves, CountsKept, named_when, failed_names, when, Findings, Ran}
 
 -- ---- the reading
 
@@ -41,7 +41,7 @@ is_lack lacked = true
 
 -- what there is to tell of it besides faults
 abbrev pub findings_of : Ending → Findings
-findings_of ending = record { halts = troubles_in ending; limits = []; lacked = is_lack ending }
+findings_of ending = record { halts = troubles_in ending ∷ []; limits = []; lacked = is_lack ending }
 
 -- the status that it asks for
 abbrev pub ending_status : Ending → ℕ
@@ -56,6 +56,10 @@ IsHalt trouble = (asked_status trouble ≡ 1) ⊎ (asked_status trouble ≡ 4)
 
 abbrev pub HaltsWell : Ending → Type 0
 HaltsWell ending = (trouble : Trouble) → ending ≡ halted trouble → IsHalt trouble
+
+-- all troubles, in their order, where the file and standard output failed so
+abbrev pub one_troubles : List ℕ → Ending → Bool → Bool → List Trouble
+one_troubles file ending failed printing = troubles_in ending ++ (when failed (fault file) ++ (when printing output_fault ++ when (is_lack ending) no_memory))
 
 -- ---- the file
 
@@ -104,7 +108,7 @@ pub record ReadsOne (kind : ObjectKind) (file : List ℕ) (old new : Scene) (ent
   pub ran : Ran (files_of kind file) old new entries (text_of ending) (findings_of ending) status
   -- the file alone is blamed, once, where a count of the world or of its inputs rose, or stands at the end of its type
   pub blamed : Bool
-  pub blame : ran.failed ≡ named_when blamed file ++ []
+  pub blame : ran.failed ≡ record { inputs = blamed ∷ []; outputs = [] }
   pub cause : (blamed ≡ true) ↔ (Rose old.world.faults new.world.faults ⊎ Rose old.world.input_faults new.world.input_faults)
   -- 5 is the answer exactly where memory lacked for the reading
   pub five : (status ≡ 5) ↔ (ending ≡ lacked)

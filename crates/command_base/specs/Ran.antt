@@ -1,5 +1,5 @@
 -- What every command does: to the names of the world, to both outputs, and how it ends.
-use Rattle.std.specs.Prelude.{◌≡◌, ◌⊎◌, ◌↔◌, ◌<◌, ◌+◌, ◌-◌, ◌^◌, ◌==◌, ◌||◌, not, ℕ, List, [], ◌∷◌, ◌++◌, map, Bool, true, false, if◌then◌else◌, Option, Some, None}
+use Rattle.std.specs.Prelude.{◌≡◌, ◌⊎◌, ◌↔◌, ◌<◌, ◌+◌, ◌-◌, ◌^◌, ◌==◌, ◌||◌, not, ℕ, List, [], ◌∷◌, ◌++◌, map, drop, Bool, true, false, if◌then◌else◌, Option, Some, None}
 use Rattle.std.specs.List.{flat_map}
 use Rattle.mcap_io.specs.Outside.{Rose, added, SinkState, WorldState, Told, Keeping, Opening, opened, taken_back}
 use Rattle.mcap_io.specs.declared.outside.ObjectKind.{ObjectKind}
@@ -157,6 +157,21 @@ named_when failed name = if failed then name ∷ [] else []
 abbrev pub failed_names : List Opening → List (List ℕ)
 failed_names entries = flat_map (λ entry. named_when (has_failed entry) entry.name) entries
 
+-- which of the names of a command are blamed: of its inputs, and of its outputs, in their order; where an answer is missing,
+-- the name isn't
+pub record Failed : Type 0 where
+  pub inputs : List Bool
+  pub outputs : List Bool
+
+-- the names that are blamed, and those behind
+abbrev pub blamed_among : List (List ℕ) → List Bool → List (List ℕ) → List (List ℕ)
+blamed_among [] failed behind = behind
+blamed_among (name ∷ names) [] behind = behind
+blamed_among (name ∷ names) (failed ∷ more) behind = named_when failed name ++ blamed_among names more behind
+
+abbrev pub blamed_names : Files → Failed → List (List ℕ)
+blamed_names files failed = blamed_among files.inputs failed.inputs (blamed_among files.outputs failed.outputs [])
+
 -- A failure of that name shows in a count: in that of the world, or in that of what was taken back.
 abbrev pub IsCaused : Files → WorldState → WorldState → List ℕ → Type 0
 IsCaused files old new name = Rose old.faults new.faults
@@ -179,15 +194,30 @@ BlamesOutput old new printing = (printing ≡ true) ↔ Rose old.faults new.faul
 abbrev pub when : Bool → Trouble → List Trouble
 when there trouble = if there then trouble ∷ [] else []
 
--- What a command found besides faults: where its inputs halt, what its outputs can't take, and whether memory lacked.
+-- What a command found besides faults: where each of its inputs halts, what its outputs can't take, and whether memory lacked.
 pub record Findings : Type 0 where
-  pub halts : List Trouble
+  pub halts : List (List Trouble)
   pub limits : List Trouble
   pub lacked : Bool
 
--- all troubles, in their order
-abbrev pub troubles_of : Findings → List (List ℕ) → Bool → List Trouble
-troubles_of found names printing = found.halts ++ (map fault names ++ (found.limits ++ (when printing output_fault ++ when found.lacked no_memory)))
+-- the first of the lists and of the answers, or none where there is no more
+abbrev pub first_halts : List (List Trouble) → List Trouble
+first_halts [] = []
+first_halts (halts ∷ more) = halts
+
+abbrev pub first_failed : List Bool → Bool
+first_failed [] = false
+first_failed (failed ∷ more) = failed
+
+-- what is told of names, in their order: of each where it halts, and then that it failed; and what is told behind
+abbrev pub told_of : List (List ℕ) → List (List Trouble) → List Bool → List Trouble → List Trouble
+told_of [] halts failed behind = behind
+told_of (name ∷ names) halts failed behind = first_halts halts ++ (when (first_failed failed) (fault name) ++ told_of names (drop 1 halts) (drop 1 failed) behind)
+
+-- all troubles, in their order: those of the inputs, of the outputs, and the others
+abbrev pub troubles_of : Files → Findings → Failed → Bool → List Trouble
+troubles_of files found failed printing =
+    told_of files.inputs found.halts failed.inputs (told_of files.outputs [] failed.outputs (found.limits ++ (when printing output_fault ++ when found.lacked no_memory)))
 
 -- Standard error took the lines of these troubles, and no more; all of them, or a first part where it failed itself. They give
 -- the status.
@@ -208,8 +238,8 @@ pub record Ran (files : Files) (old new : Scene) (entries : List Opening) (text 
   -- standard output took the text, or a first part of it where it failed
   pub printed : Takes old.out new.out text
   -- standard error took the lines of the troubles, which name what failed
-  pub failed : List (List ℕ)
-  pub blames : Blames files old.world new.world entries failed
+  pub failed : Failed
+  pub blames : Blames files old.world new.world entries (blamed_names files failed)
   pub printing : Bool
   pub blames_output : BlamesOutput old.out new.out printing
-  pub said : Complains (troubles_of found failed printing) old.err new.err status
+  pub said : Complains (troubles_of files found failed printing) old.err new.err status

@@ -1,8 +1,8 @@
 //! What the commands share that read one file and print of it.
-ghost use Rattle.std.specs.Prelude.{◌≡◌, ◌++◌, []};
+ghost use Rattle.std.specs.Prelude.{◌≡◌};
 ghost use Rattle.command_base.specs.Texts.{complained};
-ghost use Rattle.command_base.specs.Ran.{named_when, troubles_of, Complains};
-ghost use Rattle.command_base.specs.OneFile.{Ending, troubles_in, is_lack, findings_of, ShowsFaults};
+ghost use Rattle.command_base.specs.Ran.{Complains};
+ghost use Rattle.command_base.specs.OneFile.{Ending, troubles_in, is_lack, one_troubles, ShowsFaults};
 
 use crate::complaining::{complain_of, due_when};
 use crate::complaint::Complaint;
@@ -37,7 +37,7 @@ pub fn answer_file<'a, E: Sink>(
     faults: Faults,
 ) -> u8
     ensures { (ending : Ending) → complained halt.entry ≡ troubles_in ending → lacked ≡ is_lack ending
-        → Complains (troubles_of (findings_of ending) (named_when faults.file file.now ++ []) faults.printing) (E.state err.old) (E.state err.new) result }
+        → Complains (one_troubles file.now ending faults.file faults.printing) (E.state err.old) (E.state err.new) result }
 {
     let complaints = [
         halt,

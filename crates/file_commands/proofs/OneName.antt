@@ -11,8 +11,8 @@ use Rattle.mcap_io.specs.declared.outside.OpenRefused.TheVariants as open_refusa
 use Rattle.command_base.specs.declared.one_file.Faults.{Faults}
 use Rattle.command_base.specs.Printing.{Takes}
 use Rattle.command_base.specs.Ran.{Scene, counts_in, Complains, kept, refused, failed_so}
-use Rattle.command_base.specs.OneFile.{Ending, failing, lacked, text_of, HaltsWell, PrintsEnding, ShowsFaults, ReadsOne}
-use Rattle.command_base.proofs.OneFile.{IsInput, store_keeping, StoreGiven, store_back, unopened as name_unopened, unopened_for_memory, lacked_sure, one_troubles, reads_one}
+use Rattle.command_base.specs.OneFile.{Ending, failing, lacked, text_of, HaltsWell, one_troubles, PrintsEnding, ShowsFaults, ReadsOne}
+use Rattle.command_base.proofs.OneFile.{IsInput, store_keeping, StoreGiven, store_back, unopened as name_unopened, unopened_for_memory, lacked_sure, reads_one}
 use Rattle.file_commands.specs.Names.{StoreUnder, NameEnds}
 
 module _ (kind : ObjectKind) (file : List ℕ) (Reads : List Opening → Type 0) where

@@ -10,6 +10,7 @@ use Rattle.mcap_model.specs.Kept.{compressed as names}
 use Rattle.file_check.specs.declared.refusals.CheckRefused.{CheckRefused}
 use Rattle.file_check.specs.declared.refusals.CheckRefused.TheVariants as refusals
 use Rattle.file_check.specs.Checking.{IsSo, HaltsBefore, MeetsLimit, Checks, CheckCause, margin}
+use Rattle.file_check.specs.CutFiles.{TellsUnbegun, TellsCutFile}
 use Rattle.file_commands.specs.declared.checking.Judgement.{Judgement}
 use Rattle.file_commands.specs.declared.checking.Judgement.TheVariants as judgements
 use Rattle.file_commands.specs.declared.checking.Judged.{Judged}
@@ -21,10 +22,12 @@ use Rattle.file_commands.specs.Names.{StoreUnder, IsOpened, NameEnds}
 
 -- ---- the file
 
--- the bytes of the store, where it told them, have this answer; its count says whether it failed; and it was asked for little
--- more than its bytes
+-- the bytes of the store, where it told them, have this answer, which says what ends them where one of the magics is missing;
+-- its count says whether it failed; and it was asked for little more than its bytes
 pub record HasAnswer (store : StoreState) (faults asked : ℕ) (answer : Result Verdict CheckRefused) : Type 0 where
   pub checks : Checks store.bytes answer
+  pub begun : TellsUnbegun store.bytes answer
+  pub cut : TellsCutFile store.bytes answer
   pub cause : CheckCause store.faults faults answer
   pub asks : (file : List ℕ) → store.bytes ≡ Some file → asked ≤ store.asked + (length file + margin)
 
