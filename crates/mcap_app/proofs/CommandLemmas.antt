@@ -1,19 +1,22 @@
 -- From what was found to a command, and from a command's words to what is found.
 use Rattle.std.proofs.Common.{◌≡◌, ◌≢◌, ◌<◌, ◌≤◌, ◌++◌, ℕ, Bool, true, false, List, [], ◌∷◌, Option, Some, None, refl, sym, ap, ap₂, subst, inl, inr, ◌∙◌, codes, arith, length}
-use Rattle.std.specs.Prelude.{option_map, slice_get, unwrap_or, if◌then◌else◌}
+use Rattle.std.specs.Prelude.{⊤, drop, find, option_and_then, option_map, slice_get, take, unwrap_or, if◌then◌else◌}
+use Rattle.std.specs.Borrow.{Bor}
 use Rattle.std.specs.List.{All, flat_map}
 use Rattle.std.specs.Option.{option_to_list}
 use Rattle.std.specs.Str.{bytes_eq}
 use Rattle.std.proofs.lemmas.Slice.Eq.{bytes_eq-Decides}
-use Rattle.std.proofs.lemmas.List.Elements.{All-append, All-cons, All-head, All-nil, All-tail}
+use Rattle.std.proofs.lemmas.List.{length-map}
+use Rattle.std.proofs.lemmas.Option.{same_Some}
+use Rattle.std.proofs.lemmas.List.Elements.{All-append, All-cons, All-head, All-map, All-nil, All-tail}
 use Rattle.clap.specs.Words.{Row, first_of, subcommand_name_of, subcommand_rows_of}
 use Rattle.clap.specs.declared.parser.matches.ArgMatches.{ArgMatches}
 use Rattle.clap.specs.declared.parser.matches.ArgMatches.TheViews.{out-ArgMatches}
 use Rattle.mcap_model.specs.declared.options.FileOptions.{FileOptions}
 use Rattle.mcap_model.specs.declared.replay.Range.{Range}
-use Rattle.mcap_app.specs.Items.{Word, Item, flag, joined, apart, plain, IsFlag, IsFree, IsItem, IsOption, given, place_of, words_of}
+use Rattle.mcap_app.specs.Items.{Word, Item, flag, joined, apart, plain, IsFlag, IsFree, IsItem, IsOption, given, place_of, texts, words_of}
 use Rattle.mcap_app.specs.Commands.{AreBad, Behind, Derives, Flags, GivesNumber, IsCat, IsFileOptions, IsNumber, IsOfFile, IsRange, IsRecord, Reads, name_of, verb_of}
-use Rattle.mcap_app.specs.Matches.{AreRead, AreUnread, Fits, IsLoose, IsReading, places_of}
+use Rattle.mcap_app.specs.Matches.{AreFeeds, AreRead, AreUnread, AtPlaces, Fits, HasRoom, IsLoose, IsReading, all_found}
 use Rattle.mcap_app.specs.declared.command.Command.{Command}
 use Rattle.mcap_app.specs.declared.command.Command.TheVariants.{Record, Info, Check, Cat}
 use Rattle.mcap_app.specs.declared.verbs.Verb.{Verb}
@@ -106,66 +109,98 @@ exact_reading verb words rows reading clean = record {
   all = refl;
 }
 
+-- the first of all the values that were found
+first_all : (name : Word) (rows : List Row) → first_of name rows ≡ slice_get (all_found name rows) 0
+first_all name rows = go (find (λ r. bytes_eq r.id name) rows)
+  where
+    go : (r : Option Row) → option_and_then (λ (r : Row). slice_get r.values 0) r ≡ slice_get (unwrap_or (option_map (λ (r : Row). r.values) r) []) 0
+    go None = refl
+    go (Some r) = refl
+
+-- the commands of one file
+abbrev pub IsOfOne : Verb → Type 0
+IsOfOne verb.Record = ⊥
+IsOfOne verb.Info = ⊤
+IsOfOne verb.Check = ⊤
+IsOfOne verb.Cat = ⊤
+
+one_few : (v : Verb) (n : ℕ) → IsOfOne v → HasRoom v n → n ≤ 1
+one_few verb.Record n one few = absurd one
+one_few verb.Info n one few = few
+one_few verb.Check n one few = few
+one_few verb.Cat n one few = few
+
+one_placed : (v : Verb) (places : List Word) (Has : Word → List Word → Type 0) → IsOfOne v → AtPlaces v places Has → Has (codes "file") places
+one_placed verb.Record places Has one placed = absurd one
+one_placed verb.Info places Has one placed = placed
+one_placed verb.Check places Has one placed = placed
+one_placed verb.Cat places Has one placed = placed
+
 one_place : (places : List Word) (a : Word) → slice_get places 0 ≡ Some a → length places ≤ 1 → places ≡ a ∷ []
 one_place [] a first few = cc
 one_place (x ∷ []) a first few = let same : x ≡ a = cc in ap (λ (w : Word). w ∷ []) same
 one_place (x ∷ y ∷ more) a first few = absurd (omega (arith, few))
 
-two_places : (places : List Word) (a b : Word) → slice_get places 0 ≡ Some a → slice_get places 1 ≡ Some b → length places ≤ 2 → places ≡ a ∷ b ∷ []
-two_places [] a b first second few = cc
-two_places (x ∷ []) a b first second few = cc
-two_places (x ∷ y ∷ []) a b first second few = let same : x ≡ a = cc in let same2 : y ≡ b = cc in ap₂ (λ (v w : Word). v ∷ w ∷ []) same same2
-two_places (x ∷ y ∷ z ∷ more) a b first second few = absurd (omega (arith, few))
+out_first : (places : List Word) (a : Word) → slice_get (take 1 places) 0 ≡ Some a → places ≡ a ∷ drop 1 places
+out_first [] a first = cc
+out_first (x ∷ xs) a first = let same : x ≡ a = cc in ap (λ (w : Word). w ∷ xs) same
 
 -- what stands at the places
-pub file_place : (v : Verb) (words : List Word) (rows : List Row) (reading : IsReading v words rows) (file : Word) → places_of v ≡ codes "file" ∷ [] → first_of (codes "file") rows ≡ Some file → places_in reading ≡ file ∷ []
+pub file_place : (v : Verb) (words : List Word) (rows : List Row) (reading : IsReading v words rows) (file : Word) → IsOfOne v → first_of (codes "file") rows ≡ Some file → places_in reading ≡ file ∷ []
 file_place v words rows reading file one is =
-    let at : slice_get (places_of v) 0 ≡ Some (codes "file") = ap (λ (l : List Word). slice_get l 0) one in
-    one_place (places_in reading) file (sym (reading.shows.placed 0 (codes "file") at) ∙ is) (subst (λ (l : List Word). length (places_in reading) ≤ length l) one reading.shows.few)
+    let all : all_found (codes "file") rows ≡ places_in reading = one_placed v (places_in reading) (λ id words. all_found id rows ≡ words) one reading.shows.placed in
+    one_place (places_in reading) file (ap (λ (l : List Word). slice_get l 0) (sym all) ∙ sym (first_all (codes "file") rows) ∙ is) (one_few v (length (places_in reading)) one reading.shows.few)
 
-pub file_is : (v : Verb) (words : List Word) (rows : List Row) (reading : IsReading v words rows) (file : Word) → places_of v ≡ codes "file" ∷ [] → places_in reading ≡ file ∷ [] → first_of (codes "file") rows ≡ Some file
+pub file_is : (v : Verb) (words : List Word) (rows : List Row) (reading : IsReading v words rows) (file : Word) → IsOfOne v → places_in reading ≡ file ∷ [] → first_of (codes "file") rows ≡ Some file
 file_is v words rows reading file one is =
-    let at : slice_get (places_of v) 0 ≡ Some (codes "file") = ap (λ (l : List Word). slice_get l 0) one in
-    reading.shows.placed 0 (codes "file") at ∙ ap (λ (l : List Word). slice_get l 0) is
+    let all : all_found (codes "file") rows ≡ places_in reading = one_placed v (places_in reading) (λ id words. all_found id rows ≡ words) one reading.shows.placed in
+    first_all (codes "file") rows ∙ ap (λ (l : List Word). slice_get l 0) (all ∙ is)
 
-pub names_places : (words : List Word) (rows : List Row) (reading : IsReading verb.Record words rows) (out feed : Word) → first_of (codes "out") rows ≡ Some out → first_of (codes "feed") rows ≡ Some feed → places_in reading ≡ out ∷ feed ∷ []
-names_places words rows reading out feed is is2 =
-    two_places (places_in reading) out feed (sym (reading.shows.placed 0 (codes "out") refl) ∙ is) (sym (reading.shows.placed 1 (codes "feed") refl) ∙ is2) reading.shows.few
+pub names_places : (words : List Word) (rows : List Row) (reading : IsReading verb.Record words rows) (out : Word) (feeds : List Word) → first_of (codes "out") rows ≡ Some out → all_found (codes "feed") rows ≡ feeds → places_in reading ≡ out ∷ feeds
+names_places words rows reading out feeds is is2 =
+    out_first (places_in reading) out (ap (λ (l : List Word). slice_get l 0) (sym reading.shows.placed.0) ∙ sym (first_all (codes "out") rows) ∙ is)
+    ∙ ap (λ (l : List Word). out ∷ l) (sym reading.shows.placed.1 ∙ is2)
 
-pub names_are : (words : List Word) (rows : List Row) (reading : IsReading verb.Record words rows) (out feed : Word) → places_in reading ≡ out ∷ feed ∷ [] → (first_of (codes "out") rows ≡ Some out) × (first_of (codes "feed") rows ≡ Some feed)
-names_are words rows reading out feed is =
-    (reading.shows.placed 0 (codes "out") refl ∙ ap (λ (l : List Word). slice_get l 0) is, reading.shows.placed 1 (codes "feed") refl ∙ ap (λ (l : List Word). slice_get l 1) is)
+pub names_are : (words : List Word) (rows : List Row) (reading : IsReading verb.Record words rows) (out : Word) (feeds : List Word) → places_in reading ≡ out ∷ feeds → (first_of (codes "out") rows ≡ Some out) × (all_found (codes "feed") rows ≡ feeds)
+names_are words rows reading out feeds is = (
+  first_all (codes "out") rows ∙ ap (λ (l : List Word). slice_get l 0) (reading.shows.placed.0 ∙ ap (λ (l : List Word). take 1 l) is),
+  reading.shows.placed.1 ∙ ap (λ (l : List Word). drop 1 l) is,
+)
 
 -- ---- commands
 
-pub record_is : (words : List Word) (rows : List Row) (reading : IsReading verb.Record words rows) (out feed : Word) (file : FileOptions) (size : Option ℕ) → first_of (codes "out") rows ≡ Some out → first_of (codes "feed") rows ≡ Some feed
-    → out ≢ [] → feed ≢ [] → out ≢ feed → IsFileOptions reading.items file → GivesNumber 1 1073741824 (option_to_list (first_of (codes "limit") rows)) size → first_of (codes "profile") rows ≢ Some (codes "-")
-    → IsRecord words out feed file (unwrap_or size 104857600)
-record_is words rows reading out feed file size is is2 named named2 differ options sized clean = record {
-  items = reading.items;
-  reads = subst (Reads verb.Record words reading.items) (names_places words rows reading out feed is is2) (exact_reading verb.Record words rows reading all_clean);
-  out_named = named;
-  feed_named = named2;
-  differ = differ;
-  options = options;
-  size = size;
-  sized = subst (λ (l : List Word). GivesNumber 1 1073741824 l size) (sym (reading.shows.options (codes "limit") (inl refl))) sized;
-  limited = refl;
-}
-  where
-    chunk_clean : first_of (codes "chunk") rows ≢ Some (codes "-")
-    chunk_clean = number_clean 1 67108864 (first_of (codes "chunk") rows) options.chunk.size
-        (subst (λ (l : List Word). GivesNumber 1 67108864 l options.chunk.size) (reading.shows.options (codes "chunk") (inr (inl refl))) options.chunk.sized)
+module _ (words : List Word) (rows : List Row) (reading : IsReading verb.Record words rows) (out : Word) (feeds : List Word) (file : FileOptions) (size : Option ℕ) (lossless : Bool) where
+  pub record_is : first_of (codes "out") rows ≡ Some out → all_found (codes "feed") rows ≡ feeds → out ≢ [] → AreFeeds out feeds → Flags (given (codes "lossless") reading.items) lossless
+      → IsFileOptions reading.items file → GivesNumber 1 1073741824 (option_to_list (first_of (codes "limit") rows)) size → first_of (codes "profile") rows ≢ Some (codes "-")
+      → IsRecord words out feeds file (unwrap_or size 104857600) lossless
+  record_is is is2 named feeding flagged options sized clean = record {
+    items = reading.items;
+    reads = subst (Reads verb.Record words reading.items) (names_places words rows reading out feeds is is2) (exact_reading verb.Record words rows reading all_clean);
+    some = feeding.0;
+    few = feeding.1;
+    out_named = named;
+    feeds_named = λ i d less. (feeding.2 i d less).0;
+    differ = λ i d less. (feeding.2 i d less).1;
+    flagged = flagged;
+    options = options;
+    size = size;
+    sized = subst (λ (l : List Word). GivesNumber 1 1073741824 l size) (sym (reading.shows.options (codes "limit") (inl refl))) sized;
+    limited = refl;
+  }
+    where
+      chunk_clean : first_of (codes "chunk") rows ≢ Some (codes "-")
+      chunk_clean = number_clean 1 67108864 (first_of (codes "chunk") rows) options.chunk.size
+          (subst (λ (l : List Word). GivesNumber 1 67108864 l options.chunk.size) (reading.shows.options (codes "chunk") (inr (inl refl))) options.chunk.sized)
 
-    limit_clean : first_of (codes "limit") rows ≢ Some (codes "-")
-    limit_clean = number_clean 1 1073741824 (first_of (codes "limit") rows) size sized
+      limit_clean : first_of (codes "limit") rows ≢ Some (codes "-")
+      limit_clean = number_clean 1 1073741824 (first_of (codes "limit") rows) size sized
 
-    all_clean : (name : Word) → IsOption verb.Record name → first_of name rows ≢ Some (codes "-")
-    all_clean name (inl is) = subst (λ (n : Word). first_of n rows ≢ Some (codes "-")) (sym is) limit_clean
-    all_clean name (inr (inl is)) = subst (λ (n : Word). first_of n rows ≢ Some (codes "-")) (sym is) chunk_clean
-    all_clean name (inr (inr is)) = subst (λ (n : Word). first_of n rows ≢ Some (codes "-")) (sym is) clean
+      all_clean : (name : Word) → IsOption verb.Record name → first_of name rows ≢ Some (codes "-")
+      all_clean name (inl is) = subst (λ (n : Word). first_of n rows ≢ Some (codes "-")) (sym is) limit_clean
+      all_clean name (inr (inl is)) = subst (λ (n : Word). first_of n rows ≢ Some (codes "-")) (sym is) chunk_clean
+      all_clean name (inr (inr is)) = subst (λ (n : Word). first_of n rows ≢ Some (codes "-")) (sym is) clean
 
-pub of_file_is : (v : Verb) (words : List Word) (rows : List Row) (reading : IsReading v words rows) (file : Word) → places_of v ≡ codes "file" ∷ [] → ((name : Word) → IsOption v name → ⊥) → first_of (codes "file") rows ≡ Some file → file ≢ []
+pub of_file_is : (v : Verb) (words : List Word) (rows : List Row) (reading : IsReading v words rows) (file : Word) → IsOfOne v → ((name : Word) → IsOption v name → ⊥) → first_of (codes "file") rows ≡ Some file → file ≢ []
     → IsOfFile v words file
 of_file_is v words rows reading file one none is named = record {
   items = reading.items;
@@ -177,7 +212,7 @@ pub cat_is : (words : List Word) (rows : List Row) (reading : IsReading verb.Cat
     → IsRange reading.items range → topic ≡ first_of (codes "topic") rows → first_of (codes "topic") rows ≢ Some (codes "-") → IsCat words file indexed range topic
 cat_is words rows reading file indexed range topic is named flagged ranged topical clean = record {
   items = reading.items;
-  reads = subst (Reads verb.Cat words reading.items) (file_place verb.Cat words rows reading file refl is) (exact_reading verb.Cat words rows reading all_clean);
+  reads = subst (Reads verb.Cat words reading.items) (file_place verb.Cat words rows reading file tt is) (exact_reading verb.Cat words rows reading all_clean);
   named = named;
   flagged = flagged;
   ranged = ranged;
@@ -212,8 +247,8 @@ once_number least most values (Some n) (word, gives, is) = (Some word, gives)
 abbrev Once : Verb → List Item → Word → Type 0
 Once v items name = (value : Option Word) × (given name items ≡ option_to_list value)
 
-fits_record : (words : List Word) (out feed : Word) (file : FileOptions) (limit : ℕ) (is : IsRecord words out feed file limit) → Fits verb.Record is.items (out ∷ feed ∷ [])
-fits_record words out feed file limit is = record { options = options; flags = flags; few = omega arith }
+fits_record : (words : List Word) (out : Word) (feeds : List Word) (file : FileOptions) (limit : ℕ) (lossless : Bool) (is : IsRecord words out feeds file limit lossless) → Fits verb.Record is.items (out ∷ feeds)
+fits_record words out feeds file limit lossless is = record { options = options; flags = flags; few = tt }
   where
     options : (name : Word) → IsOption verb.Record name → Once verb.Record is.items name
     options name (inl same) = subst (Once verb.Record is.items) (sym same) (once_number 1 1073741824 (given (codes "limit") is.items) is.size is.sized)
@@ -221,7 +256,8 @@ fits_record words out feed file limit is = record { options = options; flags = f
     options name (inr (inr same)) = subst (Once verb.Record is.items) (sym same) (is.options.profile.value, is.options.profile.once)
 
     flags : (name : Word) → IsFlag verb.Record name → (is_there : Bool) × Flags (given name is.items) is_there
-    flags name same = subst (λ (n : Word). (is_there : Bool) × Flags (given n is.items) is_there) (sym same) (is.options.chunk.is_plain, is.options.chunk.plain)
+    flags name (inl same) = subst (λ (n : Word). (is_there : Bool) × Flags (given n is.items) is_there) (sym same) (is.options.chunk.is_plain, is.options.chunk.plain)
+    flags name (inr same) = subst (λ (n : Word). (is_there : Bool) × Flags (given n is.items) is_there) (sym same) (lossless, is.flagged)
 
 fits_cat : (words : List Word) (file : Word) (indexed : Bool) (range : Range) (topic : Option Word) (is : IsCat words file indexed range topic) → Fits verb.Cat is.items (file ∷ [])
 fits_cat words file indexed range topic is = record { options = options; flags = flags; few = omega arith }
@@ -236,9 +272,9 @@ fits_cat words file indexed range topic is = record { options = options; flags =
 
 -- words that fit no command are bad
 pub unread_bad : (words : List Word) → AreUnread words → AreBad words
-unread_bad words unread (Record out feed file limit) is =
-    let record_of : IsRecord is.rest out feed file limit = is.behind in
-    unread verb.Record is.rest record_of.items (out ∷ feed ∷ []) is.form record_of.reads (fits_record is.rest out feed file limit record_of)
+unread_bad words unread (Record out feeds file limit lossless) is =
+    let record_of : IsRecord is.rest out feeds file limit lossless = is.behind in
+    unread verb.Record is.rest record_of.items (out ∷ feeds) is.form record_of.reads (fits_record is.rest out feeds file limit lossless record_of)
 unread_bad words unread (Info file) is =
     let info_of : IsOfFile verb.Info is.rest file = is.behind in
     unread verb.Info is.rest info_of.items (file ∷ []) is.form info_of.reads (record { options = λ name none. absurd none; flags = λ name none. absurd none; few = omega arith })
@@ -275,7 +311,7 @@ name_whole verb.Check same = cc
 name_whole verb.Cat same = cc
 
 behind_whole : (words : List Word) (command : Command) → Behind words command → All NoDash words
-behind_whole words (Record out feed file limit) is = let one : IsRecord words out feed file limit = is in reads_whole verb.Record words one.items (out ∷ feed ∷ []) one.reads
+behind_whole words (Record out feeds file limit lossless) is = let one : IsRecord words out feeds file limit lossless = is in reads_whole verb.Record words one.items (out ∷ feeds) one.reads
 behind_whole words (Info file) is = let one : IsOfFile verb.Info words file = is in reads_whole verb.Info words one.items (file ∷ []) one.reads
 behind_whole words (Check file) is = let one : IsOfFile verb.Check words file = is in reads_whole verb.Check words one.items (file ∷ []) one.reads
 behind_whole words (Cat file indexed range topic) is = let one : IsCat words file indexed range topic = is in reads_whole verb.Cat words one.items (file ∷ []) one.reads
@@ -287,30 +323,50 @@ derived_whole words command is =
 -- ---- for the code that reads what was found
 
 -- the words of a recording have these names
-pub record_names : (words : List Word) (rows : List Row) (reading : IsReading verb.Record words rows) (out feed : Word) (file : FileOptions) (limit : ℕ) → IsRecord words out feed file limit
-    → (first_of (codes "out") rows ≡ Some out) × (first_of (codes "feed") rows ≡ Some feed)
-record_names words rows reading out feed file limit is =
-    names_are words rows reading out feed (sym (same_reading verb.Record words rows reading is.items (out ∷ feed ∷ []) is.reads).1)
+module _ (words : List Word) (rows : List Row) (reading : IsReading verb.Record words rows) (out : Word) (feeds : List Word) (file : FileOptions) (limit : ℕ) (lossless : Bool) (is : IsRecord words out feeds file limit lossless) where
+  pub record_names : (first_of (codes "out") rows ≡ Some out) × (all_found (codes "feed") rows ≡ feeds)
+  record_names = names_are words rows reading out feeds (sym (same_reading verb.Record words rows reading is.items (out ∷ feeds) is.reads).1)
 
-pub record_options : (words : List Word) (rows : List Row) (reading : IsReading verb.Record words rows) (out feed : Word) (file : FileOptions) (limit : ℕ) → IsRecord words out feed file limit → IsFileOptions reading.items file
-record_options words rows reading out feed file limit is =
-    subst (λ (l : List Item). IsFileOptions l file) (same_reading verb.Record words rows reading is.items (out ∷ feed ∷ []) is.reads).0 is.options
+  record_feeds : AreFeeds out feeds
+  record_feeds = (is.some, is.few, λ i d less. (is.feeds_named i d less, is.differ i d less))
 
-pub record_limit : (words : List Word) (rows : List Row) (reading : IsReading verb.Record words rows) (out feed : Word) (file : FileOptions) (limit : ℕ) (is : IsRecord words out feed file limit)
-    → GivesNumber 1 1073741824 (option_to_list (first_of (codes "limit") rows)) is.size
-record_limit words rows reading out feed file limit is =
-    let same = ap (given (codes "limit")) (same_reading verb.Record words rows reading is.items (out ∷ feed ∷ []) is.reads).0 ∙ reading.shows.options (codes "limit") (inl refl) in
-    subst (λ (l : List Word). GivesNumber 1 1073741824 l is.size) same is.sized
+  pub record_fed : (name : Word) → first_of (codes "out") rows ≡ Some name → AreFeeds name (all_found (codes "feed") rows)
+  record_fed name found =
+      let same : out ≡ name = same_Some out name (sym record_names.0 ∙ found) in
+      subst (λ (o : Word). AreFeeds o (all_found (codes "feed") rows)) same (subst (AreFeeds out) (sym record_names.1) record_feeds)
 
-pub file_of_file : (v : Verb) (words : List Word) (rows : List Row) (reading : IsReading v words rows) (file : Word) → places_of v ≡ codes "file" ∷ [] → IsOfFile v words file → first_of (codes "file") rows ≡ Some file
+  pub record_options : IsFileOptions reading.items file
+  record_options = subst (λ (l : List Item). IsFileOptions l file) (same_reading verb.Record words rows reading is.items (out ∷ feeds) is.reads).0 is.options
+
+  pub record_limit : GivesNumber 1 1073741824 (option_to_list (first_of (codes "limit") rows)) is.size
+  record_limit =
+      let same = ap (given (codes "limit")) (same_reading verb.Record words rows reading is.items (out ∷ feeds) is.reads).0 ∙ reading.shows.options (codes "limit") (inl refl) in
+      subst (λ (l : List Word). GivesNumber 1 1073741824 l is.size) same is.sized
+
+pub file_of_file : (v : Verb) (words : List Word) (rows : List Row) (reading : IsReading v words rows) (file : Word) → IsOfOne v → IsOfFile v words file → first_of (codes "file") rows ≡ Some file
 file_of_file v words rows reading file one is = file_is v words rows reading file one (sym (same_reading v words rows reading is.items (file ∷ []) is.reads).1)
 
 pub file_of_cat : (words : List Word) (rows : List Row) (reading : IsReading verb.Cat words rows) (file : Word) (indexed : Bool) (range : Range) (topic : Option Word) → IsCat words file indexed range topic → first_of (codes "file") rows ≡ Some file
-file_of_cat words rows reading file indexed range topic is = file_is verb.Cat words rows reading file refl (sym (same_reading verb.Cat words rows reading is.items (file ∷ []) is.reads).1)
+file_of_cat words rows reading file indexed range topic is = file_is verb.Cat words rows reading file tt (sym (same_reading verb.Cat words rows reading is.items (file ∷ []) is.reads).1)
 
 pub range_of_cat : (words : List Word) (rows : List Row) (reading : IsReading verb.Cat words rows) (file : Word) (indexed : Bool) (range : Range) (topic : Option Word) → IsCat words file indexed range topic → IsRange reading.items range
 range_of_cat words rows reading file indexed range topic is =
     subst (λ (l : List Item). IsRange l range) (same_reading verb.Cat words rows reading is.items (file ∷ []) is.reads).0 is.ranged
+
+-- the feeds among the words
+abbrev MayFeed : Word → Word → Type 0
+MayFeed out feed = (feed ≢ []) × (out ≢ feed)
+
+texts_feed : (out : Word) (feeds : List (Bor Word)) → All (MayFeed out) (texts feeds) → All (λ feed. MayFeed out feed.now) feeds
+texts_feed out [] each = All-nil (λ feed. MayFeed out feed.now)
+texts_feed out (feed ∷ feeds) each =
+    All-cons (λ feed. MayFeed out feed.now) feed feeds (All-head (MayFeed out) feed.now (texts feeds) each) (texts_feed out feeds (All-tail (MayFeed out) feed.now (texts feeds) each))
+
+pub feeds_are : (out : Word) (feeds : List (Bor Word)) → 1 ≤ length feeds → length feeds ≤ 64 → All (λ feed. MayFeed out feed.now) feeds → AreFeeds out (texts feeds)
+feeds_are out feeds some few each = (omega (arith, length-map feeds (λ word. word.now), some), omega (arith, length-map feeds (λ word. word.now), few), All-map (MayFeed out) (λ word. word.now) feeds each)
+
+pub feeds_fit : (out : Word) (feeds : List (Bor Word)) → AreFeeds out (texts feeds) → (1 ≤ length feeds) × (length feeds ≤ 64) × All (λ feed. MayFeed out feed.now) feeds
+feeds_fit out feeds are = (omega (arith, length-map feeds (λ word. word.now), are.0), omega (arith, length-map feeds (λ word. word.now), are.1), texts_feed out feeds are.2)
 
 name_first : (found : ArgMatches) → subcommand_name_of found ≡ option_map (λ (p : Word × List Row). p.0) (subcommand_rows_of found)
 name_first found = go (out-ArgMatches found).subcommand refl
@@ -349,31 +405,31 @@ pub entered_rows : (found : ArgMatches) (name : Word) (rows : List Row) (entered
 entered_rows found name rows entered is same = same ∙ ap (option_map (λ (p : Word × List Row). p.1)) is
 
 -- a command is one of its variant
-pub only_record : (words : List Word) → ((out feed : Word) (file : FileOptions) (limit : ℕ) → IsRecord words out feed file limit → ⊥) → (command : Command) → verb_of command ≡ verb.Record → Behind words command → ⊥
-only_record words bad (Record out feed file limit) same is = bad out feed file limit is
+pub only_record : (words : List Word) → ((out : Word) (feeds : List Word) (file : FileOptions) (limit : ℕ) (lossless : Bool) → IsRecord words out feeds file limit lossless → ⊥) → (command : Command) → verb_of command ≡ verb.Record → Behind words command → ⊥
+only_record words bad (Record out feeds file limit lossless) same is = bad out feeds file limit lossless is
 only_record words bad (Info file) same is = cc
 only_record words bad (Check file) same is = cc
 only_record words bad (Cat file indexed range topic) same is = cc
 
 pub only_info : (words : List Word) → ((file : Word) → IsOfFile verb.Info words file → ⊥) → (command : Command) → verb_of command ≡ verb.Info → Behind words command → ⊥
-only_info words bad (Record out feed file limit) same is = cc
+only_info words bad (Record out feeds file limit lossless) same is = cc
 only_info words bad (Info file) same is = bad file is
 only_info words bad (Check file) same is = cc
 only_info words bad (Cat file indexed range topic) same is = cc
 
 pub only_check : (words : List Word) → ((file : Word) → IsOfFile verb.Check words file → ⊥) → (command : Command) → verb_of command ≡ verb.Check → Behind words command → ⊥
-only_check words bad (Record out feed file limit) same is = cc
+only_check words bad (Record out feeds file limit lossless) same is = cc
 only_check words bad (Info file) same is = cc
 only_check words bad (Check file) same is = bad file is
 only_check words bad (Cat file indexed range topic) same is = cc
 
 pub only_cat : (words : List Word) → ((file : Word) (indexed : Bool) (range : Range) (topic : Option Word) → IsCat words file indexed range topic → ⊥) → (command : Command) → verb_of command ≡ verb.Cat → Behind words command → ⊥
-only_cat words bad (Record out feed file limit) same is = cc
+only_cat words bad (Record out feeds file limit lossless) same is = cc
 only_cat words bad (Info file) same is = cc
 only_cat words bad (Check file) same is = cc
 only_cat words bad (Cat file indexed range topic) same is = bad file indexed range topic is
 
-pub of_named_file : (v : Verb) (words : List Word) (rows : List Row) (reading : IsReading v words rows) (file : Word) → places_of v ≡ codes "file" ∷ [] → IsOfFile v words file → (file ≢ []) × (first_of (codes "file") rows ≡ Some file)
+pub of_named_file : (v : Verb) (words : List Word) (rows : List Row) (reading : IsReading v words rows) (file : Word) → IsOfOne v → IsOfFile v words file → (file ≢ []) × (first_of (codes "file") rows ≡ Some file)
 of_named_file v words rows reading file one is = (is.named, file_of_file v words rows reading file one is)
 
 -- the command that was entered, and no other

@@ -25,7 +25,8 @@ bare_is (c ∷ cs) is zero less = bare_head c cs is
 bare_is (c ∷ cs) is (suc i) less = bare_is cs (bare_tail (not (c == 61)) (bare cs) is) i (omega (arith, less))
 
 pub flag_bare : (verb : Verb) (name : Word) → IsFlag verb name → IsBare name
-flag_bare verb.Record name is = subst IsBare (sym is) (bare_is (codes "plain") refl)
+flag_bare verb.Record name (inl is) = subst IsBare (sym is) (bare_is (codes "plain") refl)
+flag_bare verb.Record name (inr is) = subst IsBare (sym is) (bare_is (codes "lossless") refl)
 flag_bare verb.Info name is = absurd is
 flag_bare verb.Check name is = absurd is
 flag_bare verb.Cat name is = subst IsBare (sym is) (bare_is (codes "indexed") refl)
@@ -48,9 +49,12 @@ two_names : (one two name : Word) → bytes_eq one two ≡ false → name ≡ on
 two_names one two name unlike is other = let same : bytes_eq one two ≡ true = (bytes_eq-Decides one two).1 (sym is ∙ other) in let wrong : false ≡ true = sym unlike ∙ same in cc
 
 pub flag_or_option : (verb : Verb) (name : Word) → IsFlag verb name → IsOption verb name → ⊥
-flag_or_option verb.Record name is (inl other) = two_names (codes "plain") (codes "limit") name refl is other
-flag_or_option verb.Record name is (inr (inl other)) = two_names (codes "plain") (codes "chunk") name refl is other
-flag_or_option verb.Record name is (inr (inr other)) = two_names (codes "plain") (codes "profile") name refl is other
+flag_or_option verb.Record name (inl is) (inl other) = two_names (codes "plain") (codes "limit") name refl is other
+flag_or_option verb.Record name (inl is) (inr (inl other)) = two_names (codes "plain") (codes "chunk") name refl is other
+flag_or_option verb.Record name (inl is) (inr (inr other)) = two_names (codes "plain") (codes "profile") name refl is other
+flag_or_option verb.Record name (inr is) (inl other) = two_names (codes "lossless") (codes "limit") name refl is other
+flag_or_option verb.Record name (inr is) (inr (inl other)) = two_names (codes "lossless") (codes "chunk") name refl is other
+flag_or_option verb.Record name (inr is) (inr (inr other)) = two_names (codes "lossless") (codes "profile") name refl is other
 flag_or_option verb.Info name is other = is
 flag_or_option verb.Check name is other = is
 flag_or_option verb.Cat name is (inl other) = two_names (codes "indexed") (codes "start") name refl is other
@@ -59,7 +63,8 @@ flag_or_option verb.Cat name is (inr (inr other)) = two_names (codes "indexed") 
 
 -- no name is empty
 pub no_empty_flag : (verb : Verb) → IsFlag verb [] → ⊥
-no_empty_flag verb.Record is = cc
+no_empty_flag verb.Record (inl is) = cc
+no_empty_flag verb.Record (inr is) = cc
 no_empty_flag verb.Info is = is
 no_empty_flag verb.Check is = is
 no_empty_flag verb.Cat is = cc

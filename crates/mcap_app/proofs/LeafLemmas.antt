@@ -1,6 +1,6 @@
 -- What a command that reads these words finds, behind the walk over them.
-use Rattle.std.proofs.Common.{◌≡◌, ◌≢◌, ◌||◌, ◌++◌, Bool, true, false, List, [], ◌∷◌, Option, Some, None, refl, sym, ap, subst, ◌∙◌, codes, option_map}
-use Rattle.std.specs.Prelude.{⊤, find, fold, is_some, option_and_then, slice_get, if◌then◌else◌}
+use Rattle.std.proofs.Common.{◌≡◌, ◌≢◌, ◌||◌, ◌++◌, Bool, true, false, List, [], ◌∷◌, Option, Some, None, refl, sym, ap, subst, inl, inr, ◌∙◌, codes, option_map}
+use Rattle.std.specs.Prelude.{⊤, find, fold, is_some, map, option_and_then, slice_get, unwrap_or, if◌then◌else◌}
 use Rattle.std.specs.Str.{bytes_eq}
 use Rattle.clap.specs.Kinds.{Kinds}
 use Rattle.clap.specs.Walk.{Row, Rule, finished, has_row, is_empty, more_values, nothing_held, one_of, row_text, settled, walk, walk_from, idle, with_default}
@@ -11,11 +11,11 @@ use Rattle.clap.specs.Faults.{check_fault, default_fault, defaults_fault, level_
 use Rattle.clap.specs.declared.builder.value_parser.Reading.TheVariants.{AsWritten}
 use Rattle.clap.specs.declared.parser.matches.ValueSource.TheVariants.{DefaultValue}
 use Rattle.mcap_app.specs.Items.{Word, Item, IsFlag, IsOption}
-use Rattle.mcap_app.specs.Matches.{Shows}
+use Rattle.mcap_app.specs.Matches.{Shows, all_found}
 use Rattle.mcap_app.specs.declared.verbs.Verb.{Verb}
 use Rattle.mcap_app.specs.declared.verbs.Verb.TheVariants as verb
-use Rattle.mcap_app.proofs.RowLemmas.{Holds, Said, row, find_more, has_is_some, no_row, no_row_has, none_there, other_text, same_text}
-use Rattle.mcap_app.proofs.RuleLemmas.{flag_not_place, flag_rule, option_rule, place_rule, rules_of}
+use Rattle.mcap_app.proofs.RowLemmas.{Gathered, Holds, Said, row, find_more, has_is_some, no_row, no_row_has, none_there, other_text, same_text}
+use Rattle.mcap_app.proofs.RuleLemmas.{flag_not_place, flag_rule, option_rule, place_rule, places_map, rest_rule, rules_of}
 use Rattle.mcap_app.proofs.TurnLemmas.{Passes, at, both_none, first_none, leaf, second_none}
 
 -- ---- what is checked behind the walk finds nothing
@@ -47,12 +47,15 @@ all_pass : (verb : Verb) → AllPass (rules_of verb)
 all_pass verb.Record = (
   λ rows. flag_default rows (codes "plain"),
   (
-    λ rows. plain_default rows (option_rule (codes "limit")) refl,
+    λ rows. flag_default rows (codes "lossless"),
     (
-      λ rows. plain_default rows (option_rule (codes "chunk")) refl,
+      λ rows. plain_default rows (option_rule (codes "limit")) refl,
       (
-        λ rows. plain_default rows (option_rule (codes "profile")) refl,
-        (λ rows. plain_default rows (place_rule (codes "out") 1) refl, (λ rows. plain_default rows (place_rule (codes "feed") 2) refl, tt)),
+        λ rows. plain_default rows (option_rule (codes "chunk")) refl,
+        (
+          λ rows. plain_default rows (option_rule (codes "profile")) refl,
+          (λ rows. plain_default rows (place_rule (codes "out") 1) refl, (λ rows. plain_default rows (rest_rule (codes "feed") 2) refl, tt)),
+        ),
       ),
     ),
   ),
@@ -106,33 +109,32 @@ unlisted rows a none = go (has_row a.id rows) refl
     go true is = rw is refl
     go false is = rw (is, none) refl
 
--- the flag of a command, where it has one
-abbrev flag_of : Verb → Option Word
-flag_of verb.Record = Some (codes "plain")
-flag_of verb.Info = None
-flag_of verb.Check = None
-flag_of verb.Cat = Some (codes "indexed")
+-- the flags of a command
+abbrev flags_of : Verb → List Word
+flags_of verb.Record = codes "plain" ∷ codes "lossless" ∷ []
+flags_of verb.Info = []
+flags_of verb.Check = []
+flags_of verb.Cat = codes "indexed" ∷ []
 
-abbrev flagged : Option Word → List Row → List Row
-flagged None rows = rows
-flagged (Some name) rows = with_default rows (flag_rule name)
+abbrev flagged : List Word → List Row → List Row
+flagged names rows = fold with_default rows (map flag_rule names)
 
-finished_rows : (verb : Verb) (rows : List Row) → fold with_default rows (rules_of verb) ≡ flagged (flag_of verb) rows
+abbrev NoDefaults : List Rule → Type 0
+NoDefaults [] = ⊤
+NoDefaults (a ∷ rest) = (a.defaults ≡ []) × NoDefaults rest
+
+unlisted_all : (rules : List Rule) (rows : List Row) → NoDefaults rules → fold with_default rows rules ≡ rows
+unlisted_all [] rows none = refl
+unlisted_all (a ∷ rest) rows none = ap (λ (l : List Row). fold with_default l rest) (unlisted rows a none.0) ∙ unlisted_all rest rows none.1
+
+finished_rows : (verb : Verb) (rows : List Row) → fold with_default rows (rules_of verb) ≡ flagged (flags_of verb) rows
 finished_rows verb.Record rows =
-    let r = with_default rows (flag_rule (codes "plain")) in
-    ap (λ (l : List Row). fold with_default l (option_rule (codes "chunk") ∷ option_rule (codes "profile") ∷ place_rule (codes "out") 1 ∷ place_rule (codes "feed") 2 ∷ [])) (unlisted r (option_rule (codes "limit")) refl)
-    ∙ ap (λ (l : List Row). fold with_default l (option_rule (codes "profile") ∷ place_rule (codes "out") 1 ∷ place_rule (codes "feed") 2 ∷ [])) (unlisted r (option_rule (codes "chunk")) refl)
-    ∙ ap (λ (l : List Row). fold with_default l (place_rule (codes "out") 1 ∷ place_rule (codes "feed") 2 ∷ [])) (unlisted r (option_rule (codes "profile")) refl)
-    ∙ ap (λ (l : List Row). fold with_default l (place_rule (codes "feed") 2 ∷ [])) (unlisted r (place_rule (codes "out") 1) refl)
-    ∙ unlisted r (place_rule (codes "feed") 2) refl
-finished_rows verb.Info rows = unlisted rows (place_rule (codes "file") 1) refl
-finished_rows verb.Check rows = unlisted rows (place_rule (codes "file") 1) refl
+    unlisted_all (option_rule (codes "limit") ∷ option_rule (codes "chunk") ∷ option_rule (codes "profile") ∷ place_rule (codes "out") 1 ∷ rest_rule (codes "feed") 2 ∷ []) (flagged (flags_of verb.Record) rows)
+    (refl, (refl, (refl, (refl, (refl, tt)))))
+finished_rows verb.Info rows = unlisted_all (place_rule (codes "file") 1 ∷ []) rows (refl, tt)
+finished_rows verb.Check rows = unlisted_all (place_rule (codes "file") 1 ∷ []) rows (refl, tt)
 finished_rows verb.Cat rows =
-    let r = with_default rows (flag_rule (codes "indexed")) in
-    ap (λ (l : List Row). fold with_default l (option_rule (codes "end") ∷ option_rule (codes "topic") ∷ place_rule (codes "file") 1 ∷ [])) (unlisted r (option_rule (codes "start")) refl)
-    ∙ ap (λ (l : List Row). fold with_default l (option_rule (codes "topic") ∷ place_rule (codes "file") 1 ∷ [])) (unlisted r (option_rule (codes "end")) refl)
-    ∙ ap (λ (l : List Row). fold with_default l (place_rule (codes "file") 1 ∷ [])) (unlisted r (option_rule (codes "topic")) refl)
-    ∙ unlisted r (place_rule (codes "file") 1) refl
+    unlisted_all (option_rule (codes "start") ∷ option_rule (codes "end") ∷ option_rule (codes "topic") ∷ place_rule (codes "file") 1 ∷ []) (flagged (flags_of verb.Cat) rows) (refl, (refl, (refl, (refl, tt))))
 
 abbrev default_row : Word → Row
 default_row id = record {
@@ -171,25 +173,36 @@ flag_shown rows id false said =
     let last : find (λ r. bytes_eq r.id id) (rows ++ default_row id ∷ []) ≡ Some (default_row id) = find_more id rows (default_row id) ∙ rw (said, same_text id) refl in
     ap (one_of id) (with_false rows id said) ∙ ap (option_and_then row_text) last
 
-flag_is : (verb : Verb) (name : Word) → IsFlag verb name → flag_of verb ≡ Some name
-flag_is verb.Record name is = ap (λ (n : Word). Some n) (sym is)
-flag_is verb.Info name is = absurd is
-flag_is verb.Check name is = absurd is
-flag_is verb.Cat name is = ap (λ (n : Word). Some n) (sym is)
-
-its_flag : (verb : Verb) (name : Word) → flag_of verb ≡ Some name → IsFlag verb name
-its_flag verb.Record name is = cc
-its_flag verb.Info name is = cc
-its_flag verb.Check name is = cc
-its_flag verb.Cat name is = cc
-
 -- a name that is no flag is found as it was
-kept_found : (verb : Verb) (name : Word) (rows : List Row) → ((id : Word) → IsFlag verb id → id ≢ name) → find (λ r. bytes_eq r.id name) (flagged (flag_of verb) rows) ≡ find (λ r. bytes_eq r.id name) rows
-kept_found verb name rows unlike = go (flag_of verb) refl
-  where
-    go : (id : Option Word) → flag_of verb ≡ id → find (λ r. bytes_eq r.id name) (flagged id rows) ≡ find (λ r. bytes_eq r.id name) rows
-    go None is = refl
-    go (Some id) is = found_other rows id name (unlike id (its_flag verb id is))
+kept_found : (verb : Verb) (name : Word) (rows : List Row) → ((id : Word) → IsFlag verb id → id ≢ name) → find (λ r. bytes_eq r.id name) (flagged (flags_of verb) rows) ≡ find (λ r. bytes_eq r.id name) rows
+kept_found verb.Record name rows unlike =
+    found_other (with_default rows (flag_rule (codes "plain"))) (codes "lossless") name (unlike (codes "lossless") (inr refl)) ∙ found_other rows (codes "plain") name (unlike (codes "plain") (inl refl))
+kept_found verb.Info name rows unlike = refl
+kept_found verb.Check name rows unlike = refl
+kept_found verb.Cat name rows unlike = found_other rows (codes "indexed") name (unlike (codes "indexed") refl)
+
+plain_not_lossless : codes "plain" ≢ codes "lossless"
+plain_not_lossless same = cc
+
+-- and a flag is there or not
+flags_shown : (verb : Verb) (name : Word) (rows : List Row) (is_there : Bool) → IsFlag verb name → Said rows name (if is_there then Some (codes "true") else None) → one_of name (flagged (flags_of verb) rows) ≡ Some (bool_text is_there)
+flags_shown verb.Record name rows is_there (inl is) said =
+    let here : Said rows (codes "plain") (if is_there then Some (codes "true") else None) = subst (λ (n : Word). Said rows n (if is_there then Some (codes "true") else None)) is said in
+    subst (λ (n : Word). one_of n (flagged (flags_of verb.Record) rows) ≡ Some (bool_text is_there)) (sym is)
+    (ap (option_and_then row_text) (found_other (with_default rows (flag_rule (codes "plain"))) (codes "lossless") (codes "plain") (λ same. plain_not_lossless (sym same))) ∙ flag_shown rows (codes "plain") is_there here)
+flags_shown verb.Record name rows is_there (inr is) said =
+    let here : Said rows (codes "lossless") (if is_there then Some (codes "true") else None) = subst (λ (n : Word). Said rows n (if is_there then Some (codes "true") else None)) is said in
+    let kept : Said (with_default rows (flag_rule (codes "plain"))) (codes "lossless") (if is_there then Some (codes "true") else None) = found_other rows (codes "plain") (codes "lossless") plain_not_lossless ∙ here in
+    subst (λ (n : Word). one_of n (flagged (flags_of verb.Record) rows) ≡ Some (bool_text is_there)) (sym is) (flag_shown (with_default rows (flag_rule (codes "plain"))) (codes "lossless") is_there kept)
+flags_shown verb.Info name rows is_there is said = absurd is
+flags_shown verb.Check name rows is_there is said = absurd is
+flags_shown verb.Cat name rows is_there is said =
+    subst (λ (n : Word). one_of n (flagged (flags_of verb.Cat) rows) ≡ Some (bool_text is_there)) (sym is)
+    (flag_shown rows (codes "indexed") is_there (subst (λ (n : Word). Said rows n (if is_there then Some (codes "true") else None)) is said))
+
+gathered_found : (rows : List Row) (id : Word) (values : List Word) → Gathered rows id values → all_found id rows ≡ values
+gathered_found rows id [] there = ap (λ (r : Option Row). unwrap_or (option_map (λ (r : Row). r.values) r) []) there
+gathered_found rows id (v ∷ vs) there = ap (λ (r : Option Row). unwrap_or (option_map (λ (r : Row). r.values) r) []) there
 
 pub holds_shows : (verb : Verb) (items : List Item) (places : List Word) (rows : List Row) → Holds verb items places rows → Shows verb items places (fold with_default rows (rules_of verb))
 holds_shows verb items places rows holds = subst (Shows verb items places) (sym (finished_rows verb rows)) (record {
@@ -199,10 +212,9 @@ holds_shows verb items places rows holds = subst (Shows verb items places) (sym 
       one.1 ∙ sym (ap option_to_list (ap (option_and_then (λ (r : Row). slice_get r.values 0)) found ∙ first_value name one.0));
   flags = λ name is.
       let one = holds.flags name is in
-      (one.0, one.1, ap (λ (o : Option Word). one_of name (flagged o rows)) (flag_is verb name is) ∙ flag_shown rows name one.0 one.2);
-  placed = λ j id at.
-      let found = kept_found verb id rows (λ name flag. flag_not_place verb name id j flag at) ∙ holds.placed j id at in
-      ap (option_and_then (λ (r : Row). slice_get r.values 0)) found ∙ first_value id (slice_get places j);
+      (one.0, one.1, flags_shown verb name rows one.0 is one.2);
+  placed = places_map verb places (Gathered rows) (λ id words. all_found id (flagged (flags_of verb) rows) ≡ words)
+      (λ id words place there. gathered_found (flagged (flags_of verb) rows) id words (kept_found verb id rows (λ name flag. flag_not_place verb name id flag place) ∙ there)) holds.placed;
   few = holds.few;
 })
   where

@@ -16,6 +16,9 @@ mod Due
 mod Statuses
 mod Whole
 mod Held
+mod Flags
+mod Parts
+mod Sources
 mod Runs
 mod Lines
 mod Answered

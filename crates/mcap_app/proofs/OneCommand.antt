@@ -81,15 +81,17 @@ one_range items a b is other =
 
 -- ---- commands
 
-one_record : (words : List Word) (out feed : Word) (file : FileOptions) (limit : ℕ) (out' feed' : Word) (file' : FileOptions) (limit' : ℕ) → IsRecord words out feed file limit → IsRecord words out' feed' file' limit'
-    → Record out' feed' file' limit' ≡ Record out feed file limit
-one_record words out feed file limit out' feed' file' limit' is other =
-    let same = one_reading verb.Record words is.items other.items (out ∷ feed ∷ []) (out' ∷ feed' ∷ []) is.reads other.reads in
-    let places = same.1 in
-    let files : file' ≡ file = one_options is.items file file' is.options (subst (λ (l : List Item). IsFileOptions l file') same.0 other.options) in
-    let size = one_number 1 1073741824 (given (codes "limit") is.items) is.size other.size is.sized (subst (λ (l : List Item). GivesNumber 1 1073741824 (given (codes "limit") l) other.size) same.0 other.sized) in
-    let limits : limit' ≡ limit = other.limited ∙ ap (λ (v : Option ℕ). unwrap_or v 104857600) size ∙ sym is.limited in
-    cc
+module _ (words : List Word) (out : Word) (feeds : List Word) (file : FileOptions) (limit : ℕ) (lossless : Bool) where
+  one_record : (out' : Word) (feeds' : List Word) (file' : FileOptions) (limit' : ℕ) (lossless' : Bool) → IsRecord words out feeds file limit lossless → IsRecord words out' feeds' file' limit' lossless'
+      → Record out' feeds' file' limit' lossless' ≡ Record out feeds file limit lossless
+  one_record out' feeds' file' limit' lossless' is other =
+      let same = one_reading verb.Record words is.items other.items (out ∷ feeds) (out' ∷ feeds') is.reads other.reads in
+      let places : out' ∷ feeds' ≡ out ∷ feeds = same.1 in
+      let flags : lossless' ≡ lossless = one_flag (given (codes "lossless") is.items) lossless lossless' is.flagged (subst (λ (l : List Item). Flags (given (codes "lossless") l) lossless') same.0 other.flagged) in
+      let files : file' ≡ file = one_options is.items file file' is.options (subst (λ (l : List Item). IsFileOptions l file') same.0 other.options) in
+      let size = one_number 1 1073741824 (given (codes "limit") is.items) is.size other.size is.sized (subst (λ (l : List Item). GivesNumber 1 1073741824 (given (codes "limit") l) other.size) same.0 other.sized) in
+      let limits : limit' ≡ limit = other.limited ∙ ap (λ (v : Option ℕ). unwrap_or v 104857600) size ∙ sym is.limited in
+      cc
 
 one_file : (v : Verb) (words : List Word) (file file' : Word) → IsOfFile v words file → IsOfFile v words file' → file' ≡ file
 one_file v words file file' is other = let same = one_reading v words is.items other.items (file ∷ []) (file' ∷ []) is.reads other.reads in let places = same.1 in cc
@@ -109,19 +111,19 @@ two_names : (one two : Word) → bytes_eq one two ≡ false → one ≡ two → 
 two_names one two unlike is = let same : bytes_eq one two ≡ true = (bytes_eq-Decides one two).1 is in let wrong : false ≡ true = sym unlike ∙ same in cc
 
 one_behind : (words : List Word) (a b : Command) → name_of (verb_of a) ≡ name_of (verb_of b) → Behind words a → Behind words b → b ≡ a
-one_behind words (Record out feed file limit) (Record out' feed' file' limit') names is other = one_record words out feed file limit out' feed' file' limit' is other
-one_behind words (Record out feed file limit) (Info file') names is other = absurd (two_names (codes "record") (codes "info") refl names)
-one_behind words (Record out feed file limit) (Check file') names is other = absurd (two_names (codes "record") (codes "check") refl names)
-one_behind words (Record out feed file limit) (Cat file' indexed' range' topic') names is other = absurd (two_names (codes "record") (codes "cat") refl names)
-one_behind words (Info file) (Record out' feed' file' limit') names is other = absurd (two_names (codes "info") (codes "record") refl names)
+one_behind words (Record out feeds file limit lossless) (Record out' feeds' file' limit' lossless') names is other = one_record words out feeds file limit lossless out' feeds' file' limit' lossless' is other
+one_behind words (Record out feeds file limit lossless) (Info file') names is other = absurd (two_names (codes "record") (codes "info") refl names)
+one_behind words (Record out feeds file limit lossless) (Check file') names is other = absurd (two_names (codes "record") (codes "check") refl names)
+one_behind words (Record out feeds file limit lossless) (Cat file' indexed' range' topic') names is other = absurd (two_names (codes "record") (codes "cat") refl names)
+one_behind words (Info file) (Record out' feeds' file' limit' lossless') names is other = absurd (two_names (codes "info") (codes "record") refl names)
 one_behind words (Info file) (Info file') names is other = ap (λ (f : Word). Info f) (one_file verb.Info words file file' is other)
 one_behind words (Info file) (Check file') names is other = absurd (two_names (codes "info") (codes "check") refl names)
 one_behind words (Info file) (Cat file' indexed' range' topic') names is other = absurd (two_names (codes "info") (codes "cat") refl names)
-one_behind words (Check file) (Record out' feed' file' limit') names is other = absurd (two_names (codes "check") (codes "record") refl names)
+one_behind words (Check file) (Record out' feeds' file' limit' lossless') names is other = absurd (two_names (codes "check") (codes "record") refl names)
 one_behind words (Check file) (Info file') names is other = absurd (two_names (codes "check") (codes "info") refl names)
 one_behind words (Check file) (Check file') names is other = ap (λ (f : Word). Check f) (one_file verb.Check words file file' is other)
 one_behind words (Check file) (Cat file' indexed' range' topic') names is other = absurd (two_names (codes "check") (codes "cat") refl names)
-one_behind words (Cat file indexed range topic) (Record out' feed' file' limit') names is other = absurd (two_names (codes "cat") (codes "record") refl names)
+one_behind words (Cat file indexed range topic) (Record out' feeds' file' limit' lossless') names is other = absurd (two_names (codes "cat") (codes "record") refl names)
 one_behind words (Cat file indexed range topic) (Info file') names is other = absurd (two_names (codes "cat") (codes "info") refl names)
 one_behind words (Cat file indexed range topic) (Check file') names is other = absurd (two_names (codes "cat") (codes "check") refl names)
 one_behind words (Cat file indexed range topic) (Cat file' indexed' range' topic') names is other = one_cat words file indexed range topic file' indexed' range' topic' is other

@@ -17,7 +17,7 @@ IsShown rows name flag = (is_there : Bool) → one_of name rows ≡ Some (bool_t
 
 module _ (rows : List Row) (items : List Item) (places : List Word) (shows : Shows verb.Record items places rows) where
   flag_given : (flag : Bool) → IsShown rows (codes "plain") flag → Flags (given (codes "plain") items) flag
-  flag_given flag shown = let one = shows.flags (codes "plain") refl in subst (Flags (given (codes "plain") items)) (sym (shown one.0 one.2)) one.1
+  flag_given flag shown = let one = shows.flags (codes "plain") (inl refl) in subst (Flags (given (codes "plain") items)) (sym (shown one.0 one.2)) one.1
 
   pub chunks_are : (flag : Bool) (size chunk : Option ℕ) → IsShown rows (codes "plain") flag → GivesNumber 1 67108864 (option_to_list (first_of (codes "chunk") rows)) size → SizesChunks flag size chunk → HasChunks items chunk
   chunks_are flag size chunk shown gives sizes = record {

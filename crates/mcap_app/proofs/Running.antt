@@ -15,7 +15,7 @@ use Rattle.mcap_app.specs.Runs.{IsAllowed, Runs}
 
 -- no command has the status of bad words
 pub not_two : (command : Command) (old new : Scene) (report : Option Report) (status : ℕ) → Runs command old new report status → status ≡ 2 → ⊥
-not_two (commands.Record out feed file limit) old new report status runs two = record_not_two _ _ _ _ _ _ _ runs two
+not_two (commands.Record out feeds file limit lossless) old new report status runs two = record_not_two _ _ _ _ _ _ _ runs two
 not_two (commands.Info file) old new report status runs two = info_not_two _ _ _ _ runs.0 two
 not_two (commands.Check file) old new report status runs two = check_not_two _ _ _ _ runs.0 two
 not_two (commands.Cat file true range topic) old new report status runs two = indexed_not_two _ _ _ _ _ runs.0 two
@@ -41,15 +41,17 @@ chunk_in_range false values size chunk sizes gives n is =
 
 -- words give numbers in their ranges
 pub allowed : (words : List (List ℕ)) (command : Command) → Derives words command → IsAllowed command
-allowed words (commands.Record out feed file limit) derives =
+allowed words (commands.Record out feeds file limit lossless) derives =
     let is = derives.behind in
-    let limits = in_range 1 1073741824 104857600 _ is.size is.sized (omega arith) (omega arith) in
-    record {
-      some = omega (arith, is.limited, limits.0);
-      small = omega (arith, is.limited, limits.1);
-      size = chunk_in_range is.options.chunk.is_plain _ is.options.chunk.size file.chunk is.options.chunk.sizes is.options.chunk.sized;
-      short = is.options.profile.short;
-    }
+    let limits = in_range 1 1073741824 104857600 _ is.size is.sized (omega arith) (omega arith) in (
+      record {
+        some = omega (arith, is.limited, limits.0);
+        small = omega (arith, is.limited, limits.1);
+        size = chunk_in_range is.options.chunk.is_plain _ is.options.chunk.size file.chunk is.options.chunk.sizes is.options.chunk.sized;
+        short = is.options.profile.short;
+      },
+      (is.some, is.few),
+    )
 allowed words (commands.Info file) derives = tt
 allowed words (commands.Check file) derives = tt
 allowed words (commands.Cat file indexed range topic) derives = tt

@@ -26,6 +26,7 @@ use Rattle.mcap_model.proofs.Halting.{readings_halt_once}
 use Rattle.mcap_model.proofs.Prefixes.{ends_there}
 use Rattle.mcap_model.proofs.Fronts.{fronts_keep_whole}
 use Rattle.mcap_model.proofs.Flaws.{flaws_exclude_validity}
+use Rattle.recorder.specs.Recorded.{sides}
 use Rattle.recorder.specs.Laws.{ReadsAs, IsSound}
 use Rattle.recorder.proofs.Validity.{recordings_are_valid}
 use Rattle.file_check.specs.declared.refusals.CheckRefused.TheVariants as refusals
@@ -34,6 +35,7 @@ use Rattle.file_check.proofs.RealLimits.{limits_are_real}
 use Rattle.file_commands.specs.declared.checking.Judgement.{Judgement}
 use Rattle.file_commands.specs.declared.checking.Judgement.TheVariants as judgements
 use Rattle.file_commands.specs.Check.{verdict_status, Decides}
+use Rattle.mcap_app.specs.Record.{back_sources}
 use Rattle.mcap_app.specs.Laws.{IsSaid, RecordingsAreSound}
 use Rattle.mcap_app.proofs.RoundTrip.{closed_left}
 
@@ -148,14 +150,14 @@ ends_well options file tops end (judgements.Refused (refusals.Limit n)) answer e
 ends_well options file tops end (judgements.Refused refusals.Memory) answer exact halts is = inr is
 
 pub recordings_are_sound : RecordingsAreSound
-recordings_are_sound options out feed old new later last r answer told allowed text it here same checks quiet =
+recordings_are_sound options out feeds old new later last r answer told allowed text it here same checks quiet =
     let is = it.reported r refl in
     let left = it.ran.leaves told here in
-    let stands = closed_left options out feed old new r told allowed text it here in
+    let stands = closed_left options out feeds old new r told allowed text it here in
     let file = file_of options.file [] is.recorded.history in
     let held : left.0.names out ≡ Some file = stands.2 in
     let reads : ReadsAs file is.recorded.history = stands.3 in
-    let valid = recordings_are_valid options is.given is.back r stands.1 is.recorded stands.0 in
+    let valid = recordings_are_valid options (sides is.given is.live) (sides (back_sources is.kept_feeds) is.live_now) r stands.1 is.recorded stands.0 in
     let exact : IsExact options.file file = record { sound = valid.1; plain = unindexed options.file is.recorded.history valid.0 } in
     let tells : later.world.told ≡ Some left.0 = ap (λ (w : WorldState). w.told) same ∙ left.1 in
     let decided = checks.decided left.0 file tells held quiet in

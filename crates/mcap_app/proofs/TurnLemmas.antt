@@ -1,22 +1,22 @@
 -- What a walk does at one word.
-use Rattle.std.proofs.Common.{◌≡◌, ◌≢◌, ◌==◌, ◌+◌, ◌<◌, ◌&&◌, ℕ, suc, Bool, true, false, List, [], ◌∷◌, Option, Some, None, refl, sym, ap, ◌∙◌, codes, arith, option_map, min}
-use Rattle.std.specs.Prelude.{slice_get, fold}
+use Rattle.std.proofs.Common.{◌≡◌, ◌≢◌, ◌==◌, ◌&&◌, ℕ, zero, suc, Bool, true, false, List, [], ◌∷◌, Option, Some, None, refl, sym, ap, ◌∙◌, codes, arith, option_map}
+use Rattle.std.specs.Prelude.{⊤, slice_get, fold}
 use Rattle.std.specs.Char.{encode_utf8}
 use Rattle.std.specs.Str.{IsUtf8, chars, encode_utf8_all}
 use Rattle.std.proofs.lemmas.Str.{encodes-chars}
 use Rattle.std.specs.Option.{option_map_or}
 use Rattle.std.proofs.lemmas.Bool.Decides.{nat_tests}
-use Rattle.clap.specs.Lexer.{name_and_value, usize_max}
+use Rattle.clap.specs.Lexer.{name_and_value}
 use Rattle.clap.specs.Kinds.{Kinds, or_else}
 use Rattle.clap.specs.declared.error.kind.ErrorKind.TheVariants.{ArgumentConflict, UnknownArgument}
-use Rattle.clap.specs.Walk.{Held, Row, Rule, Text, Step, Waiting, idle, option, plain_word, to_positional, value as place, Walk, after_flag, after_step, arg_by_long, has_row, long_met, settled_rows, used, walked}
+use Rattle.clap.specs.Walk.{Held, Row, Rule, Text, Step, Waiting, idle, option, positional, plain_word, to_positional, value as place, Walk, after_flag, after_step, arg_by_long, has_row, long_met, settled_rows, used, walked}
 use Rattle.clap.specs.Simple.{Shape, new_shape}
 use Rattle.clap.specs.Faults.{flags_fault, long_fault, positional_fault, stray_fault, repeat_fault, settle_fault, step_fault, turn_fault, word_fault, walk_fault}
 use Rattle.mcap_app.specs.Items.{Word, IsFree, IsOption}
-use Rattle.mcap_app.specs.Matches.{places_of}
 use Rattle.mcap_app.specs.declared.verbs.Verb.{Verb}
+use Rattle.mcap_app.specs.declared.verbs.Verb.TheVariants as verb
 use Rattle.mcap_app.proofs.RowLemmas.{Said, no_row, no_row_has, same_text}
-use Rattle.mcap_app.proofs.RuleLemmas.{few_places, flag_rule, named, no_short, option_found, option_rule, place_found, place_rule, rules_of}
+use Rattle.mcap_app.proofs.RuleLemmas.{flag_rule, named, no_short, option_found, option_rule, place_for, place_found, position_for, rule_for, rules_of}
 
 -- a command as it is built
 abbrev pub leaf : Word → Verb → Shape
@@ -85,38 +85,35 @@ passes_end name verb rows pending waiting position is_trailing none = (refl, non
 
 -- ---- words that begin with `--`
 
--- the option whose value is wanted
-abbrev pub waits : Option Word → Waiting
-waits None = idle
-waits (Some name) = option name
-
-abbrev pub long_walked : Verb → Word → Option Word → Option Rule → Option Text → List Row → Pending → ℕ → Walk
-long_walked verb word wanted found value rows pending position =
+abbrev pub long_walked : Verb → Word → Waiting → Option Rule → Option Text → List Row → Pending → ℕ → Walk
+long_walked verb word waiting found value rows pending position =
     let met = long_met (rules_of verb) found value (held rows pending) in
-    let step = after_flag (rules_of verb) (waits wanted) word met.0 met.1 in
-    after_step (rules_of verb) word (at rows pending (waits wanted) position false) step.0 step.1
+    let step = after_flag (rules_of verb) waiting word met.0 met.1 in
+    after_step (rules_of verb) word (at rows pending waiting position false) step.0 step.1
 
-abbrev pub long_turned : Word → Verb → Word → Option Word → Option Rule → Option Text → List Row → Pending → ℕ → Kinds
-long_turned name verb word wanted found value rows pending position =
+abbrev pub long_turned : Word → Verb → Word → Waiting → Option Rule → Option Text → List Row → Pending → ℕ → Kinds
+long_turned name verb word waiting found value rows pending position =
     let met = long_met (rules_of verb) found value (held rows pending) in
-    let step = after_flag (rules_of verb) (waits wanted) word met.0 met.1 in
+    let step = after_flag (rules_of verb) waiting word met.0 met.1 in
     or_else (long_fault (rules_of verb) false found value (held rows pending)) (step_fault (leaf name verb) position step.0 step.1)
 
 abbrev pub dashes : Word → Word
 dashes named = 45 ∷ 45 ∷ named
 
-long_walk : (verb : Verb) (x : ℕ) (xs : Word) (wanted : Option Word) (rows : List Row) (pending : Pending) (position : ℕ)
-    → walked (rules_of verb) [] (at rows pending (waits wanted) position false) (dashes (x ∷ xs))
-    ≡ long_walked verb (dashes (x ∷ xs)) wanted (arg_by_long (rules_of verb) (name_and_value (x ∷ xs)).0) (name_and_value (x ∷ xs)).1 rows pending position
+long_walk : (verb : Verb) (x : ℕ) (xs : Word) (waiting : Waiting) (rows : List Row) (pending : Pending) (position : ℕ)
+    → walked (rules_of verb) [] (at rows pending waiting position false) (dashes (x ∷ xs))
+    ≡ long_walked verb (dashes (x ∷ xs)) waiting (arg_by_long (rules_of verb) (name_and_value (x ∷ xs)).0) (name_and_value (x ∷ xs)).1 rows pending position
 unfolding walked
-long_walk verb x xs None rows pending position = refl
-long_walk verb x xs (Some id) rows pending position = refl
+long_walk verb x xs idle rows pending position = refl
+long_walk verb x xs (option id) rows pending position = refl
+long_walk verb x xs positional rows pending position = refl
 
-long_turn : (name : Word) (verb : Verb) (x : ℕ) (xs : Word) (wanted : Option Word) (rows : List Row) (pending : Pending) (position : ℕ)
-    → turn_fault (leaf name verb) [] (at rows pending (waits wanted) position false) (dashes (x ∷ xs))
-    ≡ long_turned name verb (dashes (x ∷ xs)) wanted (arg_by_long (rules_of verb) (name_and_value (x ∷ xs)).0) (name_and_value (x ∷ xs)).1 rows pending position
-long_turn name verb x xs None rows pending position = refl
-long_turn name verb x xs (Some id) rows pending position = refl
+long_turn : (name : Word) (verb : Verb) (x : ℕ) (xs : Word) (waiting : Waiting) (rows : List Row) (pending : Pending) (position : ℕ)
+    → turn_fault (leaf name verb) [] (at rows pending waiting position false) (dashes (x ∷ xs))
+    ≡ long_turned name verb (dashes (x ∷ xs)) waiting (arg_by_long (rules_of verb) (name_and_value (x ∷ xs)).0) (name_and_value (x ∷ xs)).1 rows pending position
+long_turn name verb x xs idle rows pending position = refl
+long_turn name verb x xs (option id) rows pending position = refl
+long_turn name verb x xs positional rows pending position = refl
 
 abbrev pub conflict : Word → List Row → Kinds
 conflict id rows = or_else (repeat_fault false id rows) []
@@ -132,133 +129,189 @@ conflict_none id rows none = no_row id rows (go (has_row id rows) refl)
     go true is = let wrong : ArgumentConflict ∷ [] ≡ [] = rw is at none in cc
 
 -- a word that begins with `--`, cut at its first `=`
-module _ (name : Word) (verb : Verb) (x : ℕ) (xs : Word) (wanted : Option Word) (rows : List Row) (pending : Pending) (position : ℕ) (n : Word) (value : Option Text) (rule : Option Rule) where
+module _ (name : Word) (verb : Verb) (x : ℕ) (xs : Word) (waiting : Waiting) (rows : List Row) (pending : Pending) (position : ℕ) (n : Word) (value : Option Text) (rule : Option Rule) where
   pub long_walk_as : name_and_value (x ∷ xs) ≡ (n, value) → arg_by_long (rules_of verb) n ≡ rule
-      → walked (rules_of verb) [] (at rows pending (waits wanted) position false) (dashes (x ∷ xs)) ≡ long_walked verb (dashes (x ∷ xs)) wanted rule value rows pending position
+      → walked (rules_of verb) [] (at rows pending waiting position false) (dashes (x ∷ xs)) ≡ long_walked verb (dashes (x ∷ xs)) waiting rule value rows pending position
   long_walk_as cut found =
-      long_walk verb x xs wanted rows pending position
-      ∙ ap (λ (p : Text × Option Text). long_walked verb (dashes (x ∷ xs)) wanted (arg_by_long (rules_of verb) p.0) p.1 rows pending position) cut
-      ∙ ap (λ (r : Option Rule). long_walked verb (dashes (x ∷ xs)) wanted r value rows pending position) found
+      long_walk verb x xs waiting rows pending position
+      ∙ ap (λ (p : Text × Option Text). long_walked verb (dashes (x ∷ xs)) waiting (arg_by_long (rules_of verb) p.0) p.1 rows pending position) cut
+      ∙ ap (λ (r : Option Rule). long_walked verb (dashes (x ∷ xs)) waiting r value rows pending position) found
 
   pub long_turn_as : name_and_value (x ∷ xs) ≡ (n, value) → arg_by_long (rules_of verb) n ≡ rule
-      → turn_fault (leaf name verb) [] (at rows pending (waits wanted) position false) (dashes (x ∷ xs)) ≡ long_turned name verb (dashes (x ∷ xs)) wanted rule value rows pending position
+      → turn_fault (leaf name verb) [] (at rows pending waiting position false) (dashes (x ∷ xs)) ≡ long_turned name verb (dashes (x ∷ xs)) waiting rule value rows pending position
   long_turn_as cut found =
-      long_turn name verb x xs wanted rows pending position
-      ∙ ap (λ (p : Text × Option Text). long_turned name verb (dashes (x ∷ xs)) wanted (arg_by_long (rules_of verb) p.0) p.1 rows pending position) cut
-      ∙ ap (λ (r : Option Rule). long_turned name verb (dashes (x ∷ xs)) wanted r value rows pending position) found
+      long_turn name verb x xs waiting rows pending position
+      ∙ ap (λ (p : Text × Option Text). long_turned name verb (dashes (x ∷ xs)) waiting (arg_by_long (rules_of verb) p.0) p.1 rows pending position) cut
+      ∙ ap (λ (r : Option Rule). long_turned name verb (dashes (x ∷ xs)) waiting r value rows pending position) found
 
 -- what the three kinds of arguments do there
-module _ (name : Word) (verb : Verb) (word : Word) (wanted : Option Word) (rows : List Row) (pending : Pending) (position : ℕ) (n : Word) where
-  pub flag_walk : long_walked verb word wanted (Some (flag_rule n)) None rows pending position ≡ at (used (flag_rule n) [] (rows_in verb rows pending)) None idle position false
+module _ (name : Word) (verb : Verb) (word : Word) (waiting : Waiting) (rows : List Row) (pending : Pending) (position : ℕ) (n : Word) where
+  pub flag_walk : long_walked verb word waiting (Some (flag_rule n)) None rows pending position ≡ at (used (flag_rule n) [] (rows_in verb rows pending)) None idle position false
   flag_walk = refl
 
-  pub flag_turn : long_turned name verb word wanted (Some (flag_rule n)) None rows pending position ≡ or_else (or_else (fault_in verb rows pending) (conflict n (rows_in verb rows pending))) []
+  pub flag_turn : long_turned name verb word waiting (Some (flag_rule n)) None rows pending position ≡ or_else (or_else (fault_in verb rows pending) (conflict n (rows_in verb rows pending))) []
   flag_turn = refl
 
-  pub flag_valued : (value : Text) → long_turned name verb word wanted (Some (flag_rule n)) (Some value) rows pending position ≡ [] → ⊥
+  pub flag_valued : (value : Text) → long_turned name verb word waiting (Some (flag_rule n)) (Some value) rows pending position ≡ [] → ⊥
   flag_valued value none = cc
 
-  pub joined_walk : (value : Text) → long_walked verb word wanted (Some (option_rule n)) (Some value) rows pending position ≡ at (used (option_rule n) (value ∷ []) (rows_in verb rows pending)) None idle position false
+  pub joined_walk : (value : Text) → long_walked verb word waiting (Some (option_rule n)) (Some value) rows pending position ≡ at (used (option_rule n) (value ∷ []) (rows_in verb rows pending)) None idle position false
   joined_walk value = refl
 
-  pub joined_turn : (value : Text) → long_turned name verb word wanted (Some (option_rule n)) (Some value) rows pending position ≡ or_else (or_else (fault_in verb rows pending) (conflict n (rows_in verb rows pending))) []
+  pub joined_turn : (value : Text) → long_turned name verb word waiting (Some (option_rule n)) (Some value) rows pending position ≡ or_else (or_else (fault_in verb rows pending) (conflict n (rows_in verb rows pending))) []
   joined_turn value = refl
 
-  pub apart_walk : long_walked verb word wanted (Some (option_rule n)) None rows pending position ≡ at (rows_in verb rows pending) (Some (n, [])) (option n) position false
+  pub apart_walk : long_walked verb word waiting (Some (option_rule n)) None rows pending position ≡ at (rows_in verb rows pending) (Some (n, [])) (option n) position false
   apart_walk = refl
 
-  pub apart_turn : long_turned name verb word wanted (Some (option_rule n)) None rows pending position ≡ or_else (fault_in verb rows pending) []
+  pub apart_turn : long_turned name verb word waiting (Some (option_rule n)) None rows pending position ≡ or_else (fault_in verb rows pending) []
   apart_turn = refl
 
-  pub unknown_turn : (value : Option Text) → long_turned name verb word wanted None value rows pending position ≡ [] → ⊥
+  pub unknown_turn : (value : Option Text) → long_turned name verb word waiting None value rows pending position ≡ [] → ⊥
   unknown_turn value none = cc
 
 -- ---- words that don't begin with `-`
 
-abbrev pub plain_step : Verb → Option Word → Word → List Row → Pending → Held × Step
-plain_step verb wanted word rows pending = plain_word (rules_of verb) (waits wanted) word (held rows pending)
+abbrev pub plain_step : Verb → Waiting → Word → List Row → Pending → Held × Step
+plain_step verb waiting word rows pending = plain_word (rules_of verb) waiting word (held rows pending)
 
-abbrev pub plain_walked : Verb → Option Word → Word → List Row → Pending → ℕ → Walk
-plain_walked verb wanted word rows pending position =
-    let step = plain_step verb wanted word rows pending in
-    after_step (rules_of verb) word (at rows pending (waits wanted) position false) step.0 step.1
+abbrev pub plain_walked : Verb → Waiting → Word → List Row → Pending → ℕ → Walk
+plain_walked verb waiting word rows pending position =
+    let step = plain_step verb waiting word rows pending in
+    after_step (rules_of verb) word (at rows pending waiting position false) step.0 step.1
 
-abbrev pub plain_turned : Word → Verb → Option Word → Word → List Row → Pending → ℕ → Kinds
-plain_turned name verb wanted word rows pending position =
-    let step = plain_step verb wanted word rows pending in
+abbrev pub plain_turned : Word → Verb → Waiting → Word → List Row → Pending → ℕ → Kinds
+plain_turned name verb waiting word rows pending position =
+    let step = plain_step verb waiting word rows pending in
     step_fault (leaf name verb) position step.0 step.1
 
 pub no_dash : (b : ℕ) (bs : Word) → IsFree (b ∷ bs) → (b == 45) ≡ false
 no_dash b bs free = let other : b ≢ 45 = λ same. free bs (ap (λ (c : ℕ). c ∷ bs) same) in grind (arith, nat_tests)
 
-pub plain_walk : (verb : Verb) (word : Word) (wanted : Option Word) (rows : List Row) (pending : Pending) (position : ℕ) → IsFree word
-    → walked (rules_of verb) [] (at rows pending (waits wanted) position false) word ≡ plain_walked verb wanted word rows pending position
+pub plain_walk : (verb : Verb) (word : Word) (waiting : Waiting) (rows : List Row) (pending : Pending) (position : ℕ) → IsFree word
+    → walked (rules_of verb) [] (at rows pending waiting position false) word ≡ plain_walked verb waiting word rows pending position
 unfolding walked
-plain_walk verb [] None rows pending position free = refl
-plain_walk verb [] (Some id) rows pending position free = refl
-plain_walk verb (b ∷ bs) None rows pending position free = rw (no_dash b bs free, no_dash b bs free) refl
-plain_walk verb (b ∷ bs) (Some id) rows pending position free = rw (no_dash b bs free, no_dash b bs free) refl
+plain_walk verb [] idle rows pending position free = refl
+plain_walk verb [] (option id) rows pending position free = refl
+plain_walk verb [] positional rows pending position free = refl
+plain_walk verb (b ∷ bs) idle rows pending position free = rw (no_dash b bs free, no_dash b bs free) refl
+plain_walk verb (b ∷ bs) (option id) rows pending position free = rw (no_dash b bs free, no_dash b bs free) refl
+plain_walk verb (b ∷ bs) positional rows pending position free = rw (no_dash b bs free, no_dash b bs free) refl
 
-pub plain_turn : (name : Word) (verb : Verb) (word : Word) (wanted : Option Word) (rows : List Row) (pending : Pending) (position : ℕ) → IsFree word
-    → turn_fault (leaf name verb) [] (at rows pending (waits wanted) position false) word ≡ plain_turned name verb wanted word rows pending position
-plain_turn name verb [] None rows pending position free = refl
-plain_turn name verb [] (Some id) rows pending position free = refl
-plain_turn name verb (b ∷ bs) None rows pending position free = rw (no_dash b bs free, no_dash b bs free) refl
-plain_turn name verb (b ∷ bs) (Some id) rows pending position free = rw (no_dash b bs free, no_dash b bs free) refl
+pub plain_turn : (name : Word) (verb : Verb) (word : Word) (waiting : Waiting) (rows : List Row) (pending : Pending) (position : ℕ) → IsFree word
+    → turn_fault (leaf name verb) [] (at rows pending waiting position false) word ≡ plain_turned name verb waiting word rows pending position
+plain_turn name verb [] idle rows pending position free = refl
+plain_turn name verb [] (option id) rows pending position free = refl
+plain_turn name verb [] positional rows pending position free = refl
+plain_turn name verb (b ∷ bs) idle rows pending position free = rw (no_dash b bs free, no_dash b bs free) refl
+plain_turn name verb (b ∷ bs) (option id) rows pending position free = rw (no_dash b bs free, no_dash b bs free) refl
+plain_turn name verb (b ∷ bs) positional rows pending position free = rw (no_dash b bs free, no_dash b bs free) refl
 
 -- the value of an option
 pub value_walk : (verb : Verb) (word : Word) (n : Word) (rows : List Row) (position : ℕ) → IsOption verb n → IsFree word
     → walked (rules_of verb) [] (at rows (Some (n, [])) (option n) position false) word ≡ at rows (Some (n, word ∷ [])) idle position false
 value_walk verb word n rows position is free =
-    plain_walk verb word (Some n) rows (Some (n, [])) position free ∙ rw ((option_found verb n is).1, same_text n) refl
+    plain_walk verb word (option n) rows (Some (n, [])) position free ∙ rw ((option_found verb n is).1, same_text n) refl
 
 pub value_turn : (name : Word) (verb : Verb) (word : Word) (n : Word) (rows : List Row) (position : ℕ) → IsOption verb n → IsFree word
     → turn_fault (leaf name verb) [] (at rows (Some (n, [])) (option n) position false) word ≡ []
 value_turn name verb word n rows position is free =
-    plain_turn name verb word (Some n) rows (Some (n, [])) position free
+    plain_turn name verb word (option n) rows (Some (n, [])) position free
 
 and_false : (b : Bool) → (b && false) ≡ false
 and_false true = refl
 and_false false = refl
 
-next_place : (j : ℕ) → j < 2 → min (suc j + 1) usize_max ≡ suc (suc j)
-next_place j few = omega arith
+-- what waits behind a word at a place
+abbrev pub waiting_for : Verb → ℕ → Waiting
+waiting_for verb.Record (suc n) = positional
+waiting_for _ _ = idle
+
+-- no option waits for a value
+abbrev pub IsCalm : Waiting → Type 0
+IsCalm idle = ⊤
+IsCalm (option name) = ⊥
+IsCalm positional = ⊤
+
+pub is_calm : (verb : Verb) (n : ℕ) → IsCalm (waiting_for verb n)
+is_calm verb.Record zero = tt
+is_calm verb.Record (suc n) = tt
+is_calm verb.Info n = tt
+is_calm verb.Check n = tt
+is_calm verb.Cat n = tt
 
 -- a word at a place
-pub place_walk : (verb : Verb) (word : Word) (rows : List Row) (pending : Pending) (j : ℕ) (is_trailing : Bool) (waiting : Waiting) (id : Word) → slice_get (places_of verb) j ≡ Some id
-    → after_step (rules_of verb) word (at rows pending waiting (suc j) is_trailing) (held rows pending) place ≡ at (rows_in verb rows pending) (Some (id, word ∷ [])) idle (suc (suc j)) is_trailing
-place_walk verb word rows pending j true waiting id is =
-    ap (λ (r : Option Rule). to_positional (rules_of verb) r word (at rows pending waiting (suc j) true) (held rows pending)) (place_found verb j ∙ ap (option_map (λ id. place_rule id (suc j))) is)
-    ∙ rw (and_false, next_place j (few_places verb j id is)) refl
-place_walk verb word rows pending j false waiting id is =
-    ap (λ (r : Option Rule). to_positional (rules_of verb) r word (at rows pending waiting (suc j) false) (held rows pending)) (place_found verb j ∙ ap (option_map (λ id. place_rule id (suc j))) is)
-    ∙ rw (and_false, next_place j (few_places verb j id is)) refl
+abbrev placed_walk : Verb → Word → List Row → Pending → ℕ → Bool → Waiting → Option Rule → Walk
+placed_walk verb word rows pending n is_trailing waiting found = to_positional (rules_of verb) found word (at rows pending waiting (position_for verb n) is_trailing) (held rows pending)
+
+rule_walk : (verb : Verb) (word : Word) (rows : List Row) (pending : Pending) (n : ℕ) (is_trailing : Bool) (waiting : Waiting) (id : Word) → place_for verb n ≡ Some id
+    → placed_walk verb word rows pending n is_trailing waiting (Some (rule_for verb n id)) ≡ at (rows_in verb rows pending) (Some (id, word ∷ [])) (waiting_for verb n) (position_for verb (suc n)) is_trailing
+rule_walk verb.Record word rows pending zero true waiting id is = rw and_false refl
+rule_walk verb.Record word rows pending zero false waiting id is = rw and_false refl
+rule_walk verb.Record word rows pending (suc n) true waiting id is = rw and_false refl
+rule_walk verb.Record word rows pending (suc n) false waiting id is = rw and_false refl
+rule_walk verb.Info word rows pending zero true waiting id is = rw and_false refl
+rule_walk verb.Info word rows pending zero false waiting id is = rw and_false refl
+rule_walk verb.Info word rows pending (suc n) is_trailing waiting id is = cc
+rule_walk verb.Check word rows pending zero true waiting id is = rw and_false refl
+rule_walk verb.Check word rows pending zero false waiting id is = rw and_false refl
+rule_walk verb.Check word rows pending (suc n) is_trailing waiting id is = cc
+rule_walk verb.Cat word rows pending zero true waiting id is = rw and_false refl
+rule_walk verb.Cat word rows pending zero false waiting id is = rw and_false refl
+rule_walk verb.Cat word rows pending (suc n) is_trailing waiting id is = cc
+
+pub place_walk : (verb : Verb) (word : Word) (rows : List Row) (pending : Pending) (n : ℕ) (is_trailing : Bool) (waiting : Waiting) (id : Word) → place_for verb n ≡ Some id
+    → after_step (rules_of verb) word (at rows pending waiting (position_for verb n) is_trailing) (held rows pending) place ≡ at (rows_in verb rows pending) (Some (id, word ∷ [])) (waiting_for verb n) (position_for verb (suc n)) is_trailing
+place_walk verb word rows pending n is_trailing waiting id is =
+    ap (placed_walk verb word rows pending n is_trailing waiting) (place_found verb n ∙ ap (option_map (rule_for verb n)) is) ∙ rule_walk verb word rows pending n is_trailing waiting id is
 
 abbrev pub place_turned : Word → Verb → List Row → Pending → Option Rule → Kinds
 place_turned name verb rows pending found = option_map_or (λ a. positional_fault (rules_of verb) false a (held rows pending)) found (stray_fault (leaf name verb))
 
-pub place_turn : (name : Word) (verb : Verb) (rows : List Row) (pending : Pending) (j : ℕ) (id : Word) → slice_get (places_of verb) j ≡ Some id
-    → step_fault (leaf name verb) (suc j) (held rows pending) place ≡ fault_in verb rows pending
-place_turn name verb rows pending j id is =
-    ap (place_turned name verb rows pending) (place_found verb j ∙ ap (option_map (λ id. place_rule id (suc j))) is) ∙ rw and_false refl
+rule_turn : (name : Word) (verb : Verb) (rows : List Row) (pending : Pending) (n : ℕ) (id : Word) → place_turned name verb rows pending (Some (rule_for verb n id)) ≡ fault_in verb rows pending
+rule_turn name verb.Record rows pending zero id = rw and_false refl
+rule_turn name verb.Record rows pending (suc n) id = rw and_false refl
+rule_turn name verb.Info rows pending n id = rw and_false refl
+rule_turn name verb.Check rows pending n id = rw and_false refl
+rule_turn name verb.Cat rows pending n id = rw and_false refl
 
-pub no_place_turn : (name : Word) (verb : Verb) (rows : List Row) (pending : Pending) (j : ℕ) → slice_get (places_of verb) j ≡ None
-    → step_fault (leaf name verb) (suc j) (held rows pending) place ≡ [] → ⊥
-no_place_turn name verb rows pending j is none =
-    let stray : step_fault (leaf name verb) (suc j) (held rows pending) place ≡ UnknownArgument ∷ [] = ap (place_turned name verb rows pending) (place_found verb j ∙ ap (option_map (λ id. place_rule id (suc j))) is) in cc
+pub place_turn : (name : Word) (verb : Verb) (rows : List Row) (pending : Pending) (n : ℕ) (id : Word) → place_for verb n ≡ Some id
+    → step_fault (leaf name verb) (position_for verb n) (held rows pending) place ≡ fault_in verb rows pending
+place_turn name verb rows pending n id is =
+    ap (place_turned name verb rows pending) (place_found verb n ∙ ap (option_map (rule_for verb n)) is) ∙ rule_turn name verb rows pending n id
+
+pub no_place_turn : (name : Word) (verb : Verb) (rows : List Row) (pending : Pending) (n : ℕ) → place_for verb n ≡ None
+    → step_fault (leaf name verb) (position_for verb n) (held rows pending) place ≡ [] → ⊥
+no_place_turn name verb rows pending n is none =
+    let stray : step_fault (leaf name verb) (position_for verb n) (held rows pending) place ≡ UnknownArgument ∷ [] = ap (place_turned name verb rows pending) (place_found verb n ∙ ap (option_map (rule_for verb n)) is) in cc
+
+-- a word that doesn't begin with `-` goes there where no option waits
+pub free_walk : (verb : Verb) (word : Word) (waiting : Waiting) (rows : List Row) (pending : Pending) (position : ℕ) → IsFree word → IsCalm waiting
+    → walked (rules_of verb) [] (at rows pending waiting position false) word ≡ after_step (rules_of verb) word (at rows pending waiting position false) (held rows pending) place
+free_walk verb word idle rows pending position free calm = plain_walk verb word idle rows pending position free
+free_walk verb word (option name) rows pending position free calm = absurd calm
+free_walk verb word positional rows pending position free calm = plain_walk verb word positional rows pending position free
+
+pub free_turn : (name : Word) (verb : Verb) (word : Word) (waiting : Waiting) (rows : List Row) (pending : Pending) (position : ℕ) → IsFree word → IsCalm waiting
+    → turn_fault (leaf name verb) [] (at rows pending waiting position false) word ≡ step_fault (leaf name verb) position (held rows pending) place
+free_turn name verb word idle rows pending position free calm = plain_turn name verb word idle rows pending position free
+free_turn name verb word (option id) rows pending position free calm = absurd calm
+free_turn name verb word positional rows pending position free calm = plain_turn name verb word positional rows pending position free
 
 -- ---- `--`, and words behind it
 
-pub end_walk : (verb : Verb) (wanted : Option Word) (rows : List Row) (pending : Pending) (position : ℕ)
-    → walked (rules_of verb) [] (at rows pending (waits wanted) position false) (codes "--") ≡ at rows pending (waits wanted) position true
+pub end_walk : (verb : Verb) (waiting : Waiting) (rows : List Row) (pending : Pending) (position : ℕ)
+    → walked (rules_of verb) [] (at rows pending waiting position false) (codes "--") ≡ at rows pending waiting position true
 unfolding walked
-end_walk verb None rows pending position = refl
-end_walk verb (Some id) rows pending position = refl
+end_walk verb idle rows pending position = refl
+end_walk verb (option id) rows pending position = refl
+end_walk verb positional rows pending position = refl
 
-pub end_turn : (name : Word) (verb : Verb) (wanted : Option Word) (rows : List Row) (pending : Pending) (position : ℕ)
-    → turn_fault (leaf name verb) [] (at rows pending (waits wanted) position false) (codes "--") ≡ []
-end_turn name verb None rows pending position = refl
-end_turn name verb (Some id) rows pending position = refl
+pub end_turn : (name : Word) (verb : Verb) (waiting : Waiting) (rows : List Row) (pending : Pending) (position : ℕ)
+    → turn_fault (leaf name verb) [] (at rows pending waiting position false) (codes "--") ≡ []
+end_turn name verb idle rows pending position = refl
+end_turn name verb (option id) rows pending position = refl
+end_turn name verb positional rows pending position = refl
 
 pub behind_walk : (verb : Verb) (word : Word) (waiting : Waiting) (rows : List Row) (pending : Pending) (position : ℕ)
     → walked (rules_of verb) [] (at rows pending waiting position true) word ≡ after_step (rules_of verb) word (at rows pending waiting position true) (held rows pending) place
@@ -283,16 +336,21 @@ first_letter b bs is = go (chars (b ∷ bs)) refl
         absurd none_such
     go (letter ∷ more) is = (letter, rw is refl)
 
-pub short_turn : (name : Word) (verb : Verb) (b : ℕ) (bs : Word) (wanted : Option Word) (rows : List Row) (pending : Pending) (position : ℕ) → b ≢ 45 → IsUtf8 (45 ∷ b ∷ bs)
-    → turn_fault (leaf name verb) [] (at rows pending (waits wanted) position false) (45 ∷ b ∷ bs) ≡ [] → ⊥
+pub short_turn : (name : Word) (verb : Verb) (b : ℕ) (bs : Word) (waiting : Waiting) (rows : List Row) (pending : Pending) (position : ℕ) → b ≢ 45 → IsUtf8 (45 ∷ b ∷ bs)
+    → turn_fault (leaf name verb) [] (at rows pending waiting position false) (45 ∷ b ∷ bs) ≡ [] → ⊥
 unfolding flags_fault
-short_turn name verb b bs None rows pending position other utf none =
+short_turn name verb b bs idle rows pending position other utf none =
     let letter = first_letter b bs utf in
     let test : (b == 45) ≡ false = grind (arith, nat_tests) in
     let one : word_fault (leaf name verb) [] false idle (45 ∷ b ∷ bs) (held rows pending) ≡ [] = first_none _ _ none in
     let wrong : UnknownArgument ∷ [] ≡ [] = rw (test, test, letter.1, no_short verb letter.0) at one in cc
-short_turn name verb b bs (Some id) rows pending position other utf none =
+short_turn name verb b bs (option id) rows pending position other utf none =
     let letter = first_letter b bs utf in
     let test : (b == 45) ≡ false = grind (arith, nat_tests) in
     let one : word_fault (leaf name verb) [] false (option id) (45 ∷ b ∷ bs) (held rows pending) ≡ [] = first_none _ _ none in
+    let wrong : UnknownArgument ∷ [] ≡ [] = rw (test, test, letter.1, no_short verb letter.0) at one in cc
+short_turn name verb b bs positional rows pending position other utf none =
+    let letter = first_letter b bs utf in
+    let test : (b == 45) ≡ false = grind (arith, nat_tests) in
+    let one : word_fault (leaf name verb) [] false positional (45 ∷ b ∷ bs) (held rows pending) ≡ [] = first_none _ _ none in
     let wrong : UnknownArgument ∷ [] ≡ [] = rw (test, test, letter.1, no_short verb letter.0) at one in cc

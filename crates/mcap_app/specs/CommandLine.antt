@@ -2,7 +2,7 @@
 use Rattle.std.specs.Prelude.{◌≡◌, true, false, [], codes, Some}
 use Rattle.clap.specs.Words.{App, Rule, app_of, new_app, new_rule, with_rule, with_subcommand}
 use Rattle.clap.specs.Simple.{new_shape}
-use Rattle.clap.specs.declared.builder.action.ArgAction.TheVariants.{SetTrue}
+use Rattle.clap.specs.declared.builder.action.ArgAction.TheVariants.{Append, SetTrue}
 use Rattle.clap.specs.declared.builder.command.Command.{Command}
 use Rattle.clap.specs.declared.builder.command.Command.TheViews.{out-Command}
 use Rattle.mcap_app.specs.Items.{Word}
@@ -15,12 +15,16 @@ flag_given name = record (new_rule name) { long = Some name; action = Some SetTr
 abbrev pub option_given : Word → Rule
 option_given name = record (new_rule name) { long = Some name }
 
+-- a positional that takes every word from its place on
+abbrev pub rest_given : Word → Rule
+rest_given name = record (new_rule name) { action = Some Append }
+
 -- a command of one file, without options
 abbrev pub file_app : Word → App
 file_app name = with_rule (new_app name) (new_rule (codes "file"))
 
 abbrev pub verb_app : Verb → App
-verb_app verb.Record = with_rule (with_rule (with_rule (with_rule (with_rule (with_rule (new_app (codes "record")) (flag_given (codes "plain"))) (option_given (codes "limit"))) (option_given (codes "chunk"))) (option_given (codes "profile"))) (new_rule (codes "out"))) (new_rule (codes "feed"))
+verb_app verb.Record = with_rule (with_rule (with_rule (with_rule (with_rule (with_rule (with_rule (new_app (codes "record")) (flag_given (codes "plain"))) (flag_given (codes "lossless"))) (option_given (codes "limit"))) (option_given (codes "chunk"))) (option_given (codes "profile"))) (new_rule (codes "out"))) (rest_given (codes "feed"))
 verb_app verb.Info = file_app (codes "info")
 verb_app verb.Check = file_app (codes "check")
 verb_app verb.Cat = with_rule (with_rule (with_rule (with_rule (with_rule (new_app (codes "cat")) (flag_given (codes "indexed"))) (option_given (codes "start"))) (option_given (codes "end"))) (option_given (codes "topic"))) (new_rule (codes "file"))

@@ -1,6 +1,6 @@
 -- Which command the words of a command line are.
 use Rattle.std.specs.Prelude.{◌≡◌, ◌≢◌, ◌≤◌, ℕ, ◌^◌, ◌*◌, ◌-◌, Bool, true, false, List, [], ◌∷◌, ◌++◌, codes, length, Option, Some, None, unwrap_or, if◌then◌else◌}
-use Rattle.std.specs.List.{flat_map}
+use Rattle.std.specs.List.{All, flat_map}
 use Rattle.std.specs.Option.{option_to_list}
 use Rattle.std.specs.Str.Parse.{IsNumeral, digits_value}
 use Rattle.mcap_wire.specs.Limits.{chunk_size_limit, buffer_limit, profile_limit}
@@ -25,6 +25,10 @@ usual_chunk_size = 768 * 2 ^ 10
 -- the bytes of the buffer where the words say none: 100 MiB
 abbrev pub usual_limit : ℕ
 usual_limit = 100 * 2 ^ 20
+
+-- how many feeds are recorded at most
+abbrev pub feed_limit : ℕ
+feed_limit = 64
 
 -- the last nanosecond that can be told
 abbrev pub latest : ℕ
@@ -79,13 +83,16 @@ pub record IsFileOptions (items : List Item) (file : FileOptions) : Type 0 where
   pub chunk : HasChunks items file.chunk
   pub profile : HasProfile items file.profile
 
--- record, its options, OUT and FEED
-pub record IsRecord (words : List Word) (out feed : Word) (file : FileOptions) (limit : ℕ) : Type 0 where
+-- record, its options, OUT and each FEED
+pub record IsRecord (words : List Word) (out : Word) (feeds : List Word) (file : FileOptions) (limit : ℕ) (lossless : Bool) : Type 0 where
   pub items : List Item
-  pub reads : Reads verb.Record words items (out ∷ feed ∷ [])
+  pub reads : Reads verb.Record words items (out ∷ feeds)
+  pub some : 1 ≤ length feeds
+  pub few : length feeds ≤ feed_limit
   pub out_named : out ≢ []
-  pub feed_named : feed ≢ []
-  pub differ : out ≢ feed
+  pub feeds_named : All (λ feed. feed ≢ []) feeds
+  pub differ : All (λ feed. out ≢ feed) feeds
+  pub flagged : Flags (given (codes "lossless") items) lossless
   pub options : IsFileOptions items file
   pub size : Option ℕ
   pub sized : GivesNumber 1 buffer_limit (given (codes "limit") items) size
@@ -115,13 +122,13 @@ pub record IsCat (words : List Word) (file : Word) (indexed : Bool) (range : Ran
 
 -- the words behind the command are those of this one
 abbrev pub Behind : List Word → Command → Type 0
-Behind words (Record out feed file limit) = IsRecord words out feed file limit
+Behind words (Record out feeds file limit lossless) = IsRecord words out feeds file limit lossless
 Behind words (Info file) = IsOfFile verb.Info words file
 Behind words (Check file) = IsOfFile verb.Check words file
 Behind words (Cat file indexed range topic) = IsCat words file indexed range topic
 
 abbrev pub verb_of : Command → Verb
-verb_of (Record out feed file limit) = verb.Record
+verb_of (Record out feeds file limit lossless) = verb.Record
 verb_of (Info file) = verb.Info
 verb_of (Check file) = verb.Check
 verb_of (Cat file indexed range topic) = verb.Cat

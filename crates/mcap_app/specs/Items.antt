@@ -19,7 +19,7 @@ pub data Item : Type 0 where
 
 -- the names that take no value
 abbrev pub IsFlag : Verb → Word → Type 0
-IsFlag verb.Record name = name ≡ codes "plain"
+IsFlag verb.Record name = (name ≡ codes "plain") ⊎ (name ≡ codes "lossless")
 IsFlag verb.Info name = ⊥
 IsFlag verb.Check name = ⊥
 IsFlag verb.Cat name = name ≡ codes "indexed"

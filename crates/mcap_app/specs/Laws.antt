@@ -37,8 +37,8 @@ pub record PrintsHistory (history : List Rec) (before now : SinkState) : Type 0 
 -- A recording with the status 0 in a world that tells, and then a printing of its output there, in which no count rises: it
 -- prints the messages of the recording's history, or memory lacked for that.
 abbrev pub RecordingsArePrinted : Type 0
-RecordingsArePrinted = (options : RecordOptions) (out feed : List ℕ) (old new later last : Scene) (r : Report) (answer : ℕ) (told : Told) → AreAllowed options → IsUtf8 options.file.profile
-    → (it : Records options out feed old new (Some r) 0) → old.world.told ≡ Some told
+RecordingsArePrinted = (options : RecordOptions) (out : List ℕ) (feeds : List (List ℕ)) (old new later last : Scene) (r : Report) (answer : ℕ) (told : Told) → AreAllowed options → IsUtf8 options.file.profile
+    → (it : Records options out feeds old new (Some r) 0) → old.world.told ≡ Some told
     → later.world ≡ new.world → Cats everything out later last answer → (AnyRose (counts_in later) (counts_in last) → ⊥)
     → ((answer ≡ 0) × PrintsHistory (it.reported r refl).recorded.history later.out last.out) ⊎ (answer ≡ 5)
 
@@ -59,7 +59,7 @@ pub record PrintsSound (chunk : Option ℕ) (before now : SinkState) : Type 0 wh
 -- A recording with the status 0 in a world that tells, and then a check of its output there, in which no count rises: it
 -- finds no flaw, no compression and no limit of reading, and prints that; or memory lacked for the check.
 abbrev pub RecordingsAreSound : Type 0
-RecordingsAreSound = (options : RecordOptions) (out feed : List ℕ) (old new later last : Scene) (r : Report) (answer : ℕ) (told : Told) → AreAllowed options → IsUtf8 options.file.profile
-    → Records options out feed old new (Some r) 0 → old.world.told ≡ Some told
+RecordingsAreSound = (options : RecordOptions) (out : List ℕ) (feeds : List (List ℕ)) (old new later last : Scene) (r : Report) (answer : ℕ) (told : Told) → AreAllowed options → IsUtf8 options.file.profile
+    → Records options out feeds old new (Some r) 0 → old.world.told ≡ Some told
     → later.world ≡ new.world → FileChecks out later last answer → (AnyRose (counts_in later) (counts_in last) → ⊥)
     → ((answer ≡ 0) × PrintsSound options.file.chunk later.out last.out) ⊎ (answer ≡ 5)

@@ -4,6 +4,7 @@ pub mod Matches
 pub mod CommandLine
 pub mod ReportTexts
 pub mod Record
+pub mod Sources
 pub mod Answer
 pub mod Runs
 pub mod Laws

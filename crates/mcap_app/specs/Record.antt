@@ -1,7 +1,7 @@
--- What a recording does: to the names of the feed and of the output, what it reports, and how it ends.
-use Rattle.std.specs.Prelude.{◌≡◌, ◌⊎◌, ◌↔◌, ◌≤◌, ◌<◌, ◌-◌, ◌^◌, ◌||◌, ℕ, List, [], ◌∷◌, ◌++◌, length, Bool, true, false, if◌then◌else◌, Option, Some, None}
-use Rattle.std.specs.List.{list_any}
-use Rattle.mcap_io.specs.Outside.{Rose, WorldState, Told, Keeping, Opening, TellsName}
+-- What a recording does: to the names of the feeds and of the output, what it reports, and how it ends.
+use Rattle.std.specs.Prelude.{◌≡◌, ◌⊎◌, ◌↔◌, ◌≤◌, ◌<◌, ◌-◌, ◌^◌, ◌||◌, ◌==◌, ℕ, List, [], ◌∷◌, ◌++◌, map, length, Bool, true, false, if◌then◌else◌, Option, Some, None}
+use Rattle.std.specs.List.{list_any, AllZip}
+use Rattle.mcap_io.specs.Outside.{Rose, WorldState, SourceState, LiveState, Told, Keeping, Opening, TellsName}
 use Rattle.mcap_io.specs.declared.outside.ObjectKind.TheVariants as kinds
 use Rattle.mcap_wire.specs.Limits.{buffer_limit, chunk_size_limit, profile_limit}
 use Rattle.rec_data.specs.declared.owned.Rec.{Rec}
@@ -10,27 +10,30 @@ use Rattle.mcap_model.specs.declared.ends.End.TheVariants as ends
 use Rattle.mcap_model.specs.declared.ends.Stop.{Stop}
 use Rattle.mcap_model.specs.declared.ends.Stop.TheVariants as stops
 use Rattle.mcap_model.specs.declared.options.FileOptions.{FileOptions}
+use Rattle.mcap_model.specs.Places.{Has, Each}
 use Rattle.mcap_model.specs.Tops.{Top}
 use Rattle.mcap_model.specs.Kept.{Halt, reading_limits, Halts}
 use Rattle.mcap_model.specs.File.{front, file_of, IsPrefix}
 use Rattle.feed_lane.specs.declared.report.Cause.{Cause}
 use Rattle.feed_lane.specs.declared.report.Cause.TheVariants as causes
+use Rattle.feed_lane.specs.declared.report.Refused.{Refused}
 use Rattle.feed_lane.specs.declared.report.FeedReport.{FeedReport}
 use Rattle.feed_lane.specs.declared.report.FeedEnd.{FeedEnd}
 use Rattle.feed_lane.specs.declared.report.FeedEnd.TheVariants as feed_ends
 use Rattle.recorder.specs.declared.options.RecordOptions.{RecordOptions}
 use Rattle.recorder.specs.declared.report.Report.{Report}
 use Rattle.recorder.specs.declared.report.WriterReport.{WriterReport}
-use Rattle.recorder.specs.Recorded.{Sides, IsOnlyFeed, Recorded}
+use Rattle.recorder.specs.Recorded.{Sides, sides, Recorded}
 use Rattle.command_base.specs.declared.faults.Counts.{Counts}
 use Rattle.mcap_app.specs.declared.answering.Outcome.{Outcome}
 use Rattle.command_base.specs.Texts.{Trouble, grammar, compressed, limit, output_limit, halt_status}
+use Rattle.mcap_app.specs.Commands.{feed_limit}
 use Rattle.mcap_app.specs.ReportTexts.{printed}
-use Rattle.command_base.specs.Ran.{Scene, counts_in, AnyRose, Files, wanted, kept, AreOpened, Leaves, input_faults, output_faults, CountsKept, named_when, failed_names, when, Findings, Ran}
+use Rattle.command_base.specs.Ran.{Scene, counts_in, AnyRose, Files, wanted, kept, AreOpened, Leaves, input_faults, output_faults, CountsKept, has_failed, failed_names, blamed_names, when, Findings, Failed, Ran}
 
 -- the names of a recording
-abbrev pub files_of : List ℕ → List ℕ → Files
-files_of out feed = record { kind = kinds.Source; inputs = feed ∷ []; outputs = out ∷ [] }
+abbrev pub files_of : List ℕ → List (List ℕ) → Files
+files_of out feeds = record { kind = kinds.Source; inputs = feeds; outputs = out ∷ [] }
 
 -- the options of a recording are in their ranges: a buffer of 1 byte to 1 GiB, chunks of 1 byte to 64 MiB, and a profile of at
 -- most 65,535 bytes
@@ -39,6 +42,10 @@ pub record AreAllowed (options : RecordOptions) : Type 0 where
   pub small : options.limit ≤ buffer_limit
   pub size : (n : ℕ) → options.file.chunk ≡ Some n → (1 ≤ n) × (n ≤ chunk_size_limit)
   pub short : length options.file.profile ≤ profile_limit
+
+-- so many feeds are recorded at once
+abbrev pub AreFew : List (List ℕ) → Type 0
+AreFew feeds = (1 ≤ length feeds) × (length feeds ≤ feed_limit)
 
 -- ---- with a report
 
@@ -51,37 +58,62 @@ pub record OutputHolds (options : FileOptions) (history : List Rec) (w : WriterR
       ⊎ ((now ≡ before) × (well ≡ false))
   pub begun : (history ≡ [] → ⊥) → well ≡ true → (more : List ℕ) × (now ≡ Some (front options.profile ++ more))
 
--- The feed's source was recorded into the output's store.
-pub record Reported (options : RecordOptions) (out feed : List ℕ) (old new : WorldState) (entries : List Opening) (r : Report) : Type 0 where
-  -- as the world gave them and as it took them back, and whether that went well
-  pub given : Sides
-  pub back : Sides
-  pub source_kept : Bool
+-- a feed's source as the world took it back, and whether that went well
+pub record FeedKept : Type 0 where
+  pub name : List ℕ
+  pub back : SourceState
+  pub well : Bool
+
+-- its entry
+abbrev pub entry_of : FeedKept → Opening
+entry_of f = kept kinds.Source f.name (record { well = f.well; faults = f.back.faults; left = f.back.left; asked = 0 })
+
+abbrev pub live_entry : List ℕ → LiveState → Bool → Opening
+live_entry out live well = kept kinds.Live out (record { well = well; faults = live.faults; left = None; asked = 0 })
+
+abbrev pub names_kept : List FeedKept → List (List ℕ)
+names_kept feeds = map (λ (f : FeedKept). f.name) feeds
+
+abbrev pub back_sources : List FeedKept → List SourceState
+back_sources feeds = map (λ (f : FeedKept). f.back) feeds
+
+-- The feeds' sources were recorded into the output's store.
+pub record Reported (options : RecordOptions) (out : List ℕ) (feeds : List (List ℕ)) (old new : WorldState) (entries : List Opening) (r : Report) : Type 0 where
+  -- as the world gave them and as it took them back, in the order of the words, and whether that went well
+  pub given : List SourceState
+  pub kept_feeds : List FeedKept
+  pub names_are : feeds ≡ names_kept kept_feeds
+  pub live : LiveState
+  pub live_now : LiveState
   pub live_kept : Bool
-  -- what was read of the source, which history its report and that of the writer describe, and what the store holds of it
-  pub recorded : Recorded options given back r
-  -- the source told the bytes under the feed's name, which is there, where the world tells
-  pub tells : TellsName old feed given.source
-  pub unused : given.source.faults ≡ 0
-  pub live_unused : given.live.faults ≡ 0
+  -- what was read of the sources, which history their reports and that of the writer describe, and what the store holds of it
+  pub recorded : Recorded options (sides given live) (sides (back_sources kept_feeds) live_now) r
+  -- each source told the bytes under its feed's name, which is there, where the world tells
+  pub tells : AllZip (TellsName old) feeds given
+  pub unused : Each (λ (s : SourceState). s.faults ≡ 0) given
+  pub live_unused : live.faults ≡ 0
   -- and then the output's name holds the file of that history
   pub file : (told now : Told) → old.told ≡ Some told → new.told ≡ Some now
       → OutputHolds options.file recorded.history r.writer live_kept (told.names out) (now.names out)
-  pub kept_are : entries ≡ kept kinds.Source feed (record { well = source_kept; faults = back.source.faults; left = back.source.left; asked = 0 })
-      ∷ kept kinds.Live out (record { well = live_kept; faults = back.live.faults; left = None; asked = 0 }) ∷ []
+  pub kept_are : entries ≡ map entry_of kept_feeds ++ live_entry out live_now live_kept ∷ []
 
 -- ---- without a report
 
--- Nothing was read from the feed and nothing written: the output's name holds what it held, or nothing.
-pub record Unreported (out feed : List ℕ) (old new : WorldState) (entries : List Opening) : Type 0 where
+-- what a feed that was kept has left is what stands under its name
+abbrev pub IsLeft : Told → Opening → Type 0
+IsLeft told entry = (feed : List ℕ) (keeping : Keeping) → entry ≡ kept kinds.Source feed keeping → keeping.left ≡ told.names feed
+
+-- Nothing was read from the feeds and nothing written: the output's name holds what it held, or nothing.
+pub record Unreported (out : List ℕ) (old new : WorldState) (entries : List Opening) : Type 0 where
   pub inputs : input_faults entries ≡ 0
   pub outputs : output_faults entries ≡ 0
-  pub left : (keeping : Keeping) (more : List Opening) (told : Told) → entries ≡ kept kinds.Source feed keeping ∷ more → old.told ≡ Some told → keeping.left ≡ told.names feed
+  pub left : (told : Told) → old.told ≡ Some told → Each (IsLeft told) entries
   pub file : (told now : Told) → old.told ≡ Some told → new.told ≡ Some now → (now.names out ≡ told.names out) ⊎ (now.names out ≡ Some [])
 
--- where the feed isn't there, the output's name holds what it held
-abbrev pub SparesOutput : List ℕ → List ℕ → WorldState → WorldState → Type 0
-SparesOutput out feed old new = (told now : Told) → old.told ≡ Some told → new.told ≡ Some now → told.names feed ≡ None → now.names out ≡ told.names out
+-- where one of the feeds isn't there, the output's name holds what it held
+abbrev pub SparesOutput : List ℕ → List (List ℕ) → WorldState → WorldState → Type 0
+SparesOutput out feeds old new = (told now : Told) → old.told ≡ Some told → new.told ≡ Some now
+    → (feed : List ℕ) → Has feeds feed → told.names feed ≡ None → now.names out ≡ told.names out
 
 -- ---- what a report tells
 
@@ -109,10 +141,16 @@ end_status (feed_ends.Fault faults) = 0
 end_status feed_ends.Memory = 0
 end_status feed_ends.Ended = 0
 
--- that of the one feed
+-- that of the feed of the first report
 abbrev pub first_end : List ℕ → List FeedReport → List Trouble
 first_end feed [] = []
 first_end feed (f ∷ fs) = end_troubles feed f.end
+
+-- those of all feeds, in their order
+abbrev pub ends_of : List (List ℕ) → List FeedReport → List (List Trouble)
+ends_of [] reports = []
+ends_of (feed ∷ feeds) [] = []
+ends_of (feed ∷ feeds) (report ∷ reports) = end_troubles feed report.end ∷ ends_of feeds reports
 
 -- a message was refused since it, its channel or the number of records would pass a limit
 abbrev pub is_over : Cause → Bool
@@ -168,94 +206,130 @@ abbrev pub lacks_memory : Report → Bool
 lacks_memory r = is_memory_writer r.writer.end || list_any (λ f. is_memory_end f.end || list_any (λ x. is_memory x.cause) f.refused.items) r.feeds.items
 
 -- the same where there may be no report
-abbrev pub ends_in : List ℕ → Option Report → List Trouble
-ends_in feed None = []
-ends_in feed (Some r) = first_end feed r.feeds.items
+abbrev pub reports_in : Option Report → List FeedReport
+reports_in None = []
+reports_in (Some r) = r.feeds.items
 
 abbrev pub limit_passed : Option Report → Bool
 limit_passed None = false
 limit_passed (Some r) = passes_limit r
 
 -- what there is to tell of besides faults
-abbrev pub findings_of : List ℕ → List ℕ → Option Report → Bool → Findings
-findings_of out feed report lacked = record { halts = ends_in feed report; limits = when (limit_passed report) (output_limit out); lacked = lacked }
+abbrev pub findings_of : List ℕ → List (List ℕ) → Option Report → Bool → Findings
+findings_of out feeds report lacked = record { halts = ends_of feeds (reports_in report); limits = when (limit_passed report) (output_limit out); lacked = lacked }
 
 -- memory lacked exactly where the report names that; or it isn't there though no count rose
 abbrev pub LackIsTold : Counts → Counts → Option Report → Bool → Type 0
 LackIsTold before now None lacked = (AnyRose before now → ⊥) ↔ (lacked ≡ true)
 LackIsTold before now (Some r) lacked = lacked ≡ lacks_memory r
 
--- which of both names is blamed, as the counts tell: each with its cause, and none is left out
-pub record Causes (before now : Counts) (feed out : Bool) : Type 0 where
-  pub feed_cause : feed ≡ true → Rose before.world now.world ⊎ Rose before.inputs now.inputs
+-- one of the answers is that it failed
+abbrev pub some_failed : List Bool → Bool
+some_failed failed = list_any (λ (b : Bool). b) failed
+
+-- Which of the feeds are blamed, in their order, and whether the output is, as the counts tell: each with its cause, and none
+-- is left out.
+pub record Causes (before now : Counts) (feeds : List Bool) (out : Bool) : Type 0 where
+  pub feed_cause : some_failed feeds ≡ true → Rose before.world now.world ⊎ Rose before.inputs now.inputs
   pub out_cause : out ≡ true → Rose before.world now.world ⊎ Rose before.outputs now.outputs
-  pub inputs_told : Rose before.inputs now.inputs → feed ≡ true
+  pub inputs_told : Rose before.inputs now.inputs → some_failed feeds ≡ true
   pub outputs_told : Rose before.outputs now.outputs → out ≡ true
-  pub world_told : Rose before.world now.world → (feed ≡ true) ⊎ (out ≡ true)
+  pub world_told : Rose before.world now.world → (some_failed feeds ≡ true) ⊎ (out ≡ true)
 
 -- the names that are blamed
-abbrev pub names_of : List ℕ → List ℕ → Bool → Bool → List (List ℕ)
-names_of out feed feed_blamed out_blamed = named_when feed_blamed feed ++ (named_when out_blamed out ++ [])
+abbrev pub failed_of : List Bool → Bool → Failed
+failed_of feeds out = record { inputs = feeds; outputs = out ∷ [] }
 
 -- ---- the status
 
--- 5 where memory lacked; else 3 where a count rose; else 4 where a limit would be passed; else that of the feed's end
+-- the first of 4 and 1 that stands among the statuses, or 0
+abbrev pub worst : List ℕ → ℕ
+worst statuses = if list_any (λ (n : ℕ). n == 4) statuses then 4 else (if list_any (λ (n : ℕ). n == 1) statuses then 1 else 0)
+
+abbrev pub ends_status : Report → ℕ
+ends_status r = worst (map (λ (f : FeedReport). end_status f.end) r.feeds.items)
+
+-- 5 where memory lacked; else 3 where a count rose; else 4 where a limit would be passed; else that of the feeds' ends
 pub record EndsWith (before now : Counts) (report : Option Report) (lacked : Bool) (status : ℕ) : Type 0 where
   pub memory : lacked ≡ true → status ≡ 5
   pub rose : lacked ≡ false → AnyRose before now → status ≡ 3
-  pub calm : lacked ≡ false → (AnyRose before now → ⊥) → (r : Report) (f : FeedReport) → report ≡ Some r → IsOnlyFeed r f
-      → status ≡ (if passes_limit r then 4 else end_status f.end)
+  pub calm : lacked ≡ false → (AnyRose before now → ⊥) → (r : Report) → report ≡ Some r
+      → status ≡ (if passes_limit r then 4 else ends_status r)
 
--- the whole feed was recorded: its Data End was read, none of its messages was refused, and the file was closed
-pub record RecordsAll (r : Report) : Type 0 where
-  pub only : FeedReport
-  pub one_feed : IsOnlyFeed r only
-  pub end : only.end ≡ feed_ends.Done
-  pub none_refused : only.refused.items ≡ []
+-- the buffer stood at its limit
+abbrev pub is_full : Cause → Bool
+is_full (causes.Full held from to) = true
+is_full (causes.TooLarge len) = false
+is_full (causes.Closed at) = false
+is_full (causes.Stopped at stop) = false
+is_full causes.TooManySchemas = false
+is_full causes.TooManyChannels = false
+is_full (causes.TooManyRecords count) = false
+is_full causes.Memory = false
+
+-- The whole feed was recorded: its Data End was read, and none of its messages was refused, but for a full buffer where lanes
+-- don't wait for room.
+pub record IsAllRecorded (lossless : Bool) (f : FeedReport) : Type 0 where
+  pub end : f.end ≡ feed_ends.Done
+  pub only_full : Each (λ (x : Refused). is_full x.cause ≡ true) f.refused.items
+  pub none_refused : lossless ≡ true → f.refused.items ≡ []
+
+-- all of the feeds was recorded, and the file was closed
+pub record RecordsAll (options : RecordOptions) (r : Report) : Type 0 where
+  pub each : Each (IsAllRecorded options.lossless) r.feeds.items
   pub closed : r.writer.end ≡ ends.Closed
+
+-- the bytes of a feed halt so
+pub record HaltsThere (told : Told) (feed : List ℕ) (halt : Halt) : Type 0 where
+  pub bytes : List ℕ
+  pub there : told.names feed ≡ Some bytes
+  pub tops : List Top
+  pub halts : Halts reading_limits bytes tops halt
 
 -- ---- the command
 
 -- what `record` does
-pub record Records (options : RecordOptions) (out feed : List ℕ) (old new : Scene) (report : Option Report) (status : ℕ) : Type 0 where
+pub record Records (options : RecordOptions) (out : List ℕ) (feeds : List (List ℕ)) (old new : Scene) (report : Option Report) (status : ℕ) : Type 0 where
   pub entries : List Opening
-  -- with a report the feed was recorded, and the output holds the file
-  pub reported : (r : Report) → report ≡ Some r → Reported options out feed old.world new.world entries r
+  -- with a report the feeds were recorded, and the output holds the file
+  pub reported : (r : Report) → report ≡ Some r → Reported options out feeds old.world new.world entries r
   -- without one nothing was read or written
-  pub unreported : report ≡ None → Unreported out feed old.world new.world entries
-  pub spares : SparesOutput out feed old.world new.world
-  -- these two names are opened; both outputs are told of the report, of its troubles, and of which part failed
+  pub unreported : report ≡ None → Unreported out old.world new.world entries
+  pub spares : SparesOutput out feeds old.world new.world
+  -- these names are opened; both outputs are told of the report, of its troubles, and of which part failed
   pub lacked : Bool
   pub lacks : LackIsTold (counts_in old) (counts_in new) report lacked
-  pub ran : Ran (files_of out feed) old new entries (report_text report) (findings_of out feed report lacked) status
-  pub feed_blamed : Bool
+  pub ran : Ran (files_of out feeds) old new entries (report_text report) (findings_of out feeds report lacked) status
+  pub feeds_blamed : List Bool
   pub out_blamed : Bool
-  pub names_are : ran.failed ≡ names_of out feed feed_blamed out_blamed
-  pub causes : Causes (counts_in old) (counts_in new) feed_blamed out_blamed
+  pub failed_are : ran.failed ≡ failed_of feeds_blamed out_blamed
+  pub causes : Causes (counts_in old) (counts_in new) feeds_blamed out_blamed
   -- the status says what became of it
   pub ended : EndsWith (counts_in old) (counts_in new) report lacked status
-  -- where the world tells, the bytes under the feed's name decide the status, unless a count rises, memory lacks, or a limit
+  -- where the world tells, the bytes under the feeds' names decide the status, unless a count rises, memory lacks, or a limit
   -- would be passed
-  pub decided : (told : Told) (bytes : List ℕ) (tops : List Top) (halt : Halt) → old.world.told ≡ Some told → told.names feed ≡ Some bytes → Halts reading_limits bytes tops halt
-      → (AnyRose (counts_in old) (counts_in new) → ⊥) → lacked ≡ false → limit_passed report ≡ false → status ≡ halt_status halt
-  -- the status 0 says that all of the feed was recorded
-  pub whole : status ≡ 0 → (r : Report) × (report ≡ Some r) × RecordsAll r
+  pub decided : (told : Told) (halts : List Halt) → old.world.told ≡ Some told → AllZip (HaltsThere told) feeds halts
+      → (AnyRose (counts_in old) (counts_in new) → ⊥) → lacked ≡ false → limit_passed report ≡ false → status ≡ worst (map halt_status halts)
+  -- the status 0 says that all of the feeds was recorded
+  pub whole : status ≡ 0 → (r : Report) × (report ≡ Some r) × RecordsAll options r
 
--- ---- what the opening, recording and keeping of both names did
+-- ---- what the opening, recording and keeping of all names did
 
-pub record NamesRecorded (options : RecordOptions) (out feed : List ℕ) (old new : WorldState) (outcome : Outcome) : Type 0 where
+pub record NamesRecorded (options : RecordOptions) (out : List ℕ) (feeds : List (List ℕ)) (old new : WorldState) (outcome : Outcome) : Type 0 where
   pub entries : List Opening
-  pub opened : AreOpened (wanted (files_of out feed)) entries
+  pub opened : AreOpened (wanted (files_of out feeds)) entries
   pub leaves : Leaves old new entries
   pub counts : CountsKept old new entries
-  pub reported : (r : Report) → outcome.report ≡ Some r → Reported options out feed old new entries r
-  pub unreported : outcome.report ≡ None → Unreported out feed old new entries
-  pub spares : SparesOutput out feed old new
-  pub failed : failed_names entries ≡ named_when outcome.feed_failed feed ++ (named_when outcome.out_failed out ++ [])
-  -- each failure shows in a count
-  pub feed_cause : outcome.feed_failed ≡ true → Rose old.faults new.faults ⊎ Rose old.input_faults new.input_faults
-  pub out_cause : outcome.out_failed ≡ true → Rose old.faults new.faults ⊎ Rose old.output_faults new.output_faults
-  -- and each count that rose is one of theirs
-  pub inputs_told : old.input_faults < 2 ^ 64 - 1 → Rose old.input_faults new.input_faults → outcome.feed_failed ≡ true
-  pub outputs_told : old.output_faults < 2 ^ 64 - 1 → Rose old.output_faults new.output_faults → outcome.out_failed ≡ true
-  pub world_told : old.faults < 2 ^ 64 - 1 → Rose old.faults new.faults → (outcome.feed_failed ≡ true) ⊎ (outcome.out_failed ≡ true)
+  pub reported : (r : Report) → outcome.report ≡ Some r → Reported options out feeds old new entries r
+  pub unreported : outcome.report ≡ None → Unreported out old new entries
+  pub spares : SparesOutput out feeds old new
+  -- the entries of the feeds failed so, and then that of the output, if it was reached
+  pub inputs : List Opening
+  pub outputs : List Opening
+  pub few : length inputs ≤ length feeds
+  pub parts : entries ≡ inputs ++ outputs
+  pub sources : Each (λ (entry : Opening). entry.kind ≡ kinds.Source) inputs
+  pub stores : Each (λ (entry : Opening). entry.kind ≡ kinds.Live) outputs
+  pub feeds_failed : outcome.feeds_failed.items ≡ map has_failed inputs
+  pub out_failed : outcome.out_failed ≡ list_any has_failed outputs
+  pub failed : failed_names entries ≡ blamed_names (files_of out feeds) (failed_of outcome.feeds_failed.items outcome.out_failed)

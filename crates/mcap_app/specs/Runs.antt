@@ -6,7 +6,7 @@ use Rattle.recorder.specs.declared.report.Report.{Report}
 use Rattle.command_base.specs.Texts.{no_memory, said}
 use Rattle.command_base.specs.Printing.{Takes}
 use Rattle.command_base.specs.Ran.{Scene}
-use Rattle.mcap_app.specs.Record.{AreAllowed, Records}
+use Rattle.mcap_app.specs.Record.{AreAllowed, AreFew, Records}
 use Rattle.file_commands.specs.Info.{Describes}
 use Rattle.file_commands.specs.Check.{FileChecks}
 use Rattle.file_commands.specs.Cat.{selection, Cats}
@@ -14,14 +14,14 @@ use Rattle.file_commands.specs.Indexed.{IndexedCats}
 
 -- the numbers and texts of a recording are in their ranges
 abbrev pub IsAllowed : Command → Type 0
-IsAllowed (commands.Record out feed file limit) = AreAllowed (record { file = file; limit = limit })
+IsAllowed (commands.Record out feeds file limit lossless) = AreAllowed (record { file = file; limit = limit; lossless = lossless }) × AreFew feeds
 IsAllowed (commands.Info file) = Unit {0}
 IsAllowed (commands.Check file) = Unit {0}
 IsAllowed (commands.Cat file indexed range topic) = Unit {0}
 
 -- only a recording has a report
 abbrev pub Runs : Command → Scene → Scene → Option Report → ℕ → Type 0
-Runs (commands.Record out feed file limit) old new report status = Records (record { file = file; limit = limit }) out feed old new report status
+Runs (commands.Record out feeds file limit lossless) old new report status = Records (record { file = file; limit = limit; lossless = lossless }) out feeds old new report status
 Runs (commands.Info file) old new report status = Describes file old new status × (report ≡ None)
 Runs (commands.Check file) old new report status = FileChecks file old new status × (report ≡ None)
 Runs (commands.Cat file false range topic) old new report status = Cats (selection range topic) file old new status × (report ≡ None)

@@ -1,16 +1,49 @@
 //! What the program is asked to do.
+ghost use Rattle.std.specs.Prelude.{◌≡◌};
+
 use mcap_model::{FileOptions, Range};
 use mcap_wire::Text;
+use std::marker::Model;
+
+/// The names of feeds, from left to right. Contracts see the list of them.
+#[derive(Drop)]
+pub struct FeedNames {
+    names: Vec<Text>,
+}
+
+impl Model for FeedNames {
+    ghost use Rattle.std.specs.Prelude.{List, ℕ};
+
+    ghost Value = { List (List ℕ) };
+
+    ghost view = { λ f. f.names.items };
+}
+
+impl FeedNames {
+    pub fn new(names: Vec<Text>) -> FeedNames
+        ensures { result ≡ names.items }
+    {
+        FeedNames { names }
+    }
+
+    pub fn as_slice(&self) -> &[Text]
+        ensures { result.now ≡ self.now }
+    {
+        self.names.as_slice()
+    }
+}
 
 /// What the program is to do, with what the words give.
 #[derive(Drop)]
 pub enum Command {
-    /// Record the feed under the name `feed` to the file `out`, with a buffer of `limit` bytes.
+    /// Record the feeds under the names `feeds` to the file `out`, with a buffer of `limit` bytes. Where `lossless` says so
+    /// a feed waits for a full buffer, in place of losing its message.
     Record {
         out: Text,
-        feed: Text,
+        feeds: FeedNames,
         file: FileOptions,
         limit: u64,
+        lossless: bool,
     },
     /// Print what the file is.
     Info {

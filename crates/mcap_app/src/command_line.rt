@@ -1,7 +1,7 @@
 //! The command line as `clap` is told of it.
 ghost use Rattle.std.specs.Prelude.{◌≡◌, false, IfOk};
 ghost use Rattle.clap.specs.Words.{App, new_rule, with_rule, with_subcommand};
-ghost use Rattle.mcap_app.specs.CommandLine.{IsMade, bare_top, file_app, flag_given, option_given, program, verb_app};
+ghost use Rattle.mcap_app.specs.CommandLine.{IsMade, bare_top, file_app, flag_given, option_given, program, rest_given, verb_app};
 ghost use Rattle.mcap_app.specs.declared.verbs.Verb.TheVariants as verb;
 
 use clap::{Arg, ArgAction, Command};
@@ -40,16 +40,28 @@ fn with_place<'a>(
     made?.arg(Arg::new(alloc, name))
 }
 
+// Adds a positional that takes every word from its place on.
+fn with_rest<'a>(
+    made: Result<Command<'a>, AllocError>,
+    alloc: Global,
+    name: &'a str,
+) -> Result<Command<'a>, AllocError>
+    ensures { (app : App) → IfOk made.entry (IsMade app) → IfOk result (IsMade (with_rule app (rest_given name.entry.now))) }
+{
+    made?.arg(Arg::new(alloc, name).action(ArgAction::Append))
+}
+
 // `record`.
 fn record<'a>(alloc: Global) -> Result<Command<'a>, AllocError>
     ensures { IfOk result (IsMade (verb_app verb.Record)) }
 {
     let command = with_flag(Ok(Command::new(alloc, "record")), alloc, "plain");
+    let command = with_flag(command, alloc, "lossless");
     let command = with_option(command, alloc, "limit");
     let command = with_option(command, alloc, "chunk");
     let command = with_option(command, alloc, "profile");
     let command = with_place(command, alloc, "out");
-    with_place(command, alloc, "feed")
+    with_rest(command, alloc, "feed")
 }
 
 // A command of one file, without options.

@@ -4,8 +4,8 @@ ghost use Rattle.std.specs.Option.{option_to_list};
 ghost use Rattle.clap.specs.Words.{one_of};
 ghost use Rattle.clap.specs.Values.{bool_text};
 ghost use Rattle.mcap_app.specs.Commands.{GivesNumber, IsNumber};
-ghost use Rattle.mcap_app.specs.Items.{Word};
-ghost use Rattle.mcap_app.specs.Matches.{rows_found, value_in};
+ghost use Rattle.mcap_app.specs.Items.{Word, texts};
+ghost use Rattle.mcap_app.specs.Matches.{rows_found, value_in, values_in};
 
 use clap::ArgMatches;
 
@@ -18,6 +18,13 @@ pub fn value_of<'a>(found: &ArgMatches<'a>, name: &str) -> Option<&'a str>
     ensures { option_map (λ value. value.now) result ≡ value_in found.now name.now }
 {
     found.get_str(name)
+}
+
+/// All the values of a name, from left to right, where there is one.
+pub fn values_of<'f, 'a>(found: &'f ArgMatches<'a>, name: &str) -> Option<&'f [&'a str]>
+    ensures { MatchOption result (values_in found.now name.now ≡ []) (λ values. texts values.now ≡ values_in found.now name.now) }
+{
+    found.get_strs(name)
 }
 
 /// Whether the value of a name is `-`, which no option takes.

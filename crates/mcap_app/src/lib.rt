@@ -15,7 +15,7 @@ mod recording;
 mod verbs;
 
 pub use answering::{Failures, Outcome, answer, failed_parts};
-pub use command::{Command, WordsRefused};
+pub use command::{Command, FeedNames, WordsRefused};
 pub use command_base::{Complaint, Counts, rose};
 pub use mcap_model::{End, Stop};
 pub use parse::parse_words;

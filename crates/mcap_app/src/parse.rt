@@ -1,15 +1,16 @@
 //! All the words of a command line.
-ghost use Rattle.std.specs.Prelude.{◌≡◌, ◌≢◌, ℕ, List, [], Some, Bool, Option, MatchOption, codes, IfOk, IfErr, OnErr, option_map};
+ghost use Rattle.std.specs.Prelude.{◌≡◌, ◌≢◌, ◌↔◌, ℕ, List, [], Some, Bool, Option, IsTrue, codes, IfOk, IfErr, OnErr, option_map};
+ghost use Rattle.std.specs.List.{All};
 ghost use Rattle.clap.specs.Words.{subcommand_rows_of};
-ghost use Rattle.mcap_app.specs.Items.{Word};
+ghost use Rattle.mcap_app.specs.Items.{Word, texts};
 ghost use Rattle.mcap_app.specs.Commands.{AreBad, Behind, Derives, IsCat, IsOnly, IsRecord, verb_of};
-ghost use Rattle.mcap_app.specs.Matches.{AreRead, IsReading, rows_found, value_in};
+ghost use Rattle.mcap_app.specs.Matches.{AreFeeds, AreRead, IsReading, rows_found, value_in, values_in};
 ghost use Rattle.mcap_app.specs.declared.command.Command.{Command as Wanted};
 ghost use Rattle.mcap_model.specs.declared.options.FileOptions.{FileOptions as Options};
 ghost use Rattle.mcap_model.specs.declared.replay.Range.{Range as Times};
 
-use crate::command::{Command, WordsRefused};
-use crate::found::{BadValue, has_flag, is_dash, name_of_file, number_of, value_of};
+use crate::command::{Command, FeedNames, WordsRefused};
+use crate::found::{BadValue, has_flag, is_dash, name_of_file, number_of, value_of, values_of};
 use crate::options::{copy_of, file_options, range_of};
 use crate::read::{are_whole, plain_words, read_words};
 use crate::verbs::{Verb, named_verb};
@@ -21,6 +22,9 @@ use std::alloc::Global;
 const LARGEST_LIMIT: u64 = 1_073_741_824;
 
 const USUAL_LIMIT: u64 = 104_857_600;
+
+/// The most feeds of a recording.
+const FEED_LIMIT: usize = 64;
 
 // A copy of a word that may be there.
 fn maybe_copy(alloc: Global, word: Option<&str>) -> Result<Option<Text>, WordsRefused>
@@ -36,20 +40,64 @@ fn maybe_copy(alloc: Global, word: Option<&str>) -> Result<Option<Text>, WordsRe
     }
 }
 
-// The names of the two files of a recording, which differ.
-fn two_names<'a>(found: &ArgMatches<'a>) -> Option<(&'a str, &'a str)>
-    ensures { MatchOption result ((out feed : Word) → out ≢ [] → feed ≢ [] → out ≢ feed → value_in found.now (codes "out") ≡ Some out → value_in found.now (codes "feed") ≢ Some feed) (λ names. (names.0.now ≢ []) × (names.1.now ≢ []) × (names.0.now ≢ names.1.now) × (value_in found.now (codes "out") ≡ Some names.0.now) × (value_in found.now (codes "feed") ≡ Some names.1.now)) }
+// Whether a name may be a feed's beside that output.
+fn may_be_feed(out: &str, feed: &str) -> bool
+    ensures { IsTrue result ↔ ((feed.now ≢ []) × (out.now ≢ feed.now)) }
 {
-    let Some(out) = name_of_file(found, "out") else {
-        return None;
-    };
-    let Some(feed) = name_of_file(found, "feed") else {
-        return None;
-    };
-    if out == feed {
-        return None;
+    !feed.is_empty() && out != feed
+}
+
+// Whether each of the names may be.
+fn are_named(out: &str, feeds: &[&str]) -> bool
+    ensures { IsTrue result ↔ All (λ feed. (feed.now ≢ []) × (out.now ≢ feed.now)) feeds.now }
+{
+    feeds.iter().all(|feed| may_be_feed(out, feed))
+}
+
+// Whether the names may be the feeds' beside that output.
+fn are_feeds(out: &str, feeds: &[&str]) -> bool
+    ensures { IsTrue result ↔ AreFeeds out.now (texts feeds.now) }
+{
+    if feeds.is_empty() || feeds.len() > FEED_LIMIT {
+        return false;
     }
-    Some((out, feed))
+    are_named(out, feeds)
+}
+
+// Copies of words.
+fn copies_of(alloc: Global, words: &[&str]) -> Result<FeedNames, WordsRefused>
+    ensures copies { IfOk result (λ copies. copies ≡ texts words.now) }
+    ensures want { OnErr result (result ≡ Err WordsRefused.Memory) }
+{
+    let mut copies = Vec::new(alloc);
+    for word in words {
+        let copy = match copy_of(alloc, word) {
+            Ok(copy) => copy,
+            Err(refused) => return Err(refused),
+        };
+        match copies.push(copy) {
+            Ok(()) => {}
+            Err(_) => return Err(WordsRefused::Memory),
+        }
+    }
+    Ok(FeedNames::new(copies))
+}
+
+// The names of the feeds of a recording to that output.
+fn feeds_of(alloc: Global, found: &ArgMatches, out: &str) -> Result<FeedNames, WordsRefused>
+    ensures feeds { IfOk result (λ feeds. (values_in found.now (codes "feed") ≡ feeds) × AreFeeds out.now feeds) }
+    ensures bad { IfErr result (λ refused. refused ≡ WordsRefused.BadWords → AreFeeds out.now (values_in found.now (codes "feed")) → ⊥) }
+{
+    let Some(feeds) = values_of(found, "feed") else {
+        return Err(WordsRefused::BadWords);
+    };
+    if !are_feeds(out, feeds) {
+        return Err(WordsRefused::BadWords);
+    }
+    match copies_of(alloc, feeds) {
+        Ok(feeds) => return Ok(feeds),
+        Err(refused) => return Err(refused),
+    }
 }
 
 // The name of the one file of a command.
@@ -69,30 +117,35 @@ fn one_name(alloc: Global, found: &ArgMatches) -> Result<Text, WordsRefused>
 // What was found behind `record`.
 fn record_of(alloc: Global, found: &ArgMatches) -> Result<Command, WordsRefused>
     ensures command { (words : List Word) → IsReading Verb.Record words (rows_found found.now) → IfOk result (λ command. Behind words command × (verb_of command ≡ Verb.Record)) }
-    ensures bad { (words : List Word) → IsReading Verb.Record words (rows_found found.now) → IfErr result (λ refused. refused ≡ WordsRefused.BadWords → (out feed : Word) (file : Options) (limit : ℕ) → IsRecord words out feed file limit → ⊥) }
+    ensures bad { (words : List Word) → IsReading Verb.Record words (rows_found found.now) → IfErr result (λ refused. refused ≡ WordsRefused.BadWords → (out : Word) (feeds : List Word) (file : Options) (limit : ℕ) (lossless : Bool) → IsRecord words out feeds file limit lossless → ⊥) }
 {
     if is_dash(found, "profile") {
         return Err(WordsRefused::BadWords);
     }
-    let Some((out, feed)) = two_names(found) else {
+    let Some(out) = name_of_file(found, "out") else {
         return Err(WordsRefused::BadWords);
     };
     let limit = match number_of(found, "limit", 1, LARGEST_LIMIT) {
         Ok(limit) => limit,
         Err(BadValue) => return Err(WordsRefused::BadWords),
     };
+    let feeds = match feeds_of(alloc, found, out) {
+        Ok(feeds) => feeds,
+        Err(refused) => return Err(refused),
+    };
     let file = match file_options(alloc, found) {
         Ok(file) => file,
         Err(refused) => return Err(refused),
     };
-    match (copy_of(alloc, out), copy_of(alloc, feed)) {
-        (Ok(out), Ok(feed)) => return Ok(Command::Record {
+    match copy_of(alloc, out) {
+        Ok(out) => return Ok(Command::Record {
             out,
-            feed,
+            feeds,
             file,
             limit: limit.unwrap_or(USUAL_LIMIT),
+            lossless: has_flag(found, "lossless"),
         }),
-        _ => return Err(WordsRefused::Memory),
+        Err(refused) => return Err(refused),
     }
 }
 
@@ -156,15 +209,15 @@ fn found_command(alloc: Global, found: &ArgMatches) -> Result<Command, WordsRefu
     }
 }
 
-/// Reads the words behind the program's own name: `record [--plain] [--limit N] [--chunk N] [--profile T] OUT FEED`,
-/// `info FILE`, `check FILE` or `cat [--indexed] [--start N] [--end N] [--topic T] FILE`.
+/// Reads the words behind the program's own name: `record [--plain] [--lossless] [--limit N] [--chunk N] [--profile T] OUT
+/// FEED...`, `info FILE`, `check FILE` or `cat [--indexed] [--start N] [--end N] [--topic T] FILE`.
 ///
 /// Options and positionals stand in any order behind the command, and `--` ends the options. An option has its value
 /// behind `=` in the same word, or in the next word, which then doesn't begin with `-`; each stands at most once. A number
 /// has 1 to 20 decimal digits: N of `--limit` is a number of bytes from 1 to 1,073,741,824 (usually 104,857,600), that of
 /// `--chunk` from 1 to 67,108,864 (usually 786,432), and those of `--start` and `--end` are times below 2^64. A profile has
-/// at most 65,535 bytes. OUT, FEED and FILE aren't empty and no word is `-` alone; OUT and FEED differ; `--plain` and
-/// `--chunk` exclude each other.
+/// at most 65,535 bytes. OUT, FEED and FILE aren't empty and no word is `-` alone; 1 to 64 FEEDs stand behind OUT, each
+/// other than OUT, two of which may be equal; `--plain` and `--chunk` exclude each other.
 ///
 /// Where the words are no command the answer is BadWords, and where there is no memory for reading them it may be Memory.
 pub fn parse_words(alloc: Global, words: &[Text]) -> Result<Command, WordsRefused>

@@ -15,7 +15,8 @@ use file_commands::{check_file, describe_file, print_file, print_indexed};
 use mcap_io::{Sink, World};
 use mcap_wire::Text;
 use recorder::RecordOptions;
-use std::alloc::Global;
+use std::sync::Wait;
+use std::thread::Threads;
 
 // A command that made no report.
 fn unreported(status: u8) -> Ended
@@ -28,8 +29,8 @@ fn unreported(status: u8) -> Ended
 }
 
 // Does what the command says.
-fn run_command<W: World, O: Sink, E: Sink>(
-    alloc: Global,
+fn run_command<R: AllocGlobal + Threads + Wait + Sync, W: World, O: Sink, E: Sink>(
+    rt: &R,
     command: Command,
     world: &mut W,
     out: &mut O,
@@ -41,19 +42,25 @@ fn run_command<W: World, O: Sink, E: Sink>(
         (scene (W.state world.new) (O.state out.new) (E.state err.new))
         result.report result.status }
 {
+    let alloc = rt.alloc();
     match command {
         Command::Record {
             out: name,
-            feed,
+            feeds,
             file,
             limit,
+            lossless,
         } => {
-            let options = RecordOptions { file, limit };
+            let options = RecordOptions {
+                file,
+                limit,
+                lossless,
+            };
             return record_file(
-                alloc,
+                rt,
                 &options,
                 name.as_str(),
-                feed.as_str(),
+                feeds.as_slice(),
                 world,
                 out,
                 err,
@@ -82,7 +89,7 @@ fn run_command<W: World, O: Sink, E: Sink>(
 
 /// Does what the words say: reads and writes the names of the world, prints on `out`, complains on `err`, and
 /// answers how it ended. The words are those behind the program's own name.
-pub fn run<R: AllocGlobal, W: World, O: Sink, E: Sink>(
+pub fn run<R: AllocGlobal + Threads + Wait + Sync, W: World, O: Sink, E: Sink>(
     rt: &R,
     words: &[Text],
     world: &mut W,
@@ -111,7 +118,7 @@ pub fn run<R: AllocGlobal, W: World, O: Sink, E: Sink>(
         result.report result.status }
 {
     match parse_words(rt.alloc(), words) {
-        Ok(command) => return run_command(rt.alloc(), command, world, out, err),
+        Ok(command) => return run_command(rt, command, world, out, err),
         Err(WordsRefused::BadWords) => {
             refuse_words(err);
             return unreported(2);

@@ -15,9 +15,15 @@ use halt::Halt;
 use session::Session;
 use std::io;
 use std::process::ExitCode;
+use std::sync::Wait;
+use std::thread::Threads;
 
 // Takes the lines of a script.
-fn take_all(rt: &impl AllocGlobal, session: &mut Session, script: &str) -> Result<(), Halt> {
+fn take_all(
+    rt: &(impl AllocGlobal + Threads + Wait + Sync),
+    session: &mut Session,
+    script: &str,
+) -> Result<(), Halt> {
     for line in script.lines() {
         session.take(rt, line)?;
     }

@@ -4,16 +4,19 @@ use mcap_app::{
     print_report,
 };
 use mcap_io::MemorySink;
+use mcap_wire::Text;
 use std::alloc::{AllocError, Global};
 
-const NO_FAILURE: Failures = Failures {
-    feed: false,
+const NO_FAILURE: Failures<'static> = Failures {
+    feeds: &[],
+    every_feed: false,
     out: false,
     printing: false,
 };
 
-const FEED_FAILURE: Failures = Failures {
-    feed: true,
+const FEED_FAILURE: Failures<'static> = Failures {
+    feeds: &[true],
+    every_feed: false,
     out: false,
     printing: false,
 };
@@ -87,19 +90,23 @@ fn is_printed(alloc: Global, report: &Report, lines: &str) -> bool {
 fn is_answered(
     alloc: Global,
     report: &Option<Report>,
-    failed: Failures,
+    failed: Failures<'_>,
     status: u8,
     complaints: &str,
 ) -> bool {
+    let Ok(feed) = Text::copied(alloc, "F") else {
+        return false;
+    };
     let mut err = MemorySink::new(alloc, Vec::new(alloc));
-    answer(&mut err, "OUT", "F", report, failed) == status && err.bytes() == complaints.as_bytes()
+    answer(&mut err, "OUT", &[feed], report, failed) == status
+        && err.bytes() == complaints.as_bytes()
 }
 
 // The cause, whether memory lacked for the other feed, the file's end, what failed besides; and what is told.
-type Row = (Cause, bool, End, Failures, Told);
+type Row = (Cause, bool, End, Failures<'static>, Told);
 
 // Whether what a row wants is told of the report.
-fn is_told(alloc: Global, report: Report, failed: Failures, told: &Told) -> bool {
+fn is_told(alloc: Global, report: Report, failed: Failures<'_>, told: &Told) -> bool {
     let (status, complaints, lines) = *told;
     is_printed(alloc, &report, lines)
         && is_answered(alloc, &Some(report), failed, status, complaints)

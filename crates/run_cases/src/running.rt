@@ -7,6 +7,8 @@ use mcap_io::{MemorySink, MemoryWorld};
 use mcap_wire::Text;
 use std::alloc::AllocGlobal;
 use std::mem;
+use std::sync::Wait;
+use std::thread::Threads;
 
 /// What a run left.
 #[derive(Drop)]
@@ -28,7 +30,7 @@ fn fill(world: &mut MemoryWorld, given: &Pieces) -> Result<(), Halt> {
 
 /// Runs the words over copies of what is given. What was planned to fail fails in this run, and in no later one.
 pub(crate) fn run_once(
-    rt: &impl AllocGlobal,
+    rt: &(impl AllocGlobal + Threads + Wait + Sync),
     case: &mut Case,
     words: &[Text],
 ) -> Result<Ran, Halt> {

@@ -10,6 +10,8 @@ use crate::words::{command_in, words_of};
 use mcap_wire::Text;
 use std::alloc::{AllocGlobal, Global};
 use std::mem;
+use std::sync::Wait;
+use std::thread::Threads;
 
 // The statuses of a fault and of a want of memory, and one that no run answers.
 const FAULT: u8 = 3;
@@ -128,7 +130,7 @@ impl Session {
     // Runs the words, and compares so.
     fn run_once(
         &mut self,
-        rt: &impl AllocGlobal,
+        rt: &(impl AllocGlobal + Threads + Wait + Sync),
         words: &[Text],
         otherwise: u8,
         wanted: &Pieces,
@@ -141,7 +143,7 @@ impl Session {
     // Where the status is that of `otherwise`, all that is wanted is that nothing is printed.
     fn run(
         &mut self,
-        rt: &impl AllocGlobal,
+        rt: &(impl AllocGlobal + Threads + Wait + Sync),
         line: &[Token<'_>],
         otherwise: u8,
     ) -> Result<(), Halt> {
@@ -154,7 +156,7 @@ impl Session {
     // The reads fail in turn, one in each run, as long as there are so many. Answers how many runs tell of that.
     fn run_each(
         &mut self,
-        rt: &impl AllocGlobal,
+        rt: &(impl AllocGlobal + Threads + Wait + Sync),
         tries: u64,
         words: &[Text],
         wanted: &Pieces,
@@ -174,7 +176,7 @@ impl Session {
 
     fn each_read(
         &mut self,
-        rt: &impl AllocGlobal,
+        rt: &(impl AllocGlobal + Threads + Wait + Sync),
         said: &str,
         line: &[Token<'_>],
     ) -> Result<(), Halt> {
@@ -206,14 +208,23 @@ impl Session {
     }
 
     // Runs the words, and calls what they leave under OUT as is said.
-    fn make(&mut self, rt: &impl AllocGlobal, name: &str, line: &[Token<'_>]) -> Result<(), Halt> {
+    fn make(
+        &mut self,
+        rt: &(impl AllocGlobal + Threads + Wait + Sync),
+        name: &str,
+        line: &[Token<'_>],
+    ) -> Result<(), Halt> {
         let words = words_of(self.alloc, &self.pieces, line)?;
         let ran = run_once(rt, &mut self.case, &words)?;
         self.keep(name, &ran)
     }
 
     // Takes a directive of a case.
-    fn take_directive(&mut self, rt: &impl AllocGlobal, line: &[Token<'_>]) -> Result<(), Halt> {
+    fn take_directive(
+        &mut self,
+        rt: &(impl AllocGlobal + Threads + Wait + Sync),
+        line: &[Token<'_>],
+    ) -> Result<(), Halt> {
         let Some((word, rest)) = line.split_first() else {
             return Ok(());
         };
@@ -240,7 +251,11 @@ impl Session {
     }
 
     // Takes what an indented line says, or one part of it.
-    fn take_part(&mut self, rt: &impl AllocGlobal, part: &str) -> Result<(), Halt> {
+    fn take_part(
+        &mut self,
+        rt: &(impl AllocGlobal + Threads + Wait + Sync),
+        part: &str,
+    ) -> Result<(), Halt> {
         match self.kind {
             Kind::Words => self.take_words(part),
             Kind::Bytes => {
@@ -255,7 +270,11 @@ impl Session {
     }
 
     /// Takes a line.
-    pub fn take(&mut self, rt: &impl AllocGlobal, line: &str) -> Result<(), Halt> {
+    pub fn take(
+        &mut self,
+        rt: &(impl AllocGlobal + Threads + Wait + Sync),
+        line: &str,
+    ) -> Result<(), Halt> {
         self.telling.line = self.telling.line.saturating_add(1);
         let said = match line.split_once('#') {
             Some((said, _)) => said.trim_end(),

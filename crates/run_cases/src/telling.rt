@@ -122,6 +122,38 @@ fn common(one: &[u8], other: &[u8]) -> usize {
     same
 }
 
+// A text without the letters and digits that it begins with.
+fn behind_word(text: &str) -> &str {
+    text.trim_start_matches(|letter: char| letter.is_ascii_alphanumeric())
+}
+
+// Whether the text is as wanted, where a star stands for as many letters and digits as there are.
+fn is_like(want: &str, got: &str) -> bool {
+    let mut pieces = want.split('*');
+    let mut rest = match pieces.next() {
+        Some(first) => match got.strip_prefix(first) {
+            Some(rest) => rest,
+            None => return false,
+        },
+        None => return got.is_empty(),
+    };
+    for piece in pieces {
+        rest = match behind_word(rest).strip_prefix(piece) {
+            Some(rest) => rest,
+            None => return false,
+        };
+    }
+    rest.is_empty()
+}
+
+// The same of bytes that are texts.
+fn are_like(want: &[u8], got: &[u8]) -> bool {
+    match (str::from_utf8(want), str::from_utf8(got)) {
+        (Ok(want), Ok(got)) => is_like(want, got),
+        _ => false,
+    }
+}
+
 /// What is to be printed.
 #[derive(Drop)]
 pub(crate) struct Telling {
@@ -154,14 +186,22 @@ impl Telling {
         self.note(told.as_str())
     }
 
+    // The same where a star may stand in what is wanted.
+    fn compare_like(&mut self, what: &str, want: &[u8], got: &[u8]) -> Result<(), Halt> {
+        if are_like(want, got) {
+            return Ok(());
+        }
+        self.compare(what, want, got)
+    }
+
     fn see(&mut self, what: &str, want: &[u8], ran: &Ran) -> Result<(), Halt> {
         match what {
-            "out" => self.compare(what, want, ran.out.bytes()),
+            "out" => self.compare_like(what, want, ran.out.bytes()),
             "err" => self.compare(what, want, ran.err.bytes()),
             _ => {
                 let mut text = String::new(self.alloc);
                 add_found(self.alloc, &mut text, what, ran)?;
-                self.compare(what, want, text.as_bytes())
+                self.compare_like(what, want, text.as_bytes())
             }
         }
     }

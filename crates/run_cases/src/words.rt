@@ -2,7 +2,7 @@
 use crate::building::{Pieces, add_text, piece};
 use crate::halt::{Halt, unread};
 use crate::tokens::{Token, tokens_of};
-use mcap_app::{Command, WordsRefused, parse_words};
+use mcap_app::{Command, FeedNames, WordsRefused, parse_words};
 use mcap_wire::Text;
 use std::alloc::{AllocError, Global};
 
@@ -32,18 +32,31 @@ pub(crate) fn words_of(
     Ok(words)
 }
 
+// The names, each behind a space.
+fn joined(alloc: Global, feeds: &FeedNames) -> Result<String, AllocError> {
+    let mut names = String::new(alloc);
+    for feed in feeds.as_slice() {
+        names.push_str(" ")?;
+        names.push_str(feed.as_str())?;
+    }
+    Ok(names)
+}
+
 fn said(alloc: Global, command: &Command) -> Result<String, AllocError> {
     match command {
         Command::Record {
             out,
-            feed,
+            feeds,
             file,
             limit,
+            lossless,
         } => {
-            let (out, feed, profile) = (out.as_str(), feed.as_str(), file.profile.as_str());
+            let (out, profile) = (out.as_str(), file.profile.as_str());
+            let feeds = joined(alloc, feeds)?;
             let chunk = file.chunk;
+            let waits = if *lossless { " lossless" } else { "" };
             format!(in alloc;
-                "record {out} {feed} profile='{profile}' chunk={chunk:?} limit={limit}"
+                "record {out}{feeds} profile='{profile}' chunk={chunk:?} limit={limit}{waits}"
             )
         }
         Command::Info { file } => {

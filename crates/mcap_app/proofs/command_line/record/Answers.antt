@@ -8,8 +8,9 @@ pub returns : goal.returns
 returns c =
     let new : IsMade (new_app (codes "record")) c.new.result = record { is = c.new.ensures.app; alone = c.new.ensures.local } in
     let plain = c.with_flag-command.ensures (new_app (codes "record")) new in
-    let limit = c.with_option-command.ensures _ plain in
+    let lossless = c.with_flag-command-2.ensures _ plain in
+    let limit = c.with_option-command.ensures _ lossless in
     let chunk = c.with_option-command-2.ensures _ limit in
     let profile = c.with_option-command-3.ensures _ chunk in
     let out = c.with_place-command.ensures _ profile in
-    c.with_place.ensures _ out
+    c.with_rest.ensures _ out

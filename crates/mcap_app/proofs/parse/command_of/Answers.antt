@@ -1,5 +1,5 @@
 -- The command is that of the verb.
-use Rattle.std.proofs.Common.{◌≡◌, IfOk, List, refl, subst, sym}
+use Rattle.std.proofs.Common.{◌≡◌, IfOk, List, subst, sym}
 use Rattle.std.specs.Prelude.{IfErr}
 use Rattle.std.specs.declared.result.Result.{Result}
 use Rattle.std.proofs.lemmas.Result.{IfErr-weaker}
@@ -32,23 +32,23 @@ returns-in-Record-clause-bad c = subst (Refuses (rows_found c.args.found.now) c.
 pub returns-in-Ok-clause-command : goal.returns-in-Ok-clause-command
 returns-in-Ok-clause-command c = λ words reading.
     let here = subst (λ (v : Verb). IsReading v words (rows_found c.args.found.now)) c.in-Info.is reading in
-    (of_file_is verb.Info words (rows_found c.args.found.now) here c.in-Ok.file refl (λ name none. none) c.in-Ok.ensures.file.1 c.in-Ok.ensures.file.0, sym c.in-Info.is)
+    (of_file_is verb.Info words (rows_found c.args.found.now) here c.in-Ok.file tt (λ name none. none) c.in-Ok.ensures.file.1 c.in-Ok.ensures.file.0, sym c.in-Info.is)
 
 pub returns-in-Err-clause-bad : goal.returns-in-Err-clause-bad
 returns-in-Err-clause-bad c = λ words reading why command same.
     let here = subst (λ (v : Verb). IsReading v words (rows_found c.args.found.now)) c.in-Info.is reading in
-    only_info words (λ file is. let named = of_named_file verb.Info words (rows_found c.args.found.now) here file refl is in c.in-Err.ensures.bad why file named.0 named.1) command
+    only_info words (λ file is. let named = of_named_file verb.Info words (rows_found c.args.found.now) here file tt is in c.in-Err.ensures.bad why file named.0 named.1) command
     (subst (λ (v : Verb). verb_of command ≡ v) c.in-Info.is same)
 
 pub returns-in-Ok-one_name-clause-command : goal.returns-in-Ok-one_name-clause-command
 returns-in-Ok-one_name-clause-command c = λ words reading.
     let here = subst (λ (v : Verb). IsReading v words (rows_found c.args.found.now)) c.in-Check.is reading in
-    (of_file_is verb.Check words (rows_found c.args.found.now) here c.in-Ok-one_name.file refl (λ name none. none) c.in-Ok-one_name.ensures.file.1 c.in-Ok-one_name.ensures.file.0, sym c.in-Check.is)
+    (of_file_is verb.Check words (rows_found c.args.found.now) here c.in-Ok-one_name.file tt (λ name none. none) c.in-Ok-one_name.ensures.file.1 c.in-Ok-one_name.ensures.file.0, sym c.in-Check.is)
 
 pub returns-in-Err-one_name-clause-bad : goal.returns-in-Err-one_name-clause-bad
 returns-in-Err-one_name-clause-bad c = λ words reading why command same.
     let here = subst (λ (v : Verb). IsReading v words (rows_found c.args.found.now)) c.in-Check.is reading in
-    only_check words (λ file is. let named = of_named_file verb.Check words (rows_found c.args.found.now) here file refl is in c.in-Err-one_name.ensures.bad why file named.0 named.1) command
+    only_check words (λ file is. let named = of_named_file verb.Check words (rows_found c.args.found.now) here file tt is in c.in-Err-one_name.ensures.bad why file named.0 named.1) command
     (subst (λ (v : Verb). verb_of command ≡ v) c.in-Check.is same)
 
 pub returns-in-Cat-clause-command : goal.returns-in-Cat-clause-command
