@@ -1,8 +1,9 @@
 #!/usr/bin/env bash
-# Times `mcaprec record OUT FEED`, plain and in chunks, and `check` and `cat` of the result beside `cp FEED OUT` on feeds of
-# so many MiB (64), best of five each, in one run: messages of 1,000 and of 64 bytes of data, on one channel and on forty.
-# The kind `chunks` is a plain feed recorded in chunks; of the file that this writes, `again` is its messages recorded in
-# chunks, and `flat` the same recorded plain.
+# Times `mcaprec record --lossless OUT FEED`, plain and in chunks, and `check` and `cat` of the result beside `cp FEED OUT` on
+# feeds of so many MiB (64), best of five each, in one run: messages of 1,000 and of 64 bytes of data, on one channel and on
+# forty. The kind `chunks` is a plain feed recorded in chunks; of the file that this writes, `again` is its messages recorded in
+# chunks, and `flat` the same recorded plain. Then four feeds and 64 of as many bytes in all are recorded at once, plain and in
+# chunks, beside `cat FEED... >OUT`.
 # MCAPREC names another program to time in place of the launcher.
 set -e
 export LC_ALL=C
@@ -25,11 +26,12 @@ out="$work/out.mcap"
 # Where the printed text goes.
 sink="$work/printed"
 
-# Writes a feed of whole messages of so many bytes of data, taking turns on so many channels, and says how many.
+# Writes a feed of whole messages of so many bytes of data, taking turns on so many channels, and says how many. It may have
+# another name, and a part of the bytes.
 make_feed() {
-    perl - "$feed" "$mib" "$1" "$2" <<'END'
+    perl - "${3:-$feed}" "$mib" "$1" "$2" "${4:-1}" <<'END'
 use strict;
-my ($name, $mib, $size, $channels) = @ARGV;
+my ($name, $mib, $size, $channels, $parts) = @ARGV;
 my $magic = "\x89MCAP0\r\n";
 sub framed { my ($op, $content) = @_; return pack('C Q<', $op, length $content) . $content; }
 sub text { my ($text) = @_; return pack('V', length $text) . $text; }
@@ -39,7 +41,7 @@ for my $id (1 .. $channels) {
     print $file framed(4, pack('v v', $id, 0) . text("/topic/$id") . text('') . pack('V', 0));
 }
 my $data = join '', map { chr($_ * 7 % 256) } 1 .. $size;
-my $count = int($mib * 1024 * 1024 / (31 + $size));
+my $count = int($mib * 1024 * 1024 / (31 + $size) / $parts);
 for my $i (0 .. $count - 1) {
     my $time = 1_700_000_000_000_000_000 + 1000 * $i;
     print $file framed(5, pack('v V Q< Q<', 1 + $i % $channels, $i, $time, $time) . $data);
@@ -99,17 +101,38 @@ for size in 1000 64; do
         time_best cp "$feed" "$out"
         copied=$best
         all="feed 1 accepted=$count refused=0 passed=0 end"
-        row plain "$all" "$program" record --plain "$out" "$feed"
-        row chunks "$all" "$program" record "$out" "$feed"
-        "$program" record "$chunked" "$feed" >/dev/null
-        row again "$all" "$program" record "$out" "$chunked"
-        row flat "$all" "$program" record --plain "$out" "$chunked"
+        row plain "$all" "$program" record --lossless --plain "$out" "$feed"
+        row chunks "$all" "$program" record --lossless "$out" "$feed"
+        "$program" record --lossless "$chunked" "$feed" >/dev/null
+        row again "$all" "$program" record --lossless "$out" "$chunked"
+        row flat "$all" "$program" record --lossless --plain "$out" "$chunked"
         if [ "$channels" -eq 1 ]; then
             row check "ok indexed messages=$count .*" "$program" check "$chunked"
             sink=/dev/null
             (. "$here/../.ci/memory" && row cat '' "$program" cat "$chunked")
             sink="$work/printed"
         fi
+    done
+done
+# Feeds beside each other: each has a part of the bytes.
+join_feeds() {
+    cat "${feeds[@]}" >"$out"
+}
+for size in 1000 64; do
+    for many in 4 64; do
+        feeds=()
+        for n in $(seq "$many"); do
+            feeds+=("$work/part-$n.mcap")
+            count="$(make_feed "$size" 1 "$work/part-$n.mcap" "$many")"
+        done
+        channels=1
+        all="feed $many accepted=$count refused=0 passed=0 end"
+        count=$((count * many))
+        time_best join_feeds
+        copied=$best
+        row "$many" "$all" "$program" record --lossless --plain "$out" "${feeds[@]}"
+        row "${many}chunks" "$all" "$program" record --lossless "$out" "${feeds[@]}"
+        rm -f "${feeds[@]}"
     done
 done
 time_best "$program" record "$out" "$here/../samples/empty.mcap"
