@@ -122,36 +122,31 @@ fn common(one: &[u8], other: &[u8]) -> usize {
     same
 }
 
-// A text without the letters and digits that it begins with.
-fn behind_word(text: &str) -> &str {
-    text.trim_start_matches(|letter: char| letter.is_ascii_alphanumeric())
-}
-
-// Whether the text is as wanted, where a star stands for as many letters and digits as there are.
-fn is_like(want: &str, got: &str) -> bool {
-    let mut pieces = want.split('*');
-    let mut rest = match pieces.next() {
-        Some(first) => match got.strip_prefix(first) {
-            Some(rest) => rest,
-            None => return false,
-        },
-        None => return got.is_empty(),
-    };
-    for piece in pieces {
-        rest = match behind_word(rest).strip_prefix(piece) {
-            Some(rest) => rest,
-            None => return false,
-        };
+// How many letters and digits stand there from that place on.
+fn word_len(text: &[u8], from: usize) -> usize {
+    let mut len = 0usize;
+    for byte in text.get(from..).unwrap_or(b"") {
+        if !byte.is_ascii_alphanumeric() {
+            return len;
+        }
+        len = len.saturating_add(1);
     }
-    rest.is_empty()
+    len
 }
 
-// The same of bytes that are texts.
+// Whether a text is as wanted, where a star stands for as many letters and digits as there are.
 fn are_like(want: &[u8], got: &[u8]) -> bool {
-    match (str::from_utf8(want), str::from_utf8(got)) {
-        (Ok(want), Ok(got)) => is_like(want, got),
-        _ => false,
+    let mut at = 0usize;
+    for byte in want {
+        let mut len = 1;
+        if *byte == b'*' {
+            len = word_len(got, at);
+        } else if got.get(at) != Some(byte) {
+            return false;
+        }
+        at = at.saturating_add(len);
     }
+    at == got.len()
 }
 
 /// What is to be printed.
