@@ -108,7 +108,7 @@ fn wakes<R: Threads + Wait + Clock + Sync>(
 }
 
 // What came before a rest: a message that was told, a buffer that was ripe, a stop. None is slept through, and behind the stop
-// not even a swap makes the drain rest.
+// the drain never rests.
 fn rests_behind<R: Wait>(rt: &R, alloc: Global) -> Result<(), Memory> {
     let channel = plain(alloc, "/a")?;
     let desk = Desk::open(alloc, LIMIT)?;
@@ -124,7 +124,7 @@ fn rests_behind<R: Wait>(rt: &R, alloc: Global) -> Result<(), Memory> {
     publish_many(rt, &mut publisher, given.channel, 4);
     drain.rest(rt);
     drain.stop(rt, Stop::Memory);
-    swap_once(rt, alloc, &mut drain)?;
+    drain.rest(rt);
     drain.rest(rt);
     Ok(())
 }
