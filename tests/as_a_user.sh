@@ -286,12 +286,12 @@ compare 'what is said of it' 'mcaprec: "pipe-4": grammar at 199976' "$(cat -- "$
 expect 0 "ok indexed messages=$((3 * 8192 + 4995)) channels=1 schemas=1 chunks=2 attachments=0 metadata=0" '' mcaprec check four.mcap
 wait
 
-# A slow feed beside one that is silent: what it sends is written meanwhile, though no feed has ended.
+# A slow feed behind one that is silent: what it sends is written meanwhile, though no feed has ended.
 { head -c 292 -- "$session" && exec sleep 50; } >pipe-1 &
 publisher=$!
 sleep 50 >pipe-2 &
 silent=$!
-mcaprec record --chunk 1 slow.mcap pipe-1 pipe-2 >/dev/null 2>&1 &
+mcaprec record --chunk 1 slow.mcap pipe-2 pipe-1 >/dev/null 2>&1 &
 launcher=$!
 sleep 3
 kill -9 "$(pgrep -P "$launcher" mcap_cli)"
@@ -510,6 +510,19 @@ cat out-pipe >through-pipe.mcap &
 expect 0 "$session_lines" '' mcaprec record --plain out-pipe "$session"
 wait
 expect_records through-pipe.mcap "$imu_first$log$log_1$imu_2$imu_3$log_2"
+
+# A live feed doesn't wait for its output: what finds the buffer full is refused, and counted. The pipe takes some hundred
+# blocks, and is read two seconds later.
+{ sleep 2 && cat; } <out-pipe >through-late.mcap &
+mcaprec record --limit 1 --chunk 1 out-pipe many.mcap >"$room/stdout" 2>&1
+compare 'the status of a recording that refused messages' 0 $?
+wait
+accepted=$(sed -n 's/^feed 1 accepted=\([0-9]*\) .*/\1/p' "$room/stdout")
+compare 'the line of a feed that met a full buffer' "feed 1 accepted=$accepted refused=$((8192 - accepted)) passed=0 end" \
+    "$(sed -n 1p "$room/stdout")"
+[ "$accepted" -lt 8192 ] || say_wrong 'no message was refused though the output stood still'
+expect 0 "ok indexed messages=$accepted channels=1 schemas=1 chunks=$((accepted + 2)) attachments=0 metadata=0" '' \
+    mcaprec check through-late.mcap
 
 # ---- an output that is another name of the feed: refused before anything is emptied
 

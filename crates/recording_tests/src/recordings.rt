@@ -146,7 +146,7 @@ fn is_whole(
 // Whether a recording whose store failed is told as it is.
 fn is_cut(alloc: Global, report: &Report, bytes: &[u8], marks: &[u8]) -> Result<bool, Memory> {
     for feed in report.feeds.iter() {
-        if !matches!(feed.end, FeedEnd::Ended | FeedEnd::Done) {
+        if !matches!(feed.end, FeedEnd::Ended) {
             return Ok(false);
         }
     }
@@ -310,7 +310,7 @@ fn fails_at<R: Threads + Wait + Sync>(rt: &R, alloc: Global, append: u64) -> Res
         report,
         feeds: _,
         live,
-    } = recorded(rt, alloc, four_of(alloc, 3_000)?, live, 200, false)?;
+    } = recorded(rt, alloc, four_of(alloc, 3_000)?, live, 200, true)?;
     let bytes = live.into_bytes();
     match report {
         Some(report) => return is_cut(alloc, &report, bytes.as_slice(), &[0, 1, 2, 3]),
