@@ -5,3 +5,4 @@ pub mod Growing
 pub mod Blocks
 mod Putting
 pub mod Tables
+mod Taking

@@ -35,7 +35,7 @@ sound_more old v rb is begun sound =
     let more = ap (λ (l : List ℕ). length l) (appended old.bytes.items v.items rb is begun) in
     let long = sound.long in
     record {
-      rise = sound.rise;
+      rows = sound.rows;
       index = sound.index;
       few = sound.few;
       long = omega (arith, more, long, length-append (drop 49 old.bytes.items) rb);

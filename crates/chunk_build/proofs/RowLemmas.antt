@@ -17,14 +17,14 @@ use Rattle.chunk_build.specs.Rows.{row_pair, has_entries, rows_in, RowsRise, Fou
 
 -- ---- rows with entries and without
 
-is_some : (es : List ℕ) → (has_some es ≡ true) ⊎ ((has_some es ≡ false) × (es ≡ []))
+pub is_some : (es : List ℕ) → (has_some es ≡ true) ⊎ ((has_some es ≡ false) × (es ≡ []))
 is_some [] = inr (refl, refl)
 is_some (e ∷ es) = inl refl
 
-some_row : (x : Row) (xs : List Row) → has_some x.entries.items ≡ true → rows_in (x ∷ xs) ≡ row_pair x ∷ rows_in xs
+pub some_row : (x : Row) (xs : List Row) → has_some x.entries.items ≡ true → rows_in (x ∷ xs) ≡ row_pair x ∷ rows_in xs
 some_row x xs some = ap (λ (b : Bool). cond b (row_pair x ∷ rows_in xs) (rows_in xs)) some
 
-no_row : (x : Row) (xs : List Row) → has_some x.entries.items ≡ false → rows_in (x ∷ xs) ≡ rows_in xs
+pub no_row : (x : Row) (xs : List Row) → has_some x.entries.items ≡ false → rows_in (x ∷ xs) ≡ rows_in xs
 no_row x xs none = ap (λ (b : Bool). cond b (row_pair x ∷ rows_in xs) (rows_in xs)) none
 
 pub rows_in-append : (xs ys : List Row) → rows_in (xs ++ ys) ≡ rows_in xs ++ rows_in ys
@@ -35,10 +35,10 @@ rows_in-append xs ys = ap (filter has_entries) (map-append row_pair xs ys) ∙ f
 pub rise_tail : (x : Row) (xs : List Row) → RowsRise (x ∷ xs) → RowsRise xs
 rise_tail x xs rises i j d less within = rises (suc i) (suc j) d (omega arith) (omega arith)
 
-rise_all : (x : Row) (xs : List Row) → RowsRise (x ∷ xs) → All (λ (l : Row). x.channel < l.channel) xs
+pub rise_all : (x : Row) (xs : List Row) → RowsRise (x ∷ xs) → All (λ (l : Row). x.channel < l.channel) xs
 rise_all x xs rises k d within = rises zero (suc k) d (omega arith) (omega arith)
 
-above_all : (n : ℕ) (xs : List Row) → All (λ (l : Row). n < l.channel) xs → All (λ (p : ℕ × List ℕ). n < p.0) (rows_in xs)
+pub above_all : (n : ℕ) (xs : List Row) → All (λ (l : Row). n < l.channel) xs → All (λ (p : ℕ × List ℕ). n < p.0) (rows_in xs)
 above_all n xs all = All-filter has_entries (λ (p : ℕ × List ℕ). n < p.0) (map row_pair xs) (All-map (λ (p : ℕ × List ℕ). n < p.0) row_pair xs all)
 
 -- ---- an entry more
@@ -219,7 +219,7 @@ rise_insert xs i v rises found a b d less within =
 
 -- ---- for the calls
 
-long_some : (es : List ℕ) → 0 < length es → has_some es ≡ true
+pub long_some : (es : List ℕ) → 0 < length es → has_some es ≡ true
 long_some [] long = absurd (omega arith)
 long_some (e ∷ es) long = refl
 
@@ -280,7 +280,7 @@ bytes_more xs i x now was first within is before step =
     ap rows_bytes (take_row xs i x within ∙ ap (λ (l : List (ℕ × List ℕ)). rows_in (take i xs) ++ l) (one_row xs i x is))
     ∙ flat_map-append row_bytes (rows_in (take i xs)) (rows_in (x ∷ []))))
 
-rows_parts-append : (at : ℕ) (ls ms : List (ℕ × List ℕ)) → rows_parts at (ls ++ ms) ≡ rows_parts at ls ++ rows_parts (at + rows_size ls) ms
+pub rows_parts-append : (at : ℕ) (ls ms : List (ℕ × List ℕ)) → rows_parts at (ls ++ ms) ≡ rows_parts at ls ++ rows_parts (at + rows_size ls) ms
 rows_parts-append at [] ms = let e : at ≡ at + 0 = omega arith in ap (λ (n : ℕ). rows_parts n ms) e
 rows_parts-append at (l ∷ ls) ms =
     let far : at + (15 + length l.1) + rows_size ls ≡ at + (15 + length l.1 + rows_size ls) = omega arith in

@@ -1,12 +1,12 @@
 -- The open chunk as it lies in memory.
-use Rattle.std.specs.Prelude.{◌≡◌, ℕ, ◌+◌, ◌*◌, ◌<◌, ◌≤◌, List, [], length, drop, Option, Some, None, vec_capacity}
+use Rattle.std.specs.Prelude.{◌≡◌, ℕ, ◌+◌, ◌*◌, ◌<◌, ◌≤◌, [], length, drop, Option, Some, None, vec_capacity}
 use Rattle.mcap_wire.specs.Writing.{HasRoom}
 use Rattle.chunk_build.specs.declared.building.Building.{Building}
 use Rattle.chunk_build.specs.declared.building.Mark.{Mark}
 use Rattle.chunk_build.specs.declared.building.Ready.{Ready}
 use Rattle.chunk_build.specs.declared.building.Closing.{Closing}
-use Rattle.chunk_build.specs.declared.row.Row.{Row}
-use Rattle.chunk_build.specs.Rows.{rows_in, RowsRise, HasRow, rows_size}
+use Rattle.chunk_build.specs.declared.row.Rows.{Rows}
+use Rattle.chunk_build.specs.Rows.{rows_in, RowsSound, IsRowReady, rows_size}
 use Rattle.rec_data.specs.declared.owned.Rec.{Rec}
 use Rattle.rec_data.specs.declared.owned.Rec.TheVariants.{Schema, Channel, Message}
 use Rattle.mcap_model.specs.declared.block.Block.{Block}
@@ -16,17 +16,17 @@ use Rattle.chunk_build.specs.Opened.{Opened, opened, with_message, with_declarat
 abbrev pub seen : Building → Opened
 seen chunk = record {
   bytes = drop 49 chunk.bytes.items;
-  rows = rows_in chunk.rows.items;
+  rows = rows_in chunk.rows.list.items;
   start = chunk.start;
   end = chunk.end;
   messages = chunk.messages;
   declared = chunk.declared;
 }
 
--- its rows are in order, the size of their Message Indexes is counted, and its numbers are small
+-- its rows are in order and those in use known, the size of their Message Indexes is counted, and its numbers are small
 pub record IsSound (chunk : Building) : Type 0 where
-  pub rise : RowsRise chunk.rows.items
-  pub index : chunk.index ≡ rows_size (rows_in chunk.rows.items)
+  pub rows : RowsSound chunk.rows
+  pub index : chunk.index ≡ rows_size (rows_in chunk.rows.list.items)
   pub few : chunk.index ≤ 31 * chunk.messages
   pub long : 31 * chunk.messages + chunk.declared ≤ length (drop 49 chunk.bytes.items)
 
@@ -51,33 +51,33 @@ abbrev pub StandsBehind : ℕ → ℕ → Option Mark → Type 0
 StandsBehind offset size None = offset + 1 ≤ size
 StandsBehind offset size (Some mark) = offset + 31 ≤ size
 
-abbrev pub RowReady : List Row → Option Mark → ℕ → Type 0
+abbrev pub RowReady : Rows → Option Mark → ℕ → Type 0
 RowReady rows None row = Unit {0}
-RowReady rows (Some mark) row = HasRow rows row mark.channel
+RowReady rows (Some mark) row = IsRowReady rows row mark.channel
 
--- what is needed to close a chunk
-pub record CanClose (chunk : Building) (closing : Closing) : Type 0 where
+-- what is needed to close a chunk behind so many messages more
+pub record CanClose (chunk : Building) (more : ℕ) (closing : Closing) : Type 0 where
   pub head : HasRoom closing.head 49
   pub empty : closing.head.items ≡ []
   pub none : closing.parts.items ≡ []
-  pub parts : length chunk.rows.items ≤ vec_capacity closing.parts
+  pub parts : length chunk.rows.used.items + more ≤ vec_capacity closing.parts
 
 -- With so many bytes more the chunk stays open, or it can be closed. An entry more takes at most 31 bytes in the Message
 -- Indexes.
 abbrev pub ClosingReady : ℕ → ℕ → Building → Option Closing → Type 0
 ClosingReady size len chunk None = (length (drop 49 chunk.bytes.items) + len < size) × HasRoom chunk.bytes len
-ClosingReady size len chunk (Some closing) = (size ≤ length (drop 49 chunk.bytes.items) + len) × HasRoom chunk.bytes (len + (chunk.index + 31)) × CanClose chunk closing
+ClosingReady size len chunk (Some closing) = (size ≤ length (drop 49 chunk.bytes.items) + len) × HasRoom chunk.bytes (len + (chunk.index + 31)) × CanClose chunk 1 closing
 
 -- a record of so many bytes can be put with no refusal
 pub record IsReady (size len : ℕ) (mark : Option Mark) (chunk : Building) (ready : Ready) : Type 0 where
   pub begun : 49 ≤ length chunk.bytes.items
-  pub row : RowReady chunk.rows.items mark ready.row
+  pub row : RowReady chunk.rows mark ready.row
   pub closing : ClosingReady size len chunk ready.closing
 
 -- an entry more takes at most 31 bytes in the Message Indexes
 abbrev pub CanCloseBy : Building → Option Closing → Type 0
 CanCloseBy chunk None = Unit {0}
-CanCloseBy chunk (Some closing) = HasRoom chunk.bytes (chunk.index + 31) × CanClose chunk closing
+CanCloseBy chunk (Some closing) = HasRoom chunk.bytes (chunk.index + 31) × CanClose chunk 1 closing
 
 -- what is left open, or the block that was closed
 abbrev pub Settles : Opened → Option Closing → Option Block → Opened → Type 0

@@ -1,11 +1,12 @@
 -- The rows of an open chunk: for each channel the entries of its Message Index.
-use Rattle.std.specs.Prelude.{◌≡◌, ℕ, ◌+◌, ◌<◌, ◌/◌, List, [], ◌∷◌, ◌++◌, length, map, filter, Bool, ◌==◌, nat_lt, if◌then◌else◌, slice_index_or, Result, AllPairs}
+use Rattle.std.specs.Prelude.{◌≡◌, ℕ, ◌+◌, ◌<◌, ◌≤◌, ◌/◌, List, [], ◌∷◌, ◌++◌, length, map, filter, Bool, ◌==◌, nat_lt, if◌then◌else◌, slice_index_or, Result, AllPairs, All, Contains, vec_len, vec_capacity}
 use Rattle.std.specs.List.{flat_map}
 use Rattle.mcap_wire.specs.Layout.{le, framed}
 use Rattle.mcap_wire.specs.Writing.{HasRoom}
 use Rattle.mcap_model.specs.declared.block.IndexPart.{IndexPart}
 use Rattle.mcap_model.specs.Summary.{has_some}
 use Rattle.chunk_build.specs.declared.row.Row.{Row}
+use Rattle.chunk_build.specs.declared.row.Rows.{Rows}
 use Rattle.chunk_build.specs.Keys.{FoundKey}
 
 -- ---- rows as pairs of a channel and the bytes of its entries
@@ -24,6 +25,15 @@ rows_in rows = filter has_entries (map row_pair rows)
 abbrev pub RowsRise : List Row → Type 0
 RowsRise rows = AllPairs (λ (a b : Row). a.channel < b.channel) rows
 
+-- each channel with an entry is among these
+abbrev pub AreUsed : List ℕ → List Row → Type 0
+AreUsed used rows = All (λ (p : ℕ × List ℕ). Contains used p.0) (rows_in rows)
+
+-- the rows ascend, and those with an entry are known
+pub record RowsSound (rows : Rows) : Type 0 where
+  pub rise : RowsRise rows.list.items
+  pub used : AreUsed rows.used.items rows.list.items
+
 -- the row of a channel, or where it is to stand
 abbrev pub FoundRow : List Row → ℕ → Result ℕ ℕ → Type 0
 FoundRow = FoundKey (λ (row : Row). row.channel)
@@ -33,6 +43,11 @@ pub record HasRow (rows : List Row) (i channel : ℕ) : Type 0 where
   pub within : i < length rows
   pub same : (d : Row) → (slice_index_or rows i d).channel ≡ channel
   pub room : (d : Row) → HasRoom (slice_index_or rows i d).entries 16
+
+-- and room for the channel among those in use
+pub record IsRowReady (rows : Rows) (i channel : ℕ) : Type 0 where
+  pub row : HasRow rows.list.items i channel
+  pub room : vec_len rows.used + 1 ≤ vec_capacity rows.used
 
 -- rows in ascending order, and an entry more on a channel
 abbrev pub with_entry : List (ℕ × List ℕ) → ℕ → List ℕ → List (ℕ × List ℕ)
@@ -60,3 +75,14 @@ rows_size (row ∷ rows) = 15 + length row.1 + rows_size rows
 abbrev pub rows_parts : ℕ → List (ℕ × List ℕ) → List IndexPart
 rows_parts at [] = []
 rows_parts at (row ∷ rows) = record { channel = row.0; offset = at; count = length row.1 / 16 } ∷ rows_parts (at + (15 + length row.1)) rows
+
+-- ---- a row is taken
+
+-- The entries of a channel are taken, if it has some, and its Message Index is added to the bytes and to the parts. What is left is
+-- of later channels.
+pub record TakesRow (old new : List (ℕ × List ℕ)) (channel : ℕ) (bytes : List ℕ × List ℕ) (parts : List IndexPart × List IndexPart) : Type 0 where
+  pub taken : List (ℕ × List ℕ)
+  pub joined : old ≡ taken ++ new
+  pub bytes_are : bytes.1 ≡ bytes.0 ++ rows_bytes taken
+  pub parts_are : parts.1 ≡ parts.0 ++ rows_parts (length bytes.0) taken
+  pub later : All (λ (p : ℕ × List ℕ). channel < p.0) new

@@ -4,11 +4,11 @@ ghost use Rattle.mcap_wire.specs.Layout.{framed};
 ghost use Rattle.mcap_wire.specs.Limits.{chunk_size_limit};
 ghost use Rattle.mcap_wire.specs.Writing.{HasRoom};
 ghost use Rattle.rec_index.specs.Records.{chunk_text};
-ghost use Rattle.chunk_build.specs.Rows.{HasRow};
+ghost use Rattle.chunk_build.specs.Rows.{IsRowReady};
 ghost use Rattle.chunk_build.specs.Opened.{plain_chunk, opened, with_message, IsBuilt};
 ghost use Rattle.chunk_build.specs.Building.{seen, IsSound, RowReady, CanClose, IsReady, noted, StandsBehind, CanCloseBy, Settles};
 
-use crate::row::{Row, add_entry, add_indexes, clear, row_for};
+use crate::row::{Rows, put_entry, ready_row, take_indexes};
 use mcap_crc::crc_of;
 use mcap_model::{Block, IndexPart};
 use mcap_wire::{Bytes, Memory, add_head, add_u32, add_u64, make_room};
@@ -29,7 +29,7 @@ const FIRST_ROOM: u64 = 1_048_576;
 pub(crate) struct Building {
     pub(crate) bytes: Vec<u8>,
     pub(crate) spare: Vec<u8>,
-    pub(crate) rows: Vec<Row>,
+    pub(crate) rows: Rows,
     pub(crate) index: u64,
     pub(crate) start: u64,
     pub(crate) end: u64,
@@ -67,7 +67,10 @@ pub(crate) fn begin(alloc: Global) -> Building
     Building {
         bytes: Vec::new(alloc),
         spare: Vec::new(alloc),
-        rows: Vec::new(alloc),
+        rows: Rows {
+            list: Vec::new(alloc),
+            used: Vec::new(alloc),
+        },
         index: 0,
         start: 0,
         end: 0,
@@ -122,22 +125,22 @@ fn row_of(alloc: Global, chunk: &mut Building, mark: Option<Mark>) -> Result<usi
     ensures same { seen chunk.new ≡ seen chunk.old }
     ensures sound { IsSound chunk.new }
     ensures bytes { chunk.new.bytes ≡ chunk.old.bytes }
-    ensures row { IfOk result (λ row. RowReady chunk.new.rows.items mark row) }
+    ensures row { IfOk result (λ row. RowReady chunk.new.rows mark row) }
 {
     match mark {
         None => return Ok(0),
-        Some(mark) => return row_for(alloc, &mut chunk.rows, mark.channel),
+        Some(mark) => return ready_row(alloc, &mut chunk.rows, mark.channel),
     }
 }
 
-/// Makes all room that is needed to close a chunk.
+/// Makes all room that is needed to close a chunk, also behind a message more.
 pub(crate) fn closing_for(alloc: Global, chunk: &Building) -> Result<Closing, Memory>
-    ensures { IfOk result (λ closing. CanClose chunk.now closing) }
+    ensures { IfOk result (λ closing. CanClose chunk.now 1 closing) }
 {
     let Ok(head) = Vec::with_capacity(alloc, HEAD) else {
         return Err(Memory);
     };
-    let Ok(parts) = Vec::with_capacity(alloc, chunk.rows.len()) else {
+    let Ok(parts) = Vec::with_capacity(alloc, chunk.rows.used.len() + 1) else {
         return Err(Memory);
     };
     return Ok(Closing { head, parts });
@@ -203,7 +206,7 @@ pub(crate) fn prepare_open(
     ensures same { seen chunk.new ≡ seen chunk.old }
     ensures sound { IsSound chunk.new }
     ensures bytes { chunk.new.bytes.items ≡ chunk.old.bytes.items }
-    ensures row { IfOk result (λ row. RowReady chunk.new.rows.items mark row) }
+    ensures row { IfOk result (λ row. RowReady chunk.new.rows mark row) }
     ensures room { OnOk result (HasRoom chunk.new.bytes len) }
 {
     let row = row_of(alloc, chunk, mark)?;
@@ -214,18 +217,18 @@ pub(crate) fn prepare_open(
 // Counts a message whose bytes stand at the end, from that offset of the records on.
 fn note_message(chunk: &mut Building, offset: u64, mark: Mark, row: usize)
     requires sound { IsSound chunk.old }
-    requires row { HasRow chunk.old.rows.items row mark.channel }
+    requires row { IsRowReady chunk.old.rows row mark.channel }
     requires before { 31 * chunk.old.messages + chunk.old.declared ≤ offset }
     requires behind { offset + 31 ≤ length (drop 49 chunk.old.bytes.items) }
     ensures noted { seen chunk.new ≡ with_message (seen chunk.old) offset mark.channel mark.time }
     ensures sound { IsSound chunk.new }
     ensures bytes { chunk.new.bytes ≡ chunk.old.bytes }
-    ensures rows { length chunk.new.rows.items ≡ length chunk.old.rows.items }
+    ensures used { length chunk.new.rows.used.items ≤ length chunk.old.rows.used.items + 1 }
     ensures index { chunk.new.index ≤ chunk.old.index + 31 }
 {
     // The length bounds the counts.
     let _len = chunk.bytes.len();
-    chunk.index += add_entry(&mut chunk.rows, row, mark.channel, mark.time, offset);
+    chunk.index += put_entry(&mut chunk.rows, row, mark.channel, mark.time, offset);
     chunk.start = first_time(chunk.messages, chunk.start, mark.time);
     chunk.end = chunk.end.max(mark.time);
     chunk.messages += 1;
@@ -242,13 +245,13 @@ fn first_time(messages: u64, start: u64, time: u64) -> u64
 #[inline(always)]
 pub(crate) fn note(chunk: &mut Building, offset: u64, mark: Option<Mark>, row: usize)
     requires sound { IsSound chunk.old }
-    requires row { RowReady chunk.old.rows.items mark row }
+    requires row { RowReady chunk.old.rows mark row }
     requires before { 31 * chunk.old.messages + chunk.old.declared ≤ offset }
     requires behind { StandsBehind offset (length (drop 49 chunk.old.bytes.items)) mark }
     ensures noted { seen chunk.new ≡ noted (seen chunk.old) offset mark }
     ensures sound { IsSound chunk.new }
     ensures bytes { chunk.new.bytes ≡ chunk.old.bytes }
-    ensures rows { length chunk.new.rows.items ≡ length chunk.old.rows.items }
+    ensures used { length chunk.new.rows.used.items ≤ length chunk.old.rows.used.items + 1 }
     ensures index { chunk.new.index ≤ chunk.old.index + 31 }
 {
     // The length bounds the counts.
@@ -269,7 +272,7 @@ pub(crate) fn settle(
 ) -> Option<Block>
     requires sound { IsSound chunk.old }
     requires begun { 49 ≤ length chunk.old.bytes.items }
-    requires row { RowReady chunk.old.rows.items mark ready.row }
+    requires row { RowReady chunk.old.rows mark ready.row }
     requires before { 31 * chunk.old.messages + chunk.old.declared ≤ offset }
     requires behind { StandsBehind offset (length (drop 49 chunk.old.bytes.items)) mark }
     requires closing { CanCloseBy chunk.old ready.closing }
@@ -325,7 +328,7 @@ pub(crate) fn close(alloc: Global, chunk: &mut Building, closing: Closing) -> Bl
     requires begun { 49 ≤ length chunk.old.bytes.items }
     requires small { chunk.old.index < 2 ^ 32 }
     requires room { HasRoom chunk.old.bytes chunk.old.index }
-    requires closing { CanClose chunk.old closing }
+    requires closing { CanClose chunk.old 0 closing }
     ensures built { IsBuilt (seen chunk.old) result }
     ensures none { seen chunk.new ≡ opened [] }
     ensures sound { IsSound chunk.new }
@@ -337,12 +340,11 @@ pub(crate) fn close(alloc: Global, chunk: &mut Building, closing: Closing) -> Bl
     let chunk_length = chunk.bytes.len() as u64;
     add_chunk_head(&mut head, chunk.start, chunk.end, &chunk.bytes[HEAD..]);
     write_front(&mut chunk.bytes, head.as_slice());
-    add_indexes(chunk.rows.as_slice(), &mut chunk.bytes, &mut parts);
+    take_indexes(alloc, &mut chunk.rows, &mut chunk.bytes, &mut parts);
     let start_time = chunk.start;
     let end_time = chunk.end;
     let messages = chunk.messages;
     let declared = chunk.declared;
-    clear(&mut chunk.rows);
     chunk.index = 0;
     chunk.start = 0;
     chunk.end = 0;
