@@ -37,11 +37,13 @@ pub struct ChunkNote {
     pub indexes_length: u64,
 }
 
-/// The chunks of a file, in its order, and which of them have an index so far.
+/// The chunks of a file, in its order, and which of them have an index so far. The places serve one Chunk Index at a time: where
+/// in its map a Message Index is named, by its place behind the chunk. There are as many as a chunk has Message Indexes at most.
 #[derive(Drop)]
 pub struct Chunks {
     pub spots: Spots,
     pub notes: Vec<ChunkNote>,
+    pub places: Vec<usize>,
 }
 
 // Whether a Message Index is of that channel and stands at that offset.
@@ -86,15 +88,48 @@ fn is_named(map: &CountsRef<'_>, guess: usize, channel: u16, offset: u64) -> boo
     return false;
 }
 
-// Whether a map names none but these Message Indexes. One that names them in their order costs one pass.
-fn are_noted(map: &CountsRef<'_>, notes: &[IndexNote]) -> bool
+// Where the Message Index of that offset stands among those, which are in the order of the file: a guess, which is right where
+// there is one.
+fn guess_place(notes: &[IndexNote], guess: usize, offset: u64) -> usize {
+    if guess < notes.len() {
+        if notes[guess].offset == offset {
+            return guess;
+        }
+    }
+    match notes.binary_search_by_key(&offset, |note| note.offset) {
+        Ok(place) => return place,
+        Err(place) => return place,
+    }
+}
+
+// Keeps where in the map a Message Index is named, if there is room for its place.
+fn keep_place(places: &mut Vec<usize>, place: usize, i: usize)
+    ensures { size places.new.items ≡ size places.old.items }
+{
+    if place < places.len() {
+        places[place] = i;
+    }
+}
+
+// Where in the map a Message Index is named, as far as that was kept.
+fn kept_place(places: &[usize], i: usize) -> usize {
+    if i < places.len() {
+        return places[i];
+    }
+    return i;
+}
+
+// Whether a map names none but these Message Indexes, in whatever order; it is kept where each is named.
+fn are_noted(map: &CountsRef<'_>, notes: &[IndexNote], places: &mut Vec<usize>) -> bool
     ensures { IsTrue result ↔ AreNoted map.now notes.now }
 {
     'names: for i in 0..map.count() {
         let (channel, offset) = map.item(i);
-        if !is_noted(notes, i, channel, offset) {
+        let place = guess_place(notes, i, offset);
+        if !is_noted(notes, place, channel, offset) {
             return false;
         }
+        keep_place(places, place, i);
     }
     return true;
 }
@@ -109,12 +144,13 @@ fn is_named_or_empty(map: &CountsRef<'_>, guess: usize, note: &IndexNote) -> boo
     return is_named(map, guess, note.channel, note.offset);
 }
 
-// Whether a map names each of these Message Indexes that has an entry.
-fn are_named(map: &CountsRef<'_>, notes: &[IndexNote]) -> bool
+// Whether a map names each of these Message Indexes that has an entry. Each is looked for first where it was kept to be named.
+fn are_named(map: &CountsRef<'_>, notes: &[IndexNote], places: &[usize]) -> bool
     ensures { IsTrue result ↔ AreNamed map.now notes.now }
 {
     'notes: for i in 0..notes.len() {
-        if !is_named_or_empty(map, i, &notes[i]) {
+        let guess = kept_place(places, i);
+        if !is_named_or_empty(map, guess, &notes[i]) {
             return false;
         }
     }
@@ -122,7 +158,7 @@ fn are_named(map: &CountsRef<'_>, notes: &[IndexNote]) -> bool
 }
 
 // Whether the map of an index is empty, or names the Message Indexes that were noted and gives their length.
-fn names_indexes(note: &ChunkNote, index: &ChunkIndex<'_>) -> bool
+fn names_indexes(note: &ChunkNote, index: &ChunkIndex<'_>, places: &mut Vec<usize>) -> bool
     ensures { IsTrue result ↔ NamesNoted note.now (chunk_index_fields index.now) }
 {
     let map = &index.message_index_offsets;
@@ -132,10 +168,10 @@ fn names_indexes(note: &ChunkNote, index: &ChunkIndex<'_>) -> bool
     if index.message_index_length != note.indexes_length {
         return false;
     }
-    if !are_noted(map, &note.indexes) {
+    if !are_noted(map, &note.indexes, places) {
         return false;
     }
-    return are_named(map, &note.indexes);
+    return are_named(map, &note.indexes, places);
 }
 
 // Whether an index repeats the numbers that were noted.
@@ -151,14 +187,19 @@ fn has_numbers(note: &ChunkNote, index: &ChunkIndex<'_>) -> bool
 }
 
 // Whether an index is of the chunk that was noted.
-fn is_of_chunk(note: &ChunkNote, index: &ChunkIndex<'_>) -> bool
+fn is_of_chunk(note: &ChunkNote, index: &ChunkIndex<'_>, places: &mut Vec<usize>) -> bool
     ensures { IsTrue result ↔ IsOfChunk note.now (chunk_index_fields index.now) }
 {
-    has_numbers(note, index) && names_indexes(note, index)
+    has_numbers(note, index) && names_indexes(note, index, places)
 }
 
 // Whether a chunk that was named first is that of the index.
-fn fits_chunk(naming: Naming, notes: &[ChunkNote], index: &ChunkIndex<'_>) -> bool
+fn fits_chunk(
+    naming: Naming,
+    notes: &[ChunkNote],
+    index: &ChunkIndex<'_>,
+    places: &mut Vec<usize>,
+) -> bool
     ensures { IsTrue result ↔ FitsNamed (λ note. IsOfChunk note (chunk_index_fields index.now)) notes.now naming }
 {
     match naming {
@@ -166,10 +207,21 @@ fn fits_chunk(naming: Naming, notes: &[ChunkNote], index: &ChunkIndex<'_>) -> bo
             if place >= notes.len() {
                 return false;
             }
-            return is_of_chunk(&notes[place], index);
+            return is_of_chunk(&notes[place], index, places);
         }
         Naming::Absent => return false,
         Naming::Again => return false,
+    }
+}
+
+// Makes a place for a Message Index behind so many others.
+fn make_place(places: &mut Vec<usize>, indexes: usize) -> Result<(), Memory> {
+    if places.len() > indexes {
+        return Ok(());
+    }
+    match places.push(0) {
+        Ok(()) => return Ok(()),
+        Err(_) => return Err(Memory),
     }
 }
 
@@ -199,6 +251,7 @@ impl Chunks {
         Chunks {
             spots: Spots::new(alloc),
             notes: Vec::new(alloc),
+            places: Vec::new(alloc),
         }
     }
 
@@ -252,6 +305,10 @@ impl Chunks {
         if count == 0 {
             return Ok(());
         }
+        match make_place(&mut self.places, self.notes[count - 1].indexes.len()) {
+            Ok(()) => {}
+            Err(memory) => return Err(memory),
+        }
         match self.notes[count - 1].add(offset, length, index) {
             Ok(()) => return Ok(()),
             Err(memory) => return Err(memory),
@@ -267,7 +324,7 @@ impl Chunks {
         ensures named { (tops : List Top) (n : ℕ) (t : Top) → ChunksNamed tops n self.old → At tops n t → IsChunkIndex t (chunk_index_fields index.now) → ChunksNamed tops (suc n) self.new }
     {
         let naming = self.spots.name(index.chunk_start_offset);
-        fits_chunk(naming, &self.notes, index)
+        fits_chunk(naming, &self.notes, index, &mut self.places)
     }
 
     /// Whether the chunk at that offset holds a Message.

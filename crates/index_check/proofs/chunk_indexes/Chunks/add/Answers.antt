@@ -8,7 +8,7 @@ use Rattle.index_check.proofs.chunk_indexes.Chunks.add.Goals as goal
 pub returns-in-Ok-push-clause-kept : goal.returns-in-Ok-push-clause-kept
 returns-in-Ok-push-clause-kept c = λ tops content are there size shows plain sized heard.
     let t = top 6 content in
-    chunks_more tops t c.args.offset _ c.args.self.now (record { spots = c.add.new.self; notes = c.push.new.self }) are there refl
+    chunks_more tops t c.args.offset _ c.args.self.now (record { spots = c.add.new.self; notes = c.push.new.self; places = c.args.self.now.places }) are there refl
     (record {
       shown = chunk_fields c.args.chunk.now;
       is = record { kind = refl; layout = shows };

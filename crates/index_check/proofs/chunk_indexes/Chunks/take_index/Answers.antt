@@ -15,7 +15,7 @@ returns-clause-right c = λ tops n are named.
     )
 
 pub returns-clause-kept : goal.returns-clause-kept
-returns-clause-kept c = λ tops are. chunks_kept tops c.args.self.now (record { spots = c.name-naming.new.self; notes = c.args.self.now.notes }) c.args.index.now.chunk_start_offset c.name-naming.result are c.name-naming.ensures refl
+returns-clause-kept c = λ tops are. chunks_kept tops c.args.self.now (record { spots = c.name-naming.new.self; notes = c.args.self.now.notes; places = c.fits_chunk.new.places }) c.args.index.now.chunk_start_offset c.name-naming.result are c.name-naming.ensures refl
 
 pub returns-clause-named : goal.returns-clause-named
 returns-clause-named c = λ tops n t named at is. chunks_named tops n t c.args.self.now.spots c.name-naming.new.self (chunk_index_fields c.args.index.now) c.name-naming.result named at is c.name-naming.ensures
