@@ -17,7 +17,9 @@ pub struct LanePass<'r, 't, R: Wait> {
 }
 
 impl<R: Wait> Pass for LanePass<'_, '_, R> {
-    ghost use Rattle.std.specs.Prelude.{◌≡◌, [], true};
+    ghost use Rattle.std.specs.Prelude.{◌≡◌, [], ◌∷◌, ◌++◌, true};
+    ghost use Rattle.std.proofs.Common.{ap};
+    ghost use Rattle.feed_lane.specs.Pass.{PassState, for_size};
     ghost use Rattle.buffer_swap.specs.Calls.{reasoned};
 
     // It is the same publisher, of the same turn, waits for room as before, and shows what that publisher shows.
@@ -41,4 +43,6 @@ impl<R: Wait> Pass for LanePass<'_, '_, R> {
     fn found(&self) -> Option<Found> {
         self.publisher.found()
     }
+
+    ghost refuses_size = { λ begun now before len shows. (shows.0, shows.1, shows.2, ap (λ (p : PassState). record p { reasons = before.reasons ++ for_size len ∷ [] }) shows.3, shows.4) };
 }

@@ -1,5 +1,6 @@
 pub mod Pass
 pub mod Lanes
+pub mod Sizes
 pub mod Steps
 pub mod Feeds
 pub mod Laws

@@ -8,7 +8,7 @@ ghost use Rattle.feed_lane.specs.Lanes.{messages, IsOn, Describes};
 ghost use Rattle.record_core.specs.Sights.{DefFits};
 ghost use Rattle.feed_lane.specs.Steps.{lists_of, LaneStands, ListsStand, Roomy, AreKnown, AtHand, IsDue, HasId, ThenShows, ChannelFound, MessageTaken, goes_on as goes_on_behind, publish_cause as cause_of_publishing, declare_cause as cause_of_declaring, full_cause as cause_of_full, fields_of};
 
-use crate::describing::definition_over;
+use crate::describing::{definition_over, excess};
 use crate::ids::Ids;
 use crate::pass::Pass;
 use crate::report::{Accepted, Cause, DeclaredAt, Refused};
@@ -211,6 +211,10 @@ impl Lane {
         ensures accepted { self.new.accepted ≡ self.old.accepted }
         ensures refused { self.new.refused ≡ self.old.refused }
     {
+        match excess(tables, source) {
+            Some(len) => return Err(Cause::TooLarge { len }),
+            None => {}
+        }
         let kept = self.ids.take_schema();
         match definition_over(alloc, tables, source, kept) {
             Ok(channel) => {

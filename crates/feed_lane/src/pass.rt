@@ -1,7 +1,7 @@
 //! What a lane hands its declarations and messages to.
-ghost use Rattle.std.specs.Prelude.{◌≡◌};
+ghost use Rattle.std.specs.Prelude.{◌≡◌, ℕ};
 ghost use Rattle.record_core.specs.Sights.{DefFits};
-ghost use Rattle.feed_lane.specs.Pass.{PassState, DeclaredInto, PublishedBy};
+ghost use Rattle.feed_lane.specs.Pass.{PassState, for_size, with_reason, DeclaredInto, PublishedBy};
 
 use rec_data::ChannelDef;
 use record_core::{DeclareRefused, Declared, Found, NewMessage, PublishRefused};
@@ -26,4 +26,7 @@ pub trait Pass {
     /// How the last call found the intake, before what it did there.
     fn found(&self) -> Option<Found>
         ensures { (begun : Self) (now : PassState) → since begun self.now now → result ≡ now.found };
+
+    /// What is refused for its size alone needs no call: the pass shows as well that it was refused so.
+    ghost refuses_size: { (begun now : Self) (before : PassState) (len : ℕ) → since begun now before → since begun now (with_reason before (for_size len)) };
 }

@@ -1,9 +1,8 @@
 use Rattle.std.specs.Prelude.{Option}
-use Rattle.std.proofs.Common.{sym, subst, arith}
+use Rattle.std.proofs.Common.{sym, subst}
 use Rattle.rec_data.specs.declared.schema.SchemaDef.{SchemaDef}
-use Rattle.record_core.specs.Sights.{SchemaFits}
 use Rattle.feed_lane.specs.Lanes.{SchemaShown}
-use Rattle.feed_lane.proofs.Definitions.{schema_lengths, shows_def}
+use Rattle.feed_lane.proofs.Definitions.{shows_def}
 use Rattle.feed_lane.proofs.describing.schema_of.Goals as goal
 
 pub returns-in-Ok-kept_or_copied-clause-shows : goal.returns-in-Ok-kept_or_copied-clause-shows

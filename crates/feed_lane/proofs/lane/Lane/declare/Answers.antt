@@ -1,11 +1,13 @@
 use Rattle.std.proofs.Common.{ℕ, List, refl, sym, subst, Err}
 use Rattle.mcap_model.proofs.Places.{at_within}
 use Rattle.mcap_model.specs.Places.{At}
+use Rattle.record_core.specs.declared.answers.DeclareRefused.TheVariants as declaring
 use Rattle.feed_lane.specs.declared.report.Cause.TheVariants as causes
-use Rattle.feed_lane.specs.Lanes.{messages}
+use Rattle.feed_lane.specs.Pass.{for_size, with_reason}
+use Rattle.feed_lane.specs.Lanes.{messages, IsChannelOf}
 use Rattle.feed_lane.specs.Steps.{lists_of, ListsStand, ChannelFound}
 use Rattle.feed_lane.proofs.Growing.{may_declare, undeclared_yet}
-use Rattle.feed_lane.proofs.Calls.{unchanged, memory_tried}
+use Rattle.feed_lane.proofs.Calls.{unchanged, memory_tried, declare_refused, declare_tried}
 use Rattle.feed_lane.proofs.lane.Lane.declare.Goals as goal
 
 -- no definition was made, for want of memory
@@ -40,4 +42,24 @@ returns-in-Ok-clause-found g c = λ begun before since.
           (c.in-Ok.ensures.describes records known.tables_are) on
           (subst (λ (ids : List ℕ). At ids c.args.source 0) same none) in
           subst (λ (ids : List ℕ). ChannelFound (record call.new.self { ids = ids }) records handled c.args.source shown.0 call.result) (sym c.keep_schema.ensures) now,
+    )
+
+-- the records of the channel are too long, and no call was made
+pub returns-in-Some-clause-found : goal.returns-in-Some-clause-found
+returns-in-Some-clause-found g c = λ begun before since.
+    let l = c.args.self.now in
+    let after = with_reason before (for_size c.in-Some.len) in (
+      after,
+      g.met.P.Pass.refuses_size begun c.args.pass.now before c.in-Some.len since,
+      refl,
+      λ records handled stands known on none.
+          let long = c.in-Some.ensures.size records known.tables_are in
+          let is : IsChannelOf records handled long.content = record { source = c.args.source; on = on; describes = long.describes } in
+          record {
+            before = before;
+            stands = may_declare records handled l.ids (lists_of l) before stands;
+            refusal = declare_refused records handled before after long.content (declaring.TooLarge c.in-Some.len) is (long.size, c.in-Some.ensures.over, refl);
+            some = at_within (messages records) handled on.top on.at;
+            tried = declare_tried records handled l.declared.items before after long.content (declaring.TooLarge c.in-Some.len) (undeclared_yet records handled c.args.source l.declared.items l.ids stands.ids_stand none on) is (long.size, c.in-Some.ensures.over, refl);
+          },
     )
