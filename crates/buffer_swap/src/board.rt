@@ -31,6 +31,7 @@ use std::marker::Brand;
 use std::sync::Wait;
 use std::sync::atomic::AtomicU64;
 use std::sync::atomic::Ordering::SeqCst;
+use std::thread::yield_now;
 
 pub(crate) const TURN: usize = 0;
 
@@ -40,10 +41,22 @@ pub(crate) const EVENTS: usize = 1;
 const RIPE: u64 = 262_144;
 
 // How often a turn that is taken is looked at before a sleep: most turns are shorter than a sleep.
-const LOOKS: u32 = 100;
+const LOOKS: u32 = 16;
+
+// How many pauses of the processor stand before the first look, and at most before one.
+const FIRST_PAUSES: u32 = 128;
+
+const MOST_PAUSES: u32 = 2_048;
 
 // What a message has in a buffer before its data: opcode, length and the other fields.
 const BEFORE_DATA: u64 = 31;
+
+// Does nothing for so many pauses of the processor.
+fn pause(pauses: u32) {
+    for _ in 0..pauses {
+        spin_loop();
+    }
+}
 
 impl Board {
     pub(crate) fn open(alloc: Global, desk: Desk) -> Result<(Board, Seat), Memory>
@@ -83,13 +96,18 @@ impl Board {
         self.table.shared.compare_exchange::<Take>(seat, TURN, 0, 1) == 0
     }
 
-    // Whether the turn was seen free in a short while.
+    // Whether the turn was seen free in a short while. Each look costs whoever has the turn the words' cache line, so between
+    // looks it stays away, twice as long each time: meanwhile another publishes a run of messages. Where a thread waits for the
+    // processor, it goes first: it may be the one that has the turn, or the drain.
     fn sees_free_turn(&self) -> bool {
+        let mut pauses = FIRST_PAUSES;
         for _ in 0..LOOKS {
+            pause(pauses);
             if self.table.shared.peek(TURN) == 0 {
                 return true;
             }
-            spin_loop();
+            yield_now();
+            pauses = pauses.saturating_mul(2).min(MOST_PAUSES);
         }
         false
     }
