@@ -44,7 +44,7 @@ const RIPE: u64 = 262_144;
 const LOOKS: u32 = 16;
 
 // How many pauses of the processor stand before the first look, and at most before one.
-const FIRST_PAUSES: u32 = 128;
+const FIRST_PAUSES: u32 = 512;
 
 const MOST_PAUSES: u32 = 2_048;
 
