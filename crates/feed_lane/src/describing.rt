@@ -14,6 +14,7 @@ ghost use Rattle.feed_lane.specs.Sizes.{shown_by, IsSchemaLength, IsLength};
 use mcap_model::Tables;
 use mcap_wire::{Bytes, Memory, Pairs, Text};
 use rec_data::{Channel, ChannelDef, Schema, SchemaDef};
+use record_core::DECLARATION_LIMIT;
 use std::alloc::Global;
 
 // Whether a schema was kept that is this one.
@@ -193,7 +194,7 @@ pub(crate) fn excess(tables: &Tables, source: u16) -> Option<u64>
         return None;
     };
     let len = schema + channel_bytes(&channel);
-    if len <= 1_048_576 {
+    if len <= DECLARATION_LIMIT {
         return None;
     }
     Some(len)
