@@ -1,5 +1,5 @@
 -- The front of a chunk.
-use Rattle.std.proofs.Common.{◌≡◌, ℕ, ◌+◌, ◌-◌, ◌^◌, ◌<◌, ◌≤◌, List, [], ◌++◌, length, take, drop, refl, sym, ap, subst, ◌∙◌, append_assoc, arith}
+use Rattle.std.proofs.Common.{◌≡◌, ℕ, ◌+◌, ◌-◌, ◌^◌, ◌<◌, ◌≤◌, List, ◌++◌, length, take, drop, refl, sym, ap, subst, ◌∙◌, append_assoc, arith}
 use Rattle.std.specs.Prelude.{◌≢◌}
 use Rattle.std.proofs.lemmas.List.{take-append-drop, drop-append-le, drop-drop, drop-take, take-take, take_at, drop_at, length-append}
 use Rattle.mcap_wire.specs.Layout.{le, number, prefixed}
@@ -8,7 +8,6 @@ use Rattle.mcap_wire.proofs.Numbers.{length-le, number-le}
 use Rattle.rec_index.specs.Fields.{ChunkFields}
 use Rattle.mcap_model.specs.Tops.{Top, declared_length, first_top}
 use Rattle.mcap_model.specs.Fields.{IsChunk}
-use Rattle.mcap_model.specs.Led.{IsThere}
 use Rattle.mcap_model.proofs.Readings.{length-top}
 use Rattle.indexed_replay.specs.Reaching.{EndsAt, LacksChunk}
 use Rattle.indexed_replay.specs.Steps.{FrontStands, LacksRecord}

@@ -1,25 +1,26 @@
 -- A rule for which a replay is refused fails in the file.
-use Rattle.std.proofs.Common.{◌≡◌, ℕ, suc, ◌+◌, ◌-◌, ◌^◌, ◌<◌, ◌≤◌, List, [], ◌∷◌, ◌++◌, length, take, drop, refl, sym, ap, subst, inl, inr, ◌∙◌, append_assoc, arith}
+use Rattle.std.proofs.Common.{◌≡◌, ℕ, zero, suc, ◌+◌, ◌^◌, ◌<◌, ◌≤◌, List, [], ◌∷◌, ◌++◌, length, take, drop, refl, sym, ap, subst, inl, inr, ◌∙◌, append_assoc, arith}
+use Rattle.std.proofs.lemmas.Bool.{cases_lt}
 use Rattle.std.proofs.lemmas.Grind.{flat_map-append}
 use Rattle.std.proofs.lemmas.List.{length-append, drop-drop, drop_at, drop-append-le, take-append-drop}
 use Rattle.std.proofs.Math.Seq.{take-add, take-append_seam}
 use Rattle.mcap_wire.specs.Layout.{magic}
 use Rattle.rec_data.specs.declared.footer.Footer.{Footer}
 use Rattle.mcap_model.specs.declared.replay.Range.{Range}
-use Rattle.mcap_model.specs.Places.{At, Has, Each}
-use Rattle.mcap_model.specs.Tops.{Top, top_bytes, spelled, offset_behind, inner_tops}
-use Rattle.mcap_model.specs.Fields.{ChunkFields, IsChunk, ChunkIndexFields, IsChunkIndex}
+use Rattle.mcap_model.specs.Places.{At, Has}
+use Rattle.mcap_model.specs.Tops.{Top, top_bytes, spelled, inner_tops}
+use Rattle.mcap_model.specs.Fields.{ChunkIndexFields, IsChunkIndex}
 use Rattle.mcap_model.specs.Whole.{offset_of, offset_among, IsWhole, ChunkIndexIsRight, IsEntryOf}
 use Rattle.mcap_model.specs.Valid.{Flaw, flaw_9, flaw_12}
 use Rattle.mcap_model.specs.Led.{IsThere}
-use Rattle.mcap_model.proofs.Places.{at_none, at_within, at_kept, at_last}
+use Rattle.mcap_model.proofs.Places.{at_within, at_kept, at_last}
 use Rattle.mcap_model.proofs.Lists.{has_taken}
 use Rattle.mcap_model.proofs.Flat.{named_or}
 use Rattle.mcap_model.proofs.OpenedChunks.{stands_inside}
 use Rattle.mcap_model.proofs.Readings.{all_short, one_follows, length-top}
 use Rattle.mcap_laws.proofs.Leading.{Ends, summary_of, summary_there, in_before, at_dropped, from_there, there_same, is_there}
 use Rattle.summary_read.specs.Reached.{HasNoSummary, EndsIn}
-use Rattle.indexed_replay.specs.Reaching.{HasChunkIndex, Names, EndsAt, IndexesStand, IsOwn, LeadsNowhere, Breaks, at_loading, no_chunk, no_index, index_elsewhere, index_apart, no_message}
+use Rattle.indexed_replay.specs.Reaching.{HasChunkIndex, IndexesStand, IsOwn, LeadsNowhere, AreOfOne, Breaks, at_loading, second_index, no_chunk, no_index, index_elsewhere, index_apart, no_message}
 use Rattle.indexed_replay.specs.Laws.{IsReadable, ReplaysTellFlaws}
 use Rattle.indexed_replay.proofs.Summed.{summary_once, start_same}
 use Rattle.indexed_replay.proofs.Adding.{take_next}
@@ -34,6 +35,21 @@ behind_place file tops whole n =
     whole.split ∙ ap (λ (l : List Top). magic ++ (spelled l ++ magic)) (sym (take-append-drop n tops)) ∙ ap (λ (l : List ℕ). magic ++ (l ++ magic)) (flat_map-append top_bytes (take n tops) (drop n tops))
     ∙ ap (λ (l : List ℕ). magic ++ l) (append_assoc (spelled (take n tops)) (spelled (drop n tops)) magic) ∙ sym (append_assoc magic (spelled (take n tops)) (spelled (drop n tops) ++ magic)) in
     ap (drop (offset_of tops n)) all ∙ drop_at front (spelled (drop n tops) ++ magic) (offset_of tops n) (length-append magic (spelled (take n tops)))
+
+-- of two places the one with the smaller offset is in front
+spelled_more : (xs : List Top) (n i : ℕ) → n ≤ i → length (spelled (take n xs)) ≤ length (spelled (take i xs))
+spelled_more xs zero i less = omega arith
+spelled_more [] (suc n) i less = omega arith
+spelled_more (x ∷ xs) (suc n) zero less = absurd (omega (arith, less))
+spelled_more (x ∷ xs) (suc n) (suc i) less =
+    let rest = spelled_more xs n i (omega (arith, less)) in
+    omega (arith, rest, length-append (top_bytes x) (spelled (take n xs)), length-append (top_bytes x) (spelled (take i xs)))
+
+in_order : (tops : List Top) (i n : ℕ) → offset_of tops i < offset_of tops n → i < n
+in_order tops i n less = elim (cases_lt i n) [
+  | inl front ↦ front
+  | inr past ↦ let more = spelled_more tops n i past in absurd (omega (arith, less, more))
+]
 
 module _ (file : List ℕ) (tops : List Top) (range : Range) (readable : IsReadable file tops) (some : HasNoSummary file → ⊥) where
   whole : IsWhole file tops
@@ -77,6 +93,15 @@ module _ (file : List ℕ) (tops : List Top) (range : Range) (readable : IsReada
         there = own.there;
         breaks = λ keeps. bad (keeps (λ k u here. plain k u (has_taken tops (suc own.place) k u here).1) f own.is);
       })
+
+  -- an earlier one leads to its chunk
+  second : (first at : ℕ) → first < at → AreOfOne file first at → Flaw file 12 at
+  second first at less two =
+      let before = own_index first two.one two.first_there in
+      let own = own_index at two.other two.second_there in
+      twelve at two.other own (λ right.
+      let alone = right.only in
+      alone before.place before.top two.one (in_order tops before.place own.place (omega (arith, less, before.there, own.there))) before.stands before.is two.same)
 
   -- ---- a Message Index with an entry that leads to no message
 
@@ -197,6 +222,7 @@ module _ (file : List ℕ) (tops : List Top) (range : Range) (readable : IsReada
 
   pub breaks_tell : length file < 2 ^ 64 → (rule offset : ℕ) → Breaks file range rule offset → Flaw file rule offset
   breaks_tell few rule offset (at_loading number place fails) = tells file tops whole e few number place fails
+  breaks_tell few rule offset (second_index first at less two) = second first at less two
   breaks_tell few rule offset (no_chunk at f reached lacks) = let own = own_index at f reached.indexed in twelve at f own (λ right. right_index.some_chunk file tops whole own.place f right lacks)
   breaks_tell few rule offset (no_index at f channel place names lacks) = let reached = names.reached in let own = own_index at f reached.indexed in twelve at f own (λ right. right_index.some_index file tops whole own.place f right channel place names.named lacks)
   breaks_tell few rule offset (index_elsewhere at f channel place names elsewhere) = let reached = names.reached in let own = own_index at f reached.indexed in twelve at f own (λ right. right_index.none_elsewhere file tops whole own.place f right channel place names.named elsewhere)

@@ -1,40 +1,37 @@
 -- On a fully indexed file that is read to its Data End no reason holds to refuse a replay, but for a failed store, a limit
 -- and memory.
-use Rattle.std.proofs.Common.{◌≡◌, ℕ, zero, suc, ◌+◌, ◌^◌, ◌<◌, ◌≤◌, Bool, true, List, [], ◌∷◌, ◌++◌, length, take, drop, refl, sym, ap, subst, inl, inr, ◌∙◌, append_assoc, eqb, arith}
-use Rattle.std.specs.Prelude.{◌≢◌, ◌==◌, Option, Err, take_while, if◌then◌else◌}
-use Rattle.std.specs.List.{list_any, prefix_len}
-use Rattle.std.proofs.lemmas.Bool.{eq-eqb, eqb-true}
-use Rattle.std.proofs.lemmas.Grind.{flat_map-append}
-use Rattle.std.proofs.lemmas.List.{length-append, length-take, take-take, take-append-drop, drop_at}
-use Rattle.std.proofs.lemmas.List.Sums.{prefix_len_passes}
-use Rattle.std.proofs.lemmas.Option.{same_Some, get_or_from_slice_get}
-use Rattle.mcap_wire.specs.Layout.{magic}
+use Rattle.std.proofs.Common.{◌≡◌, ℕ, ◌+◌, ◌^◌, ◌<◌, Bool, List, [], ◌∷◌, ◌++◌, length, take, drop, refl, sym, ap, subst, ◌∙◌, eqb, arith}
+use Rattle.std.specs.Prelude.{◌≢◌, ◌==◌, Option, Err, if◌then◌else◌}
+use Rattle.std.specs.List.{list_any}
+use Rattle.std.proofs.lemmas.Bool.{eq-eqb}
 use Rattle.mcap_model.specs.declared.replay.Range.{Range}
 use Rattle.mcap_model.specs.Places.{At, Has, Each}
-use Rattle.mcap_model.specs.Tops.{Top, top_bytes, spelled, inner_tops, is_chunk, is_flat_kind, flattened, flat}
+use Rattle.mcap_model.specs.Tops.{Top, inner_tops, is_chunk, is_flat_kind, flattened, flat}
 use Rattle.mcap_model.specs.Fields.{MessageFields, IsMessage, IsMessageIndex, ChunkIndexFields, IsChunkIndex}
 use Rattle.mcap_model.specs.Rules.{HasDataEnd}
 use Rattle.mcap_model.specs.Kept.{NamesCompression}
 use Rattle.mcap_model.specs.Scan.{Seen, Scan}
-use Rattle.mcap_model.specs.Whole.{offset_of, offset_among, is_index, indexes_behind, IsWhole, IsEntryOf, NamesIndexes, ChunkIndexIsRight}
+use Rattle.mcap_model.specs.Whole.{offset_of, offset_among, IsWhole, IsEntryOf, ChunkIndexIsRight}
 use Rattle.mcap_model.specs.Valid.{Valid, FullyIndexed}
 use Rattle.mcap_model.specs.Led.{HasSummary, IsThere}
-use Rattle.mcap_model.proofs.Places.{at_none, at_within, at_kept}
-use Rattle.mcap_model.proofs.Readings.{length-top}
-use Rattle.mcap_model.proofs.Lists.{at_second, cut_flat, filter_has, filter_passed, has_taken}
+use Rattle.mcap_model.proofs.Places.{at_kept}
+use Rattle.mcap_model.proofs.Lists.{at_second, cut_flat, filter_has, filter_passed}
 use Rattle.mcap_model.proofs.Flat.{named_or}
 use Rattle.mcap_model.proofs.TakenRecords.{ended_front}
-use Rattle.mcap_laws.proofs.Leading.{Ends, ends_of, summary_of, in_summary, from_summary, summary_there, from_there, there_same, is_there, at_dropped, opened, named_of, index_right, index_stands}
+use Rattle.mcap_laws.proofs.Leading.{Ends, ends_of, summary_of, in_summary, from_summary, summary_there, from_there, there_same, is_there, opened, named_of, index_right, index_stands}
 use Rattle.summary_read.specs.Parts.{of_kind}
 use Rattle.indexed_replay.specs.declared.answers.NotIndexed.{NotIndexed}
 use Rattle.indexed_replay.specs.declared.answers.NotIndexed.TheVariants as lacks
 use Rattle.indexed_replay.specs.declared.answers.ReplayRefused.{ReplayRefused}
 use Rattle.indexed_replay.specs.declared.answers.ReplayRefused.TheVariants as refusals
-use Rattle.indexed_replay.specs.Reaching.{HasChunkIndex, IsReached, Names, LeadsTo, LacksChunk, LacksIndex, LacksMessage, IsElsewhere, Breaks, at_loading, no_chunk, no_index, index_elsewhere, IndexesStand, IsApart, index_apart, LeadsNowhere, no_message, IsPacked, CountsDiffer, NamesNone, LacksChannel, IsNotIndexed}
+use Rattle.indexed_replay.specs.Reaching.{HasChunkIndex, IsReached, Names, LeadsTo, LacksChunk, LacksIndex, LacksMessage, IsElsewhere, Breaks, at_loading, second_index, no_chunk, no_index, index_elsewhere, IsApart, index_apart, LeadsNowhere, no_message, IsPacked, CountsDiffer, NamesNone, LacksChannel, IsNotIndexed}
 use Rattle.indexed_replay.specs.Replaying.{IsReason, IsScanReplayed}
 use Rattle.indexed_replay.proofs.Summed.{summary_once}
 use Rattle.indexed_replay.proofs.Right as right_index
 use Rattle.indexed_replay.proofs.Counted.{statistics_count}
+use Rattle.mcap_model.proofs.Flaws.{flaws_exclude_validity}
+use Rattle.indexed_replay.specs.Laws.{IsReadable}
+use Rattle.indexed_replay.proofs.Flawing.{breaks_tell}
 use Rattle.indexed_replay.proofs.Sound.{some_summary, none_fails}
 
 -- a record in a chunk is among the flat ones
@@ -212,8 +209,21 @@ module _ (file : List ℕ) (tops : List Top) (full : FullyIndexed file tops) (se
   none_lacks (lacks.NoMessageIndex chunk) none = some_names chunk none
   none_lacks (lacks.NoChannel id) none = some_channel id none
 
+  readable : IsReadable file tops
+  readable =
+      let v = valid in
+      let rule = v.v12 in
+      record {
+        ordered = record { whole = v.v4; footer = v.v17; order = v.v11 };
+        layouts = v.v6;
+        chunks = v.v8;
+        plain = v.plain;
+        lead = λ n t f at is. let right = rule n t at f is in let of = right.is in (right.chunk, (right.k, of.at, of.offset));
+      }
+
   none_breaks : length file < 2 ^ 64 → (rule offset : ℕ) → Breaks file range rule offset → ⊥
   none_breaks few rule offset (at_loading number place fails) = none_fails file tops full few number place fails
+  none_breaks few rule offset (second_index first spot less two) = flaws_exclude_validity file 12 spot (breaks_tell file tops range readable (some_summary file tops full) few 12 spot (second_index first spot less two)) (tops, valid)
   none_breaks few rule offset (no_chunk spot f reached none) = some_chunk spot f reached none
   none_breaks few rule offset (no_index spot f channel place names none) = some_index spot f channel place names none
   none_breaks few rule offset (index_elsewhere spot f channel place names elsewhere) = none_elsewhere spot f channel place names elsewhere

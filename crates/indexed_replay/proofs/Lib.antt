@@ -21,3 +21,4 @@ pub mod Weighed
 pub mod Costing
 pub mod Bounded
 pub mod Ending
+pub mod Apart

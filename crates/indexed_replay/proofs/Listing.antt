@@ -1,9 +1,9 @@
 -- What a Message Index adds, and why it adds nothing.
-use Rattle.std.proofs.Common.{◌≡◌, ℕ, ◌+◌, ◌≤◌, Bool, true, false, List, length, drop, Result, Ok, Err, refl, sym, ap, subst, ◌∙◌, arith}
+use Rattle.std.proofs.Common.{◌≡◌, ℕ, ◌+◌, ◌≤◌, Bool, true, false, List, drop, Result, Ok, Err, refl, sym, ap, subst, ◌∙◌, arith}
 use Rattle.mcap_model.specs.declared.replay.Range.{Range}
 use Rattle.mcap_model.specs.declared.replay.Shown.{Shown}
 use Rattle.mcap_model.specs.Places.{Has}
-use Rattle.mcap_model.specs.Tops.{Top, top_bytes, first_top}
+use Rattle.mcap_model.specs.Tops.{Top, first_top}
 use Rattle.mcap_model.specs.Made.{top}
 use Rattle.mcap_model.specs.Fields.{IsMessageIndex, ChunkIndexFields}
 use Rattle.mcap_model.specs.Plain.{asked_topic}

@@ -7,3 +7,4 @@ pub mod Gathering
 pub mod Played
 pub mod Belonging
 pub mod Laws
+pub mod Apart

@@ -49,6 +49,14 @@ pub record LeadsTo (file : List ℕ) (range : Range) (at : ℕ) (f : ChunkIndexF
   pub entry_there : Has {X = ℕ × ℕ} entries entry
   pub in_range : InRange range entry.0
 
+-- Chunk Indexes of one chunk stand at these offsets
+pub record AreOfOne (file : List ℕ) (first second : ℕ) : Type 0 where
+  pub one : ChunkIndexFields
+  pub other : ChunkIndexFields
+  pub first_there : HasChunkIndex file first one
+  pub second_there : HasChunkIndex file second other
+  pub same : one.offset ≡ other.offset
+
 -- ---- what isn't there
 
 -- no Chunk stands at that offset
@@ -108,10 +116,11 @@ pub record LeadsNowhere (file : List ℕ) (range : Range) (at : ℕ) (f : ChunkI
 -- ---- where a rule fails
 
 -- The rule of that number fails at that offset: on the ends of the file or on its summary; at a Chunk Index that leads to
--- no Chunk, or whose map leads to no Message Index of a channel, to another place than behind the chunk, or to one that
--- isn't the chunk's (V12); or at a Message Index of the chunk with an entry in the range that leads to no message (V9).
+-- no Chunk, or to one to which an earlier one leads, or whose map leads to no Message Index of a channel, to another place than
+-- behind the chunk, or to one that isn't the chunk's (V12); or at a Message Index of the chunk with an entry in the range that leads to no message (V9).
 pub data Breaks (file : List ℕ) (range : Range) : ℕ → ℕ → Type 0 where
   at_loading : (rule offset : ℕ) → Fails file rule offset → Breaks file range rule offset
+  second_index : (first at : ℕ) → first < at → AreOfOne file first at → Breaks file range 12 at
   no_chunk : (at : ℕ) (f : ChunkIndexFields) → IsReached file range at f → LacksChunk file f.offset → Breaks file range 12 at
   no_index : (at : ℕ) (f : ChunkIndexFields) (channel offset : ℕ) → Names file range at f channel offset → LacksIndex file channel offset → Breaks file range 12 at
   index_elsewhere : (at : ℕ) (f : ChunkIndexFields) (channel offset : ℕ) → Names file range at f channel offset → IsElsewhere file f offset → Breaks file range 12 at

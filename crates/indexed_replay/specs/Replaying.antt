@@ -16,7 +16,7 @@ use Rattle.indexed_replay.specs.declared.answers.ReplayRefused.{ReplayRefused}
 use Rattle.indexed_replay.specs.declared.answers.ReplayRefused.TheVariants as refusals
 use Rattle.indexed_replay.specs.declared.answers.NotIndexed.{NotIndexed}
 use Rattle.indexed_replay.specs.declared.answers.NotIndexed.TheVariants as lacks
-use Rattle.indexed_replay.specs.Reaching.{IsNotIndexed, Breaks, IsPacked, PassesLimit}
+use Rattle.indexed_replay.specs.Reaching.{AreOfOne, IsNotIndexed, Breaks, IsPacked, PassesLimit}
 
 -- ---- what is answered
 
@@ -63,6 +63,18 @@ PlaysAll file (Err why) = Unit {0}
 -- no file is played whose summary lacks the index of a chunk
 abbrev pub TellsChunks : Option (List ℕ) → Result Replayed ReplayRefused → Type 0
 TellsChunks told result = (file : List ℕ) → told ≡ Some file → PlaysAll file result
+
+-- no chunk has two Chunk Indexes
+abbrev pub HaveOneIndex : List ℕ → Type 0
+HaveOneIndex file = (first second : ℕ) → AreOfOne file first second → first ≡ second
+
+abbrev pub HasOneIndex : List ℕ → Result Replayed ReplayRefused → Type 0
+HasOneIndex file (Ok played) = HaveOneIndex file
+HasOneIndex file (Err why) = Unit {0}
+
+-- no file is played in which a chunk has two
+abbrev pub TellsOneIndex : Option (List ℕ) → Result Replayed ReplayRefused → Type 0
+TellsOneIndex told result = (file : List ℕ) → told ≡ Some file → HasOneIndex file result
 
 -- ---- files without a summary
 

@@ -13,6 +13,7 @@ pub mod laws;
 mod lists;
 mod messages;
 mod packings;
+mod repeats;
 mod replaying;
 mod spots;
 

@@ -3,11 +3,12 @@ ghost use Rattle.std.specs.Prelude.{◌≡◌, ◌≤◌, Ok};
 ghost use Rattle.mcap_io.specs.Stores.{LeavesStore, TellsLength};
 ghost use Rattle.mcap_model.specs.Plain.{asked_topic};
 ghost use Rattle.indexed_replay.specs.Played.{AsksBound, AsksIndexed, AsksLoaded, AsksUnloaded, CountsJudged, PlaysLoaded, refused_by};
-ghost use Rattle.indexed_replay.specs.Replaying.{Plays, PlaysScan, ReplayCause, TellsChunks, TellsNoSummary};
+ghost use Rattle.indexed_replay.specs.Replaying.{Plays, PlaysScan, ReplayCause, TellsChunks, TellsNoSummary, TellsOneIndex};
 
 use crate::answers::{NotIndexed, ReplayRefused};
 use crate::channels::take_channels;
 use crate::gathering::gather;
+use crate::repeats::check_apart;
 use crate::spots::Request;
 use mcap_io::{Failed, Store};
 use mcap_model::{Range, Replayed};
@@ -100,6 +101,7 @@ pub fn replay_kept<T: Store>(
 ) -> Result<KeptReplay, ReplayRefused>
     ensures plays { Plays (T.state store.old).bytes range (asked_topic topic.entry) result }
     ensures counted { TellsChunks (T.state store.old).bytes result }
+    ensures apart { TellsOneIndex (T.state store.old).bytes result }
     ensures unsummed { TellsNoSummary (T.state store.old).bytes result }
     ensures scanned { PlaysScan (T.state store.old).bytes range (asked_topic topic.entry) result }
     ensures asks { AsksIndexed range (T.state store.old) (T.state store.new) }
@@ -124,6 +126,10 @@ pub fn replay_kept<T: Store>(
         Ok(()) => {}
         Err(why) => return Err(ReplayRefused::NotIndexed { why }),
     }
+    match check_apart(alloc, &loaded) {
+        Ok(()) => {}
+        Err(why) => return Err(why),
+    }
     return play(alloc, store, &loaded, len, range, topic);
 }
 
@@ -136,6 +142,7 @@ pub fn replay_indexed<T: Store>(
 ) -> Result<Replayed, ReplayRefused>
     ensures plays { Plays (T.state store.old).bytes range (asked_topic topic.entry) result }
     ensures counted { TellsChunks (T.state store.old).bytes result }
+    ensures apart { TellsOneIndex (T.state store.old).bytes result }
     ensures unsummed { TellsNoSummary (T.state store.old).bytes result }
     ensures scanned { PlaysScan (T.state store.old).bytes range (asked_topic topic.entry) result }
     ensures asks { AsksIndexed range (T.state store.old) (T.state store.new) }

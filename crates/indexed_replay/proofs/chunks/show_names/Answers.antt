@@ -1,4 +1,4 @@
-use Rattle.std.proofs.Common.{◌≡◌, ℕ, Bool, List, ◌∷◌, ◌+◌, ◌≤◌, length, drop, refl, subst, inl, inr, ◌∙◌, arith}
+use Rattle.std.proofs.Common.{ℕ, List, ◌+◌, drop, refl, subst, inl, inr, ◌∙◌, arith}
 use Rattle.std.proofs.lemmas.List.{take_all, length-drop}
 use Rattle.indexed_replay.specs.Steps.{Adds}
 use Rattle.indexed_replay.specs.Chunks.{IsLedAmong, NamesCost}

@@ -1,4 +1,4 @@
-use Rattle.std.proofs.Common.{◌≡◌, ℕ, List, ◌∷◌, ◌+◌, ◌≤◌, drop, refl, subst, ◌∙◌, arith}
+use Rattle.std.proofs.Common.{List, ◌+◌, drop, refl, subst, ◌∙◌, arith}
 use Rattle.std.proofs.lemmas.Bool.{false≢true}
 use Rattle.rec_index.specs.Parsed.{chunk_index_fields}
 use Rattle.mcap_model.specs.Tops.{Top}

@@ -10,6 +10,7 @@ use Rattle.summary_read.specs.Parts.{of_kind}
 use Rattle.summary_read.specs.Loading.{AskedFor}
 use Rattle.indexed_replay.proofs.Summed.{loaded_summary, summary_once}
 use Rattle.indexed_replay.proofs.Bounded.{asked_bound}
+use Rattle.indexed_replay.proofs.Apart.{apart_reason, tells_one}
 use Rattle.indexed_replay.proofs.Ending.{load_reason, counts_reason, counts_agree, scan_replayed, asked_unplayed, asked_played}
 use Rattle.indexed_replay.proofs.replaying.replay_kept.Goals as goal
 
@@ -83,3 +84,26 @@ returns-clause-unloaded g c = λ file told none. absurd (none c.in-Ok-load.loade
 
 pub returns-in-Err-clause-asks : goal.returns-in-Err-clause-asks
 returns-in-Err-clause-asks g c = λ file start summary header cost told has there are. (0, nothing, omega (arith, c.in-Err.ensures.asked))
+
+pub returns-in-Err-check_apart-clause-plays : goal.returns-in-Err-check_apart-clause-plays
+returns-in-Err-check_apart-clause-plays g c = λ file told. apart_reason file c.in-Ok-load.loaded (c.in-Ok-load.ensures.loads file (c.in-Ok.ensures.bytes ∙ told)).0 c.args.range c.in-Err-check_apart.why c.in-Err-check_apart.ensures
+
+pub returns-in-Err-check_apart-clause-scanned : goal.returns-in-Err-check_apart-clause-scanned
+returns-in-Err-check_apart-clause-scanned g c = λ file tops end messages told full halts scan.
+    let few : length file < 2 ^ 64 = omega (arith, c.in-Ok.ensures.tells file told) in
+    scan_replayed file tops end messages c.args.range (asked_topic c.args.topic) (Err c.in-Err-check_apart.why) few full halts scan
+    (apart_reason file c.in-Ok-load.loaded (c.in-Ok-load.ensures.loads file (c.in-Ok.ensures.bytes ∙ told)).0 c.args.range c.in-Err-check_apart.why c.in-Err-check_apart.ensures)
+
+pub returns-in-Err-check_apart-clause-asks : goal.returns-in-Err-check_apart-clause-asks
+returns-in-Err-check_apart-clause-asks g c = λ file start summary header cost told has there are.
+    asked_unplayed file c.args.range start summary header (g.T.Store.state c.args.store.now).asked (g.T.Store.state c.len.new.self).asked (g.T.Store.state c.load.new.store).asked cost has there (c.in-Ok-load.ensures.asks file (c.in-Ok.ensures.bytes ∙ told)) (omega (arith, c.in-Ok.ensures.asked))
+
+pub returns-in-Err-check_apart-clause-bounded : goal.returns-in-Err-check_apart-clause-bounded
+returns-in-Err-check_apart-clause-bounded g c = λ file tops end bound told full halts asked.
+    asked_bound file tops end bound (g.T.Store.state c.args.store.now).asked (g.T.Store.state c.load.new.store).asked c.args.range full halts asked (λ start summary header cost. returns-in-Err-check_apart-clause-asks g c file start summary header cost told)
+
+pub returns-in-Err-check_apart-clause-unloaded : goal.returns-in-Err-check_apart-clause-unloaded
+returns-in-Err-check_apart-clause-unloaded g c = λ file told none. absurd (none c.in-Ok-load.loaded (c.in-Ok-load.ensures.loads file (c.in-Ok.ensures.bytes ∙ told)).0 c.in-Ok-judge_counts.ensures)
+
+pub returns-clause-apart : goal.returns-clause-apart
+returns-clause-apart g c = λ file told. tells_one file c.in-Ok-load.loaded (c.in-Ok-load.ensures.loads file (c.in-Ok.ensures.bytes ∙ told)).0 c.play.result c.in-Ok-check_apart.ensures
