@@ -9,4 +9,5 @@ mod AtHand
 mod Walking
 mod Feeding
 mod Given
+mod Keeping
 pub mod Tapes

@@ -1,5 +1,5 @@
 -- What the report on a feed says.
-use Rattle.std.specs.Prelude.{◌≡◌, ◌⊎◌, ℕ, ◌+◌, ◌<◌, ◌≤◌, List, [], ◌∷◌, ◌++◌, length, false, Some}
+use Rattle.std.specs.Prelude.{◌≡◌, ◌⊎◌, ℕ, ◌+◌, ◌<◌, ◌≤◌, List, [], ◌∷◌, ◌++◌, length, Bool, false, Some}
 use Rattle.mcap_io.specs.Outside.{SourceState}
 use Rattle.mcap_model.specs.declared.ends.End.{End}
 use Rattle.mcap_model.specs.Places.{Has, Each}
@@ -68,6 +68,10 @@ TakesMessages tops handled count refused feed_ends.Ended = EndsInLast tops handl
 -- the lists of a report
 abbrev pub reported : FeedReport → Lists
 reported report = record { accepted = report.accepted.items; declared = report.declared.items; refused = report.refused.items }
+
+-- the report lists messages, or only counts them
+abbrev pub ListsMessages : FeedReport → Bool → Type 0
+ListsMessages report listed = (report.accepted.kept ≡ listed) × (report.refused.kept ≡ listed)
 
 -- A report on a feed, of the source as it was before and is now and of the pass as it is now: records that were read, how
 -- many of their messages were handled, how it ended, and that the lists fit. The feed ends with the intake where a message was

@@ -1,4 +1,5 @@
 pub mod Pass
+pub mod Causes
 pub mod Lanes
 pub mod Sizes
 pub mod Steps

@@ -195,9 +195,17 @@ declare_cause declaring.Memory found = causes.Memory
 
 -- there is room for one more in each list
 pub record Roomy (lane : Lane) : Type 0 where
-  pub accepted : vec_len lane.accepted + 1 ≤ vec_capacity lane.accepted
+  pub accepted : length lane.accepted.items + 1 ≤ lane.accepted.capacity
   pub declared : vec_len lane.declared + 1 ≤ vec_capacity lane.declared
-  pub refused : vec_len lane.refused + 1 ≤ vec_capacity lane.refused
+  pub refused : length lane.refused.items + 1 ≤ lane.refused.capacity
+
+-- the lane lists messages, or only counts them
+abbrev pub KeepsLists : Lane → Bool → Type 0
+KeepsLists lane listed = (lane.accepted.kept ≡ listed) × (lane.refused.kept ≡ listed)
+
+-- it does so as before
+abbrev pub KeepsAs : Lane → Lane → Type 0
+KeepsAs before now = (now.accepted.kept ≡ before.accepted.kept) × (now.refused.kept ≡ before.refused.kept)
 
 -- ---- the records of a feed
 

@@ -3,11 +3,13 @@ ghost use Rattle.std.specs.Prelude.{◌≡◌, ℕ, []};
 ghost use Rattle.feed_lane.specs.Pass.{PassState, no_calls};
 ghost use Rattle.feed_lane.specs.Lanes.{LaneFits};
 ghost use Rattle.feed_lane.specs.Steps.{refused_end, over_end as end_of_over};
-ghost use Rattle.feed_lane.specs.Feeds.{reported, Reports};
+ghost use Rattle.feed_lane.specs.Feeds.{reported, Reports, ListsMessages};
 
 use crate::lane::{Lane, Over};
 use crate::pass::Pass;
+use crate::refused_list::Refusals;
 use crate::report::{FeedEnd, FeedReport};
+use listing::Listing;
 use mcap_io::Source;
 use mcap_scan::{Reader, ScanRefused, Step};
 use std::alloc::Global;
@@ -58,15 +60,16 @@ impl Lane {
 }
 
 // The report of a lane for which there was no memory.
-fn nothing(alloc: Global) -> FeedReport
+fn nothing(alloc: Global, listed: bool) -> FeedReport
     ensures end { result.end ≡ FeedEnd.Memory }
     ensures passed { result.passed ≡ 0 }
     ensures fits { (limit : ℕ) → LaneFits [] 0 (reported result) (no_calls limit) }
+    ensures kept { ListsMessages result listed }
 {
     FeedReport {
-        accepted: Vec::new(alloc),
+        accepted: Listing::new(alloc, listed),
         declared: Vec::new(alloc),
-        refused: Vec::new(alloc),
+        refused: Refusals::new(alloc, listed),
         passed: 0,
         end: FeedEnd::Memory,
     }
@@ -74,20 +77,26 @@ fn nothing(alloc: Global) -> FeedReport
 
 /// Reads a feed up to and with its Data End, declares each of its channels at the first message on it and publishes its
 /// messages over the pass, and reports what became of each. A message that is refused doesn't end the lane, unless the
-/// intake has ended.
-pub fn publish_feed<S: Source, P: Pass>(alloc: Global, source: &mut S, pass: &mut P) -> FeedReport
+/// intake has ended. Where messages aren't to be listed the report only counts them, and the lane takes no memory for them.
+pub fn publish_feed<S: Source, P: Pass>(
+    alloc: Global,
+    source: &mut S,
+    pass: &mut P,
+    listed: bool,
+) -> FeedReport
     requires { (limit : ℕ) × P.since pass.old pass.old (no_calls limit) }
     ensures reports { (limit : ℕ) → P.since pass.old pass.old (no_calls limit)
         → (shown : PassState) × P.since pass.old pass.new shown × (shown.limit ≡ limit) × Reports (S.state source.old) (S.state source.new) shown result }
     ensures stays { S.stays source.old source.new }
+    ensures kept { ListsMessages result listed }
 {
     let mut reader = match Reader::new(alloc) {
         Ok(reader) => reader,
-        Err(_) => return nothing(alloc),
+        Err(_) => return nothing(alloc, listed),
     };
-    let mut lane = match Lane::new(alloc) {
+    let mut lane = match Lane::new(alloc, listed) {
         Ok(lane) => lane,
-        Err(_) => return nothing(alloc),
+        Err(_) => return nothing(alloc, listed),
     };
     'records: loop {
         match reader.advance(source) {

@@ -6,12 +6,14 @@ ghost use Rattle.mcap_model.specs.Fields.{IsMessage};
 ghost use Rattle.feed_lane.specs.Pass.{PassState, no_calls};
 ghost use Rattle.feed_lane.specs.Lanes.{messages, IsOn, Describes};
 ghost use Rattle.record_core.specs.Sights.{DefFits};
-ghost use Rattle.feed_lane.specs.Steps.{lists_of, LaneStands, ListsStand, Roomy, AreKnown, AtHand, IsDue, HasId, ThenShows, ChannelFound, MessageTaken, goes_on as goes_on_behind, publish_cause as cause_of_publishing, declare_cause as cause_of_declaring, full_cause as cause_of_full, fields_of};
+ghost use Rattle.feed_lane.specs.Steps.{lists_of, LaneStands, ListsStand, Roomy, KeepsLists, KeepsAs, AreKnown, AtHand, IsDue, HasId, ThenShows, ChannelFound, MessageTaken, goes_on as goes_on_behind, publish_cause as cause_of_publishing, declare_cause as cause_of_declaring, full_cause as cause_of_full, fields_of};
 
 use crate::describing::{definition_over, excess};
 use crate::ids::Ids;
 use crate::pass::Pass;
+use crate::refused_list::Refusals;
 use crate::report::{Accepted, Cause, DeclaredAt, Refused};
+use listing::Listing;
 use mcap_model::Tables;
 use mcap_wire::Memory;
 use rec_data::{ChannelDef, Message};
@@ -23,9 +25,9 @@ use std::alloc::Global;
 #[derive(Drop)]
 pub(crate) struct Lane {
     pub ids: Ids,
-    pub accepted: Vec<Accepted>,
+    pub accepted: Listing<Accepted>,
     pub declared: Vec<DeclaredAt>,
-    pub refused: Vec<Refused>,
+    pub refused: Refusals,
     pub passed: u64,
 }
 
@@ -104,17 +106,18 @@ pub(crate) fn add<T: Drop>(list: &mut Vec<T>, one: T)
 }
 
 impl Lane {
-    /// A lane that has read nothing.
-    pub(crate) fn new(alloc: Global) -> Result<Lane, Memory>
+    /// A lane that has read nothing, and lists messages or only counts them.
+    pub(crate) fn new(alloc: Global, listed: bool) -> Result<Lane, Memory>
         ensures stands { IfOk result (λ lane. (limit : ℕ) → LaneStands lane [] 0 (no_calls limit)) }
         ensures passed { IfOk result (λ lane. lane.passed ≡ 0) }
+        ensures kept { IfOk result (λ lane. KeepsLists lane listed) }
     {
         match Ids::new(alloc) {
             Ok(ids) => return Ok(Lane {
                 ids,
-                accepted: Vec::new(alloc),
+                accepted: Listing::new(alloc, listed),
                 declared: Vec::new(alloc),
-                refused: Vec::new(alloc),
+                refused: Refusals::new(alloc, listed),
                 passed: 0,
             }),
             Err(memory) => return Err(memory),
@@ -125,7 +128,7 @@ impl Lane {
     fn handled(&self) -> u64
         ensures { result ≡ length self.now.accepted.items + length self.now.refused.items }
     {
-        self.accepted.len() as u64 + self.refused.len() as u64
+        self.accepted.len() + self.refused.len()
     }
 
     // Makes room for one more in each list.
@@ -133,9 +136,10 @@ impl Lane {
         ensures lists { lists_of self.new ≡ lists_of self.old }
         ensures ids { self.new.ids ≡ self.old.ids }
         ensures passed { self.new.passed ≡ self.old.passed }
+        ensures kept { KeepsAs self.old self.new }
         ensures room { OnOk result (Roomy self.new) }
     {
-        match self.accepted.reserve(1) {
+        match self.accepted.reserve() {
             Ok(()) => {}
             Err(_) => return Err(Memory),
         }
@@ -143,7 +147,7 @@ impl Lane {
             Ok(()) => {}
             Err(_) => return Err(Memory),
         }
-        match self.refused.reserve(1) {
+        match self.refused.reserve() {
             Ok(()) => {}
             Err(_) => return Err(Memory),
         }
@@ -152,13 +156,14 @@ impl Lane {
 
     // Lists the message at hand as refused. That the intake has ended ends the lane.
     fn refuse(&mut self, cause: Cause) -> Result<(), Over>
-        requires { vec_len self.old.refused + 1 ≤ vec_capacity self.old.refused }
+        requires { length self.old.refused.items + 1 ≤ self.old.refused.capacity }
         ensures taken { (records : List Top) (handled : ℕ) (pass : PassState) → IsDue self.old records handled pass cause
             → MessageTaken self.new records handled pass result }
         ensures passed { self.new.passed ≡ self.old.passed }
+        ensures kept { KeepsAs self.old self.new }
     {
         let index = self.handled();
-        add(&mut self.refused, Refused { index, cause });
+        self.refused.push(Refused { index, cause });
         if goes_on(cause) {
             return Ok(());
         }
@@ -167,13 +172,14 @@ impl Lane {
 
     // Publishes the message at hand on the channel that got that id.
     fn publish<P: Pass>(&mut self, id: u16, m: &Message<'_>, pass: &mut P) -> Result<(), Over>
-        requires accepted { vec_len self.old.accepted + 1 ≤ vec_capacity self.old.accepted }
-        requires refused { vec_len self.old.refused + 1 ≤ vec_capacity self.old.refused }
+        requires accepted { length self.old.accepted.items + 1 ≤ self.old.accepted.capacity }
+        requires refused { length self.old.refused.items + 1 ≤ self.old.refused.capacity }
         ensures taken { (begun : P) (before : PassState) → P.since begun pass.old before → ThenShows (P.since begun pass.new) before (λ after.
             (records : List Top) (handled source : ℕ) (t : Top) → ListsStand records handled (handled + 1) self.old.ids (lists_of self.old) before
             → HasId records self.old.declared.items source id → At (messages records) handled t → IsMessage t source (fields_of m.now)
             → MessageTaken self.new records handled after result) }
         ensures passed { self.new.passed ≡ self.old.passed }
+        ensures kept { KeepsAs self.old self.new }
     {
         let message = NewMessage {
             channel: id,
@@ -185,7 +191,7 @@ impl Lane {
         match pass.publish(&message) {
             Ok(place) => {
                 let index = self.handled();
-                add(&mut self.accepted, Accepted { index, place });
+                self.accepted.push(Accepted { index, place });
                 return Ok(());
             }
             Err(refusal) => {
@@ -293,6 +299,7 @@ impl Lane {
             (records : List Top) (handled : ℕ) → LaneStands self.old records handled before → AreKnown records tables.now
             → AtHand records handled content.now → MessageTaken self.new records handled after result) }
         ensures passed { self.new.passed ≡ self.old.passed }
+        ensures kept { KeepsAs self.old self.new }
     {
         match self.make_room() {
             Ok(()) => {}

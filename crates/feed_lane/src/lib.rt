@@ -8,10 +8,12 @@ mod ids;
 mod lane;
 pub mod laws;
 mod pass;
+mod refused_list;
 mod report;
 mod section;
 
 pub use describing::definition;
 pub use feed::publish_feed;
 pub use pass::Pass;
+pub use refused_list::Refusals;
 pub use report::{Accepted, Cause, DeclaredAt, FeedEnd, FeedReport, Refused};

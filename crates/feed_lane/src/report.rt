@@ -1,4 +1,6 @@
 //! What the lane of a feed came to.
+use crate::refused_list::Refusals;
+use listing::Listing;
 use mcap_model::Stop;
 use mcap_wire::Text;
 
@@ -66,12 +68,12 @@ pub enum FeedEnd {
     Ended,
 }
 
-/// One feed's part of a recording.
+/// One feed's part of a recording. The recorded and the refused messages are listed, or only counted.
 #[derive(Drop)]
 pub struct FeedReport {
-    pub accepted: Vec<Accepted>,
+    pub accepted: Listing<Accepted>,
     pub declared: Vec<DeclaredAt>,
-    pub refused: Vec<Refused>,
+    pub refused: Refusals,
     /// Attachments, Metadata and unknown records that were passed over, those in chunks too.
     pub passed: u64,
     pub end: FeedEnd,

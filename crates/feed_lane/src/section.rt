@@ -5,7 +5,7 @@ ghost use Rattle.mcap_model.specs.Rules.{V6};
 ghost use Rattle.mcap_model.specs.Made.{top};
 ghost use Rattle.mcap_model.specs.Written.{passed_in};
 ghost use Rattle.feed_lane.specs.Pass.{PassState};
-ghost use Rattle.feed_lane.specs.Steps.{LaneStands, AreKnown, ThenShows, Waits, RecordHandled, unknown_in, Counted};
+ghost use Rattle.feed_lane.specs.Steps.{LaneStands, AreKnown, ThenShows, Waits, RecordHandled, unknown_in, Counted, KeepsAs};
 
 use crate::lane::{Lane, Over};
 use crate::pass::Pass;
@@ -28,6 +28,7 @@ impl Lane {
             (records more : List Top) (handled : ℕ) → LaneStands self.old records handled before → AreKnown records tables.now
             → Waits records handled (top op content.now ∷ more) → RecordHandled self.new records handled more after result) }
         ensures passed { Counted self.old.passed self.new.passed (unknown_in (top op content.now ∷ [])) result }
+        ensures kept { KeepsAs self.old self.new }
     {
         match op {
             MESSAGE => return self.take_message(alloc, tables, content, pass),
@@ -51,6 +52,7 @@ impl Lane {
             (records : List Top) (handled : ℕ) → LaneStands self.old records handled before → AreKnown records tables.now
             → Waits records handled (records_in bytes.now) → RecordHandled self.new records handled [] after result) }
         ensures passed { Counted self.old.passed self.new.passed (unknown_in (records_in bytes.now)) result }
+        ensures kept { KeepsAs self.old self.new }
     {
         let mut walk = InnerWalk::new(bytes);
         'records: while let Some(inner) = walk.next() {
@@ -75,6 +77,7 @@ impl Lane {
             (records : List Top) (handled : ℕ) → LaneStands self.old records handled before → AreKnown records tables.now
             → V6 (top op content.now) → Waits records handled (opened (top op content.now)) → RecordHandled self.new records handled [] after result) }
         ensures passed { V6 (top op content.now) → Counted self.old.passed self.new.passed (passed_in (top op content.now)) result }
+        ensures kept { KeepsAs self.old self.new }
     {
         match op {
             MESSAGE => return self.take_message(alloc, tables, content, pass),

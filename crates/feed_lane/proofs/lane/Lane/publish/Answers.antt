@@ -23,8 +23,8 @@ returns-in-Ok-clause-taken g c = λ begun before since.
       published_limit before after m (Ok c.in-Ok.place) call,
       λ records handled source t stands has at is.
           let index : c.handled-index.result ≡ handled = c.handled-index.ensures ∙ sym stands.fits.count in
-          let listed : c.add.new.list.items ≡ l.accepted.items ++ accepted_at handled found.count ∷ [] =
-          c.add.ensures ∙ ap (λ (n : ℕ). l.accepted.items ++ accepted_at n c.in-Ok.place ∷ []) index ∙ ap (λ (n : ℕ). l.accepted.items ++ accepted_at handled n ∷ []) call.3 in
+          let listed : c.push.new.self.items ≡ l.accepted.items ++ accepted_at handled found.count ∷ [] =
+          c.push.ensures.items ∙ ap (λ (n : ℕ). l.accepted.items ++ accepted_at n c.in-Ok.place ∷ []) index ∙ ap (λ (n : ℕ). l.accepted.items ++ accepted_at handled n ∷ []) call.3 in
           subst (λ (accepted : List Accepted). ListsStand records (handled + 1) (handled + 1) l.ids (record { accepted = accepted; declared = l.declared.items; refused = l.refused.items }) after) (sym listed)
           (subst (ListsStand records (handled + 1) (handled + 1) l.ids (record { accepted = l.accepted.items ++ accepted_at handled found.count ∷ []; declared = l.declared.items; refused = l.refused.items })) (sym call.4)
           (accepted_stands records handled l.ids (lists_of l) before found m source t stands call.2.finds call.2.unended (record { id = has; at = at; is = is; small = call.1 }))),

@@ -3,6 +3,7 @@ use Rattle.mcap_model.specs.Tops.{records_in}
 use Rattle.mcap_model.specs.Walk.{walk_rest, inner_top}
 use Rattle.feed_lane.specs.Steps.{Waits, unknown_in}
 use Rattle.feed_lane.proofs.Walking.{unknown_more}
+use Rattle.feed_lane.proofs.Keeping.{keeps_on}
 use Rattle.feed_lane.proofs.lane.Lane.take_chunk.Goals as goal
 
 pub records-preserved : goal.records-preserved
@@ -30,6 +31,7 @@ records-preserved g c =
           let size = unknown_more (inner_top c.in-Some.inner) more in
           let now = counted.2 (omega (arith, few, was, split, size)) in
           omega (arith, was, split, size, now),
+      keeps_on c.args.self.now c.records.self c.take_inner.new.self i.4 c.in-Ok.ensures.kept,
     )
 
 pub returns-in-Err-clause-passed : goal.returns-in-Err-clause-passed
@@ -63,3 +65,6 @@ returns-clause-taken g c = λ begun before since.
           let w = was.3 records handled stands known waits in
           (w.0, w.1, w.2, subst (Waits records w.0) c.in_default.ensures.0 w.3),
     )
+
+pub returns-in-Err-clause-kept : goal.returns-in-Err-clause-kept
+returns-in-Err-clause-kept g c = keeps_on c.args.self.now c.records.self c.take_inner.new.self c.records.invariant.4 c.in-Err.ensures.kept
