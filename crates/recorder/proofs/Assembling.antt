@@ -117,10 +117,10 @@ assembled places_are_known limit feeds made known closed halt taken end last are
           (x_is ∙ sym y_is);
     }
 
-pub is_reported : PlacesAreKnown → (limit : ℕ) (lossless : Bool) (before now : List SourceState) (post : Post) (pass : PassState) (drain : Post) (r : Report) → LanesRan limit lossless before now r.feeds.items post
+pub is_reported : PlacesAreKnown → (limit : ℕ) (lossless listed : Bool) (before now : List SourceState) (post : Post) (pass : PassState) (drain : Post) (r : Report) → LanesRan limit lossless listed before now r.feeds.items post
     → (end : End) × IsOver pass drain end → ((end : End) → IsOver pass drain end → Met post.made post.known post.closed drain.stop drain.taken end)
     → ((stop : Stop) → drain.stop ≡ Some stop → r.writer.end ≡ ends.Stopped stop) → IsReported limit lossless before now drain.taken r
-is_reported places_are_known limit lossless before now post pass drain r ran (end, over) met stops = record {
+is_reported places_are_known limit lossless listed before now post pass drain r ran (end, over) met stops = record {
   feeds = ran.feeds;
   are = ran.are;
   assembled = assembled places_are_known limit ran.feeds post.made post.known post.closed drain.stop drain.taken end r.writer.end ran.known (met end over) stops;

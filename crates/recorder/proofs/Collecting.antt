@@ -13,6 +13,7 @@ use Rattle.buffer_swap.specs.Calls.{reasoned, closed_at}
 use Rattle.buffer_swap.specs.Plays.{Unclosed}
 use Rattle.buffer_swap.specs.Posts.{Gathered, Post}
 use Rattle.recorder.specs.Recorded.{FeedRecorded}
+use Rattle.feed_lane.specs.Feeds.{ListsMessages}
 use Rattle.recorder.specs.Lanes.{LaneRan, LanesRan}
 
 -- ---- lists
@@ -97,9 +98,9 @@ closed_made (Some e) post now is = ap (λ (p : Post). p.made) is
 
 -- ---- lanes
 
-module _ {X : Type 0} (limit : ℕ) (lossless : Bool) (waits : X → Bool) (state : X → SourceState) (shown : X → Gathered) (report : X → Option FeedReport) where
+module _ {X : Type 0} (limit : ℕ) (lossless listed : Bool) (waits : X → Bool) (state : X → SourceState) (shown : X → Gathered) (report : X → Option FeedReport) where
   abbrev Ran : X → X → Type 0
-  Ran x y = LaneRan limit (waits x) (state x) (state y) (shown y).pass (report y)
+  Ran x y = LaneRan limit (waits x) listed (state x) (state y) (shown y).pass (report y)
 
   record Collected (xs ys : List X) : Type 0 where
     pub feeds : List FeedRecorded
@@ -109,6 +110,7 @@ module _ {X : Type 0} (limit : ℕ) (lossless : Bool) (waits : X → Bool) (stat
     pub alike : InStep (λ (f : FeedRecorded) (g : Gathered). f.pass ≡ reasoned g.pass f.pass.reasons) feeds (map shown ys)
     pub limits : Each (λ (f : FeedRecorded). f.pass.limit ≡ limit) feeds
     pub unfull : lossless ≡ true → Each (λ (f : FeedRecorded). f.pass.fulls ≡ []) feeds
+    pub lists : Each (λ (f : FeedRecorded). ListsMessages f.feed listed) feeds
 
   collect : (xs ys : List X) → InStep Ran xs ys → Each (λ x. waits x ≡ lossless) xs → Collected xs ys
   collect [] [] it wait = record {
@@ -119,6 +121,7 @@ module _ {X : Type 0} (limit : ℕ) (lossless : Bool) (waits : X → Bool) (stat
     alike = (refl, λ n f p at_f at_p. absurd (at_none n f at_f));
     limits = λ n f at. absurd (at_none n f at);
     unfull = λ is n f at. absurd (at_none n f at);
+    lists = λ n f at. absurd (at_none n f at);
   }
   collect [] (y ∷ ys) it wait = absurd (omega (arith, it.0))
   collect (x ∷ xs) [] it wait = absurd (omega (arith, it.0))
@@ -134,17 +137,19 @@ module _ {X : Type 0} (limit : ℕ) (lossless : Bool) (waits : X → Bool) (stat
         alike = step_cons (λ (f : FeedRecorded) (g : Gathered). f.pass ≡ reasoned g.pass f.pass.reasons) f (shown y) more.feeds (map shown ys) ran.same more.alike;
         limits = each_more (λ (f : FeedRecorded). f.pass.limit ≡ limit) f more.feeds ran.limited more.limits;
         unfull = λ is. each_more (λ (f : FeedRecorded). f.pass.fulls ≡ []) f more.feeds (ran.unfull (wait zero x refl ∙ is)) (more.unfull is);
+        lists = each_more (λ (f : FeedRecorded). ListsMessages f.feed listed) f more.feeds ran.lists more.lists;
       }
 
   pub lanes_ran : (xs ys : List X) (now : List SourceState) (reports : List FeedReport) (post : Post)
       → InStep Ran xs ys → Each (λ x. waits x ≡ lossless) xs → Each (λ y. Unclosed (shown y).pass) ys
       → now ≡ map state ys → map Some reports ≡ map report ys → post.known ≡ map shown ys → post.made ≡ length xs
-      → LanesRan limit lossless (map state xs) now reports post
+      → LanesRan limit lossless listed (map state xs) now reports post
   lanes_ran xs ys now reports post it wait unclosed now_is reports_are known made =
       let all : Collected xs ys = collect xs ys it wait in
+      let same = somes_same reports (map (λ (f : FeedRecorded). f.feed) all.feeds) (reports_are ∙ all.reports) in
       record {
         feeds = all.feeds;
-        are = record { before_are = all.before; now_are = now_is ∙ all.now; reports_are = somes_same reports (map (λ (f : FeedRecorded). f.feed) all.feeds) (reports_are ∙ all.reports) };
+        are = record { before_are = all.before; now_are = now_is ∙ all.now; reports_are = same };
         known = record {
           alike = subst (InStep (λ (f : FeedRecorded) (g : Gathered). f.pass ≡ reasoned g.pass f.pass.reasons) all.feeds) (sym known) all.alike;
           unclosed = subst (Each (λ (g : Gathered). Unclosed g.pass)) (sym known) (each_map (λ (g : Gathered). Unclosed g.pass) shown ys unclosed);
@@ -152,4 +157,5 @@ module _ {X : Type 0} (limit : ℕ) (lossless : Bool) (waits : X → Bool) (stat
         };
         all = ap length known ∙ length_map shown ys ∙ sym it.0 ∙ sym made;
         unfull = all.unfull;
+        lists = subst (Each (λ (f : FeedReport). ListsMessages f listed)) (sym same) (each_map (λ (f : FeedReport). ListsMessages f listed) (λ (f : FeedRecorded). f.feed) all.feeds all.lists);
       }

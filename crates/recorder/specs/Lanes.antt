@@ -5,15 +5,15 @@ use Rattle.mcap_model.specs.Places.{Each}
 use Rattle.feed_lane.specs.declared.report.FeedReport.{FeedReport}
 use Rattle.feed_lane.specs.Pass.{PassState}
 use Rattle.feed_lane.specs.Lanes.{InStep}
-use Rattle.feed_lane.specs.Feeds.{Reports}
+use Rattle.feed_lane.specs.Feeds.{Reports, ListsMessages}
 use Rattle.buffer_swap.specs.Calls.{reasoned}
 use Rattle.buffer_swap.specs.Plays.{Unclosed}
 use Rattle.buffer_swap.specs.Posts.{Gathered, Post}
 use Rattle.recorder.specs.Recorded.{FeedRecorded, AreFeeds}
 
 -- A lane ran to its end: the pass that its publisher showed, with the reasons of all refusals, is one of which its report is
--- true; where it waits for room, it met no full buffer.
-pub record LaneRan (limit : ℕ) (lossless : Bool) (before now : SourceState) (pass : PassState) (report : Option FeedReport) : Type 0 where
+-- true; where it waits for room, it met no full buffer. The report lists messages, or only counts them.
+pub record LaneRan (limit : ℕ) (lossless listed : Bool) (before now : SourceState) (pass : PassState) (report : Option FeedReport) : Type 0 where
   pub feed : FeedReport
   pub is : report ≡ Some feed
   pub shown : PassState
@@ -21,6 +21,7 @@ pub record LaneRan (limit : ℕ) (lossless : Bool) (before now : SourceState) (p
   pub limited : shown.limit ≡ limit
   pub unfull : lossless ≡ true → shown.fulls ≡ []
   pub reports : Reports before now shown feed
+  pub lists : ListsMessages feed listed
 
 -- a control that made so many publishers, knows none, and hasn't closed
 pub record IsFresh (post : Post) (many : ℕ) : Type 0 where
@@ -35,9 +36,10 @@ pub record AreKnown (limit : ℕ) (feeds : List FeedRecorded) (known : List Gath
   pub limits : Each (λ f. f.pass.limit ≡ limit) feeds
 
 -- All lanes ran to their ends, and were gathered: these are the feeds that were recorded, and what the control knows of them.
-pub record LanesRan (limit : ℕ) (lossless : Bool) (before now : List SourceState) (reports : List FeedReport) (post : Post) : Type 0 where
+pub record LanesRan (limit : ℕ) (lossless listed : Bool) (before now : List SourceState) (reports : List FeedReport) (post : Post) : Type 0 where
   pub feeds : List FeedRecorded
   pub are : AreFeeds feeds before now reports
   pub known : AreKnown limit feeds post.known
   pub all : length post.known ≡ post.made
   pub unfull : lossless ≡ true → Each (λ f. f.pass.fulls ≡ []) feeds
+  pub lists : Each (λ f. ListsMessages f listed) reports

@@ -36,16 +36,16 @@ pub(crate) struct Lanes<'t, R: Wait, S> {
 }
 
 impl<R: Wait, S: Source> Lane<'_, R, S> {
-    // Reads the feed and publishes it.
-    fn run(&mut self, alloc: Global)
+    // Reads the feed and publishes it, and lists its messages or only counts them.
+    fn run(&mut self, alloc: Global, listed: bool)
         requires { (limit : ℕ) × (self.old.pass.publisher.seat.me.0.pass ≡ no_calls limit) }
         ensures turn { self.new.pass.publisher.seat.table_id ≡ self.old.pass.publisher.seat.table_id }
         ensures ran { (limit : ℕ) → self.old.pass.publisher.seat.me.0.pass ≡ no_calls limit
-            → LaneRan limit self.old.pass.lossless (S.state self.old.source) (S.state self.new.source) self.new.pass.publisher.seat.me.0.pass self.new.report }
+            → LaneRan limit self.old.pass.lossless listed (S.state self.old.source) (S.state self.new.source) self.new.pass.publisher.seat.me.0.pass self.new.report }
         ensures stays { S.stays self.old.source self.new.source }
     {
         let rouser = self.pass.publisher.rouser();
-        let report = publish_roused(alloc, &mut self.source, rouser, &mut self.pass);
+        let report = publish_roused(alloc, &mut self.source, rouser, &mut self.pass, listed);
         self.report = Some(report);
     }
 }
@@ -157,11 +157,12 @@ fn run_all<R: Threads + Wait + Sync, S: Source + Send>(
     rt: &R,
     alloc: Global,
     lanes: &mut [Lane<'_, R, S>],
+    listed: bool,
 )
     requires { (limit : ℕ) × Each (λ lane. lane.pass.publisher.seat.me.0.pass ≡ no_calls limit) lanes.old }
     ensures turns { InStep (λ x y. y.pass.publisher.seat.table_id ≡ x.pass.publisher.seat.table_id) lanes.old lanes.new }
     ensures ran { (limit : ℕ) → Each (λ lane. lane.pass.publisher.seat.me.0.pass ≡ no_calls limit) lanes.old
-        → InStep (λ x y. LaneRan limit x.pass.lossless (S.state x.source) (S.state y.source) y.pass.publisher.seat.me.0.pass y.report) lanes.old lanes.new }
+        → InStep (λ x y. LaneRan limit x.pass.lossless listed (S.state x.source) (S.state y.source) y.pass.publisher.seat.me.0.pass y.report) lanes.old lanes.new }
     ensures stays { InStep (λ x y. S.stays x.source y.source) lanes.old lanes.new }
 {
     thread::for_each_mut(
@@ -172,15 +173,15 @@ fn run_all<R: Threads + Wait + Sync, S: Source + Send>(
             requires { (limit : ℕ) × (lane.old.pass.publisher.seat.me.0.pass ≡ no_calls limit) }
             ensures turn { lane.new.pass.publisher.seat.table_id ≡ lane.old.pass.publisher.seat.table_id }
             ensures ran { (limit : ℕ) → lane.old.pass.publisher.seat.me.0.pass ≡ no_calls limit
-                → LaneRan limit lane.old.pass.lossless (S.state lane.old.source) (S.state lane.new.source) lane.new.pass.publisher.seat.me.0.pass lane.new.report }
+                → LaneRan limit lane.old.pass.lossless listed (S.state lane.old.source) (S.state lane.new.source) lane.new.pass.publisher.seat.me.0.pass lane.new.report }
             ensures stays { S.stays lane.old.source lane.new.source }
-        { lane.run(alloc) },
+        { lane.run(alloc, listed) },
     );
 }
 
 impl<R: Threads + Wait + Sync, S: Source + Drop + Send> Lanes<'_, R, S> {
     /// Runs all lanes to their ends, gathers them, and closes the intake.
-    pub(crate) fn run(self, rt: &R, alloc: Global) -> Self
+    pub(crate) fn run(self, rt: &R, alloc: Global, listed: bool) -> Self
         requires turn { Each (λ lane. lane.pass.publisher.seat.table_id ≡ self.control.seat.table_id) self.lanes.items }
         requires new { Each (λ lane. lane.pass.publisher.seat.me.0.pass ≡ no_calls self.control.seat.me.0.pass.limit) self.lanes.items }
         requires waits { Each (λ lane. lane.pass.lossless ≡ self.lossless) self.lanes.items }
@@ -188,11 +189,11 @@ impl<R: Threads + Wait + Sync, S: Source + Drop + Send> Lanes<'_, R, S> {
         requires feeds { (self.feeds.items ≡ []) × (vec_len self.lanes ≤ vec_capacity self.feeds) }
         requires reports { (self.reports.items ≡ []) × (vec_len self.lanes ≤ vec_capacity self.reports) }
         ensures turn { result.control.seat.table_id ≡ self.entry.control.seat.table_id }
-        ensures ran { LanesRan self.entry.control.seat.me.0.pass.limit self.entry.lossless (map (λ lane. S.state lane.source) self.entry.lanes.items) (map (λ source. S.state source) result.feeds.items) result.reports.items result.control.seat.me.0.post }
+        ensures ran { LanesRan self.entry.control.seat.me.0.pass.limit self.entry.lossless listed (map (λ lane. S.state lane.source) self.entry.lanes.items) (map (λ source. S.state source) result.feeds.items) result.reports.items result.control.seat.me.0.post }
         ensures stays { AllZip S.stays (map (λ lane. lane.source) self.entry.lanes.items) result.feeds.items }
     {
         let mut all = self;
-        run_all(rt, alloc, all.lanes.as_mut_slice());
+        run_all(rt, alloc, all.lanes.as_mut_slice(), listed);
         all.gather(alloc);
         all.control.close(rt);
         all

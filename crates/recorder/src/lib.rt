@@ -11,7 +11,8 @@ mod rousing;
 mod unopened;
 mod writer;
 
-pub use feed_lane::{Accepted, Cause, DeclaredAt, FeedEnd, FeedReport, Refused};
+pub use feed_lane::{Accepted, Cause, DeclaredAt, FeedEnd, FeedReport, Refusals, Refused};
+pub use listing::Listing;
 pub use options::RecordOptions;
 pub use recording::{Recording, record};
 pub use report::{Report, WriterReport};

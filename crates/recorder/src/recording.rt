@@ -10,6 +10,7 @@ ghost use Rattle.mcap_model.specs.declared.ends.End.TheVariants.{Stopped};
 ghost use Rattle.mcap_model.specs.Places.{Each};
 ghost use Rattle.chunk_writer.specs.declared.phase.Phase.TheVariants as phases;
 ghost use Rattle.feed_lane.specs.Pass.{no_calls};
+ghost use Rattle.feed_lane.specs.Feeds.{ListsMessages};
 ghost use Rattle.buffer_swap.specs.Calls.{first_limit, IsNewTurn, IsOver};
 ghost use Rattle.recorder.specs.Writing.{empty_buffer};
 ghost use Rattle.recorder.specs.Lanes.{IsFresh, LanesRan};
@@ -128,6 +129,7 @@ fn run_beside<R: Threads + Wait + Sync, S: Source + Drop + Send, T: Tape<X: Send
     lanes: Lanes<'_, R, S>,
     writer: Writer<'_, T>,
     spare: Cache,
+    listed: bool,
 ) -> Onto<S, T>
     requires same_turn { writer.drain.seat.table_id ≡ lanes.control.seat.table_id }
     requires turns { Each (λ lane. lane.pass.publisher.seat.table_id ≡ lanes.control.seat.table_id) lanes.lanes.items }
@@ -142,6 +144,7 @@ fn run_beside<R: Threads + Wait + Sync, S: Source + Drop + Send, T: Tape<X: Send
     requires going { T.phase writer.tape ≡ phases.Going }
     ensures reported { (history : List Rec) × IsReported lanes.entry.control.seat.me.0.pass.limit lanes.entry.lossless (map (λ lane. S.state lane.source) lanes.entry.lanes.items) (map S.state result.feeds.items) history result.report
         × IsWritten T.grows T.ends T.failures writer.entry.tape result.tape history result.report.writer × IsAll history result.report.writer }
+    ensures listed { Each (λ f. ListsMessages f listed) result.report.feeds.items }
     ensures stays { AllZip S.stays (map (λ lane. lane.source) lanes.entry.lanes.items) result.feeds.items }
 {
     let (written, lanes) = join(
@@ -165,9 +168,9 @@ fn run_beside<R: Threads + Wait + Sync, S: Source + Drop + Send, T: Tape<X: Send
             requires feeds { (lanes.feeds.items ≡ []) × (vec_len lanes.lanes ≤ vec_capacity lanes.feeds) }
             requires reports { (lanes.reports.items ≡ []) × (vec_len lanes.lanes ≤ vec_capacity lanes.reports) }
             ensures turn { result.control.seat.table_id ≡ lanes.entry.control.seat.table_id }
-            ensures ran { LanesRan lanes.entry.control.seat.me.0.pass.limit lanes.entry.lossless (map (λ lane. S.state lane.source) lanes.entry.lanes.items) (map S.state result.feeds.items) result.reports.items result.control.seat.me.0.post }
+            ensures ran { LanesRan lanes.entry.control.seat.me.0.pass.limit lanes.entry.lossless listed (map (λ lane. S.state lane.source) lanes.entry.lanes.items) (map S.state result.feeds.items) result.reports.items result.control.seat.me.0.post }
             ensures stays { AllZip S.stays (map (λ lane. lane.source) lanes.entry.lanes.items) result.feeds.items }
-        { lanes.run(rt, alloc) },
+        { lanes.run(rt, alloc, listed) },
     );
     let Written {
         mut drain,
@@ -194,12 +197,20 @@ fn run_beside<R: Threads + Wait + Sync, S: Source + Drop + Send, T: Tape<X: Send
 }
 
 /// Records the feeds into the store, behind what the store holds, which is nothing where the file is to be read back. Each feed
-/// has a lane of its own, and the lanes run beside the writer.
+/// has a lane of its own, and the lanes run beside the writer. Where messages aren't to be listed the report only counts them, and
+/// takes no memory for them.
 pub fn record<
     R: Threads + Wait + Sync,
     S: Source + Drop + Send,
     L: LiveStore<Extent: Send, View: Send> + Drop + Send,
->(rt: &R, alloc: Global, options: &RecordOptions, feeds: Vec<S>, live: L) -> Recording<S, L>
+>(
+    rt: &R,
+    alloc: Global,
+    options: &RecordOptions,
+    feeds: Vec<S>,
+    live: L,
+    listed: bool,
+) -> Recording<S, L>
     requires some { 1 ≤ options.now.limit }
     requires small { options.now.limit ≤ buffer_limit }
     requires size { (n : ℕ) → options.now.file.chunk ≡ Some n → (1 ≤ n) × (n ≤ chunk_size_limit) }
@@ -208,6 +219,7 @@ pub fn record<
     ensures refused { result.report ≡ None → (result.feeds.items ≡ feeds.items) × (result.live ≡ live) }
     ensures stays { AllZip S.stays feeds.items result.feeds.items }
     ensures recorded { (r : _) → result.report ≡ Some r → Recorded options.now (sides (map S.state feeds.items) (L.state live)) (sides (map S.state result.feeds.items) (L.state result.live)) r }
+    ensures listed { (r : _) → result.report ≡ Some r → Each (λ f. ListsMessages f listed) r.feeds.items }
 {
     let Room {
         mut turn,
@@ -233,7 +245,7 @@ pub fn record<
     match Scribe::open(alloc, live, &options.file) {
         Ok(tape) => {
             lanes.add_all(rt, feeds);
-            let onto = run_beside(rt, alloc, lanes, Writer { drain, tape }, spare);
+            let onto = run_beside(rt, alloc, lanes, Writer { drain, tape }, spare, listed);
             return Recording {
                 report: Some(onto.report),
                 feeds: onto.feeds,
@@ -243,7 +255,7 @@ pub fn record<
         Err((live, stop)) => {
             stop_unread(rt, &mut lanes.control, &mut drain, spare, stop);
             lanes.add_all(rt, feeds);
-            let unwritten = run_unwritten(rt, alloc, lanes, drain, stop);
+            let unwritten = run_unwritten(rt, alloc, lanes, drain, stop, listed);
             return Recording {
                 report: Some(unwritten.report),
                 feeds: unwritten.feeds,

@@ -2,7 +2,7 @@
 ghost use Rattle.std.proofs.Common.{◌∙◌};
 ghost use Rattle.std.specs.Prelude.{refl, ◌≡◌, ℕ};
 ghost use Rattle.feed_lane.specs.Pass.{PassState, no_calls};
-ghost use Rattle.feed_lane.specs.Feeds.{Reports};
+ghost use Rattle.feed_lane.specs.Feeds.{Reports, ListsMessages};
 
 use buffer_swap::Rouser;
 use feed_lane::{FeedReport, Pass, publish_feed};
@@ -44,12 +44,14 @@ pub(crate) fn publish_roused<S: Source, P: Pass>(
     source: &mut S,
     rouser: Rouser<'_>,
     pass: &mut P,
+    listed: bool,
 ) -> FeedReport
     requires { (limit : ℕ) × P.since pass.old pass.old (no_calls limit) }
     ensures reports { (limit : ℕ) → P.since pass.old pass.old (no_calls limit)
         → (shown : PassState) × P.since pass.old pass.new shown × (shown.limit ≡ limit) × Reports (S.state source.old) (S.state source.new) shown result }
     ensures stays { S.stays source.old source.new }
+    ensures listed { ListsMessages result listed }
 {
     let mut rousing = Rousing { source, rouser };
-    publish_feed(alloc, &mut rousing, pass)
+    publish_feed(alloc, &mut rousing, pass, listed)
 }

@@ -7,6 +7,7 @@ ghost use Rattle.mcap_model.specs.declared.ends.End.{End as Last};
 ghost use Rattle.mcap_model.specs.Places.{Each};
 ghost use Rattle.record_core.specs.Desk.{IsCause};
 ghost use Rattle.feed_lane.specs.Pass.{no_calls};
+ghost use Rattle.feed_lane.specs.Feeds.{ListsMessages};
 ghost use Rattle.buffer_swap.specs.Calls.{IsOver};
 ghost use Rattle.recorder.specs.Writing.{empty_buffer};
 ghost use Rattle.recorder.specs.Lanes.{IsFresh};
@@ -90,6 +91,7 @@ pub(crate) fn run_unwritten<R: Threads + Wait + Sync, S: Source + Drop + Send>(
     lanes: Lanes<'_, R, S>,
     drain: Drain<'_>,
     why: Stop,
+    listed: bool,
 ) -> Unwritten<S>
     requires same_turn { drain.seat.table_id ≡ lanes.control.seat.table_id }
     requires turns { Each (λ lane. lane.pass.publisher.seat.table_id ≡ lanes.control.seat.table_id) lanes.lanes.items }
@@ -103,6 +105,7 @@ pub(crate) fn run_unwritten<R: Threads + Wait + Sync, S: Source + Drop + Send>(
     requires stops { (other : Why) → drain.seat.me.0.post.stop ≡ Some other → other ≡ why }
     ensures reported { IsReported lanes.entry.control.seat.me.0.pass.limit lanes.entry.lossless (map (λ lane. S.state lane.source) lanes.entry.lanes.items) (map S.state result.feeds.items) [] result.report }
     ensures writer { result.report.writer ≡ record { records = 0; blocks = 0; bytes = 0; end = End.Stopped why } }
+    ensures listed { Each (λ f. ListsMessages f listed) result.report.feeds.items }
     ensures stays { AllZip S.stays (map (λ lane. lane.source) lanes.entry.lanes.items) result.feeds.items }
 {
     let mut drain = drain;
@@ -112,7 +115,7 @@ pub(crate) fn run_unwritten<R: Threads + Wait + Sync, S: Source + Drop + Send>(
         lanes: _,
         feeds,
         reports,
-    } = lanes.run(rt, alloc);
+    } = lanes.run(rt, alloc, listed);
     meet(&mut control, &mut drain);
     places_are_known();
     Unwritten {

@@ -13,7 +13,7 @@ returns-clause-reported g c =
     let drain = c.join-written.result.0.drain.seat.me.0 in
     let r : Report = record { feeds = now.reports; writer = c.join-written.result.0.report } in (
       drain.post.taken,
-      is_reported c.places_are_known.ensures lanes.control.seat.me.0.pass.limit lanes.lossless (map (λ lane. state lane.source) lanes.lanes.items) (map state now.feeds.items)
+      is_reported c.places_are_known.ensures lanes.control.seat.me.0.pass.limit lanes.lossless c.args.listed (map (λ lane. state lane.source) lanes.lanes.items) (map state now.feeds.items)
           now.control.seat.me.0.post drain.pass drain.post r ran.1.0 wrote.1.0 c.meet.ensures.met wrote.1.1.1.1,
       wrote.1.1.0,
       wrote.1.1.1.0,

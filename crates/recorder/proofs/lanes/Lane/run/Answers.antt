@@ -17,4 +17,4 @@ returns-clause-turn g c =
 pub returns-clause-ran : goal.returns-clause-ran
 returns-clause-ran g c = λ limit new.
     let (shown, (turn, number, waits, same, unfull), limited, reports) = c.publish_roused-report.ensures.reports limit (refl, refl, refl, ap (λ (p : PassState). reasoned p []) (sym new), λ waits. refl) in
-    record { feed = c.publish_roused-report.result; is = refl; shown = shown; same = same; limited = limited; unfull = λ is. unfull (waits ∙ is); reports = reports }
+    record { feed = c.publish_roused-report.result; is = refl; shown = shown; same = same; limited = limited; unfull = λ is. unfull (waits ∙ is); reports = reports; lists = c.publish_roused-report.ensures.listed }

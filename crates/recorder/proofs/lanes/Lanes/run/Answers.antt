@@ -42,9 +42,9 @@ returns-clause-ran g c =
     let ran = c.run_all.ensures.ran limit (λ k z at_z. c.requires.new k z (subst (λ l. At l k z) slice.ensures.value at_z)) in
     let gather = c.gather.ensures in
     let state = g.S.Source.state in
-    lanes_ran limit old.lossless (λ lane. lane.pass.lossless) (λ lane. state lane.source) (λ lane. gathered lane.pass.publisher.seat.me.0) (λ lane. lane.report)
+    lanes_ran limit old.lossless c.args.listed (λ lane. lane.pass.lossless) (λ lane. state lane.source) (λ lane. gathered lane.pass.publisher.seat.me.0) (λ lane. lane.report)
     old.lanes.items ys (map state c.gather.new.self.feeds.items) c.gather.new.self.reports.items c.close.new.self.seat.me.0.post
-    (subst (λ l. InStep (λ x y. LaneRan limit x.pass.lossless (state x.source) (state y.source) y.pass.publisher.seat.me.0.pass y.report) l ys) slice.ensures.value ran)
+    (subst (λ l. InStep (λ x y. LaneRan limit x.pass.lossless c.args.listed (state x.source) (state y.source) y.pass.publisher.seat.me.0.pass y.report) l ys) slice.ensures.value ran)
     c.requires.waits
     (subst (Each (λ lane. Unclosed lane.pass.publisher.seat.me.0.pass)) same gather.unclosed)
     (ap (map state) (behind_none (λ lane. lane.source) c.gather.new.self.feeds.items old.feeds.items _ ys gather.feeds c.requires.feeds.0 same) ∙ map_map (λ lane. lane.source) state (λ lane. state lane.source) (λ x. refl) ys)
