@@ -35,7 +35,8 @@ use Rattle.command_base.specs.declared.faults.Counts.{Counts}
 use Rattle.command_base.specs.Texts.{halt_status}
 use Rattle.command_base.specs.Ran.{Scene, counts_in, AnyRose, CountsKept, input_faults, output_faults}
 use Rattle.recorder.proofs.Unfull.{lossless_refuses_none_as_full}
-use Rattle.mcap_app.specs.Record.{FeedKept, entry_of, live_entry, names_kept, back_sources, Reported, EndsWith, worst, ends_status, IsAllRecorded, RecordsAll, HaltsThere, end_status, is_full, is_over, is_limit, is_memory, is_memory_end, is_memory_writer, passes_limit, lacks_memory, limit_passed, LackIsTold}
+use Rattle.feed_lane.specs.Causes.{is_over, is_memory}
+use Rattle.mcap_app.specs.Record.{FeedKept, entry_of, live_entry, names_kept, back_sources, Reported, EndsWith, worst, ends_status, IsAllRecorded, RecordsAll, HaltsThere, end_status, is_full, is_limit, is_memory_end, is_memory_writer, passes_limit, lacks_memory, limit_passed, LackIsTold}
 use Rattle.mcap_app.proofs.Runs.{input_faults-append, output_faults-append}
 use Rattle.mcap_app.proofs.Sources.{zip_long}
 

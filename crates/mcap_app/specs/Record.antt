@@ -15,6 +15,7 @@ use Rattle.mcap_model.specs.Tops.{Top}
 use Rattle.mcap_model.specs.Kept.{Halt, reading_limits, Halts}
 use Rattle.mcap_model.specs.File.{front, file_of, IsPrefix}
 use Rattle.feed_lane.specs.declared.report.Cause.{Cause}
+use Rattle.feed_lane.specs.Causes.{is_over, is_memory_stop, is_memory}
 use Rattle.feed_lane.specs.declared.report.Cause.TheVariants as causes
 use Rattle.feed_lane.specs.declared.report.Refused.{Refused}
 use Rattle.feed_lane.specs.declared.report.FeedReport.{FeedReport}
@@ -152,17 +153,6 @@ ends_of [] reports = []
 ends_of (feed ∷ feeds) [] = []
 ends_of (feed ∷ feeds) (report ∷ reports) = end_troubles feed report.end ∷ ends_of feeds reports
 
--- a message was refused since it, its channel or the number of records would pass a limit
-abbrev pub is_over : Cause → Bool
-is_over (causes.Full held from to) = false
-is_over (causes.TooLarge len) = true
-is_over (causes.Closed at) = false
-is_over (causes.Stopped at stop) = false
-is_over causes.TooManySchemas = true
-is_over causes.TooManyChannels = true
-is_over (causes.TooManyRecords count) = true
-is_over causes.Memory = false
-
 abbrev pub is_limit : End → Bool
 is_limit ends.Closed = false
 is_limit (ends.Stopped (stops.Fault faults)) = false
@@ -182,21 +172,6 @@ is_memory_end (feed_ends.Limit n) = false
 is_memory_end (feed_ends.Fault faults) = false
 is_memory_end feed_ends.Memory = true
 is_memory_end feed_ends.Ended = false
-
-abbrev pub is_memory_stop : Stop → Bool
-is_memory_stop (stops.Fault faults) = false
-is_memory_stop (stops.Limit blocks bytes) = false
-is_memory_stop stops.Memory = true
-
-abbrev pub is_memory : Cause → Bool
-is_memory (causes.Full held from to) = false
-is_memory (causes.TooLarge len) = false
-is_memory (causes.Closed at) = false
-is_memory (causes.Stopped at stop) = is_memory_stop stop
-is_memory causes.TooManySchemas = false
-is_memory causes.TooManyChannels = false
-is_memory (causes.TooManyRecords count) = false
-is_memory causes.Memory = true
 
 abbrev pub is_memory_writer : End → Bool
 is_memory_writer ends.Closed = false

@@ -5,17 +5,18 @@ ghost use Rattle.arrayvec.specs.ArrayVec.{array_vec_len};
 ghost use Rattle.mcap_io.specs.Outside.{Rose};
 ghost use Rattle.command_base.specs.Texts.{Trouble, trouble_of, complained, bad_words, said};
 ghost use Rattle.command_base.specs.Printing.{Takes};
+ghost use Rattle.feed_lane.specs.Causes.{is_over, is_memory, is_memory_stop};
 ghost use Rattle.mcap_app.specs.Commands.{feed_limit};
 ghost use Rattle.mcap_app.specs.Answer.{flags_of, PartFailed, Answers, LacksMemory, FaultsShow};
 ghost use Rattle.command_base.specs.Ran.{first_failed, told_of, Complains};
-ghost use Rattle.mcap_app.specs.Record.{AreFew, end_troubles, first_end, ends_of, reports_in, some_failed, is_over, is_limit, passes_limit, is_memory, is_memory_stop, is_memory_end, is_memory_writer, lacks_memory as report_lacks, limit_passed};
+ghost use Rattle.mcap_app.specs.Record.{AreFew, end_troubles, first_end, ends_of, reports_in, some_failed, is_limit, passes_limit, is_memory_end, is_memory_writer, lacks_memory as report_lacks, limit_passed};
 
 use arrayvec::ArrayVec;
 use command_base::{Complaint, Counts, complain_of, due_when, rose};
 use mcap_io::Sink;
 use mcap_model::{End, Stop};
 use mcap_wire::Text;
-use recorder::{Cause, FeedEnd, FeedReport, Refused, Report};
+use recorder::{FeedEnd, FeedReport, Report};
 
 /// The most complaints of a recording: two of each of 64 feeds, and four of the output, of standard output and of memory.
 const MOST_COMPLAINTS: usize = 132;
@@ -156,24 +157,11 @@ fn feed_reports(report: &Option<Report>) -> &[FeedReport]
     }
 }
 
-// Whether the message was refused for a limit.
-fn is_too_much(refused: &Refused) -> bool
-    ensures { result ≡ is_over refused.now.cause }
-{
-    match refused.cause {
-        Cause::TooLarge { .. }
-        | Cause::TooManySchemas
-        | Cause::TooManyChannels
-        | Cause::TooManyRecords { .. } => true,
-        Cause::Full { .. } | Cause::Closed { .. } | Cause::Stopped { .. } | Cause::Memory => false,
-    }
-}
-
-// Whether one of the feed's messages was.
+// Whether one of the feed's messages was refused for a limit.
 fn has_too_much(feed: &FeedReport) -> bool
     ensures { result ≡ list_any (λ x. is_over x.cause) feed.now.refused.items }
 {
-    feed.refused.iter().any(|x| is_too_much(x))
+    feed.refused.has_limit()
 }
 
 // Whether the writer stopped at a limit.
@@ -217,29 +205,6 @@ fn is_out_of_memory(stop: Stop) -> bool
     }
 }
 
-// Whether the message was refused for want of memory.
-fn is_for_memory(refused: &Refused) -> bool
-    ensures { result ≡ is_memory refused.now.cause }
-{
-    match refused.cause {
-        Cause::Memory => true,
-        Cause::Stopped { stop, .. } => is_out_of_memory(stop),
-        Cause::Full { .. }
-        | Cause::TooLarge { .. }
-        | Cause::Closed { .. }
-        | Cause::TooManySchemas
-        | Cause::TooManyChannels
-        | Cause::TooManyRecords { .. } => false,
-    }
-}
-
-// Whether a message was refused for want of memory.
-fn have_lacked(refused: &[Refused]) -> bool
-    ensures { result ≡ list_any (λ x. is_memory x.cause) refused.now }
-{
-    refused.iter().any(|x| is_for_memory(x))
-}
-
 // Whether the reading of the feed ended for want of memory.
 fn is_end_for_memory(end: &FeedEnd) -> bool
     ensures { result ≡ is_memory_end end.now }
@@ -259,7 +224,7 @@ fn is_end_for_memory(end: &FeedEnd) -> bool
 fn has_lacked(feed: &FeedReport) -> bool
     ensures { result ≡ (is_memory_end feed.now.end || list_any (λ x. is_memory x.cause) feed.now.refused.items) }
 {
-    is_end_for_memory(&feed.end) || have_lacked(&feed.refused)
+    is_end_for_memory(&feed.end) || feed.refused.has_lack()
 }
 
 // Whether memory lacked for one of the feeds.

@@ -22,6 +22,7 @@ pub use parse::parse_words;
 pub use print::print_report;
 pub use program::run;
 pub use recorder::{
-    Accepted, Cause, DeclaredAt, FeedEnd, FeedReport, Refused, Report, WriterReport,
+    Accepted, Cause, DeclaredAt, FeedEnd, FeedReport, Listing, Refusals, Refused, Report,
+    WriterReport,
 };
 pub use recording::{Ended, record_file};

@@ -43,9 +43,9 @@ fn line_of_feed(number: u64, feed: &FeedReport) -> Line
     line.push_text("feed ");
     line.push_number(number);
     line.push_text(" accepted=");
-    line.push_number(feed.accepted.len() as u64);
+    line.push_number(feed.accepted.len());
     line.push_text(" refused=");
-    line.push_number(feed.refused.len() as u64);
+    line.push_number(feed.refused.len());
     line.push_text(" passed=");
     line.push_number(feed.passed);
     line.push_text(" ");

@@ -3,6 +3,8 @@ ghost use Rattle.std.specs.Prelude.{◌≡◌, ◌⊎◌, ◌≤◌, ℕ, [], �
 ghost use Rattle.mcap_app.specs.declared.command.Command.{Command as Wanted};
 ghost use Rattle.mcap_app.specs.Commands.{AreBad, Derives};
 ghost use Rattle.command_base.specs.Texts.{bad_words, no_memory, said};
+ghost use Rattle.mcap_model.specs.Places.{Each};
+ghost use Rattle.feed_lane.specs.Feeds.{ListsMessages};
 ghost use Rattle.command_base.specs.Printing.{Takes};
 ghost use Rattle.command_base.specs.Ran.{scene};
 ghost use Rattle.mcap_app.specs.Runs.{IsAllowed, Runs, LacksForWords};
@@ -35,12 +37,14 @@ fn run_command<R: AllocGlobal + Threads + Wait + Sync, W: World, O: Sink, E: Sin
     world: &mut W,
     out: &mut O,
     err: &mut E,
+    listed: bool,
 ) -> Ended
     requires { IsAllowed command }
-    ensures { Runs command
+    ensures runs { Runs command
         (scene (W.state world.old) (O.state out.old) (E.state err.old))
         (scene (W.state world.new) (O.state out.new) (E.state err.new))
         result.report result.status }
+    ensures listed { (r : _) → result.report ≡ Some r → Each (λ f. ListsMessages f listed) r.feeds.items }
 {
     let alloc = rt.alloc();
     match command {
@@ -64,6 +68,7 @@ fn run_command<R: AllocGlobal + Threads + Wait + Sync, W: World, O: Sink, E: Sin
                 world,
                 out,
                 err,
+                listed,
             );
         }
         Command::Info { file } => {
@@ -88,13 +93,15 @@ fn run_command<R: AllocGlobal + Threads + Wait + Sync, W: World, O: Sink, E: Sin
 }
 
 /// Does what the words say: reads and writes the names of the world, prints on `out`, complains on `err`, and
-/// answers how it ended. The words are those behind the program's own name.
+/// answers how it ended. The words are those behind the program's own name. The report of a recording lists its messages, or only
+/// counts them and takes no memory for them.
 pub fn run<R: AllocGlobal + Threads + Wait + Sync, W: World, O: Sink, E: Sink>(
     rt: &R,
     words: &[Text],
     world: &mut W,
     out: &mut O,
     err: &mut E,
+    listed: bool,
 ) -> Ended
     // 2 is the answer only to words that are no command.
     ensures two { result.status ≡ 2 → AreBad words.now }
@@ -116,9 +123,12 @@ pub fn run<R: AllocGlobal + Threads + Wait + Sync, W: World, O: Sink, E: Sink>(
         (scene (W.state world.old) (O.state out.old) (E.state err.old))
         (scene (W.state world.new) (O.state out.new) (E.state err.new))
         result.report result.status }
+
+    // A report lists messages, or only counts them.
+    ensures listed { (r : _) → result.report ≡ Some r → Each (λ f. ListsMessages f listed) r.feeds.items }
 {
     match parse_words(rt.alloc(), words) {
-        Ok(command) => return run_command(rt, command, world, out, err),
+        Ok(command) => return run_command(rt, command, world, out, err, listed),
         Err(WordsRefused::BadWords) => {
             refuse_words(err);
             return unreported(2);

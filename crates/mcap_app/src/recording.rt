@@ -3,6 +3,8 @@ ghost use Rattle.std.specs.Prelude.{◌≡◌, ◌+◌, ◌≤◌, ◌<◌, ◌^
 ghost use Rattle.mcap_io.specs.Outside.{LiveState, WorldState};
 ghost use Rattle.mcap_wire.specs.Layout.{content_limit};
 ghost use Rattle.mcap_wire.specs.Limits.{buffer_limit, chunk_size_limit};
+ghost use Rattle.mcap_model.specs.Places.{Each};
+ghost use Rattle.feed_lane.specs.Feeds.{ListsMessages};
 ghost use Rattle.command_base.specs.Printing.{Takes};
 ghost use Rattle.command_base.specs.Ran.{scene};
 ghost use Rattle.mcap_app.specs.Sources.{FeedsOpened, FeedRefused, OneKept, FeedsKept, flags_with};
@@ -140,6 +142,7 @@ fn record_opened<R: Threads + Wait + Sync, W: World>(
     feeds: &[Text],
     room: Room<W::Source>,
     world: &mut W,
+    listed: bool,
 ) -> Outcome
     requires some { 1 ≤ options.now.limit }
     requires small { options.now.limit ≤ buffer_limit }
@@ -149,9 +152,10 @@ fn record_opened<R: Threads + Wait + Sync, W: World>(
     requires many { vec_len room.sources ≡ length feeds.now }
     requires none { room.failed.items ≡ [] }
     requires room { length feeds.now ≤ vec_capacity room.failed }
-    ensures { (before : WorldState) → FeedsOpened before (W.state world.old) feeds.now (map W.Source.state room.sources.items)
+    ensures recorded { (before : WorldState) → FeedsOpened before (W.state world.old) feeds.now (map W.Source.state room.sources.items)
         → before.faults < 2 ^ 64 → before.input_faults < 2 ^ 64 → before.output_faults < 2 ^ 64
         → NamesRecorded options.now out.now feeds.now before (W.state world.new) result }
+    ensures listed { (r : _) → result.report ≡ Some r → Each (λ f. ListsMessages f listed) r.feeds.items }
 {
     let Room {
         sources,
@@ -168,7 +172,7 @@ fn record_opened<R: Threads + Wait + Sync, W: World>(
         report,
         feeds: sources,
         live,
-    } = record(rt, alloc, options, sources, live);
+    } = record(rt, alloc, options, sources, live, listed);
     let live_faults = live.faults();
     keep_feeds(world, feeds, sources, &mut failed);
     let live_kept = world.keep_live(out, live);
@@ -187,6 +191,7 @@ fn record_names<R: Threads + Wait + Sync, W: World>(
     out: &str,
     feeds: &[Text],
     world: &mut W,
+    listed: bool,
 ) -> Outcome
     requires some { 1 ≤ options.now.limit }
     requires small { options.now.limit ≤ buffer_limit }
@@ -196,7 +201,8 @@ fn record_names<R: Threads + Wait + Sync, W: World>(
     requires world_fits { (W.state world.old).faults < 2 ^ 64 }
     requires inputs_fit { (W.state world.old).input_faults < 2 ^ 64 }
     requires outputs_fit { (W.state world.old).output_faults < 2 ^ 64 }
-    ensures { NamesRecorded options.now out.now feeds.now (W.state world.old) (W.state world.new) result }
+    ensures recorded { NamesRecorded options.now out.now feeds.now (W.state world.old) (W.state world.new) result }
+    ensures listed { (r : _) → result.report ≡ Some r → Each (λ f. ListsMessages f listed) r.feeds.items }
 {
     let Room {
         mut sources,
@@ -208,7 +214,7 @@ fn record_names<R: Threads + Wait + Sync, W: World>(
     match open_feeds(world, feeds, &mut sources) {
         Ok(()) => {
             let room = Room { sources, failed };
-            return record_opened(rt, alloc, options, out, feeds, room, world);
+            return record_opened(rt, alloc, options, out, feeds, room, world, listed);
         }
         Err(why) => {
             keep_feeds(world, &feeds[..sources.len()], sources, &mut failed);
@@ -234,7 +240,7 @@ fn print_outcome<O: Sink>(out: &mut O, report: &Option<Report>)
 /// Records the feeds under their names into the file under another, prints the report on `out`, and answers how that ended:
 /// 0 where all was recorded, 1 where a feed breaks a rule or is compressed, 3 where the outside failed, 4 where a limit
 /// would be passed, and 5 where memory lacked. With 0 a message may have been refused for a full buffer, unless the options
-/// let feeds wait for room.
+/// let feeds wait for room. Where messages aren't to be listed the report only counts them, and takes no memory for them.
 pub fn record_file<R: AllocGlobal + Threads + Wait + Sync, W: World, O: Sink, E: Sink>(
     rt: &R,
     options: &RecordOptions,
@@ -243,16 +249,18 @@ pub fn record_file<R: AllocGlobal + Threads + Wait + Sync, W: World, O: Sink, E:
     world: &mut W,
     out: &mut O,
     err: &mut E,
+    listed: bool,
 ) -> Ended
     requires allowed { AreAllowed options.now }
     requires few { AreFew feed_names.now }
-    ensures { Records options.now out_name.now feed_names.now
+    ensures recorded { Records options.now out_name.now feed_names.now
         (scene (W.state world.old) (O.state out.old) (E.state err.old))
         (scene (W.state world.new) (O.state out.new) (E.state err.new))
         result.report result.status }
+    ensures listed { (r : _) → result.report ≡ Some r → Each (λ f. ListsMessages f listed) r.feeds.items }
 {
     let before = Counts::of(world, out);
-    let outcome = record_names(rt, rt.alloc(), options, out_name, feed_names, world);
+    let outcome = record_names(rt, rt.alloc(), options, out_name, feed_names, world, listed);
     print_outcome(out, &outcome.report);
     let now = Counts::of(world, out);
     let failed = failed_parts(&before, &now, &outcome);

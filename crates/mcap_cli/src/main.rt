@@ -12,6 +12,9 @@ use std::rt::Env;
 /// The status of a want of memory.
 const NO_MEMORY: u8 = 5;
 
+/// A recording's messages are only counted, so that its memory doesn't grow with them.
+const LISTED: bool = false;
+
 // The words behind the program's name. Arguments that aren't all text are no words.
 fn words_of<R: Env + AllocGlobal>(rt: &R) -> Result<Vec<Text>, Memory> {
     let mut words = Vec::new(rt.alloc());
@@ -40,6 +43,6 @@ fn main(rt: HostRuntime) -> ExitCode {
     };
     let mut out = WriterSink::new(rt.stdout());
     let mut world = FileWorld::new(&rt);
-    let Ended { status, report: _ } = run(&rt, &words, &mut world, &mut out, &mut err);
+    let Ended { status, report: _ } = run(&rt, &words, &mut world, &mut out, &mut err, LISTED);
     ExitCode::from(status)
 }

@@ -70,13 +70,16 @@ fn is_message(bytes: &[u8], at: usize, sequence: u64, mark: u8) -> bool {
 
 // How many messages of a feed are told.
 fn told(report: &FeedReport) -> u64 {
-    (report.accepted.len() as u64).wrapping_add(report.refused.len() as u64)
+    report.accepted.len().wrapping_add(report.refused.len())
 }
 
 // Whether each message of a feed that was accepted stands at its place, where the file has that, at places that rise.
 fn is_placed(bytes: &[u8], starts: &[usize], report: &FeedReport, mark: u8) -> bool {
+    let Some(all) = report.accepted.as_slice() else {
+        return false;
+    };
     let mut next = 0;
-    for accepted in report.accepted.iter() {
+    for accepted in all {
         if accepted.place < next {
             return false;
         }
@@ -94,8 +97,8 @@ fn is_placed(bytes: &[u8], starts: &[usize], report: &FeedReport, mark: u8) -> b
 fn count(report: &Report) -> (u64, u64, u64) {
     let (mut accepted, mut declared, mut refused) = (0u64, 0u64, 0u64);
     for feed in report.feeds.iter() {
-        accepted = accepted.wrapping_add(feed.accepted.len() as u64);
-        refused = refused.wrapping_add(feed.refused.len() as u64);
+        accepted = accepted.wrapping_add(feed.accepted.len());
+        refused = refused.wrapping_add(feed.refused.len());
         for one in feed.declared.iter() {
             declared = declared.wrapping_add(one.count as u64);
         }
@@ -182,7 +185,7 @@ fn recorded<R: Threads + Wait + Sync>(
         limit,
         lossless,
     };
-    Ok(record(rt, alloc, &options, feeds, live))
+    Ok(record(rt, alloc, &options, feeds, live, true))
 }
 
 // Records these feeds of so many messages each; answers whether that is told as it is, and how many messages were refused.

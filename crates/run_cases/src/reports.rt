@@ -1,7 +1,7 @@
 //! What is said of reports that no run brings about.
 use mcap_app::{
-    Cause, End, Failures, FeedEnd, FeedReport, Refused, Report, Stop, WriterReport, answer,
-    print_report,
+    Cause, End, Failures, FeedEnd, FeedReport, Listing, Refusals, Refused, Report, Stop,
+    WriterReport, answer, print_report,
 };
 use mcap_io::MemorySink;
 use mcap_wire::Text;
@@ -26,6 +26,16 @@ const LIMIT: Stop = Stop::Limit {
     bytes: 173,
 };
 
+// These refusals, only counted.
+fn refusals_of(alloc: Global, refused: &[Refused]) -> Result<Refusals, AllocError> {
+    let mut refusals = Refusals::new(alloc, false);
+    for one in refused {
+        refusals.reserve()?;
+        refusals.push(*one);
+    }
+    Ok(refusals)
+}
+
 // Adds a feed that ended so, of which these messages were refused.
 fn add_feed(
     alloc: Global,
@@ -33,11 +43,10 @@ fn add_feed(
     refused: &[Refused],
     end: FeedEnd,
 ) -> Result<(), AllocError> {
-    let refused = Vec::from_slice(alloc, refused)?;
     feeds.push(FeedReport {
-        accepted: Vec::new(alloc),
+        accepted: Listing::new(alloc, false),
         declared: Vec::new(alloc),
-        refused,
+        refused: refusals_of(alloc, refused)?,
         passed: 0,
         end,
     })?;

@@ -28,7 +28,8 @@ fn fill(world: &mut MemoryWorld, given: &Pieces) -> Result<(), Halt> {
     Ok(())
 }
 
-/// Runs the words over copies of what is given. What was planned to fail fails in this run, and in no later one.
+/// Runs the words over copies of what is given, and has a recording's messages listed. What was planned to fail fails in this run,
+/// and in no later one.
 pub(crate) fn run_once(
     rt: &(impl AllocGlobal + Threads + Wait + Sync),
     case: &mut Case,
@@ -40,7 +41,7 @@ pub(crate) fn run_once(
     fill(&mut world, &case.given)?;
     let mut out = MemorySink::new(alloc, out);
     let mut err = MemorySink::new(alloc, err);
-    let Ended { status, report } = run(rt, words, &mut world, &mut out, &mut err);
+    let Ended { status, report } = run(rt, words, &mut world, &mut out, &mut err, true);
     Ok(Ran {
         status,
         report,

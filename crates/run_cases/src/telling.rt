@@ -2,7 +2,7 @@
 use crate::building::Pieces;
 use crate::halt::{Halt, unread};
 use crate::running::Ran;
-use mcap_app::{FeedReport, Report};
+use mcap_app::{Accepted, FeedReport, Refused, Report};
 use mcap_io::{Kept, MemoryWorld, ObjectKind, Opened};
 use std::alloc::{AllocError, Global};
 use std::str;
@@ -44,23 +44,48 @@ fn asked_of(world: &MemoryWorld) -> u128 {
     asked
 }
 
-// A line for each message and each declaration of a feed.
-fn add_feed(alloc: Global, text: &mut String, feed: &FeedReport) -> Result<(), AllocError> {
-    for accepted in &feed.accepted {
-        let (index, place) = (accepted.index, accepted.place);
+// A line for each message of a feed that was recorded.
+fn add_accepted(
+    alloc: Global,
+    text: &mut String,
+    accepted: Option<&[Accepted]>,
+) -> Result<(), AllocError> {
+    let Some(accepted) = accepted else {
+        return text.push_str("its messages aren't listed\n");
+    };
+    for one in accepted {
+        let (index, place) = (one.index, one.place);
         text.push_str(format!(in alloc; "{index} stands at {place}\n")?.as_str())?;
     }
+    Ok(())
+}
+
+// A line for each that was refused.
+fn add_refused(
+    alloc: Global,
+    text: &mut String,
+    refused: Option<&[Refused]>,
+) -> Result<(), AllocError> {
+    let Some(refused) = refused else {
+        return text.push_str("its refusals aren't listed\n");
+    };
+    for one in refused {
+        let (index, cause) = (one.index, one.cause);
+        text.push_str(format!(in alloc; "{index} is refused: {cause:?}\n")?.as_str())?;
+    }
+    Ok(())
+}
+
+// A line for each message and each declaration of a feed.
+fn add_feed(alloc: Global, text: &mut String, feed: &FeedReport) -> Result<(), AllocError> {
+    add_accepted(alloc, text, feed.accepted.as_slice())?;
     for declared in &feed.declared {
         let (index, channel) = (declared.index, declared.channel);
         let (first, count) = (declared.first, declared.count);
         let line = format!(in alloc; "{index} declares {channel}: {count} from {first}\n")?;
         text.push_str(line.as_str())?;
     }
-    for refused in &feed.refused {
-        let (index, cause) = (refused.index, refused.cause);
-        text.push_str(format!(in alloc; "{index} is refused: {cause:?}\n")?.as_str())?;
-    }
-    Ok(())
+    add_refused(alloc, text, feed.refused.as_slice())
 }
 
 // What a run left of a kind of which there is a number.

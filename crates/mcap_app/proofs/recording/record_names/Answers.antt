@@ -6,12 +6,12 @@ use Rattle.mcap_app.specs.Sources.{FeedsKept}
 use Rattle.mcap_app.proofs.Runs.{nothing_opened, feed_refused}
 use Rattle.mcap_app.proofs.recording.record_names.Goals as goal
 
-pub returns-in-Err : goal.returns-in-Err
-returns-in-Err g c = nothing_opened c.args.options.now c.args.out.now c.args.feeds.now (g.W.World.state c.args.world.now) c.unrecorded.result c.requires.few.0 c.requires.world_fits c.requires.inputs_fit c.requires.outputs_fit
+pub returns-in-Err-clause-recorded : goal.returns-in-Err-clause-recorded
+returns-in-Err-clause-recorded g c = nothing_opened c.args.options.now c.args.out.now c.args.feeds.now (g.W.World.state c.args.world.now) c.unrecorded.result c.requires.few.0 c.requires.world_fits c.requires.inputs_fit c.requires.outputs_fit
     (ap (λ (o : Outcome). o.report) c.unrecorded.ensures, search rules, ap (λ (o : Outcome). o.out_failed) c.unrecorded.ensures)
 
-pub returns-in-Err-open_feeds : goal.returns-in-Err-open_feeds
-returns-in-Err-open_feeds g c =
+pub returns-in-Err-open_feeds-clause-recorded : goal.returns-in-Err-open_feeds-clause-recorded
+returns-in-Err-open_feeds-clause-recorded g c =
     let state = g.W.Source.Source.state in
     let sources = c.open_feeds.new.sources.items in
     let count : length (map state sources) ≡ length sources = length-map sources state in

@@ -7,8 +7,8 @@ use Rattle.mcap_app.proofs.Sources.{zip_long}
 use Rattle.mcap_app.proofs.Runs.{out_refused, both}
 use Rattle.mcap_app.proofs.recording.record_opened.Goals as goal
 
-pub returns-in-Err : goal.returns-in-Err
-returns-in-Err g c = λ before opened world_fits inputs_fit outputs_fit.
+pub returns-in-Err-clause-recorded : goal.returns-in-Err-clause-recorded
+returns-in-Err-clause-recorded g c = λ before opened world_fits inputs_fit outputs_fit.
     out_refused c.args.options.now c.args.out.now c.args.feeds.now before (g.W.World.state c.args.world.now) (g.W.World.state c.live.new.self) (g.W.World.state c.keep_feeds.new.world) (map g.W.Source.Source.state c.args.room.sources.items) c.keep_feeds.new.failed.items c.in-Err.why c.is_failed.result c.unrecorded.result
     opened c.in-Err.ensures.opens c.in-Err.ensures.counts c.in-Err.ensures.cause c.keep_feeds.ensures.kept world_fits inputs_fit outputs_fit c.is_failed.ensures.failed c.is_failed.ensures.memory
     (ap (λ (o : Outcome). o.report) c.unrecorded.ensures, ap (λ (o : Outcome). o.feeds_failed.items) c.unrecorded.ensures, ap (λ (o : Outcome). o.out_failed) c.unrecorded.ensures)
@@ -25,8 +25,8 @@ keep_feeds-requires-2-clause-room g c κs within =
     let many = keep_feeds-requires-2-clause-many g c κs within in
     omega (arith, many, c.requires.room)
 
-pub returns : goal.returns
-returns g c = λ before opened world_fits inputs_fit outputs_fit.
+pub returns-clause-recorded : goal.returns-clause-recorded
+returns-clause-recorded g c = λ before opened world_fits inputs_fit outputs_fit.
     let state = g.W.Source.Source.state in
     let live_state = g.W.Live.LiveStore.state in
     both c.args.options.now c.args.out.now c.args.feeds.now before (g.W.World.state c.args.world.now) (g.W.World.state c.live.new.self) (g.W.World.state c.keep_feeds-2.new.world) (g.W.World.state c.keep_live-live_kept.new.self) (map state c.args.room.sources.items) (map state c.record-report.result.feeds.items) (live_state c.in-Ok.live) (live_state c.record-report.result.live) c.keep_feeds-2.new.failed.items c.keep_live-live_kept.result (record {
