@@ -3,7 +3,8 @@
 # feeds of so many MiB (64), best of five each, in one run: messages of 1,000 and of 64 bytes of data, on one channel and on
 # forty. The kind `chunks` is a plain feed recorded in chunks; of the file that this writes, `again` is its messages recorded in
 # chunks, and `flat` the same recorded plain. Then four feeds and 64 of as many bytes in all are recorded at once, plain and in
-# chunks, beside `cat FEED... >OUT`.
+# chunks, beside `cat FEED... >OUT`. At last the most memory is shown that a recording of one million and of twenty million messages
+# of 64 bytes took, whatever MIB is: it must not grow with them.
 # MCAPREC names another program to time in place of the launcher.
 set -e
 export LC_ALL=C
@@ -137,3 +138,19 @@ for size in 1000 64; do
 done
 time_best "$program" record "$out" "$here/../samples/empty.mcap"
 awk -v b="$best" 'BEGIN { printf "of each time, on a feed without messages: %.3f s\n", b / 1e6 }'
+# The feed comes by a pipe and OUT is /dev/null, so that neither needs a place.
+if [ -x /usr/bin/time ]; then
+    peaks=()
+    for mib in 91 1812; do
+        rm -f "$work/pipe"
+        mkfifo "$work/pipe"
+        make_feed 64 1 "$work/pipe" >"$work/many" &
+        peaks+=("$(peak_of "$program" record --lossless /dev/null "$work/pipe")")
+        wait
+        echo "peak memory of a recording of $(cat "$work/many") messages: ${peaks[-1]} KiB"
+    done
+    if [ $((peaks[1] - peaks[0])) -gt 2048 ]; then
+        echo "bench/record.sh: memory grows with the messages" >&2
+        exit 1
+    fi
+fi
