@@ -1,0 +1,4 @@
+mod Due
+mod Names
+pub mod OneOutput
+pub mod Recoveries

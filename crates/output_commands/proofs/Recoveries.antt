@@ -1,0 +1,271 @@
+-- What the opening, the recovery and the keeping of both names come to, and what is promised of the command.
+use Rattle.std.proofs.Common.{◌≡◌, ◌⊎◌, ℕ, Bool, List, [], ◌∷◌, Option, Some, Result, Ok, Err, refl, sym, ap, subst, inl, inr, ◌∙◌, arith}
+use Rattle.std.specs.Prelude.{true, false}
+use Rattle.std.proofs.lemmas.Option.{same_Some}
+use Rattle.mcap_io.specs.Outside.{Told, Opening, went_well, Names, Placed, SourceState, LiveState, SinkState, WorldState, WritesAll}
+use Rattle.mcap_io.specs.declared.outside.Short.{Short}
+use Rattle.mcap_io.specs.declared.outside.Failed.{Failed}
+use Rattle.rec_data.specs.declared.owned.Rec.{Rec}
+use Rattle.mcap_model.specs.declared.ends.Stop.TheVariants as stops
+use Rattle.mcap_model.specs.Tops.{Top}
+use Rattle.mcap_model.specs.File.{file_of, IsPrefix}
+use Rattle.mcap_model.specs.Pieces.{file_pieces}
+use Rattle.mcap_model.specs.Repaired.{Repaired}
+use Rattle.mcap_model.proofs.Pieces.{pieces_make_files, stops_leave_prefixes}
+use Rattle.mcap_recover.specs.declared.answers.Recovered.{Recovered}
+use Rattle.mcap_recover.specs.declared.answers.RecoverRefused.{RecoverRefused}
+use Rattle.mcap_recover.specs.declared.answers.RecoverRefused.TheVariants as refusals
+use Rattle.mcap_recover.specs.Recovering.{recovered_options, OfBoth, StandsPart, Recovers}
+use Rattle.chunk_writer.specs.Stops.{StopsAt}
+use Rattle.command_base.specs.Printing.{Tells, Takes}
+use Rattle.command_base.specs.Ran.{Scene, counts_in, failed_so, troubles_of, Complains}
+use Rattle.command_base.proofs.Counting.{failed_often}
+use Rattle.output_commands.specs.declared.recovering.Recovery.{Recovery}
+use Rattle.output_commands.specs.declared.recovering.Recovery.TheVariants as recoveries
+use Rattle.output_commands.specs.declared.recovering.Restored.{Restored}
+use Rattle.output_commands.specs.declared.failures.Failures.{Failures}
+use Rattle.output_commands.specs.OneOutput.{text_of, findings_of, files_of, failed_of, failing, ending_status, HaltsWell, FaultsShow, ReadsOneWritesOne}
+use Rattle.output_commands.specs.Recover.{IsPlaced, HoldsPart, OutputHolds, Reached, IsRefusal, unopened_so, recovery_of, IsRecovery, ending_of, number_text, recovered_line, NamesRecovered, Decides, RecoversFile}
+use Rattle.output_commands.proofs.Names.{NotGiven, no_entries, alone_entries, BothGiven, both_entries, both_placed, nothing_yet, both_kept}
+use Rattle.output_commands.proofs.OneOutput.{reads_one_writes_one, not_two}
+
+-- ---- endings
+
+-- only a source that doesn't begin with the magic halts
+well : (input : List ℕ) (recovery : Recovery) → HaltsWell (ending_of input recovery)
+well input recoveries.Unopened trouble e = absurd cc
+well input (recoveries.Made r) trouble e = absurd cc
+well input (recoveries.Refused (refusals.Fault faults)) trouble e = absurd cc
+well input (recoveries.Refused refusals.NoMagic) trouble e = cc
+well input (recoveries.Refused (refusals.Limit blocks bytes)) trouble e = absurd cc
+well input (recoveries.Refused refusals.Memory) trouble e = absurd cc
+
+-- ---- what the output holds
+
+-- what a keeping left under the name
+placed_so : (text : List ℕ) (all now : Names) (out : List ℕ) (result : Result Unit Failed) → Placed all now out text result → IsPlaced text (went_well result) (all out) (now out)
+placed_so text all now out (Ok it) placed = placed
+placed_so text all now out (Err why) placed = placed
+
+-- the store holds a first part of the file that repairing makes of the bytes
+record HasPart (chunk : ℕ) (bytes : List ℕ) (held : Option (List ℕ)) : Type 0 where
+  text : List ℕ
+  is : held ≡ Some text
+  part : (profile : List ℕ) (extras : List Top) (history : List Rec) → Repaired bytes profile extras history → IsPrefix text (file_of (recovered_options profile chunk) extras history)
+
+stands_part : (chunk : ℕ) (source : SourceState) (live stored : LiveState) (bytes : List ℕ) → source.left ≡ Some bytes → live.held ≡ Some [] → OfBoth chunk source (StandsPart live stored) → HasPart chunk bytes stored.held
+stands_part chunk source live stored bytes told none it =
+    let first = it.of_read.stands [] none in
+    record {
+      text = first.0;
+      is = first.1;
+      part = λ profile extras history repaired.
+          let other = it.of_repaired bytes told profile extras history repaired [] none in
+          subst (λ (l : List ℕ). IsPrefix l (file_of (recovered_options profile chunk) extras history)) (same_Some other.0 first.0 (sym other.1 ∙ first.1)) other.2;
+    }
+
+stops_part : (chunk blocks written : ℕ) (source : SourceState) (live stored : LiveState) (bytes : List ℕ) → source.left ≡ Some bytes → live.held ≡ Some []
+    → OfBoth chunk source (λ options extras history. StopsAt options extras history live.held stored.held (stops.Limit blocks written) blocks written) → HasPart chunk bytes stored.held
+stops_part chunk blocks written source live stored bytes told none it =
+    let first = it.of_read.stands.took [] none in
+    record {
+      text = first.0;
+      is = first.1;
+      part = λ profile extras history repaired.
+          let options = recovered_options profile chunk in
+          let stopped = it.of_repaired bytes told profile extras history repaired in
+          let other = stopped.took [] none in
+          let prefix = stops_leave_prefixes (file_pieces options extras history) stopped.place (stops.Limit blocks written) other.0 written other.2 in
+          let whole : IsPrefix other.0 (file_of options extras history) = (prefix.0, prefix.1 ∙ pieces_make_files options extras history) in
+          subst (λ (l : List ℕ). IsPrefix l (file_of options extras history)) (same_Some other.0 first.0 (sym other.1 ∙ first.1)) whole;
+    }
+
+part_placed : (chunk : ℕ) (bytes out : List ℕ) (all now : Names) (held : Option (List ℕ)) (result : Result Unit Failed) → HasPart chunk bytes held → ((text : List ℕ) → held ≡ Some text → Placed all now out text result)
+    → HoldsPart chunk bytes (went_well result) (all out) (now out)
+part_placed chunk bytes out all now held result it placed = record {
+  text = it.text;
+  placed = placed_so it.text all now out result (placed it.text it.is);
+  part = it.part;
+}
+
+output_holds : (chunk : ℕ) (source back : SourceState) (live stored : LiveState) (answer : Result Recovered RecoverRefused) (bytes out : List ℕ) (all now : Names) (result : Result Unit Failed) → Recovers chunk source back live stored answer
+    → source.left ≡ Some bytes → live.held ≡ Some [] → ((text : List ℕ) → stored.held ≡ Some text → Placed all now out text result) → OutputHolds chunk bytes answer (went_well result) (all out) (now out)
+output_holds chunk source back live stored (Ok r) bytes out all now result it told none placed = record {
+  magic = it.magic bytes told;
+  tops = it.tops;
+  halt = it.halt;
+  halts = it.halts.halts bytes told;
+  told = it.told;
+  profile = it.profile;
+  extras = it.extras;
+  history = it.history;
+  repairs = it.repairs;
+  messages = it.messages;
+  records = it.records;
+  extras_are = it.extras_are;
+  placed = placed_so (file_of (recovered_options it.profile chunk) it.extras it.history) all now out result (placed (file_of (recovered_options it.profile chunk) it.extras it.history) (it.file [] none));
+}
+output_holds chunk source back live stored (Err (refusals.Fault faults)) bytes out all now result it told none placed = part_placed chunk bytes out all now stored.held result (stands_part chunk source live stored bytes told none it.1) placed
+output_holds chunk source back live stored (Err refusals.NoMagic) bytes out all now result it told none placed = (it.0 bytes told, placed_so [] all now out result (placed [] (ap (λ (l : LiveState). l.held) it.2 ∙ none)))
+output_holds chunk source back live stored (Err (refusals.Limit blocks written)) bytes out all now result it told none placed = part_placed chunk bytes out all now stored.held result (stops_part chunk blocks written source live stored bytes told none it.2) placed
+output_holds chunk source back live stored (Err refusals.Memory) bytes out all now result it told none placed = part_placed chunk bytes out all now stored.held result (stands_part chunk source live stored bytes told none it.2) placed
+
+-- ---- both were given
+
+-- where the recovery failed, the source did or the store
+fault_shows : (input : List ℕ) (chunk : ℕ) (source back : SourceState) (live stored : LiveState) (answer : Result Recovered RecoverRefused) (first second : Bool) → Recovers chunk source back live stored answer
+    → source.faults ≡ 0 → live.faults ≡ 0 → ending_of input (recovery_of answer) ≡ failing → (failed_so first back.faults ≡ true) ⊎ (failed_so second stored.faults ≡ true)
+fault_shows input chunk source back live stored (Ok r) first second it unused new e = absurd cc
+fault_shows input chunk source back live stored (Err (refusals.Fault faults)) first second it unused new e = elim it.0 [
+  | inl source_rose ↦ inl (failed_often first back.faults (λ none. omega (arith, source_rose.0.once, none, unused)))
+  | inr store_rose ↦ inr (failed_often second stored.faults (λ none. omega (arith, store_rose.0.once, none, new)))
+]
+fault_shows input chunk source back live stored (Err refusals.NoMagic) first second it unused new e = absurd cc
+fault_shows input chunk source back live stored (Err (refusals.Limit blocks written)) first second it unused new e = absurd cc
+fault_shows input chunk source back live stored (Err refusals.Memory) first second it unused new e = absurd cc
+
+pub both_recovered : (chunk : ℕ) (input out : List ℕ) (w0 w1 w2 w3 w4 : WorldState) (source back : SourceState) (live stored : LiveState) (source_kept live_kept : Result Unit Failed) (answer : Result Recovered RecoverRefused)
+    → BothGiven input out w0 w1 w2 w3 w4 source back live stored source_kept live_kept → Recovers chunk source back live stored answer
+    → NamesRecovered chunk input out w0 w4 (record { recovery = recovery_of answer; input_failed = failed_so (went_well source_kept) back.faults; out_failed = failed_so (went_well live_kept) stored.faults })
+both_recovered chunk input out w0 w1 w2 w3 w4 source back live stored source_kept live_kept answer b it =
+    let reached : Reached chunk input out w0 w4 (both_entries input out w0 w1 w2 w3 w4 source back live stored source_kept live_kept b) answer = record {
+      source = source;
+      back = back;
+      source_kept = went_well source_kept;
+      live = live;
+      stored = stored;
+      live_kept = went_well live_kept;
+      recovers = it;
+      tells = b.tells;
+      unused = b.unused;
+      live_unused = b.new;
+      file = λ told now bytes here here_now there.
+          output_holds chunk source back live stored answer bytes out told.names now.names live_kept it ((b.tells told here).0 ∙ there)
+          (nothing_yet input out w0 w1 w2 w3 w4 source back live stored source_kept live_kept b told here)
+          (both_placed input out w0 w1 w2 w3 w4 source back live stored source_kept live_kept b told now here here_now).placed;
+      kept_are = refl;
+    } in
+    record {
+      entries = both_entries input out w0 w1 w2 w3 w4 source back live stored source_kept live_kept b;
+      comes = inr (answer, refl, reached);
+      names = both_kept input out w0 w1 w2 w3 w4 source back live stored source_kept live_kept b;
+      sure = fault_shows input chunk source back live stored answer (went_well source_kept) (went_well live_kept) it b.unused b.new;
+    }
+
+-- ---- not both were given
+
+unmade_sure : (input : List ℕ) (failed other : Bool) → ending_of input (unopened_so failed) ≡ failing → (failed ≡ true) ⊎ (other ≡ true)
+unmade_sure input true other e = inl refl
+unmade_sure input false other e = absurd cc
+
+refusal_first : (input : List ℕ) (failed : Bool) → IsRefusal (no_entries input failed) (unopened_so failed)
+refusal_first input true = inl (refl, refl)
+refusal_first input false = refl
+
+pub none_recovered : (chunk : ℕ) (input out : List ℕ) (old new : WorldState) (failed : Bool) → NotGiven input out old new (no_entries input failed) failed false
+    → NamesRecovered chunk input out old new (record { recovery = unopened_so failed; input_failed = failed; out_failed = false })
+none_recovered chunk input out old new failed it = record {
+  entries = no_entries input failed;
+  comes = inl (refusal_first input failed, it.unreached);
+  names = it.names;
+  sure = unmade_sure input failed false;
+}
+
+refusal_second : (input out : List ℕ) (source : SourceState) (result : Result Unit Failed) (failed : Bool) → IsRefusal (alone_entries input out source result failed) (unopened_so failed)
+refusal_second input out source result true = (refl, refl)
+refusal_second input out source result false = inr (refl, refl)
+
+swapped : {A B : Type 0} → A ⊎ B → B ⊎ A
+swapped (inl a) = inr a
+swapped (inr b) = inl b
+
+pub alone_recovered : (chunk : ℕ) (input out : List ℕ) (old new : WorldState) (source : SourceState) (result : Result Unit Failed) (input_failed failed : Bool) → NotGiven input out old new (alone_entries input out source result failed) input_failed failed
+    → NamesRecovered chunk input out old new (record { recovery = unopened_so failed; input_failed = input_failed; out_failed = failed })
+alone_recovered chunk input out old new source result input_failed failed it = record {
+  entries = alone_entries input out source result failed;
+  comes = inl (refusal_second input out source result failed, it.unreached);
+  names = it.names;
+  sure = λ e. swapped (unmade_sure input failed input_failed e);
+}
+
+-- ---- the bytes decide
+
+-- a refused opening failed, or memory lacked for it
+refusal_decides : (input bytes : List ℕ) (entries : List Opening) (recovery : Recovery) (status : ℕ) → IsRefusal entries recovery → (ending_of input recovery ≡ failing → ⊥) → (recovery ≡ recoveries.Refused refusals.Memory → status ≡ 5) → Decides bytes recovery status
+refusal_decides input bytes [] recovery status is other five = subst (λ (r : Recovery). Decides bytes r status) (sym is) (five is)
+refusal_decides input bytes (entry ∷ []) recovery status (inl is) other five = absurd (other (ap (ending_of input) is.1))
+refusal_decides input bytes (entry ∷ []) recovery status (inr is) other five = subst (λ (r : Recovery). Decides bytes r status) (sym is.1) (five is.1)
+refusal_decides input bytes (entry ∷ next ∷ more) recovery status is other five = absurd (other (ap (ending_of input) is.1))
+
+reached_decides : (chunk : ℕ) (input out bytes : List ℕ) (old new : WorldState) (entries : List Opening) (answer : Result Recovered RecoverRefused) (told : Told) (status : ℕ) → Reached chunk input out old new entries answer → old.told ≡ Some told → told.names input ≡ Some bytes
+    → (ending_of input (recovery_of answer) ≡ failing → ⊥) → status ≡ ending_status (ending_of input (recovery_of answer)) → Decides bytes (recovery_of answer) status
+reached_decides chunk input out bytes old new entries (Ok r) told status it here there other is = (it.recovers.magic bytes ((it.tells told here).0 ∙ there), is)
+reached_decides chunk input out bytes old new entries (Err (refusals.Fault faults)) told status it here there other is = absurd (other refl)
+reached_decides chunk input out bytes old new entries (Err refusals.NoMagic) told status it here there other is = (it.recovers.0 bytes ((it.tells told here).0 ∙ there), is)
+reached_decides chunk input out bytes old new entries (Err (refusals.Limit blocks written)) told status it here there other is = (it.recovers.1 bytes ((it.tells told here).0 ∙ there), is)
+reached_decides chunk input out bytes old new entries (Err refusals.Memory) told status it here there other is = is
+
+decides : (chunk : ℕ) (input out bytes : List ℕ) (old new : WorldState) (entries : List Opening) (recovery : Recovery) (told : Told) (status : ℕ) → IsRecovery chunk input out old new entries recovery → old.told ≡ Some told → told.names input ≡ Some bytes
+    → (ending_of input recovery ≡ failing → ⊥) → status ≡ ending_status (ending_of input recovery) → Decides bytes recovery status
+decides chunk input out bytes old new entries recovery told status (inl none) here there other is =
+    refusal_decides input bytes entries recovery status none.0 other (λ memory. is ∙ ap (λ (r : Recovery). ending_status (ending_of input r)) memory)
+decides chunk input out bytes old new entries recovery told status (inr (answer, same, reached)) here there other is =
+    subst (λ (r : Recovery). Decides bytes r status) (sym same)
+    (reached_decides chunk input out bytes old new entries answer told status reached here there (λ e. other (ap (ending_of input) same ∙ e)) (is ∙ ap (λ (r : Recovery). ending_status (ending_of input r)) same))
+
+-- ---- the command
+
+-- what its calls came to
+pub record CallsAre (chunk : ℕ) (input out : List ℕ) (old new : Scene) (restored : Restored) (failed : Failures) (answer : ℕ) : Type 0 where
+  pub names : NamesRecovered chunk input out old.world new.world restored
+  pub takes : Takes old.out new.out (text_of (ending_of input restored.recovery))
+  pub shows : FaultsShow (counts_in old) (counts_in new) restored.input_failed restored.out_failed failed
+  pub told : Complains (troubles_of (files_of input out) (findings_of out (ending_of input restored.recovery)) (failed_of failed.input failed.out) failed.printing) old.err new.err answer
+
+-- all that is promised of it
+pub recovered : (chunk : ℕ) (input out : List ℕ) (old new : Scene) (restored : Restored) (failed : Failures) (answer : ℕ) → CallsAre chunk input out old new restored failed answer → RecoversFile chunk input out old new answer
+recovered chunk input out old new restored failed answer calls =
+    let recovery = restored.recovery in
+    let ran : ReadsOneWritesOne input out old new calls.names.entries (ending_of input recovery) answer =
+    reads_one_writes_one input out old new calls.names.entries (ending_of input recovery) restored.input_failed restored.out_failed failed answer (record {
+      names = calls.names.names;
+      sure = calls.names.sure;
+      well = well input recovery;
+      takes = calls.takes;
+      shows = calls.shows;
+      told = calls.told;
+    }) in
+    record {
+      entries = calls.names.entries;
+      recovery = recovery;
+      comes = calls.names.comes;
+      ran = ran;
+      decided = λ told bytes here there quiet.
+          let (unnamed, other, is) = ran.calm quiet in
+          decides chunk input out bytes old.world new.world calls.names.entries recovery told answer calls.names.comes here there other is;
+    }
+
+-- the status of a recovery is not that of bad words
+pub recovers_not_two : (chunk : ℕ) (input out : List ℕ) (old new : Scene) (answer : ℕ) → RecoversFile chunk input out old new answer → answer ≡ 2 → ⊥
+recovers_not_two chunk input out old new answer all two = not_two input out old new all.entries (ending_of input all.recovery) answer (well input all.recovery) all.ran two
+
+-- ---- the line
+
+cons_some : (x : ℕ) (xs : List ℕ) → x ∷ xs ≡ [] → ⊥
+cons_some x xs e = absurd cc
+
+-- it isn't empty
+line_is_said : (r : Recovered) → recovered_line r ≡ [] → ⊥
+unfolding recovered_line number_text
+line_is_said r e = cons_some _ _ e
+
+-- what a sink took of a line in one go
+wrote : (before now : SinkState) (line : List ℕ) (result : Result Unit Short) → WritesAll before now line result → Tells before now line
+wrote before now line (Ok it) all = inl (record { still = all.0; adds = all.1 })
+wrote before now line (Err short) part = inr (record { rises = part.0; adds = λ start is. let took = part.2 start is in (took.0, omega arith, took.2, took.3) })
+
+-- what was printed of a recovery that was made
+pub takes_line : (before now : SinkState) (input line : List ℕ) (result : Result Unit Short) (recovery : Recovery) (r : Recovered) → recovery ≡ recoveries.Made r → line ≡ recovered_line r → WritesAll before now line result → Takes before now (text_of (ending_of input recovery))
+takes_line before now input line result recovery r is line_is written =
+    subst (λ (x : Recovery). Takes before now (text_of (ending_of input x))) (sym is)
+    (record { tells = subst (λ (l : List ℕ). Tells before now l) line_is (wrote before now line result written); silent = λ none. absurd (line_is_said r none) })

@@ -1,0 +1,138 @@
+-- What a command does that reads one file and writes another: how that ended, what is printed and told of it, and which of both
+-- names are blamed.
+use Rattle.std.specs.Prelude.{◌≡◌, ◌⊎◌, ◌↔◌, ◌<◌, ◌-◌, ◌^◌, ℕ, List, [], ◌∷◌, ◌++◌, Bool, true, false, Some}
+use Rattle.mcap_io.specs.Outside.{Rose, WorldState, Told, Keeping, Opening}
+use Rattle.mcap_io.specs.declared.outside.ObjectKind.TheVariants as kinds
+use Rattle.command_base.specs.declared.faults.Counts.{Counts}
+use Rattle.command_base.specs.Printing.{TellsAll}
+use Rattle.command_base.specs.Texts.{Trouble, output_limit, asked_status}
+use Rattle.command_base.specs.Ran.{Scene, counts_in, AnyRose, Files, wanted, kept, AreOpened, Leaves, input_faults, output_faults, CountsKept, named_when, failed_names, when, Findings, Failed, Ran}
+use Rattle.output_commands.specs.declared.failures.Failures.{Failures}
+
+-- ---- the writing
+
+-- How it ended: the output was written, and this is printed of it; the input can't be read, for that trouble; the output would
+-- pass a limit; an opening or an object failed; or memory lacked.
+pub data Ending : Type 0 where
+  was_written : List ℕ → Ending
+  halted : Trouble → Ending
+  limited : Ending
+  failing : Ending
+  lacked : Ending
+
+-- the text for standard output
+abbrev pub text_of : Ending → List ℕ
+text_of (was_written text) = text
+text_of (halted trouble) = []
+text_of limited = []
+text_of failing = []
+text_of lacked = []
+
+-- the trouble that the input is; whether the output would pass a limit; and whether memory lacked
+abbrev pub halts_in : Ending → List Trouble
+halts_in (was_written text) = []
+halts_in (halted trouble) = trouble ∷ []
+halts_in limited = []
+halts_in failing = []
+halts_in lacked = []
+
+abbrev pub is_limited : Ending → Bool
+is_limited (was_written text) = false
+is_limited (halted trouble) = false
+is_limited limited = true
+is_limited failing = false
+is_limited lacked = false
+
+abbrev pub is_lack : Ending → Bool
+is_lack (was_written text) = false
+is_lack (halted trouble) = false
+is_lack limited = false
+is_lack failing = false
+is_lack lacked = true
+
+-- what there is to tell of it besides faults
+abbrev pub findings_of : List ℕ → Ending → Findings
+findings_of out ending = record { halts = halts_in ending ∷ []; limits = when (is_limited ending) (output_limit out); lacked = is_lack ending }
+
+-- the status that it asks for
+abbrev pub ending_status : Ending → ℕ
+ending_status (was_written text) = 0
+ending_status (halted trouble) = asked_status trouble
+ending_status limited = 4
+ending_status failing = 3
+ending_status lacked = 5
+
+-- what halts the reading of an input is a file that breaks a rule
+abbrev pub HaltsWell : Ending → Type 0
+HaltsWell ending = (trouble : Trouble) → ending ≡ halted trouble → asked_status trouble ≡ 1
+
+-- ---- the names
+
+-- the input, opened as a source, and then the output
+abbrev pub files_of : List ℕ → List ℕ → Files
+files_of input out = record { kind = kinds.Source; inputs = input ∷ []; outputs = out ∷ [] }
+
+abbrev pub failed_of : Bool → Bool → Failed
+failed_of input out = record { inputs = input ∷ []; outputs = out ∷ [] }
+
+-- what became of both: each was opened and taken back, or not, and failed or not
+pub record NamesKept (input out : List ℕ) (old new : WorldState) (entries : List Opening) (input_failed out_failed : Bool) : Type 0 where
+  pub opened : AreOpened (wanted (files_of input out)) entries
+  pub leaves : Leaves old new entries
+  pub counts : CountsKept old new entries
+  pub names_are : failed_names entries ≡ named_when input_failed input ++ (named_when out_failed out ++ [])
+  -- each failure shows in a count
+  pub input_cause : input_failed ≡ true → Rose old.faults new.faults ⊎ Rose old.input_faults new.input_faults
+  pub out_cause : out_failed ≡ true → Rose old.faults new.faults ⊎ Rose old.output_faults new.output_faults
+  -- and each count that rose is one of theirs
+  pub inputs_told : old.input_faults < 2 ^ 64 - 1 → Rose old.input_faults new.input_faults → input_failed ≡ true
+  pub outputs_told : old.output_faults < 2 ^ 64 - 1 → Rose old.output_faults new.output_faults → out_failed ≡ true
+  pub world_told : old.faults < 2 ^ 64 - 1 → Rose old.faults new.faults → (input_failed ≡ true) ⊎ (out_failed ≡ true)
+
+-- Nothing was read from the input and nothing written: the output's name holds what it held.
+pub record Unreached (input out : List ℕ) (old new : WorldState) (entries : List Opening) : Type 0 where
+  pub inputs : input_faults entries ≡ 0
+  pub outputs : output_faults entries ≡ 0
+  pub left : (keeping : Keeping) (more : List Opening) (told : Told) → entries ≡ kept kinds.Source input keeping ∷ more → old.told ≡ Some told → keeping.left ≡ told.names input
+  pub file : (told now : Told) → old.told ≡ Some told → new.told ≡ Some now → now.names out ≡ told.names out
+
+-- ---- faults
+
+-- which of both names is blamed, as the counts tell: each with its cause, and none is left out
+pub record Causes (before now : Counts) (input out : Bool) : Type 0 where
+  pub input_cause : input ≡ true → Rose before.world now.world ⊎ Rose before.inputs now.inputs
+  pub out_cause : out ≡ true → Rose before.world now.world ⊎ Rose before.outputs now.outputs
+  pub inputs_told : Rose before.inputs now.inputs → input ≡ true
+  pub outputs_told : Rose before.outputs now.outputs → out ≡ true
+  pub world_told : Rose before.world now.world → (input ≡ true) ⊎ (out ≡ true)
+
+-- Which parts failed, where a command told that both names failed so.
+pub record FaultsShow (before now : Counts) (input_failed out_failed : Bool) (failed : Failures) : Type 0 where
+  pub causes : Causes before now failed.input failed.out
+  pub printing : (failed.printing ≡ true) ↔ Rose before.printing now.printing
+  pub input_told : input_failed ≡ true → failed.input ≡ true
+  pub out_told : out_failed ≡ true → failed.out ≡ true
+  -- nothing else is blamed where each count that rose shows in what was told
+  pub input_is : (Rose before.inputs now.inputs → input_failed ≡ true) → failed.input ≡ input_failed
+  pub out_is : (Rose before.outputs now.outputs → out_failed ≡ true) → (Rose before.world now.world → (input_failed ≡ true) ⊎ (out_failed ≡ true)) → failed.out ≡ out_failed
+
+-- ---- the command
+
+-- What a command did to the world and to both outputs that opened the one name and then the other, and that ended so.
+pub record ReadsOneWritesOne (input out : List ℕ) (old new : Scene) (entries : List Opening) (ending : Ending) (status : ℕ) : Type 0 where
+  -- standard output takes the text, and standard error the troubles, which give the status
+  pub ran : Ran (files_of input out) old new entries (text_of ending) (findings_of out ending) status
+  -- the names that are blamed are those whose counts rose
+  pub input_blamed : Bool
+  pub out_blamed : Bool
+  pub blame : ran.failed ≡ failed_of input_blamed out_blamed
+  pub causes : Causes (counts_in old) (counts_in new) input_blamed out_blamed
+  -- 5 is the answer exactly where memory lacked
+  pub five : (status ≡ 5) ↔ (ending ≡ lacked)
+  -- a count that rose is answered, also one that stands at the end of its type; and 3 is the answer only to such a count
+  pub rose : AnyRose (counts_in old) (counts_in new) → (status ≡ 3) ⊎ (status ≡ 5)
+  pub three : status ≡ 3 → AnyRose (counts_in old) (counts_in new)
+  -- unless a count rises, neither name failed, and the ending decides the status
+  pub calm : (AnyRose (counts_in old) (counts_in new) → ⊥) → (failed_names entries ≡ []) × (ending ≡ failing → ⊥) × (status ≡ ending_status ending)
+  -- the status 0 says that the output was written without a failure, and that all of the text was taken
+  pub whole : status ≡ 0 → (failed_names entries ≡ []) × ((text : List ℕ) × (ending ≡ was_written text) × TellsAll old.out new.out text)

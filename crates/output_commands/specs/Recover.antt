@@ -1,0 +1,169 @@
+-- What the recovery of a file does: to the names of the world, to both outputs, and how it ends.
+use Rattle.std.specs.Prelude.{◌≡◌, ◌⊎◌, ℕ, List, [], ◌∷◌, ◌++◌, codes, decimal, length, filter, Bool, true, false, Option, Some, None, Result, Ok, Err}
+use Rattle.rec_data.specs.declared.owned.Rec.{Rec}
+use Rattle.mcap_io.specs.Outside.{SourceState, LiveState, WorldState, Told, Opening, TellsName}
+use Rattle.mcap_io.specs.declared.outside.ObjectKind.TheVariants as kinds
+use Rattle.mcap_model.specs.Tops.{Top}
+use Rattle.mcap_model.specs.Rules.{V1}
+use Rattle.mcap_model.specs.Kept.{Halt, reading_limits, Halts}
+use Rattle.mcap_model.specs.History.{is_message}
+use Rattle.mcap_model.specs.File.{file_of, IsPrefix}
+use Rattle.mcap_model.specs.Repaired.{Repairs, Repaired}
+use Rattle.mcap_recover.specs.declared.answers.Why.{Why}
+use Rattle.mcap_recover.specs.declared.answers.Why.TheVariants as whys
+use Rattle.mcap_recover.specs.declared.answers.Recovered.{Recovered}
+use Rattle.mcap_recover.specs.declared.answers.RecoverRefused.{RecoverRefused}
+use Rattle.mcap_recover.specs.declared.answers.RecoverRefused.TheVariants as refusals
+use Rattle.mcap_recover.specs.Recovering.{recovered_options, TellsHalt, Recovers}
+use Rattle.command_base.specs.Texts.{grammar}
+use Rattle.command_base.specs.Ran.{Scene, counts_in, AnyRose, kept}
+use Rattle.output_commands.specs.declared.recovering.Recovery.{Recovery}
+use Rattle.output_commands.specs.declared.recovering.Recovery.TheVariants as recoveries
+use Rattle.output_commands.specs.declared.recovering.Restored.{Restored}
+use Rattle.output_commands.specs.OneOutput.{Ending, was_written, halted, limited, failing, lacked, NamesKept, Unreached, ReadsOneWritesOne}
+
+-- ---- what the output holds
+
+-- This text was put under the name; where the keeping failed, that or what stood there.
+abbrev pub IsPlaced : List ℕ → Bool → Option (List ℕ) → Option (List ℕ) → Type 0
+IsPlaced text true before now = now ≡ Some text
+IsPlaced text false before now = (now ≡ Some text) ⊎ (now ≡ before)
+
+-- A reading of the bytes, which begin with the magic, keeps these records and halts there; what repairing makes of them is the file
+-- that was put there, and what is answered.
+pub record HoldsRecovered (chunk : ℕ) (bytes : List ℕ) (r : Recovered) (well : Bool) (before now : Option (List ℕ)) : Type 0 where
+  pub magic : V1 bytes
+  pub tops : List Top
+  pub halt : Halt
+  pub halts : Halts reading_limits bytes tops halt
+  pub told : TellsHalt r.at r.why halt
+  pub profile : List ℕ
+  pub extras : List Top
+  pub history : List Rec
+  pub repairs : Repairs tops profile extras history
+  pub messages : r.messages ≡ length (filter is_message history)
+  pub records : r.records ≡ length history
+  pub extras_are : r.extras ≡ length extras
+  pub placed : IsPlaced (file_of (recovered_options profile chunk) extras history) well before now
+
+-- a first part of the file that repairing makes of the bytes was put there
+pub record HoldsPart (chunk : ℕ) (bytes : List ℕ) (well : Bool) (before now : Option (List ℕ)) : Type 0 where
+  pub text : List ℕ
+  pub placed : IsPlaced text well before now
+  pub part : (profile : List ℕ) (extras : List Top) (history : List Rec) → Repaired bytes profile extras history → IsPrefix text (file_of (recovered_options profile chunk) extras history)
+
+-- nothing was put there, since the bytes don't begin with the magic
+abbrev pub HoldsNothing : List ℕ → Bool → Option (List ℕ) → Option (List ℕ) → Type 0
+HoldsNothing bytes well before now = (V1 bytes → ⊥) × IsPlaced [] well before now
+
+-- of these bytes, by what a recovery answered
+abbrev pub OutputHolds : ℕ → List ℕ → Result Recovered RecoverRefused → Bool → Option (List ℕ) → Option (List ℕ) → Type 0
+OutputHolds chunk bytes (Ok r) well before now = HoldsRecovered chunk bytes r well before now
+OutputHolds chunk bytes (Err refusals.NoMagic) well before now = HoldsNothing bytes well before now
+OutputHolds chunk bytes (Err (refusals.Fault faults)) well before now = HoldsPart chunk bytes well before now
+OutputHolds chunk bytes (Err (refusals.Limit blocks written)) well before now = HoldsPart chunk bytes well before now
+OutputHolds chunk bytes (Err refusals.Memory) well before now = HoldsPart chunk bytes well before now
+
+-- ---- the names
+
+-- Both were opened. The source under the one name was recovered into the store under the other, and both were taken back.
+pub record Reached (chunk : ℕ) (input out : List ℕ) (old new : WorldState) (entries : List Opening) (result : Result Recovered RecoverRefused) : Type 0 where
+  -- as the world gave them and as it took them back, and whether that went well
+  pub source : SourceState
+  pub back : SourceState
+  pub source_kept : Bool
+  pub live : LiveState
+  pub stored : LiveState
+  pub live_kept : Bool
+  pub recovers : Recovers chunk source back live stored result
+  -- the source told the bytes under the input's name, which is there, where the world tells
+  pub tells : TellsName old input source
+  pub unused : source.faults ≡ 0
+  pub live_unused : live.faults ≡ 0
+  -- and then the output's name holds what was recovered of these bytes
+  pub file : (told now : Told) (bytes : List ℕ) → old.told ≡ Some told → new.told ≡ Some now → told.names input ≡ Some bytes
+      → OutputHolds chunk bytes result live_kept (told.names out) (now.names out)
+  pub kept_are : entries ≡ kept kinds.Source input (record { well = source_kept; faults = back.faults; left = back.left; asked = 0 })
+      ∷ kept kinds.Live out (record { well = live_kept; faults = stored.faults; left = None; asked = 0 }) ∷ []
+
+-- the last opening was refused: a failure has its entry, a want of memory none
+abbrev pub IsRefusal : List Opening → Recovery → Type 0
+IsRefusal [] recovery = recovery ≡ recoveries.Refused refusals.Memory
+IsRefusal (entry ∷ []) recovery = ((entry.given ≡ false) × (recovery ≡ recoveries.Unopened)) ⊎ ((entry.given ≡ true) × (recovery ≡ recoveries.Refused refusals.Memory))
+IsRefusal (entry ∷ other ∷ more) recovery = (other.given ≡ false) × (recovery ≡ recoveries.Unopened)
+
+-- an opening failed, or memory lacked for it
+abbrev pub unopened_so : Bool → Recovery
+unopened_so true = recoveries.Unopened
+unopened_so false = recoveries.Refused refusals.Memory
+
+abbrev pub recovery_of : Result Recovered RecoverRefused → Recovery
+recovery_of (Ok r) = recoveries.Made r
+recovery_of (Err why) = recoveries.Refused why
+
+-- what became of both names
+abbrev pub IsRecovery : ℕ → List ℕ → List ℕ → WorldState → WorldState → List Opening → Recovery → Type 0
+IsRecovery chunk input out old new entries recovery = (IsRefusal entries recovery × Unreached input out old new entries)
+    ⊎ ((result : Result Recovered RecoverRefused) × (recovery ≡ recovery_of result) × Reached chunk input out old new entries result)
+
+-- ---- the line
+
+abbrev pub why_text : Why → List ℕ
+why_text whys.Complete = codes "complete"
+why_text whys.Short = codes "short"
+why_text whys.Grammar = codes "grammar"
+why_text whys.Compressed = codes "compressed"
+why_text whys.Limit = codes "limit"
+
+-- a number behind its name
+unfoldable pub number_text : List ℕ → ℕ → List ℕ
+number_text name n = name ++ decimal n
+
+-- recovered messages=M records=R extras=X at=N WHY
+unfoldable pub recovered_line : Recovered → List ℕ
+recovered_line r = number_text (codes "recovered messages=") r.messages ++ (number_text (codes " records=") r.records ++ (number_text (codes " extras=") r.extras
+    ++ (number_text (codes " at=") r.at ++ (codes " " ++ (why_text r.why ++ codes "\n")))))
+
+-- how the recovery ended
+abbrev pub refusal_ending : List ℕ → RecoverRefused → Ending
+refusal_ending input (refusals.Fault faults) = failing
+refusal_ending input refusals.NoMagic = halted (grammar input 0)
+refusal_ending input (refusals.Limit blocks bytes) = limited
+refusal_ending input refusals.Memory = lacked
+
+abbrev pub ending_of : List ℕ → Recovery → Ending
+ending_of input recoveries.Unopened = failing
+ending_of input (recoveries.Made r) = was_written (recovered_line r)
+ending_of input (recoveries.Refused why) = refusal_ending input why
+
+-- what became of both names, and which of them failed; where the recovery failed, a failure of one is told
+pub record NamesRecovered (chunk : ℕ) (input out : List ℕ) (old new : WorldState) (restored : Restored) : Type 0 where
+  pub entries : List Opening
+  pub comes : IsRecovery chunk input out old new entries restored.recovery
+  pub names : NamesKept input out old new entries restored.input_failed restored.out_failed
+  pub sure : ending_of input restored.recovery ≡ failing → (restored.input_failed ≡ true) ⊎ (restored.out_failed ≡ true)
+
+-- ---- the status
+
+-- Where nothing failed, the first bytes decide, but for want of memory and for the limit of the output.
+abbrev pub Decides : List ℕ → Recovery → ℕ → Type 0
+Decides bytes recoveries.Unopened status = ⊥
+Decides bytes (recoveries.Made r) status = V1 bytes × (status ≡ 0)
+Decides bytes (recoveries.Refused (refusals.Fault faults)) status = ⊥
+Decides bytes (recoveries.Refused refusals.NoMagic) status = (V1 bytes → ⊥) × (status ≡ 1)
+Decides bytes (recoveries.Refused (refusals.Limit blocks written)) status = V1 bytes × (status ≡ 4)
+Decides bytes (recoveries.Refused refusals.Memory) status = status ≡ 5
+
+-- ---- the command
+
+-- what `recover` does
+pub record RecoversFile (chunk : ℕ) (input out : List ℕ) (old new : Scene) (status : ℕ) : Type 0 where
+  -- the input is opened as a source, and then the output; this is what the recovery came to, and what the output holds of it
+  pub entries : List Opening
+  pub recovery : Recovery
+  pub comes : IsRecovery chunk input out old.world new.world entries recovery
+  -- standard output takes the line of what was recovered, and standard error the troubles
+  pub ran : ReadsOneWritesOne input out old new entries (ending_of input recovery) status
+  -- where the world tells, the bytes under the input's name decide, unless a count rises
+  pub decided : (told : Told) (bytes : List ℕ) → old.world.told ≡ Some told → told.names input ≡ Some bytes
+      → (AnyRose (counts_in old) (counts_in new) → ⊥) → Decides bytes recovery status

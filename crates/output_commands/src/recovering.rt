@@ -1,0 +1,219 @@
+//! Recovering what a file holds that may be cut or broken.
+ghost use Rattle.std.specs.Prelude.{◌≡◌, ◌≤◌, ◌<◌, ◌^◌, List, ℕ, true, false};
+ghost use Rattle.mcap_wire.specs.Limits.{chunk_size_limit};
+ghost use Rattle.command_base.specs.Texts.{complained};
+ghost use Rattle.command_base.specs.Printing.{Takes};
+ghost use Rattle.command_base.specs.Ran.{scene};
+ghost use Rattle.output_commands.specs.OneOutput.{text_of, halts_in, is_limited, is_lack};
+ghost use Rattle.output_commands.specs.Recover.{recovery_of as came_to, unopened_so, ending_of, NamesRecovered, RecoversFile};
+
+use crate::failures::{answer_output, failures_of};
+use crate::recovered_line::line_of_recovered;
+use command_base::{Complaint, Counts, has_failed};
+use mcap_io::{LiveStore, OpenRefused, Sink, Source, World, write_all_of};
+use mcap_recover::{RecoverRefused, Recovered, recover};
+use std::alloc::Global;
+
+/// What the recovery of a file came to.
+#[derive(Clone, Copy)]
+pub enum Recovery {
+    /// The world failed to open one of both names.
+    Unopened,
+    /// The output was written.
+    Made { recovered: Recovered },
+    /// It was refused; or memory lacked for an opening.
+    Refused { why: RecoverRefused },
+}
+
+/// What became of both names: the recovery, and for each whether its opening, its object or the keeping failed.
+#[derive(Clone, Copy)]
+pub struct Restored {
+    pub recovery: Recovery,
+    pub input_failed: bool,
+    pub out_failed: bool,
+}
+
+// A recovery by its answer.
+fn recovery_of(answer: Result<Recovered, RecoverRefused>) -> Recovery
+    ensures { result ≡ came_to answer }
+{
+    match answer {
+        Ok(recovered) => Recovery::Made { recovered },
+        Err(why) => Recovery::Refused { why },
+    }
+}
+
+// Whether an opening was refused since the outside failed.
+fn is_failed(why: OpenRefused) -> bool
+    ensures failed { result ≡ true → why ≡ OpenRefused.Failed }
+    ensures memory { result ≡ false → why ≡ OpenRefused.Memory }
+{
+    match why {
+        OpenRefused::Failed => true,
+        OpenRefused::Memory => false,
+    }
+}
+
+// Nothing was recovered, since an opening failed, or else for want of memory.
+fn unopened(failed: bool) -> Recovery
+    ensures { result ≡ unopened_so failed }
+{
+    if failed {
+        return Recovery::Unopened;
+    }
+    return Recovery::Refused {
+        why: RecoverRefused::Memory,
+    };
+}
+
+// Opens both names, recovers the one into the other, and keeps both.
+fn recover_names<W: World>(
+    alloc: Global,
+    chunk: u64,
+    input: &str,
+    out: &str,
+    world: &mut W,
+) -> Restored
+    requires some { 1 ≤ chunk }
+    requires within { chunk ≤ chunk_size_limit }
+    requires world_fits { (W.state world.old).faults < 2 ^ 64 }
+    requires inputs_fit { (W.state world.old).input_faults < 2 ^ 64 }
+    requires outputs_fit { (W.state world.old).output_faults < 2 ^ 64 }
+    ensures { NamesRecovered chunk input.now out.now (W.state world.old) (W.state world.new) result }
+{
+    let mut source = match world.source(input) {
+        Ok(source) => source,
+        Err(why) => {
+            let failed = is_failed(why);
+            return Restored {
+                recovery: unopened(failed),
+                input_failed: failed,
+                out_failed: false,
+            };
+        }
+    };
+    let live = match world.live(out) {
+        Ok(live) => live,
+        Err(why) => {
+            let failed = is_failed(why);
+            let faults = source.faults();
+            let kept = world.keep_source(input, source);
+            return Restored {
+                recovery: unopened(failed),
+                input_failed: has_failed(faults, kept),
+                out_failed: failed,
+            };
+        }
+    };
+    let (live, answer) = recover(alloc, &mut source, live, chunk);
+    let (source_faults, live_faults) = (source.faults(), live.faults());
+    let source_kept = world.keep_source(input, source);
+    let live_kept = world.keep_live(out, live);
+    Restored {
+        recovery: recovery_of(answer),
+        input_failed: has_failed(source_faults, source_kept),
+        out_failed: has_failed(live_faults, live_kept),
+    }
+}
+
+// Prints the line of what was recovered, if something was. It takes no memory.
+fn print_recovery<O: Sink>(out: &mut O, recovery: Recovery)
+    ensures { (input : List ℕ) → Takes (O.state out.old) (O.state out.new) (text_of (ending_of input recovery)) }
+{
+    match recovery {
+        Recovery::Made { recovered } => {
+            let line = line_of_recovered(recovered);
+            match write_all_of(out, line.as_bytes()) {
+                Ok(()) => return,
+                Err(_) => return,
+            }
+        }
+        Recovery::Unopened => return,
+        Recovery::Refused { .. } => return,
+    }
+}
+
+// The complaint of a source that doesn't begin with the magic.
+fn halt_complaint(input: &str, recovery: Recovery) -> Option<Complaint<'_>>
+    ensures { complained result ≡ halts_in (ending_of input.now recovery) }
+{
+    match recovery {
+        Recovery::Refused {
+            why: RecoverRefused::NoMagic,
+        } => Some(Complaint::Grammar {
+            name: input,
+            offset: 0,
+        }),
+        Recovery::Refused {
+            why: RecoverRefused::Fault { .. }
+            | RecoverRefused::Limit { .. }
+            | RecoverRefused::Memory,
+        } => None,
+        Recovery::Unopened | Recovery::Made { .. } => None,
+    }
+}
+
+// Whether the output would pass a limit.
+fn is_at_limit(recovery: Recovery) -> bool
+    ensures { (input : List ℕ) → result ≡ is_limited (ending_of input recovery) }
+{
+    match recovery {
+        Recovery::Refused {
+            why: RecoverRefused::Limit { .. },
+        } => true,
+        Recovery::Refused {
+            why: RecoverRefused::Fault { .. } | RecoverRefused::NoMagic | RecoverRefused::Memory,
+        } => false,
+        Recovery::Unopened | Recovery::Made { .. } => false,
+    }
+}
+
+// Whether memory lacked.
+fn has_lacked(recovery: Recovery) -> bool
+    ensures { (input : List ℕ) → result ≡ is_lack (ending_of input recovery) }
+{
+    match recovery {
+        Recovery::Refused {
+            why: RecoverRefused::Memory,
+        } => true,
+        Recovery::Refused {
+            why: RecoverRefused::Fault { .. }
+            | RecoverRefused::NoMagic
+            | RecoverRefused::Limit { .. },
+        } => false,
+        Recovery::Unopened | Recovery::Made { .. } => false,
+    }
+}
+
+/// Writes what a reading of the file under the one name keeps as a new file under the other, in chunks of that size in bytes,
+/// prints on `out` what was recovered and why the reading stopped, and answers the status: 0 also where it stopped early, 1
+/// where the file doesn't begin with the magic, 3 where the outside failed, 4 where the new file would pass a limit, and 5
+/// where memory lacked.
+pub fn recover_file<W: World, O: Sink, E: Sink>(
+    alloc: Global,
+    chunk: u64,
+    input: &str,
+    out_name: &str,
+    world: &mut W,
+    out: &mut O,
+    err: &mut E,
+) -> u8
+    requires some { 1 ≤ chunk }
+    requires within { chunk ≤ chunk_size_limit }
+    ensures { RecoversFile chunk input.now out_name.now
+        (scene (W.state world.old) (O.state out.old) (E.state err.old))
+        (scene (W.state world.new) (O.state out.new) (E.state err.new))
+        result }
+{
+    let before = Counts::of(world, out);
+    let restored = recover_names(alloc, chunk, input, out_name, world);
+    print_recovery(out, restored.recovery);
+    let now = Counts::of(world, out);
+    let failed = failures_of(&before, &now, restored.input_failed, restored.out_failed);
+    let halt = halt_complaint(input, restored.recovery);
+    let (limited, lacked) = (
+        is_at_limit(restored.recovery),
+        has_lacked(restored.recovery),
+    );
+    answer_output(err, input, out_name, halt, limited, lacked, failed)
+}
