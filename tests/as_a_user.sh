@@ -108,7 +108,8 @@ usage: mcaprec
   record [--plain] [--lossless] [--limit N] [--chunk N] [--profile T] OUT FEED...
   info FILE
   check FILE
-  cat [--indexed] [--start N] [--end N] [--topic T] FILE'
+  cat [--indexed] [--start N] [--end N] [--topic T] FILE
+  recover [--chunk N] IN OUT'
 
 "$root/mcaprec" info "$one" >/dev/null </dev/null
 compare 'the status of the first run' 0 $?
@@ -297,8 +298,29 @@ sleep 3
 kill -9 "$(pgrep -P "$launcher" mcap_cli)"
 kill "$publisher" "$silent"
 wait
-mcaprec record saved.mcap slow.mcap >"$room/stdout" 2>/dev/null
-compare 'what is saved of a recording that was killed' 'feed 1 accepted=3' "$(sed -n '1s/ refused.*//p' "$room/stdout")"
+filter='sed s/at=[0-9]*/at=N/'
+expect 0 'recovered messages=3 records=6 extras=0 at=N short' '' mcaprec recover slow.mcap saved.mcap
+filter='cat'
+expect 0 'ok indexed messages=3 channels=2 schemas=1 chunks=1 attachments=0 metadata=0' '' mcaprec check saved.mcap
+mcaprec cat session-out.mcap | cut -d ' ' -f 1,2,4- | head -n 3 >wanted
+mcaprec cat saved.mcap | cut -d ' ' -f 1,2,4- | cmp -s -- wanted - || say_wrong 'saved.mcap has other messages than its feed had'
+
+# ---- what a file holds that is cut
+
+expect 2 '' "$usage" mcaprec recover "$one"
+expect 2 '' "$usage" mcaprec recover one-cut.mcap one-cut.mcap
+expect 0 'recovered messages=1 records=2 extras=0 at=173 short' '' mcaprec recover one-cut.mcap one-recovered.mcap
+expect_records_of one-recovered.mcap "$one"
+expect 0 'recovered messages=1 records=2 extras=0 at=186 complete' '' mcaprec recover one-recovered.mcap one-again.mcap
+expect_records_of one-again.mcap "$one"
+: >nothing.mcap
+expect 1 '' 'mcaprec: "nothing.mcap": grammar at 0' mcaprec recover nothing.mcap of-nothing.mcap
+expect_size of-nothing.mcap 0
+expect 3 '' 'mcaprec: "missing.mcap": fault' mcaprec recover missing.mcap of-missing.mcap
+expect_absent of-missing.mcap
+ln -s one-recovered.mcap link.mcap
+expect 3 '' 'mcaprec: "link.mcap": fault' mcaprec recover one-recovered.mcap link.mcap
+expect_records_of one-recovered.mcap "$one"
 
 # ---- messages, by time
 
@@ -647,6 +669,17 @@ head -c "$(($(wc -c <killed.mcap)))" large-out.mcap | cmp -s -- - killed.mcap ||
 mcaprec cat killed.mcap >"$room/stdout" 2>"$room/stderr"
 compare 'the status of an ended recording' 1 $?
 compare 'what cat says of it' 'mcaprec: "killed.mcap": grammar at N' "$(sed 's/at [0-9]*/at N/' "$room/stderr")"
+
+# What stood in whole blocks of it is the front of what the feed gave.
+mcaprec recover killed.mcap recovered.mcap >"$room/stdout" 2>&1 || say_wrong 'killed.mcap is not recovered'
+cat -- "$room/stdout"
+saved=$(sed -n 's/^recovered messages=\([0-9]*\) .* short$/\1/p' "$room/stdout")
+[ "${saved:-0}" -gt 1000 ] || say_wrong 'too little of killed.mcap is recovered'
+mcaprec check recovered.mcap >"$room/stdout" || say_wrong 'recovered.mcap breaks a rule'
+compare 'what is recovered' "ok indexed messages=$saved" "$(sed 's/ channels.*//' "$room/stdout")"
+mcaprec cat recovered.mcap | cksum >wanted
+mcaprec cat large.mcap | head -n "${saved:-0}" | cksum | cmp -s -- wanted - || say_wrong 'recovered.mcap has other messages than its feed had'
+rm -f recovered.mcap
 
 # A pipe whose reader goes away. The program doesn't read it too, which would keep it alive: its next write fails.
 head -c 10 out-pipe >/dev/null &

@@ -15,10 +15,10 @@ use Rattle.clap.specs.declared.parser.matches.ArgMatches.TheViews.{out-ArgMatche
 use Rattle.mcap_model.specs.declared.options.FileOptions.{FileOptions}
 use Rattle.mcap_model.specs.declared.replay.Range.{Range}
 use Rattle.mcap_app.specs.Items.{Word, Item, flag, joined, apart, plain, IsFlag, IsFree, IsItem, IsOption, given, place_of, texts, words_of}
-use Rattle.mcap_app.specs.Commands.{AreBad, Behind, Derives, Flags, GivesNumber, IsCat, IsFileOptions, IsNumber, IsOfFile, IsRange, IsRecord, Reads, name_of, verb_of}
+use Rattle.mcap_app.specs.Commands.{AreBad, Behind, Derives, Flags, GivesNumber, IsCat, IsFileOptions, IsNumber, IsOfFile, IsRange, IsRecord, IsRecover, Reads, name_of, verb_of}
 use Rattle.mcap_app.specs.Matches.{AreFeeds, AreRead, AreUnread, AtPlaces, Fits, HasRoom, IsLoose, IsReading, all_found}
 use Rattle.mcap_app.specs.declared.command.Command.{Command}
-use Rattle.mcap_app.specs.declared.command.Command.TheVariants.{Record, Info, Check, Cat}
+use Rattle.mcap_app.specs.declared.command.Command.TheVariants.{Record, Info, Check, Cat, Recover}
 use Rattle.mcap_app.specs.declared.verbs.Verb.{Verb}
 use Rattle.mcap_app.specs.declared.verbs.Verb.TheVariants as verb
 use Rattle.mcap_app.proofs.CutLemmas.{loose_cut, one_cut}
@@ -123,18 +123,21 @@ IsOfOne verb.Record = ⊥
 IsOfOne verb.Info = ⊤
 IsOfOne verb.Check = ⊤
 IsOfOne verb.Cat = ⊤
+IsOfOne verb.Recover = ⊥
 
 one_few : (v : Verb) (n : ℕ) → IsOfOne v → HasRoom v n → n ≤ 1
 one_few verb.Record n one few = absurd one
 one_few verb.Info n one few = few
 one_few verb.Check n one few = few
 one_few verb.Cat n one few = few
+one_few verb.Recover n one few = absurd one
 
 one_placed : (v : Verb) (places : List Word) (Has : Word → List Word → Type 0) → IsOfOne v → AtPlaces v places Has → Has (codes "file") places
 one_placed verb.Record places Has one placed = absurd one
 one_placed verb.Info places Has one placed = placed
 one_placed verb.Check places Has one placed = placed
 one_placed verb.Cat places Has one placed = placed
+one_placed verb.Recover places Has one placed = absurd one
 
 one_place : (places : List Word) (a : Word) → slice_get places 0 ≡ Some a → length places ≤ 1 → places ≡ a ∷ []
 one_place [] a first few = cc
@@ -167,7 +170,47 @@ names_are words rows reading out feeds is = (
   reading.shows.placed.1 ∙ ap (λ (l : List Word). drop 1 l) is,
 )
 
+-- the same of a recovery
+pair_places : (words : List Word) (rows : List Row) (reading : IsReading verb.Recover words rows) (input out : Word) → first_of (codes "in") rows ≡ Some input → all_found (codes "out") rows ≡ out ∷ [] → places_in reading ≡ input ∷ out ∷ []
+pair_places words rows reading input out is is2 =
+    out_first (places_in reading) input (ap (λ (l : List Word). slice_get l 0) (sym reading.shows.placed.0) ∙ sym (first_all (codes "in") rows) ∙ is)
+    ∙ ap (λ (l : List Word). input ∷ l) (sym reading.shows.placed.1 ∙ is2)
+
+pair_are : (words : List Word) (rows : List Row) (reading : IsReading verb.Recover words rows) (input out : Word) → places_in reading ≡ input ∷ out ∷ [] → (first_of (codes "in") rows ≡ Some input) × (all_found (codes "out") rows ≡ out ∷ [])
+pair_are words rows reading input out is = (
+  first_all (codes "in") rows ∙ ap (λ (l : List Word). slice_get l 0) (reading.shows.placed.0 ∙ ap (λ (l : List Word). take 1 l) is),
+  reading.shows.placed.1 ∙ ap (λ (l : List Word). drop 1 l) is,
+)
+
 -- ---- commands
+
+pub recover_is : (words : List Word) (rows : List Row) (reading : IsReading verb.Recover words rows) (input out : Word) (size : Option ℕ) → first_of (codes "in") rows ≡ Some input → all_found (codes "out") rows ≡ out ∷ [] → input ≢ [] → out ≢ [] → input ≢ out
+    → GivesNumber 1 67108864 (option_to_list (first_of (codes "chunk") rows)) size → IsRecover words input out (unwrap_or size 786432)
+recover_is words rows reading input out size is is2 in_named out_named differ sized = record {
+  items = reading.items;
+  reads = subst (Reads verb.Recover words reading.items) (pair_places words rows reading input out is is2)
+      (exact_reading verb.Recover words rows reading (λ name same. subst (λ (n : Word). first_of n rows ≢ Some (codes "-")) (sym same) (number_clean 1 67108864 (first_of (codes "chunk") rows) size sized)));
+  in_named = in_named;
+  out_named = out_named;
+  differ = differ;
+  size = size;
+  sized = subst (λ (l : List Word). GivesNumber 1 67108864 l size) (sym (reading.shows.options (codes "chunk") refl)) sized;
+  chunk_is = refl;
+}
+
+-- the words of a recovery have these names and this size
+module _ (words : List Word) (rows : List Row) (reading : IsReading verb.Recover words rows) (input out : Word) (chunk : ℕ) (is : IsRecover words input out chunk) where
+  pub recover_names : (first_of (codes "in") rows ≡ Some input) × (all_found (codes "out") rows ≡ out ∷ [])
+  recover_names = pair_are words rows reading input out (sym (same_reading verb.Recover words rows reading is.items (input ∷ out ∷ []) is.reads).1)
+
+  pub recover_size : GivesNumber 1 67108864 (option_to_list (first_of (codes "chunk") rows)) is.size
+  recover_size =
+      let same = ap (given (codes "chunk")) (same_reading verb.Recover words rows reading is.items (input ∷ out ∷ []) is.reads).0 ∙ reading.shows.options (codes "chunk") refl in
+      subst (λ (l : List Word). GivesNumber 1 67108864 l is.size) same is.sized
+
+  -- the output is the one that is found beside this input
+  pub recover_out : (name : Word) → first_of (codes "in") rows ≡ Some name → name ≢ out
+  recover_out name found = subst (λ (n : Word). n ≢ out) (same_Some input name (sym recover_names.0 ∙ found)) is.differ
 
 module _ (words : List Word) (rows : List Row) (reading : IsReading verb.Record words rows) (out : Word) (feeds : List Word) (file : FileOptions) (size : Option ℕ) (lossless : Bool) where
   pub record_is : first_of (codes "out") rows ≡ Some out → all_found (codes "feed") rows ≡ feeds → out ≢ [] → AreFeeds out feeds → Flags (given (codes "lossless") reading.items) lossless
@@ -270,6 +313,13 @@ fits_cat words file indexed range topic is = record { options = options; flags =
     flags : (name : Word) → IsFlag verb.Cat name → (is_there : Bool) × Flags (given name is.items) is_there
     flags name same = subst (λ (n : Word). (is_there : Bool) × Flags (given n is.items) is_there) (sym same) (indexed, is.flagged)
 
+fits_recover : (words : List Word) (input out : Word) (chunk : ℕ) (is : IsRecover words input out chunk) → Fits verb.Recover is.items (input ∷ out ∷ [])
+fits_recover words input out chunk is = record {
+  options = λ name same. subst (Once verb.Recover is.items) (sym same) (once_number 1 67108864 (given (codes "chunk") is.items) is.size is.sized);
+  flags = λ name none. absurd none;
+  few = tt;
+}
+
 -- words that fit no command are bad
 pub unread_bad : (words : List Word) → AreUnread words → AreBad words
 unread_bad words unread (Record out feeds file limit lossless) is =
@@ -284,6 +334,9 @@ unread_bad words unread (Check file) is =
 unread_bad words unread (Cat file indexed range topic) is =
     let cat_of : IsCat is.rest file indexed range topic = is.behind in
     unread verb.Cat is.rest cat_of.items (file ∷ []) is.form cat_of.reads (fits_cat is.rest file indexed range topic cat_of)
+unread_bad words unread (Recover input out chunk) is =
+    let recover_of : IsRecover is.rest input out chunk = is.behind in
+    unread verb.Recover is.rest recover_of.items (input ∷ out ∷ []) is.form recover_of.reads (fits_recover is.rest input out chunk recover_of)
 
 -- and so are words of which one is `-`
 item_whole : (v : Verb) (item : Item) → IsItem v item → All NoDash (words_of item)
@@ -309,12 +362,14 @@ name_whole verb.Record same = cc
 name_whole verb.Info same = cc
 name_whole verb.Check same = cc
 name_whole verb.Cat same = cc
+name_whole verb.Recover same = cc
 
 behind_whole : (words : List Word) (command : Command) → Behind words command → All NoDash words
 behind_whole words (Record out feeds file limit lossless) is = let one : IsRecord words out feeds file limit lossless = is in reads_whole verb.Record words one.items (out ∷ feeds) one.reads
 behind_whole words (Info file) is = let one : IsOfFile verb.Info words file = is in reads_whole verb.Info words one.items (file ∷ []) one.reads
 behind_whole words (Check file) is = let one : IsOfFile verb.Check words file = is in reads_whole verb.Check words one.items (file ∷ []) one.reads
 behind_whole words (Cat file indexed range topic) is = let one : IsCat words file indexed range topic = is in reads_whole verb.Cat words one.items (file ∷ []) one.reads
+behind_whole words (Recover input out chunk) is = let one : IsRecover words input out chunk = is in reads_whole verb.Recover words one.items (input ∷ out ∷ []) one.reads
 
 pub derived_whole : (words : List Word) (command : Command) → Derives words command → All (λ word. word ≢ codes "-") words
 derived_whole words command is =
@@ -381,18 +436,27 @@ one_verb verb.Record verb.Record same = refl
 one_verb verb.Record verb.Info same = cc
 one_verb verb.Record verb.Check same = cc
 one_verb verb.Record verb.Cat same = cc
+one_verb verb.Record verb.Recover same = cc
 one_verb verb.Info verb.Record same = cc
 one_verb verb.Info verb.Info same = refl
 one_verb verb.Info verb.Check same = cc
 one_verb verb.Info verb.Cat same = cc
+one_verb verb.Info verb.Recover same = cc
 one_verb verb.Check verb.Record same = cc
 one_verb verb.Check verb.Info same = cc
 one_verb verb.Check verb.Check same = refl
 one_verb verb.Check verb.Cat same = cc
+one_verb verb.Check verb.Recover same = cc
 one_verb verb.Cat verb.Record same = cc
 one_verb verb.Cat verb.Info same = cc
 one_verb verb.Cat verb.Check same = cc
 one_verb verb.Cat verb.Cat same = refl
+one_verb verb.Cat verb.Recover same = cc
+one_verb verb.Recover verb.Record same = cc
+one_verb verb.Recover verb.Info same = cc
+one_verb verb.Recover verb.Check same = cc
+one_verb verb.Recover verb.Cat same = cc
+one_verb verb.Recover verb.Recover same = refl
 
 pub one_name : (a b : Verb) → name_of a ≡ name_of b → a ≡ b
 one_name a b same = one_verb a b ((bytes_eq-Decides (name_of a) (name_of b)).1 same)
@@ -410,24 +474,35 @@ only_record words bad (Record out feeds file limit lossless) same is = bad out f
 only_record words bad (Info file) same is = cc
 only_record words bad (Check file) same is = cc
 only_record words bad (Cat file indexed range topic) same is = cc
+only_record words bad (Recover input out chunk) same is = cc
 
 pub only_info : (words : List Word) → ((file : Word) → IsOfFile verb.Info words file → ⊥) → (command : Command) → verb_of command ≡ verb.Info → Behind words command → ⊥
 only_info words bad (Record out feeds file limit lossless) same is = cc
 only_info words bad (Info file) same is = bad file is
 only_info words bad (Check file) same is = cc
 only_info words bad (Cat file indexed range topic) same is = cc
+only_info words bad (Recover input out chunk) same is = cc
 
 pub only_check : (words : List Word) → ((file : Word) → IsOfFile verb.Check words file → ⊥) → (command : Command) → verb_of command ≡ verb.Check → Behind words command → ⊥
 only_check words bad (Record out feeds file limit lossless) same is = cc
 only_check words bad (Info file) same is = cc
 only_check words bad (Check file) same is = bad file is
 only_check words bad (Cat file indexed range topic) same is = cc
+only_check words bad (Recover input out chunk) same is = cc
 
 pub only_cat : (words : List Word) → ((file : Word) (indexed : Bool) (range : Range) (topic : Option Word) → IsCat words file indexed range topic → ⊥) → (command : Command) → verb_of command ≡ verb.Cat → Behind words command → ⊥
 only_cat words bad (Record out feeds file limit lossless) same is = cc
 only_cat words bad (Info file) same is = cc
 only_cat words bad (Check file) same is = cc
 only_cat words bad (Cat file indexed range topic) same is = bad file indexed range topic is
+only_cat words bad (Recover input out chunk) same is = cc
+
+pub only_recover : (words : List Word) → ((input out : Word) (chunk : ℕ) → IsRecover words input out chunk → ⊥) → (command : Command) → verb_of command ≡ verb.Recover → Behind words command → ⊥
+only_recover words bad (Record out feeds file limit lossless) same is = cc
+only_recover words bad (Info file) same is = cc
+only_recover words bad (Check file) same is = cc
+only_recover words bad (Cat file indexed range topic) same is = cc
+only_recover words bad (Recover input out chunk) same is = bad input out chunk is
 
 pub of_named_file : (v : Verb) (words : List Word) (rows : List Row) (reading : IsReading v words rows) (file : Word) → IsOfOne v → IsOfFile v words file → (file ≢ []) × (first_of (codes "file") rows ≡ Some file)
 of_named_file v words rows reading file one is = (is.named, file_of_file v words rows reading file one is)

@@ -13,7 +13,7 @@ use Rattle.mcap_app.specs.declared.verbs.Verb.{Verb}
 use Rattle.mcap_app.specs.declared.verbs.Verb.TheVariants as verb
 use Rattle.mcap_app.proofs.ItemLemmas.{flag_or_option}
 use Rattle.mcap_app.proofs.RowLemmas.{Gathered, Holds, Said, find_more, put, put_gathers, put_others, row, other_text, said_of, said_others, same_text, taken}
-use Rattle.mcap_app.proofs.RuleLemmas.{flag_not_place, has_room, is_text, option_not_place, out_not_feed, place_for, place_is, places_map}
+use Rattle.mcap_app.proofs.RuleLemmas.{flag_not_place, has_room, is_text, option_not_place, in_not_out, out_not_feed, place_for, place_is, places_map}
 
 -- ---- lists
 
@@ -31,12 +31,14 @@ nothing_placed verb.Record = (refl, refl)
 nothing_placed verb.Info = refl
 nothing_placed verb.Check = refl
 nothing_placed verb.Cat = refl
+nothing_placed verb.Recover = (refl, refl)
 
 no_words : (verb : Verb) → HasRoom verb 0
 no_words verb.Record = tt
 no_words verb.Info = omega arith
 no_words verb.Check = omega arith
 no_words verb.Cat = omega arith
+no_words verb.Recover = tt
 
 pub holds_nothing : (verb : Verb) → Holds verb [] [] []
 holds_nothing verb = record {
@@ -124,6 +126,14 @@ put_placed verb.Check [] rows id word is placed = let same : codes "file" ≡ id
 put_placed verb.Check (x ∷ xs) rows id word is placed = cc
 put_placed verb.Cat [] rows id word is placed = let same : codes "file" ≡ id = cc in subst (λ (i : Word). Gathered (put i word rows) (codes "file") (word ∷ [])) same (put_gathers (codes "file") word [] rows placed)
 put_placed verb.Cat (x ∷ xs) rows id word is placed = cc
+put_placed verb.Recover [] rows id word is placed =
+    let same : codes "in" ≡ id = cc in
+    subst (λ (i : Word). AtPlaces verb.Recover (word ∷ []) (Gathered (put i word rows))) same
+    (put_gathers (codes "in") word [] rows placed.0, put_others (codes "in") word (codes "out") rows in_not_out ∙ placed.1)
+put_placed verb.Recover (x ∷ xs) rows id word is placed =
+    let same : codes "out" ≡ id = cc in
+    subst (λ (i : Word). AtPlaces verb.Recover (x ∷ xs ++ word ∷ []) (Gathered (put i word rows))) same
+    (put_others (codes "out") word (codes "in") rows (λ equal. in_not_out (sym equal)) ∙ placed.0, put_gathers (codes "out") word xs rows placed.1)
 
 pub holds_place : (verb : Verb) (items : List Item) (places : List Word) (rows : List Row) (id word : Word) → place_for verb (length places) ≡ Some id → Holds verb items places rows
     → Holds verb items (places ++ word ∷ []) (put id word rows)

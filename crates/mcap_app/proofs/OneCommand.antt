@@ -9,9 +9,9 @@ use Rattle.std.proofs.lemmas.Slice.Eq.{bytes_eq-Decides}
 use Rattle.mcap_model.specs.declared.options.FileOptions.{FileOptions}
 use Rattle.mcap_model.specs.declared.replay.Range.{Range}
 use Rattle.mcap_app.specs.Items.{Word, Item, given}
-use Rattle.mcap_app.specs.Commands.{Behind, Derives, Flags, GivesNumber, HasChunks, HasProfile, IsCat, IsFileOptions, IsOfFile, IsOnly, IsRange, IsRecord, SizesChunks, name_of, verb_of}
+use Rattle.mcap_app.specs.Commands.{Behind, Derives, Flags, GivesNumber, HasChunks, HasProfile, IsCat, IsFileOptions, IsOfFile, IsOnly, IsRange, IsRecord, IsRecover, SizesChunks, name_of, verb_of}
 use Rattle.mcap_app.specs.declared.command.Command.{Command}
-use Rattle.mcap_app.specs.declared.command.Command.TheVariants.{Record, Info, Check, Cat}
+use Rattle.mcap_app.specs.declared.command.Command.TheVariants.{Record, Info, Check, Cat, Recover}
 use Rattle.mcap_app.specs.declared.command.WordsRefused.{WordsRefused}
 use Rattle.mcap_app.specs.declared.verbs.Verb.{Verb}
 use Rattle.mcap_app.specs.declared.verbs.Verb.TheVariants as verb
@@ -106,6 +106,14 @@ one_cat words file indexed range topic file' indexed' range' topic' is other =
     let topics : topic' ≡ topic = one_value topic topic' (sym is.topical ∙ subst (λ (l : List Item). given (codes "topic") l ≡ option_to_list topic') same.0 other.topical) in
     cc
 
+one_recover : (words : List Word) (input out : Word) (chunk : ℕ) (input' out' : Word) (chunk' : ℕ) → IsRecover words input out chunk → IsRecover words input' out' chunk' → Recover input' out' chunk' ≡ Recover input out chunk
+one_recover words input out chunk input' out' chunk' is other =
+    let same = one_reading verb.Recover words is.items other.items (input ∷ out ∷ []) (input' ∷ out' ∷ []) is.reads other.reads in
+    let places : input' ∷ out' ∷ [] ≡ input ∷ out ∷ [] = same.1 in
+    let size = one_number 1 67108864 (given (codes "chunk") is.items) is.size other.size is.sized (subst (λ (l : List Item). GivesNumber 1 67108864 (given (codes "chunk") l) other.size) same.0 other.sized) in
+    let chunks : chunk' ≡ chunk = other.chunk_is ∙ ap (λ (v : Option ℕ). unwrap_or v 786432) size ∙ sym is.chunk_is in
+    cc
+
 -- the names differ
 two_names : (one two : Word) → bytes_eq one two ≡ false → one ≡ two → ⊥
 two_names one two unlike is = let same : bytes_eq one two ≡ true = (bytes_eq-Decides one two).1 is in let wrong : false ≡ true = sym unlike ∙ same in cc
@@ -115,18 +123,27 @@ one_behind words (Record out feeds file limit lossless) (Record out' feeds' file
 one_behind words (Record out feeds file limit lossless) (Info file') names is other = absurd (two_names (codes "record") (codes "info") refl names)
 one_behind words (Record out feeds file limit lossless) (Check file') names is other = absurd (two_names (codes "record") (codes "check") refl names)
 one_behind words (Record out feeds file limit lossless) (Cat file' indexed' range' topic') names is other = absurd (two_names (codes "record") (codes "cat") refl names)
+one_behind words (Record out feeds file limit lossless) (Recover input' out' chunk') names is other = absurd (two_names (codes "record") (codes "recover") refl names)
 one_behind words (Info file) (Record out' feeds' file' limit' lossless') names is other = absurd (two_names (codes "info") (codes "record") refl names)
 one_behind words (Info file) (Info file') names is other = ap (λ (f : Word). Info f) (one_file verb.Info words file file' is other)
 one_behind words (Info file) (Check file') names is other = absurd (two_names (codes "info") (codes "check") refl names)
 one_behind words (Info file) (Cat file' indexed' range' topic') names is other = absurd (two_names (codes "info") (codes "cat") refl names)
+one_behind words (Info file) (Recover input' out' chunk') names is other = absurd (two_names (codes "info") (codes "recover") refl names)
 one_behind words (Check file) (Record out' feeds' file' limit' lossless') names is other = absurd (two_names (codes "check") (codes "record") refl names)
 one_behind words (Check file) (Info file') names is other = absurd (two_names (codes "check") (codes "info") refl names)
 one_behind words (Check file) (Check file') names is other = ap (λ (f : Word). Check f) (one_file verb.Check words file file' is other)
 one_behind words (Check file) (Cat file' indexed' range' topic') names is other = absurd (two_names (codes "check") (codes "cat") refl names)
+one_behind words (Check file) (Recover input' out' chunk') names is other = absurd (two_names (codes "check") (codes "recover") refl names)
 one_behind words (Cat file indexed range topic) (Record out' feeds' file' limit' lossless') names is other = absurd (two_names (codes "cat") (codes "record") refl names)
 one_behind words (Cat file indexed range topic) (Info file') names is other = absurd (two_names (codes "cat") (codes "info") refl names)
 one_behind words (Cat file indexed range topic) (Check file') names is other = absurd (two_names (codes "cat") (codes "check") refl names)
 one_behind words (Cat file indexed range topic) (Cat file' indexed' range' topic') names is other = one_cat words file indexed range topic file' indexed' range' topic' is other
+one_behind words (Cat file indexed range topic) (Recover input' out' chunk') names is other = absurd (two_names (codes "cat") (codes "recover") refl names)
+one_behind words (Recover input out chunk) (Record out' feeds' file' limit' lossless') names is other = absurd (two_names (codes "recover") (codes "record") refl names)
+one_behind words (Recover input out chunk) (Info file') names is other = absurd (two_names (codes "recover") (codes "info") refl names)
+one_behind words (Recover input out chunk) (Check file') names is other = absurd (two_names (codes "recover") (codes "check") refl names)
+one_behind words (Recover input out chunk) (Cat file' indexed' range' topic') names is other = absurd (two_names (codes "recover") (codes "cat") refl names)
+one_behind words (Recover input out chunk) (Recover input' out' chunk') names is other = one_recover words input out chunk input' out' chunk' is other
 
 pub one_command : (words : List Word) (a : Command) → Derives words a → IsOnly words a
 one_command words a is b other =

@@ -31,6 +31,7 @@ rules_of verb.Record = flag_rule (codes "plain") ∷ flag_rule (codes "lossless"
 rules_of verb.Info = place_rule (codes "file") 1 ∷ []
 rules_of verb.Check = place_rule (codes "file") 1 ∷ []
 rules_of verb.Cat = flag_rule (codes "indexed") ∷ option_rule (codes "start") ∷ option_rule (codes "end") ∷ option_rule (codes "topic") ∷ place_rule (codes "file") 1 ∷ []
+rules_of verb.Recover = option_rule (codes "chunk") ∷ place_rule (codes "in") 1 ∷ rest_rule (codes "out") 2 ∷ []
 
 pub is_text : (a b : Word) → (a ≡ b) ⊎ (bytes_eq a b ≡ false)
 is_text a b = go (bytes_eq a b) refl
@@ -75,6 +76,10 @@ named verb.Cat name = elim (is_text (codes "indexed") name) [
     ]
   ]
 ]
+named verb.Recover name = elim (is_text (codes "chunk") name) [
+  | inl is ↦ inr (inl (sym is))
+  | inr no1 ↦ inr (inr (rw no1 refl))
+]
 
 -- by its name and by its id an argument is found
 abbrev pub Found : Verb → Word → Rule → Type 0
@@ -86,6 +91,7 @@ flag_found verb.Record name (inr is) = subst (λ n. Found verb.Record n (flag_ru
 flag_found verb.Info name is = absurd is
 flag_found verb.Check name is = absurd is
 flag_found verb.Cat name is = subst (λ n. Found verb.Cat n (flag_rule n)) (sym is) (refl, refl)
+flag_found verb.Recover name is = absurd is
 
 pub option_found : (verb : Verb) (name : Word) → IsOption verb name → Found verb name (option_rule name)
 option_found verb.Record name (inl is) = subst (λ n. Found verb.Record n (option_rule n)) (sym is) (refl, refl)
@@ -96,12 +102,14 @@ option_found verb.Check name is = absurd is
 option_found verb.Cat name (inl is) = subst (λ n. Found verb.Cat n (option_rule n)) (sym is) (refl, refl)
 option_found verb.Cat name (inr (inl is)) = subst (λ n. Found verb.Cat n (option_rule n)) (sym is) (refl, refl)
 option_found verb.Cat name (inr (inr is)) = subst (λ n. Found verb.Cat n (option_rule n)) (sym is) (refl, refl)
+option_found verb.Recover name is = subst (λ n. Found verb.Recover n (option_rule n)) (sym is) (refl, refl)
 
 pub no_short : (verb : Verb) (letter : ℕ) → arg_by_short (rules_of verb) letter ≡ None
 no_short verb.Record letter = refl
 no_short verb.Info letter = refl
 no_short verb.Check letter = refl
 no_short verb.Cat letter = refl
+no_short verb.Recover letter = refl
 
 past_one : (n : ℕ) → (1 == suc (suc n)) ≡ false
 past_one n = grind (arith, nat_tests)
@@ -113,6 +121,7 @@ IsPlace verb.Record id = (id ≡ codes "out") ⊎ (id ≡ codes "feed")
 IsPlace verb.Info id = id ≡ codes "file"
 IsPlace verb.Check id = id ≡ codes "file"
 IsPlace verb.Cat id = id ≡ codes "file"
+IsPlace verb.Recover id = (id ≡ codes "in") ⊎ (id ≡ codes "out")
 
 -- the positional that takes a word behind so many, and where it stands
 abbrev pub place_for : Verb → ℕ → Option Word
@@ -124,6 +133,8 @@ place_for verb.Check zero = Some (codes "file")
 place_for verb.Check (suc n) = None
 place_for verb.Cat zero = Some (codes "file")
 place_for verb.Cat (suc n) = None
+place_for verb.Recover zero = Some (codes "in")
+place_for verb.Recover (suc n) = Some (codes "out")
 
 abbrev pub position_for : Verb → ℕ → ℕ
 position_for verb.Record zero = 1
@@ -131,6 +142,8 @@ position_for verb.Record (suc n) = 2
 position_for verb.Info n = suc n
 position_for verb.Check n = suc n
 position_for verb.Cat n = suc n
+position_for verb.Recover zero = 1
+position_for verb.Recover (suc n) = 2
 
 abbrev pub rule_for : Verb → ℕ → Word → Rule
 rule_for verb.Record zero id = place_rule id 1
@@ -138,6 +151,8 @@ rule_for verb.Record (suc n) id = rest_rule id 2
 rule_for verb.Info n id = place_rule id 1
 rule_for verb.Check n id = place_rule id 1
 rule_for verb.Cat n id = place_rule id 1
+rule_for verb.Recover zero id = place_rule id 1
+rule_for verb.Recover (suc n) id = rest_rule id 2
 
 pub place_found : (verb : Verb) (n : ℕ) → arg_by_index (rules_of verb) (position_for verb n) ≡ option_map (rule_for verb n) (place_for verb n)
 place_found verb.Record zero = refl
@@ -148,6 +163,8 @@ place_found verb.Check zero = refl
 place_found verb.Check (suc n) = rw (past_one n) refl
 place_found verb.Cat zero = refl
 place_found verb.Cat (suc n) = rw (past_one n) refl
+place_found verb.Recover zero = refl
+place_found verb.Recover (suc n) = refl
 
 pub place_by_id : (verb : Verb) (n : ℕ) (id : Word) → place_for verb n ≡ Some id → arg_by_id (rules_of verb) id ≡ Some (rule_for verb n id)
 place_by_id verb.Record zero id is = let same : codes "out" ≡ id = cc in subst (λ i. arg_by_id (rules_of verb.Record) i ≡ Some (place_rule i 1)) same refl
@@ -158,6 +175,8 @@ place_by_id verb.Check zero id is = let same : codes "file" ≡ id = cc in subst
 place_by_id verb.Check (suc n) id is = cc
 place_by_id verb.Cat zero id is = let same : codes "file" ≡ id = cc in subst (λ i. arg_by_id (rules_of verb.Cat) i ≡ Some (place_rule i 1)) same refl
 place_by_id verb.Cat (suc n) id is = cc
+place_by_id verb.Recover zero id is = let same : codes "in" ≡ id = cc in subst (λ i. arg_by_id (rules_of verb.Recover) i ≡ Some (place_rule i 1)) same refl
+place_by_id verb.Recover (suc n) id is = let same : codes "out" ≡ id = cc in subst (λ i. arg_by_id (rules_of verb.Recover) i ≡ Some (rest_rule i 2)) same refl
 
 pub place_is : (verb : Verb) (n : ℕ) (id : Word) → place_for verb n ≡ Some id → IsPlace verb id
 place_is verb.Record zero id is = inl (cc)
@@ -168,6 +187,8 @@ place_is verb.Check zero id is = cc
 place_is verb.Check (suc n) id is = cc
 place_is verb.Cat zero id is = cc
 place_is verb.Cat (suc n) id is = cc
+place_is verb.Recover zero id is = inl (cc)
+place_is verb.Recover (suc n) id is = inr (cc)
 
 -- two arguments have two ids
 abbrev NoLong : Verb → Word → Type 0
@@ -179,6 +200,8 @@ place_short verb.Record id (inr is) = subst (NoLong verb.Record) (sym is) (rest_
 place_short verb.Info id is = subst (NoLong verb.Info) (sym is) (place_rule (codes "file") 1, refl, refl)
 place_short verb.Check id is = subst (NoLong verb.Check) (sym is) (place_rule (codes "file") 1, refl, refl)
 place_short verb.Cat id is = subst (NoLong verb.Cat) (sym is) (place_rule (codes "file") 1, refl, refl)
+place_short verb.Recover id (inl is) = subst (NoLong verb.Recover) (sym is) (place_rule (codes "in") 1, refl, refl)
+place_short verb.Recover id (inr is) = subst (NoLong verb.Recover) (sym is) (rest_rule (codes "out") 2, refl, refl)
 
 long_not_place : (verb : Verb) (name id : Word) (a : Rule) → arg_by_id (rules_of verb) name ≡ Some a → a.long ≡ Some name → IsPlace verb id → name ≢ id
 long_not_place verb name id a found long place same =
@@ -194,6 +217,9 @@ option_not_place verb name id option place = long_not_place verb name id (option
 pub flag_not_place : (verb : Verb) (name id : Word) → IsFlag verb name → IsPlace verb id → name ≢ id
 flag_not_place verb name id flag place = long_not_place verb name id (flag_rule name) (flag_found verb name flag).1 refl place
 
+pub in_not_out : codes "in" ≢ codes "out"
+in_not_out same = cc
+
 pub out_not_feed : codes "out" ≢ codes "feed"
 out_not_feed same = cc
 
@@ -203,6 +229,7 @@ places_map verb.Record words Has Gets turn has = (turn (codes "out") (take 1 wor
 places_map verb.Info words Has Gets turn has = turn (codes "file") words refl has
 places_map verb.Check words Has Gets turn has = turn (codes "file") words refl has
 places_map verb.Cat words Has Gets turn has = turn (codes "file") words refl has
+places_map verb.Recover words Has Gets turn has = (turn (codes "in") (take 1 words) (inl refl) has.0, turn (codes "out") (drop 1 words) (inr refl) has.1)
 
 -- ---- how many
 
@@ -215,6 +242,8 @@ room verb.Check zero fits = (codes "file", refl)
 room verb.Check (suc n) fits = absurd (omega (arith, fits))
 room verb.Cat zero fits = (codes "file", refl)
 room verb.Cat (suc n) fits = absurd (omega (arith, fits))
+room verb.Recover zero fits = (codes "in", refl)
+room verb.Recover (suc n) fits = (codes "out", refl)
 
 pub has_room : (verb : Verb) (n : ℕ) (id : Word) → place_for verb n ≡ Some id → HasRoom verb (suc n)
 has_room verb.Record n id is = tt
@@ -224,9 +253,11 @@ has_room verb.Check zero id is = omega arith
 has_room verb.Check (suc n) id is = cc
 has_room verb.Cat zero id is = omega arith
 has_room verb.Cat (suc n) id is = cc
+has_room verb.Recover n id is = tt
 
 pub room_less : (verb : Verb) (m n : ℕ) → m ≤ n → HasRoom verb n → HasRoom verb m
 room_less verb.Record m n less fits = tt
 room_less verb.Info m n less fits = omega (arith, less, fits)
 room_less verb.Check m n less fits = omega (arith, less, fits)
 room_less verb.Cat m n less fits = omega (arith, less, fits)
+room_less verb.Recover m n less fits = tt

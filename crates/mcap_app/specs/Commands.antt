@@ -8,7 +8,7 @@ use Rattle.mcap_model.specs.declared.options.FileOptions.{FileOptions}
 use Rattle.mcap_model.specs.declared.replay.Range.{Range}
 use Rattle.mcap_app.specs.Items.{Word, Item, IsCut, given, place_of}
 use Rattle.mcap_app.specs.declared.command.Command.{Command}
-use Rattle.mcap_app.specs.declared.command.Command.TheVariants.{Record, Info, Check, Cat}
+use Rattle.mcap_app.specs.declared.command.Command.TheVariants.{Record, Info, Check, Cat, Recover}
 use Rattle.mcap_app.specs.declared.verbs.Verb.{Verb}
 use Rattle.mcap_app.specs.declared.verbs.Verb.TheVariants as verb
 
@@ -17,6 +17,7 @@ name_of verb.Record = codes "record"
 name_of verb.Info = codes "info"
 name_of verb.Check = codes "check"
 name_of verb.Cat = codes "cat"
+name_of verb.Recover = codes "recover"
 
 -- the size of chunks where the words say none: 768 KiB
 abbrev pub usual_chunk_size : ℕ
@@ -120,18 +121,31 @@ pub record IsCat (words : List Word) (file : Word) (indexed : Bool) (range : Ran
   pub ranged : IsRange items range
   pub topical : given (codes "topic") items ≡ option_to_list topic
 
+-- recover, --chunk, IN and OUT
+pub record IsRecover (words : List Word) (input out : Word) (chunk : ℕ) : Type 0 where
+  pub items : List Item
+  pub reads : Reads verb.Recover words items (input ∷ out ∷ [])
+  pub in_named : input ≢ []
+  pub out_named : out ≢ []
+  pub differ : input ≢ out
+  pub size : Option ℕ
+  pub sized : GivesNumber 1 chunk_size_limit (given (codes "chunk") items) size
+  pub chunk_is : chunk ≡ unwrap_or size usual_chunk_size
+
 -- the words behind the command are those of this one
 abbrev pub Behind : List Word → Command → Type 0
 Behind words (Record out feeds file limit lossless) = IsRecord words out feeds file limit lossless
 Behind words (Info file) = IsOfFile verb.Info words file
 Behind words (Check file) = IsOfFile verb.Check words file
 Behind words (Cat file indexed range topic) = IsCat words file indexed range topic
+Behind words (Recover input out chunk) = IsRecover words input out chunk
 
 abbrev pub verb_of : Command → Verb
 verb_of (Record out feeds file limit lossless) = verb.Record
 verb_of (Info file) = verb.Info
 verb_of (Check file) = verb.Check
 verb_of (Cat file indexed range topic) = verb.Cat
+verb_of (Recover input out chunk) = verb.Recover
 
 -- the words are those of the command
 pub record Derives (words : List Word) (command : Command) : Type 0 where

@@ -23,6 +23,7 @@ IsFlag verb.Record name = (name ≡ codes "plain") ⊎ (name ≡ codes "lossless
 IsFlag verb.Info name = ⊥
 IsFlag verb.Check name = ⊥
 IsFlag verb.Cat name = name ≡ codes "indexed"
+IsFlag verb.Recover name = ⊥
 
 -- the names that take a value
 abbrev pub IsOption : Verb → Word → Type 0
@@ -30,6 +31,7 @@ IsOption verb.Record name = (name ≡ codes "limit") ⊎ ((name ≡ codes "chunk
 IsOption verb.Info name = ⊥
 IsOption verb.Check name = ⊥
 IsOption verb.Cat name = (name ≡ codes "start") ⊎ ((name ≡ codes "end") ⊎ (name ≡ codes "topic"))
+IsOption verb.Recover name = name ≡ codes "chunk"
 
 -- no `=` stands in the text
 abbrev pub IsBare : List ℕ → Type 0

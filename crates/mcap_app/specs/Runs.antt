@@ -1,5 +1,5 @@
 -- What the program does, command by command.
-use Rattle.std.specs.Prelude.{◌≡◌, ℕ, [], ◌∷◌, true, false, Option, None}
+use Rattle.std.specs.Prelude.{◌≡◌, ◌≤◌, ℕ, [], ◌∷◌, true, false, Option, None}
 use Rattle.mcap_app.specs.declared.command.Command.{Command}
 use Rattle.mcap_app.specs.declared.command.Command.TheVariants as commands
 use Rattle.recorder.specs.declared.report.Report.{Report}
@@ -11,6 +11,8 @@ use Rattle.file_commands.specs.Info.{Describes}
 use Rattle.file_commands.specs.Check.{FileChecks}
 use Rattle.file_commands.specs.Cat.{selection, Cats}
 use Rattle.file_commands.specs.Indexed.{IndexedCats}
+use Rattle.mcap_wire.specs.Limits.{chunk_size_limit}
+use Rattle.output_commands.specs.Recover.{RecoversFile}
 
 -- the numbers and texts of a recording are in their ranges
 abbrev pub IsAllowed : Command → Type 0
@@ -18,6 +20,7 @@ IsAllowed (commands.Record out feeds file limit lossless) = AreAllowed (record {
 IsAllowed (commands.Info file) = Unit {0}
 IsAllowed (commands.Check file) = Unit {0}
 IsAllowed (commands.Cat file indexed range topic) = Unit {0}
+IsAllowed (commands.Recover input out chunk) = (1 ≤ chunk) × (chunk ≤ chunk_size_limit)
 
 -- only a recording has a report
 abbrev pub Runs : Command → Scene → Scene → Option Report → ℕ → Type 0
@@ -26,6 +29,7 @@ Runs (commands.Info file) old new report status = Describes file old new status 
 Runs (commands.Check file) old new report status = FileChecks file old new status × (report ≡ None)
 Runs (commands.Cat file false range topic) old new report status = Cats (selection range topic) file old new status × (report ≡ None)
 Runs (commands.Cat file true range topic) old new report status = IndexedCats (selection range topic) file old new status × (report ≡ None)
+Runs (commands.Recover input out chunk) old new report status = RecoversFile chunk input out old new status × (report ≡ None)
 
 -- memory lacked for reading the words, and nothing else was done
 pub record LacksForWords (old new : Scene) (report : Option Report) (status : ℕ) : Type 0 where

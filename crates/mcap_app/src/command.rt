@@ -61,6 +61,12 @@ pub enum Command {
         range: Range,
         topic: Option<Text>,
     },
+    /// Write what a reading of the file `input` keeps to the file `out`, in chunks of `chunk` bytes of records.
+    Recover {
+        input: Text,
+        out: Text,
+        chunk: u64,
+    },
 }
 
 /// Why words give no command.

@@ -82,6 +82,15 @@ fn cat<'a>(alloc: Global) -> Result<Command<'a>, AllocError>
     with_place(command, alloc, "file")
 }
 
+// `recover`.
+fn recover<'a>(alloc: Global) -> Result<Command<'a>, AllocError>
+    ensures { IfOk result (IsMade (verb_app verb.Recover)) }
+{
+    let command = with_option(Ok(Command::new(alloc, "recover")), alloc, "chunk");
+    let command = with_place(command, alloc, "in");
+    with_rest(command, alloc, "out")
+}
+
 // The program without its commands, and without help or a version.
 fn bare_program<'a>(alloc: Global) -> Command<'a>
     ensures { IsMade bare_top result }
@@ -119,7 +128,7 @@ fn with_verb<'a>(
     }
 }
 
-/// The program with its four commands, without help or a version. That a positional is there is looked at where it is
+/// The program with its five commands, without help or a version. That a positional is there is looked at where it is
 /// read, as is what stands in it.
 pub fn program_command<'a>(alloc: Global) -> Result<Command<'a>, AllocError>
     ensures { IfOk result (IsMade program) }
@@ -127,5 +136,6 @@ pub fn program_command<'a>(alloc: Global) -> Result<Command<'a>, AllocError>
     let command = with_verb(Ok(bare_program(alloc)), record(alloc));
     let command = with_verb(command, of_file(alloc, "info"));
     let command = with_verb(command, of_file(alloc, "check"));
-    with_verb(command, cat(alloc))
+    let command = with_verb(command, cat(alloc));
+    with_verb(command, recover(alloc))
 }

@@ -15,9 +15,9 @@ use mcap_wire::Text;
 use std::alloc::Global;
 
 /// The bytes of records from which on a chunk is closed: the most, and those where the words don't say it.
-const LARGEST_CHUNK: u64 = 67_108_864;
+pub const LARGEST_CHUNK: u64 = 67_108_864;
 
-const USUAL_CHUNK: u64 = 786_432;
+pub const USUAL_CHUNK: u64 = 786_432;
 
 /// The most bytes of a profile.
 const LONGEST_PROFILE: usize = 65_535;

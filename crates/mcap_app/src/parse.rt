@@ -1,9 +1,9 @@
 //! All the words of a command line.
-ghost use Rattle.std.specs.Prelude.{◌≡◌, ◌≢◌, ◌↔◌, ℕ, List, [], Some, Bool, Option, IsTrue, codes, IfOk, IfErr, OnErr, option_map};
+ghost use Rattle.std.specs.Prelude.{◌≡◌, ◌≢◌, ◌↔◌, ℕ, List, [], ◌∷◌, Some, Bool, Option, IsTrue, MatchOption, codes, IfOk, IfErr, OnErr, option_map};
 ghost use Rattle.std.specs.List.{All};
 ghost use Rattle.clap.specs.Words.{subcommand_rows_of};
 ghost use Rattle.mcap_app.specs.Items.{Word, texts};
-ghost use Rattle.mcap_app.specs.Commands.{AreBad, Behind, Derives, IsCat, IsOnly, IsRecord, verb_of};
+ghost use Rattle.mcap_app.specs.Commands.{AreBad, Behind, Derives, IsCat, IsOnly, IsRecord, IsRecover, verb_of};
 ghost use Rattle.mcap_app.specs.Matches.{AreFeeds, AreRead, IsReading, rows_found, value_in, values_in};
 ghost use Rattle.mcap_app.specs.declared.command.Command.{Command as Wanted};
 ghost use Rattle.mcap_model.specs.declared.options.FileOptions.{FileOptions as Options};
@@ -11,7 +11,7 @@ ghost use Rattle.mcap_model.specs.declared.replay.Range.{Range as Times};
 
 use crate::command::{Command, FeedNames, WordsRefused};
 use crate::found::{BadValue, has_flag, is_dash, name_of_file, number_of, value_of, values_of};
-use crate::options::{copy_of, file_options, range_of};
+use crate::options::{LARGEST_CHUNK, USUAL_CHUNK, copy_of, file_options, range_of};
 use crate::read::{are_whole, plain_words, read_words};
 use crate::verbs::{Verb, named_verb};
 use clap::ArgMatches;
@@ -176,6 +176,44 @@ fn cat_of(alloc: Global, found: &ArgMatches) -> Result<Command, WordsRefused>
     }
 }
 
+// The one name of the output beside that input.
+fn only_output<'a>(found: &ArgMatches<'a>, input: &str) -> Option<&'a str>
+    ensures { MatchOption result ((out : Word) → out ≢ [] → input.now ≢ out → values_in found.now (codes "out") ≢ out ∷ []) (λ out. (out.now ≢ []) × (input.now ≢ out.now) × (values_in found.now (codes "out") ≡ out.now ∷ [])) }
+{
+    let Some(names) = values_of(found, "out") else {
+        return None;
+    };
+    if names.len() != 1 || !may_be_feed(input, names[0]) {
+        return None;
+    }
+    Some(names[0])
+}
+
+// What was found behind `recover`.
+fn recover_of(alloc: Global, found: &ArgMatches) -> Result<Command, WordsRefused>
+    ensures command { (words : List Word) → IsReading Verb.Recover words (rows_found found.now) → IfOk result (λ command. Behind words command × (verb_of command ≡ Verb.Recover)) }
+    ensures bad { (words : List Word) → IsReading Verb.Recover words (rows_found found.now) → IfErr result (λ refused. refused ≡ WordsRefused.BadWords → (input out : Word) (chunk : ℕ) → IsRecover words input out chunk → ⊥) }
+{
+    let Some(input) = name_of_file(found, "in") else {
+        return Err(WordsRefused::BadWords);
+    };
+    let Some(out) = only_output(found, input) else {
+        return Err(WordsRefused::BadWords);
+    };
+    let chunk = match number_of(found, "chunk", 1, LARGEST_CHUNK) {
+        Ok(chunk) => chunk.unwrap_or(USUAL_CHUNK),
+        Err(BadValue) => return Err(WordsRefused::BadWords),
+    };
+    let input = match copy_of(alloc, input) {
+        Ok(input) => input,
+        Err(refused) => return Err(refused),
+    };
+    match copy_of(alloc, out) {
+        Ok(out) => return Ok(Command::Recover { input, out, chunk }),
+        Err(refused) => return Err(refused),
+    }
+}
+
 // What was found behind the name of a command.
 fn command_of(alloc: Global, verb: Verb, found: &ArgMatches) -> Result<Command, WordsRefused>
     ensures command { (words : List Word) → IsReading verb words (rows_found found.now) → IfOk result (λ command. Behind words command × (verb_of command ≡ verb)) }
@@ -192,6 +230,7 @@ fn command_of(alloc: Global, verb: Verb, found: &ArgMatches) -> Result<Command, 
             Err(refused) => return Err(refused),
         },
         Verb::Cat => return cat_of(alloc, found),
+        Verb::Recover => return recover_of(alloc, found),
     }
 }
 
@@ -210,14 +249,14 @@ fn found_command(alloc: Global, found: &ArgMatches) -> Result<Command, WordsRefu
 }
 
 /// Reads the words behind the program's own name: `record [--plain] [--lossless] [--limit N] [--chunk N] [--profile T] OUT
-/// FEED...`, `info FILE`, `check FILE` or `cat [--indexed] [--start N] [--end N] [--topic T] FILE`.
+/// FEED...`, `info FILE`, `check FILE`, `cat [--indexed] [--start N] [--end N] [--topic T] FILE` or `recover [--chunk N] IN OUT`.
 ///
 /// Options and positionals stand in any order behind the command, and `--` ends the options. An option has its value
 /// behind `=` in the same word, or in the next word, which then doesn't begin with `-`; each stands at most once. A number
 /// has 1 to 20 decimal digits: N of `--limit` is a number of bytes from 1 to 1,073,741,824 (usually 104,857,600), that of
 /// `--chunk` from 1 to 67,108,864 (usually 786,432), and those of `--start` and `--end` are times below 2^64. A profile has
-/// at most 65,535 bytes. OUT, FEED and FILE aren't empty and no word is `-` alone; 1 to 64 FEEDs stand behind OUT, each
-/// other than OUT, two of which may be equal; `--plain` and `--chunk` exclude each other.
+/// at most 65,535 bytes. OUT, FEED, FILE and IN aren't empty and no word is `-` alone; 1 to 64 FEEDs stand behind OUT, each
+/// other than OUT, two of which may be equal, and IN is other than OUT; `--plain` and `--chunk` exclude each other.
 ///
 /// Where the words are no command the answer is BadWords, and where there is no memory for reading them it may be Memory.
 pub fn parse_words(alloc: Global, words: &[Text]) -> Result<Command, WordsRefused>

@@ -16,6 +16,7 @@ use command_base::{refuse_for_memory, refuse_words};
 use file_commands::{check_file, describe_file, print_file, print_indexed};
 use mcap_io::{Sink, World};
 use mcap_wire::Text;
+use output_commands::recover_file;
 use recorder::RecordOptions;
 use std::sync::Wait;
 use std::thread::Threads;
@@ -88,6 +89,14 @@ fn run_command<R: AllocGlobal + Threads + Wait + Sync, W: World, O: Sink, E: Sin
                 return unreported(print_indexed(alloc, name, range, topic, world, out, err));
             }
             return unreported(print_file(alloc, name, range, topic, world, out, err));
+        }
+        Command::Recover {
+            input,
+            out: name,
+            chunk,
+        } => {
+            let (input, name) = (input.as_str(), name.as_str());
+            return unreported(recover_file(alloc, chunk, input, name, world, out, err));
         }
     }
 }

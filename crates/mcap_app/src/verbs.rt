@@ -10,6 +10,7 @@ pub enum Verb {
     Info,
     Check,
     Cat,
+    Recover,
 }
 
 /// The command of this name.
@@ -27,6 +28,9 @@ pub fn named_verb(name: &str) -> Option<Verb>
     }
     if name == "cat" {
         return Some(Verb::Cat);
+    }
+    if name == "recover" {
+        return Some(Verb::Recover);
     }
     None
 }

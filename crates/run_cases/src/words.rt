@@ -83,6 +83,10 @@ fn said(alloc: Global, command: &Command) -> Result<String, AllocError> {
                 "cat {file} indexed={indexed} start={start} end={end:?} topic={topic:?}"
             )
         }
+        Command::Recover { input, out, chunk } => {
+            let (input, out) = (input.as_str(), out.as_str());
+            format!(in alloc; "recover {input} {out} chunk={chunk}")
+        }
     }
 }
 

@@ -1,4 +1,4 @@
--- The program has its four commands.
+-- The program has its five commands.
 use Rattle.std.proofs.Common.{codes}
 use Rattle.mcap_app.specs.CommandLine.{bare_top, file_app, verb_app}
 use Rattle.mcap_app.specs.declared.verbs.Verb.TheVariants as verb
@@ -9,4 +9,5 @@ returns c =
     let record_in = c.with_verb-command.ensures bare_top (verb_app verb.Record) c.bare_program.ensures c.record.ensures in
     let info_in = c.with_verb-command-2.ensures _ (file_app (codes "info")) record_in c.of_file.ensures in
     let check_in = c.with_verb-command-3.ensures _ (file_app (codes "check")) info_in c.of_file-2.ensures in
-    c.with_verb.ensures _ (verb_app verb.Cat) check_in c.cat.ensures
+    let cat_in = c.with_verb-command-4.ensures _ (verb_app verb.Cat) check_in c.cat.ensures in
+    c.with_verb.ensures _ (verb_app verb.Recover) cat_in c.recover.ensures

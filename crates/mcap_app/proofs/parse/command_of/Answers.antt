@@ -12,7 +12,7 @@ use Rattle.mcap_app.specs.declared.command.WordsRefused.{WordsRefused}
 use Rattle.mcap_app.specs.declared.command.WordsRefused.TheVariants.{BadWords}
 use Rattle.mcap_app.specs.declared.verbs.Verb.{Verb}
 use Rattle.mcap_app.specs.declared.verbs.Verb.TheVariants as verb
-use Rattle.mcap_app.proofs.CommandLemmas.{of_file_is, of_named_file, only_cat, only_check, only_info, only_record}
+use Rattle.mcap_app.proofs.CommandLemmas.{of_file_is, of_named_file, only_cat, only_check, only_info, only_record, only_recover}
 use Rattle.mcap_app.proofs.parse.command_of.Goals as goal
 
 -- what is promised of a verb
@@ -57,3 +57,10 @@ returns-in-Cat-clause-command c = subst (Gives (rows_found c.args.found.now) c.c
 pub returns-in-Cat-clause-bad : goal.returns-in-Cat-clause-bad
 returns-in-Cat-clause-bad c = subst (Refuses (rows_found c.args.found.now) c.cat_of.result) (sym c.in-Cat.is)
     (λ words reading. IfErr-weaker c.cat_of.result _ _ (λ refused bad why. only_cat words (bad why)) (c.cat_of.ensures.bad words reading))
+
+pub returns-in-Recover-clause-command : goal.returns-in-Recover-clause-command
+returns-in-Recover-clause-command c = subst (Gives (rows_found c.args.found.now) c.recover_of.result) (sym c.in-Recover.is) c.recover_of.ensures.command
+
+pub returns-in-Recover-clause-bad : goal.returns-in-Recover-clause-bad
+returns-in-Recover-clause-bad c = subst (Refuses (rows_found c.args.found.now) c.recover_of.result) (sym c.in-Recover.is)
+    (λ words reading. IfErr-weaker c.recover_of.result _ _ (λ refused bad why. only_recover words (bad why)) (c.recover_of.ensures.bad words reading))
