@@ -10,7 +10,8 @@ use Rattle.mcap_model.specs.File.{front, blocks_from, written_of}
 use Rattle.mcap_model.proofs.Standing.{count_blocks}
 use Rattle.mcap_model.proofs.OneMore.{zip_push}
 use Rattle.live_entry.specs.declared.entry.Entry.{Entry}
-use Rattle.chunk_writer.specs.Scribes.{SeenExtents, IsEntryOf, GivesEntry, Lists, KeepsOn, sure_blocks, GivesEntries}
+use Rattle.live_entry.specs.Entries.{SeenExtents, IsEntryOf}
+use Rattle.chunk_writer.specs.Scribes.{GivesEntry, Lists, KeepsOn, sure_blocks, GivesEntries}
 use Rattle.chunk_writer.proofs.Cuts.{cuts_more, one_more}
 use Rattle.chunk_writer.proofs.Noting.{blocks_append}
 

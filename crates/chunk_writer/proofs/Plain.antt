@@ -16,6 +16,7 @@ use Rattle.mcap_model.specs.declared.ends.Stop.TheVariants as stops
 use Rattle.mcap_model.specs.History.{history_bytes}
 use Rattle.mcap_model.specs.Blocks.{Piece, alone, Cuts, cuts, piece_bytes, pieces_bytes, block_in, blocks_in}
 use Rattle.mcap_model.specs.File.{front, written_of}
+use Rattle.live_entry.specs.Entries.{SeenExtents}
 use Rattle.chunk_writer.specs.declared.body.Body.{Body}
 use Rattle.chunk_writer.specs.declared.phase.Phase.TheVariants as phases
 use Rattle.chunk_writer.specs.declared.next.Next.TheVariants as nexts
@@ -25,7 +26,7 @@ use Rattle.chunk_writer.specs.Planning.{Planning}
 use Rattle.chunk_writer.specs.Plans.{Plans, counted_on, StoppedBefore}
 use Rattle.chunk_writer.specs.Stops.{Cause, Added, refusal}
 use Rattle.chunk_writer.specs.Buffered.{framed_each}
-use Rattle.chunk_writer.specs.Scribes.{ScribeStands, KeepsOn, SeenExtents, GivesEntries, PutsFront, sure_blocks}
+use Rattle.chunk_writer.specs.Scribes.{ScribeStands, KeepsOn, GivesEntries, PutsFront, sure_blocks}
 use Rattle.mcap_io.proofs.Calls.{adds-adds}
 use Rattle.record_cache.proofs.Apart.{framed_bytes}
 use Rattle.chunk_writer.proofs.Cuts.{cuts_more}

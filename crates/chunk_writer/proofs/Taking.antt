@@ -18,13 +18,14 @@ use Rattle.record_cache.specs.Buffers.{IsKept}
 use Rattle.record_cache.specs.Offers.{StartsAt, RecordAt}
 use Rattle.record_cache.proofs.Kept.{there, kept_at}
 use Rattle.live_entry.specs.declared.entry.Entry.{Entry}
+use Rattle.live_entry.specs.Entries.{SeenExtents}
 use Rattle.chunk_writer.specs.declared.phase.Phase.TheVariants as phases
 use Rattle.chunk_writer.specs.declared.scribe.Scribe.{Scribe}
 use Rattle.chunk_writer.specs.Limits.{Holds}
 use Rattle.chunk_writer.specs.Planning.{Planning}
 use Rattle.chunk_writer.specs.Plans.{StoppedBefore}
 use Rattle.chunk_writer.specs.Stops.{StopsBehind}
-use Rattle.chunk_writer.specs.Scribes.{ScribeStands, Writes, Grows, OfEach, KeepsOn, SeenExtents, ListsEntry, GivesEntries, PutsFront, grows_on}
+use Rattle.chunk_writer.specs.Scribes.{ScribeStands, Writes, Grows, OfEach, KeepsOn, ListsEntry, GivesEntries, PutsFront, grows_on}
 use Rattle.chunk_writer.proofs.Entries.{seen_later, no_entries, entries_more}
 use Rattle.chunk_writer.proofs.Writing.{going_apart, add_refused, holding, plans_begun, stands_stopped}
 use Rattle.chunk_writer.proofs.Stopping.{put_lacks}

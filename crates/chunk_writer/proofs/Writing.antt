@@ -14,6 +14,7 @@ use Rattle.mcap_model.specs.Tops.{Top, top_bytes, spelled}
 use Rattle.mcap_model.specs.File.{front, data_end, section, noted, tail_by, written_of, file_of}
 use Rattle.mcap_model.specs.Pieces.{back_of}
 use Rattle.live_entry.specs.declared.entry.Entry.{Entry}
+use Rattle.live_entry.specs.Entries.{SeenExtents, IsEntryOf, TellsPiece}
 use Rattle.chunk_writer.specs.declared.phase.Phase.{Phase}
 use Rattle.chunk_writer.specs.declared.phase.Phase.TheVariants as phases
 use Rattle.chunk_writer.specs.declared.next.Next.{Next}
@@ -22,8 +23,8 @@ use Rattle.chunk_writer.specs.Limits.{Holds}
 use Rattle.chunk_writer.specs.Bodies.{Closes}
 use Rattle.chunk_writer.specs.Planning.{Planning}
 use Rattle.chunk_writer.specs.Plans.{Plans, IsPlanned, IsNext, PutStopped, HoldsBlock, HoldsNext, StoppedBefore, IsFilled, IsLast, LastStopped, ExtraStopped, BackStopped}
-use Rattle.chunk_writer.specs.Stops.{StopsAt, StopsBehind, Added, TellsPiece}
-use Rattle.chunk_writer.specs.Scribes.{ScribeStands, AreWaiting, SeenExtents, IsEntryOf, IsEntryWith, AddsLast, Fills, Ends, GivesEntry, GivesLast}
+use Rattle.chunk_writer.specs.Stops.{StopsAt, StopsBehind, Added}
+use Rattle.chunk_writer.specs.Scribes.{ScribeStands, AreWaiting, IsEntryWith, AddsLast, Fills, Ends, GivesEntry, GivesLast}
 use Rattle.chunk_writer.proofs.Cuts.{bytes_behind}
 use Rattle.chunk_writer.proofs.Planned.{whole_none, whole_some}
 use Rattle.chunk_writer.proofs.Stopping.{Holding, Wholly, extra_refused, extra_append_refused, put_refused, append_refused, last_refused, last_append_refused, back_refused, back_append_refused}

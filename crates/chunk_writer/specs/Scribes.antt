@@ -7,14 +7,14 @@ use Rattle.mcap_io.specs.Outside.{LiveState, Adds}
 use Rattle.mcap_model.specs.declared.options.FileOptions.{FileOptions}
 use Rattle.mcap_model.specs.declared.block.Block.{Block}
 use Rattle.mcap_model.specs.declared.ends.Stop.{Stop}
-use Rattle.mcap_model.specs.Blocks.{block, cuts, pieces_of, pieces_bytes, last_piece, blocks_in, block_bytes, chunk_bytes, least, greatest, log_times, logged}
-use Rattle.mcap_model.specs.Built.{declarations}
+use Rattle.mcap_model.specs.Blocks.{block, cuts, pieces_of, pieces_bytes, last_piece, blocks_in}
 use Rattle.mcap_model.specs.Places.{Each}
 use Rattle.mcap_model.specs.Tops.{Top, top_bytes}
 use Rattle.mcap_model.specs.Laws.{IsExtra}
 use Rattle.mcap_model.specs.File.{front, section, blocks_from, written_of, file_of}
 use Rattle.chunk_build.specs.Chunker.{AreFramed}
 use Rattle.live_entry.specs.declared.entry.Entry.{Entry}
+use Rattle.live_entry.specs.Entries.{SeenExtents, IsEntryOf}
 use Rattle.chunk_writer.specs.declared.phase.Phase.{Phase}
 use Rattle.chunk_writer.specs.declared.phase.Phase.TheVariants as phases
 use Rattle.chunk_writer.specs.declared.scribe.Scribe.{Scribe}
@@ -22,7 +22,7 @@ use Rattle.chunk_writer.specs.declared.tape.Written.{Written}
 use Rattle.chunk_writer.specs.Planning.{Planning}
 use Rattle.chunk_writer.specs.Bodies.{Closes}
 use Rattle.chunk_writer.specs.Plans.{Plans, IsWhole, IsFilled}
-use Rattle.chunk_writer.specs.Stops.{StopsAt, StopsBehind, TellsPiece}
+use Rattle.chunk_writer.specs.Stops.{StopsAt, StopsBehind}
 
 -- The plan of a scribe, whose store held the first bytes when it was opened and holds the second now, stands for a history.
 -- While it goes on, all pieces that are sure stand behind the first bytes. Where it stopped, it stopped at a piece of each
@@ -94,30 +94,6 @@ abbrev pub KeepsOn : Option (List ℕ) → Option (List ℕ) → Type 0
 KeepsOn old new = (before : List ℕ) → old ≡ Some before → (more : List ℕ) × (new ≡ Some (before ++ more))
 
 -- ---- entries
-
--- an entry has the numbers of the block of these records, which stands at that offset
-pub record IsEntry {X : Type 0} (e : Entry X) (offset : ℕ) (records : List Rec) : Type 0 where
-  pub offset_is : e.offset ≡ offset
-  pub chunk : e.chunk_length ≡ length (chunk_bytes records)
-  pub start : e.start_time ≡ least (log_times records)
-  pub end : e.end_time ≡ greatest (log_times records)
-  pub counted : e.messages ≡ length (logged records)
-  pub declaring : e.declared ≡ length (declarations records)
-
--- what is seen of the extents of a store, their bytes and their size, and what the store held before a call
-pub record SeenExtents (X : Type 0) : Type 0 where
-  pub tells : X → Option (List ℕ)
-  pub size : X → ℕ
-  pub held : Option (List ℕ)
-
-abbrev pub seen_before : {X : Type 0} → (X → Option (List ℕ)) → (X → ℕ) → LiveState → SeenExtents X
-seen_before tells size store = record { tells = tells; size = size; held = store.held }
-
--- its extent is as long as the block, and tells the block's bytes where the store told what it held, and nothing else
-pub record IsEntryOf {X : Type 0} (seen : SeenExtents X) (e : Entry X) (offset : ℕ) (records : List Rec) : Type 0 where
-  pub numbers : IsEntry e offset records
-  pub long : seen.size e.extent ≡ length (block_bytes records)
-  pub told : TellsPiece (seen.tells e.extent) seen.held (block_bytes records)
 
 -- which entry a put record gives: that of the block that it closes, if it does so
 abbrev pub GivesEntry : {X : Type 0} → SeenExtents X → FileOptions → List Rec → Rec → Option (Entry X) → Type 0

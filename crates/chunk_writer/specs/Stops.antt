@@ -12,6 +12,7 @@ use Rattle.mcap_model.specs.Tops.{Top}
 use Rattle.mcap_model.specs.Blocks.{pieces_of, blocks_in}
 use Rattle.mcap_model.specs.File.{front}
 use Rattle.mcap_model.specs.Pieces.{file_pieces, pieces_before, StoppedAt}
+use Rattle.live_entry.specs.Entries.{TellsPiece}
 use Rattle.chunk_writer.specs.Limits.{StopWhy}
 
 -- how many blocks stand among the first pieces of a file; the front is the first of them
@@ -44,11 +45,6 @@ StopCause before now stops.Memory = now ≡ before
 abbrev pub Cause : {X : Type 0} → ℕ → ℕ → Result X Stop → Type 0
 Cause before now (Ok it) = now ≡ before
 Cause before now (Err stop) = StopCause before now stop
-
--- What an extent tells is the piece, where its store told what it held before; and where it tells, that is all that it tells.
-pub record TellsPiece (told held : Option (List ℕ)) (piece : List ℕ) : Type 0 where
-  pub there : (before : List ℕ) → held ≡ Some before → told ≡ Some piece
-  pub only : (bytes : List ℕ) → told ≡ Some bytes → bytes ≡ piece
 
 -- What an append did to a store: the piece stands there, in its extent; or it was refused, and the store took some first
 -- bytes of it where it failed, and none where memory lacked.

@@ -25,8 +25,8 @@ use Rattle.mcap_model.proofs.Section.{PieceIsSound, piece_spelled, written_chunk
 use Rattle.mcap_laws.proofs.BlockIndexes.{indexes_are}
 use Rattle.mcap_laws.proofs.StatisticsRight.{count_messages}
 use Rattle.live_entry.specs.declared.entry.Entry.{Entry}
+use Rattle.live_entry.specs.Entries.{IsEntry}
 use Rattle.live_entry.specs.Following.{Stretch, HasMessage, HasIndex, IsStretch, HasNumbers}
-use Rattle.chunk_writer.specs.Scribes.{IsEntry}
 
 abbrev pub stretch_of : List Rec → Stretch
 stretch_of records = record { chunk = chunk_top records; indexes = map (index_top records) (logged_channels records) }

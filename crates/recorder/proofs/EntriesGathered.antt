@@ -8,7 +8,8 @@ use Rattle.mcap_model.specs.File.{front, blocks_from, written_of}
 use Rattle.mcap_model.proofs.OneMore.{zip_push}
 use Rattle.mcap_model.proofs.ShownMessages.{zip_joined}
 use Rattle.live_entry.specs.declared.entry.Entry.{Entry}
-use Rattle.chunk_writer.specs.Scribes.{SeenExtents, IsEntryOf, sure_blocks}
+use Rattle.live_entry.specs.Entries.{SeenExtents, IsEntryOf}
+use Rattle.chunk_writer.specs.Scribes.{sure_blocks}
 use Rattle.chunk_writer.proofs.Noting.{blocks_append}
 use Rattle.recorder.specs.Entries.{IsEntryThere, seen_at, EntriesAreGathered}
 

@@ -13,8 +13,9 @@ use Rattle.mcap_model.specs.Blocks.{Piece, block_bytes, pieces_of, pieces_bytes}
 use Rattle.mcap_model.specs.File.{front, blocks_from}
 use Rattle.record_cache.specs.Buffers.{IsKept}
 use Rattle.live_entry.specs.declared.entry.Entry.{Entry}
+use Rattle.live_entry.specs.Entries.{SeenExtents, IsEntry}
 use Rattle.live_entry.specs.Following.{Stored, Stretch, Follow, ScanStored, IsStored, EntriesFollow}
-use Rattle.chunk_writer.specs.Scribes.{SeenExtents, IsEntry, sure_blocks, GivesEntries, GivesLast}
+use Rattle.chunk_writer.specs.Scribes.{sure_blocks, GivesEntries, GivesLast}
 use Rattle.recorder.specs.Laws.{AreReadable}
 
 -- an entry has the numbers of the block of these records, which stands at that offset, and where its extent tells, it

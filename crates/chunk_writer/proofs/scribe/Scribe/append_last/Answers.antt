@@ -1,6 +1,6 @@
 -- The last block was appended, or refused.
 use Rattle.live_entry.specs.declared.entry.Entry.{Entry}
-use Rattle.chunk_writer.specs.Scribes.{seen_before}
+use Rattle.live_entry.specs.Entries.{seen_before}
 use Rattle.chunk_writer.proofs.Stopping.{added_err}
 use Rattle.chunk_writer.proofs.Writing.{adds_last, last_entry, block_last_refused, last_stopped}
 use Rattle.chunk_writer.proofs.scribe.Scribe.append_last.Goals as goal

@@ -1,8 +1,8 @@
 -- A buffer was put, whole or up to the record that was refused.
 use Rattle.std.proofs.Common.{ℕ, refl, subst, arith}
 use Rattle.record_cache.proofs.Walking.{next_there}
+use Rattle.live_entry.specs.Entries.{seen_before}
 use Rattle.chunk_writer.specs.Stops.{StopCause}
-use Rattle.chunk_writer.specs.Scribes.{seen_before}
 use Rattle.chunk_writer.proofs.Taking.{begun, step, starts, some_left, framed_there, all_grows, all_front, front_stopped, stopped_grows, keeps_more}
 use Rattle.chunk_writer.proofs.scribe.Scribe.put_each.Goals as goal
 

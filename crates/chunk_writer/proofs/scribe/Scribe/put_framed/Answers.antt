@@ -2,7 +2,7 @@
 use Rattle.std.proofs.Common.{arith, ap}
 use Rattle.std.proofs.lemmas.Grind.{common_steps}
 use Rattle.live_entry.specs.declared.entry.Entry.{Entry}
-use Rattle.chunk_writer.specs.Scribes.{seen_before}
+use Rattle.live_entry.specs.Entries.{seen_before}
 use Rattle.chunk_writer.proofs.Stopping.{added_err}
 use Rattle.chunk_writer.proofs.Through.{stopped_through, plain_through}
 use Rattle.chunk_writer.proofs.Writing.{put_block, block_entry, put_record, block_refused, record_refused, add_refused, waits_same, put_waits}
