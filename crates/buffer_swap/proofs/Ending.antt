@@ -23,9 +23,9 @@ found_so d p stood = (finds d p p.reasons stood, refl)
 -- ---- swaps
 
 swaps : (d : DeskView) (missed : ℕ) (p : PassState) (post : Post) (result : Result Buffer Empty) (after : DeskView) → Stood d p → length post.taken ≡ d.taken
-    → SwapAnswered d result after → OnOk result (Numbered (post.taken ++ d.primary))
+    → ((stop : Stop) → post.stop ≡ Some stop → end_of d ≡ Some (Stopped stop)) → SwapAnswered d result after → OnOk result (Numbered (post.taken ++ d.primary))
     → let v = hands_if (sees d missed p post) result in SwapsTo p post (frees v v.pass).pass (frees v v.pass).post result
-swaps d missed p post (Ok full) after stood drained is numbered =
+swaps d missed p post (Ok full) after stood drained halted is numbered =
     let limit = stood.fits.limit in
     let records : full.records ≡ d.primary = ap (λ (b : Buffer). b.records) is.0 in (
       found_of d,
@@ -35,8 +35,9 @@ swaps d missed p post (Ok full) after stood drained is numbered =
       ap (λ (l : List Rec). drain_post post.stop (post.taken ++ l)) (sym records),
       omega (arith, drained, length-append post.taken d.primary),
       numbered,
+      halted,
     )
-swaps d missed p post (Err empty) after stood drained is numbered =
+swaps d missed p post (Err empty) after stood drained halted is numbered =
     let limit = stood.fits.limit in
     let none : length d.primary ≡ 0 = ap length is.0 in (
       found_of d,
@@ -46,6 +47,7 @@ swaps d missed p post (Err empty) after stood drained is numbered =
       omega (arith, is.3, drained, none),
       is.2,
       refl,
+      halted,
     )
 
 pub swapped_answer : (m n behind : Sat) (result : Result Buffer Empty) → Took m n → m.0.post.seated ≡ true → m.0.post.drains ≡ true
@@ -53,7 +55,7 @@ pub swapped_answer : (m n behind : Sat) (result : Result Buffer Empty) → Took 
 swapped_answer m n behind result took seated drains swapped =
     let it = subst (λ (x : Sat). SwappedInTurn x result behind) took.is swapped in
     subst (λ (x : Sat). SwapsTo m.0.pass m.0.post x.0.pass x.0.post result) (sym it.is)
-    (swaps took.d took.missed m.0.pass m.0.post result it.after (took.stood seated) (took.drained drains) it.answered it.numbered)
+    (swaps took.d took.missed m.0.pass m.0.post result it.after (took.stood seated) (took.drained drains) took.halted it.answered it.numbered)
 
 -- ---- ends
 

@@ -4,6 +4,7 @@ use Rattle.std.proofs.lemmas.List.{take-append-le}
 use Rattle.std.proofs.lemmas.Option.{none-some}
 use Rattle.rec_data.specs.declared.owned.Rec.{Rec}
 use Rattle.mcap_model.specs.declared.ends.End.{End}
+use Rattle.mcap_model.specs.declared.ends.End.TheVariants.{Stopped}
 use Rattle.mcap_model.specs.declared.ends.Stop.{Stop}
 use Rattle.mcap_model.proofs.Places.{at_none, at_kept}
 use Rattle.record_core.specs.Ids.{schemas_in, channels_in}
@@ -136,6 +137,7 @@ note_later history d after p go note = record {
   taken = note.taken;
   told = λ f is. found_later d after f go (note.told f is);
   cause = note.cause;
+  stood = λ stop is. go.later.end (Stopped stop) (note.stood stop is);
 }
 
 pub note_grown : (history records : List Rec) (d : DeskView) (p : Post) → d.end ≡ None → NoteFits history d p → NoteFits (history ++ records) (added d records) p
@@ -143,14 +145,16 @@ note_grown history records d p unended note = record {
   taken = front_grown p.taken history records note.taken;
   told = λ f is. found_later d (added d records) f (later_added d records unended) (note.told f is);
   cause = note.cause;
+  stood = note.stood;
 }
 
 -- a post that tells nothing
-pub note_none : (history : List Rec) (d : DeskView) (p : Post) → p.taken ≡ [] → p.told ≡ None → NoteFits history d p
-note_none history d p none untold = record {
+pub note_none : (history : List Rec) (d : DeskView) (p : Post) → p.taken ≡ [] → p.told ≡ None → p.stop ≡ None → NoteFits history d p
+note_none history d p none untold unset = record {
   taken = subst (λ (l : List Rec). IsFront l history) (sym none) (front_none history);
   told = λ f is. absurd (none-some _ (sym untold ∙ is));
   cause = λ f stop is end. absurd (none-some _ (sym untold ∙ is));
+  stood = λ stop is. absurd (none-some _ (sym unset ∙ is));
 }
 
 -- ---- views of seats that don't hold the turn

@@ -125,6 +125,7 @@ takes_free n id m idle t k wide me _ = let tries : TriesTurn (step n 0 0 1 none)
             is = ap (λ (l : List (ℕ × DeskView)). (w, (0, d) ∷ l)) idle.out;
             stood = λ e. record { s = k.s; stands = k.world.stands; last = k.world.last; fits = f.pass e };
             drained = λ e. (f.drains e).0;
+            halted = f.note.stood;
           },
           refl,
         )),
@@ -296,7 +297,9 @@ counts_records n id v records holds may named t k wide me _ = let hand = v.hand 
             controls = k.world.controls;
             unstarted = λ e. (ap (λ (z : DeskView). z.taken) is ∙ (k.world.unstarted e).0, (k.world.unstarted e).1);
             closed = λ e. absurd (none_unended hand unended Closed e);
+            shut = λ e. ap end_of is ∙ k.world.shut e;
             halted = λ stop e. absurd (none_unended hand unended (Stopped stop) e);
+            stood = λ stop e. ap end_of is ∙ k.world.stood stop e;
           }
           record {
             hand = λ _. refl;
@@ -362,7 +365,9 @@ hands_primary n id v holds shape t k wide me _ = let hand = v.hand in let d = sw
             controls = k.world.controls;
             unstarted = λ e. absurd (omega (arith, ap one_if e, mine, term_le is_drain t.views id v me, k.drains));
             closed = λ e. k.world.closed (ap end_of (sym is) ∙ e);
+            shut = λ e. ap end_of is ∙ k.world.shut e;
             halted = λ stop e. k.world.halted stop (ap end_of (sym is) ∙ e);
+            stood = λ stop e. ap end_of is ∙ k.world.stood stop e;
           }
           record {
             hand = λ _. refl;
@@ -372,6 +377,7 @@ hands_primary n id v holds shape t k wide me _ = let hand = v.hand in let d = sw
               taken = record { within = omega (arith, ap length whole); same = whole ∙ sym (take_all (length (v.post.taken ++ hand.primary)) history (omega (arith, ap length whole))) };
               told = λ g e. absurd (none-some _ e);
               cause = λ g stop e. absurd (none-some _ e);
+              stood = λ stop e. ap end_of is ∙ f.note.stood stop e;
             };
             drains = λ _. (ap length whole ∙ sym p.count, (f.drains drains).1);
             idle = λ _. f.idle none_made;
@@ -401,6 +407,9 @@ same_place end e count at is = ap (λ (x : End × ℕ). x.1) (same_Some (placed_
 ended_last : (d : DeskView) (end : End) → d.end ≡ None → EndIsLast (ended d end)
 ended_last d end unended e at is = same_place end e (accepted d) at (sym (end_is d end unended) ∙ is)
 
+end_is_found : (d : DeskView) (end : End) → d.end ≡ None → end_of (ended d end) ≡ Some end
+end_is_found d end unended = ap first_of (end_is d end unended)
+
 end_of_is : (d : DeskView) (end e : End) → d.end ≡ None → end_of (ended d end) ≡ Some e → end ≡ e
 end_of_is d end e unended is = same_Some end e (ap first_of (sym (end_is d end unended)) ∙ is)
 
@@ -428,13 +437,15 @@ closes_log n id v holds unended controls quiet t k wide me _ = let hand = v.hand
             controls = k.world.controls;
             unstarted = λ e. (ap (λ (z : DeskView). z.taken) is ∙ (k.world.unstarted e).0, (k.world.unstarted e).1);
             closed = λ _. refl;
+            shut = λ _. end_is_found hand Closed unended;
             halted = λ stop e. closed_stopped stop (end_of_is hand Closed (Stopped stop) unended e);
+            stood = λ stop e. absurd (none_unended hand unended (Stopped stop) (ap end_of is ∙ k.world.stood stop e));
           }
           record {
             hand = λ _. refl;
             pass = λ e. pass_later history hand d v.pass go (subst (λ (z : DeskView). PassFits history z v.pass) (sym is) (f.pass e));
             known = λ j x at. pass_later history hand d x.pass go (subst (λ (z : DeskView). PassFits history z x.pass) (sym is) (f.known j x at));
-            note = note_later history hand d (shuts v.post) go (subst (λ (z : DeskView). NoteFits history z (shuts v.post)) (sym is) (record { taken = f.note.taken; told = f.note.told; cause = f.note.cause }));
+            note = note_later history hand d (shuts v.post) go (subst (λ (z : DeskView). NoteFits history z (shuts v.post)) (sym is) (record { taken = f.note.taken; told = f.note.told; cause = f.note.cause; stood = f.note.stood }));
             drains = λ e. no (sym quiet ∙ e);
             idle = f.idle;
           }
@@ -463,7 +474,9 @@ stops_log n id v stop holds unended shape t k wide me _ = let hand = v.hand in l
     let mine : is_drain v ≡ 1 = ap one_if drains in
     let not_first : id ≢ 0 = λ z. true≢false (sym (k.world.controls) ∙ ap (λ (x : Post). x.controls) (sym (heads t k id v me z)) ∙ kind) in
     let go = later_ended hand (Stopped stop) unended in
-    let set_to : stop_in d.end ≡ Some stop = ap stop_in (end_is hand (Stopped stop) unended) in (
+    let set_to : stop_in d.end ≡ Some stop = ap stop_in (end_is hand (Stopped stop) unended) in
+    let stops_so : (other : Stop) → Some stop ≡ Some other → end_of d ≡ Some (Stopped other) =
+    λ other e. end_is_found hand (Stopped stop) unended ∙ ap (λ (x : Stop). Some (Stopped x)) (same_Some stop other e) in (
       w,
       keeps,
       tt,
@@ -474,13 +487,15 @@ stops_log n id v stop holds unended shape t k wide me _ = let hand = v.hand in l
             controls = k.world.controls;
             unstarted = λ e. absurd (omega (arith, ap one_if e, mine, term_le is_drain t.views id v me, k.drains));
             closed = λ e. closed_stopped stop (sym (end_of_is hand (Stopped stop) Closed unended e));
+            shut = λ e. absurd (none_unended hand unended Closed (ap end_of is ∙ k.world.shut e));
             halted = λ other e. ap Some (stopped_same stop other (end_of_is hand (Stopped stop) (Stopped other) unended e));
+            stood = stops_so;
           }
           record {
             hand = λ _. refl;
             pass = λ _. pass_later history hand d v.pass go (subst (λ (z : DeskView). PassFits history z v.pass) (sym is) (f.pass seated));
             known = λ j x at. absurd (at_none j x at);
-            note = record { taken = f.note.taken; told = λ g e. absurd (none-some _ e); cause = λ g other e. absurd (none-some _ e) };
+            note = record { taken = f.note.taken; told = λ g e. absurd (none-some _ e); cause = λ g other e. absurd (none-some _ e); stood = λ other e. stops_so other (sym set_to ∙ e) };
             drains = λ _. ((f.drains drains).0 ∙ ap (λ (z : DeskView). z.taken) (sym is), set_to);
             idle = λ _. f.idle none_made;
           }
@@ -523,13 +538,13 @@ split t k id v w r head me holds idle world mine new here there controls not_con
 }
 
 -- what a seat says that has done nothing
-fits_new : (history : List Rec) (d : DeskView) (halt : Option Stop) (limit : ℕ) (p : Post) → (p.seated ≡ true → limit ≡ d.limit) → p.known ≡ [] → p.taken ≡ [] → p.told ≡ None
+fits_new : (history : List Rec) (d : DeskView) (halt : Option Stop) (limit : ℕ) (p : Post) → (p.seated ≡ true → limit ≡ d.limit) → p.known ≡ [] → p.taken ≡ [] → p.told ≡ None → p.stop ≡ None
     → (p.drains ≡ true → (d.taken ≡ 0) × (p.stop ≡ halt)) → Fits history d halt (newcomer limit p)
-fits_new history d halt limit p limited unknown untaken untold drains = record {
+fits_new history d halt limit p limited unknown untaken untold unset drains = record {
   hand = λ e. no e;
   pass = λ e. fits_none history d limit (limited e);
   known = subst (Each (λ (g : Gathered). PassFits history d g.pass)) (sym unknown) (λ n x at. absurd (at_none n x at));
-  note = note_none history d p untaken untold;
+  note = note_none history d p untaken untold unset;
   drains = λ e. (omega (arith, ap length untaken, (drains e).0), (drains e).1);
   idle = λ _. refl;
 }
@@ -545,6 +560,7 @@ fits_post history d halt v p seated known quiet publishing taken told stop f = r
     taken = subst (λ (l : List Rec). IsFront l history) (sym taken) f.note.taken;
     told = λ g is. f.note.told g (sym told ∙ is);
     cause = λ g other is end. stop ∙ f.note.cause g other (sym told ∙ is) end;
+    stood = λ other is. f.note.stood other (sym stop ∙ is);
   };
   drains = λ e. no (sym quiet ∙ e);
   idle = λ z. f.idle (sym publishing ∙ z);
@@ -555,9 +571,9 @@ pub hires_seat : (id : ℕ) (v : View) → v.post.controls ≡ true → v.post.d
 hires_seat id v controls quiet seated t k me = let z = k.controls id v me controls in let mine = heads t k id v me z in let f = k.each id v me in let w = hires v in
     let head : Post = record k.head { made = k.head.made + 1 } in
     split t k id v w (hired v) head me refl refl
-    record { stands = k.world.stands; last = k.world.last; controls = k.world.controls; unstarted = k.world.unstarted; closed = k.world.closed; halted = k.world.halted }
+    record { stands = k.world.stands; last = k.world.last; controls = k.world.controls; unstarted = k.world.unstarted; closed = k.world.closed; shut = k.world.shut; halted = k.world.halted; stood = k.world.stood }
     (fits_post k.s.history k.d k.halt v w.post seated refl quiet refl refl refl refl f)
-    (fits_new k.s.history k.d k.halt v.pass.limit (publisher_post v.post.made) (λ _. (f.pass seated).limit) refl refl refl (λ e. no e))
+    (fits_new k.s.history k.d k.halt v.pass.limit (publisher_post v.post.made) (λ _. (f.pass seated).limit) refl refl refl refl (λ e. no e))
     (λ _. ap (λ (p : Post). record p { made = p.made + 1 }) mine) (λ nz. absurd (nz z)) (λ _. z) refl
     (λ h. omega (arith, ap (λ (p : Post). h p.made) mine, below-more h k.head.made)) (omega arith) (λ h. refl) (λ h. refl)
 
@@ -570,9 +586,9 @@ starts_drain id v controls quiet seated fresh_one t k me = let z = k.controls id
     let before = k.world.unstarted unstarted in
     let head : Post = record k.head { started = true } in
     split t k id v w (drainer v) head me refl refl
-    record { stands = k.world.stands; last = k.world.last; controls = k.world.controls; unstarted = λ e. absurd (true≢false e); closed = k.world.closed; halted = k.world.halted }
+    record { stands = k.world.stands; last = k.world.last; controls = k.world.controls; unstarted = λ e. absurd (true≢false e); closed = k.world.closed; shut = k.world.shut; halted = k.world.halted; stood = k.world.stood }
     (fits_post k.s.history k.d k.halt v w.post seated refl quiet refl refl refl refl f)
-    (fits_new k.s.history k.d k.halt v.pass.limit (drain_post None []) (λ _. (f.pass seated).limit) refl refl refl (λ _. (before.0, sym before.1)))
+    (fits_new k.s.history k.d k.halt v.pass.limit (drain_post None []) (λ _. (f.pass seated).limit) refl refl refl refl (λ _. (before.0, sym before.1)))
     (λ _. ap (λ (p : Post). record p { started = true }) mine) (λ nz. absurd (nz z)) (λ _. z) refl
     (λ h. omega arith) (omega arith) (λ h. refl) (λ h. refl)
 
@@ -590,6 +606,7 @@ notes_drain id v shape t k me = let f = k.each id v me in
         taken = f.note.taken;
         told = λ g is. (f.pass seated).found g is;
         cause = λ g stop is end. (f.drains drains).1 ∙ k.world.halted stop (((f.pass seated).found g is).later.end (Stopped stop) end);
+        stood = f.note.stood;
       };
       drains = λ e. no e;
       idle = λ _. refl;
@@ -612,7 +629,7 @@ joined t k id v other u w head me apart them z holds idle world mine here made d
       world = world;
       wired = k.wired;
       holders = omega (arith, both has_turn, ap one_if holds, has_not u idle, k.holders);
-      each = λ j x e. ⊎_elim (λ y. subst (Fits k.s.history k.d k.halt) y.1 (fits_new k.s.history k.d k.halt 0 no_post (λ e'. no e') refl refl refl (λ e'. no e')))
+      each = λ j x e. ⊎_elim (λ y. subst (Fits k.s.history k.d k.halt) y.1 (fits_new k.s.history k.d k.halt 0 no_post (λ e'. no e') refl refl refl refl (λ e'. no e')))
           (λ y. ⊎_elim (λ q. subst (Fits k.s.history k.d k.halt) q.1 mine) (λ q. k.each j x q.1) (at_set t.views id j w x y.1)) (at_set vs other j nobody x e);
       first = (w, set_else vs other 0 nobody (λ e. apart (sym e ∙ sym z)) ∙ (ap (λ (i : ℕ). get_elem? vs i) (sym z) ∙ set_at t.views id v w me), here);
       controls = λ j x e c. ⊎_elim (λ (y : (j ≡ other) × (nobody ≡ x)). no (ap (λ (q : View). q.post.controls) y.1 ∙ c))
@@ -631,12 +648,12 @@ gathers_seat id v other u number controls quiet seated idle shape t k me apart t
     let shown : PassFits k.s.history k.d u.pass = g.pass (ap (λ (p : Post). p.seated) shape) in
     let head : Post = record k.head { known = k.head.known ++ gathered u ∷ [] } in
     joined t k id v other u w head me apart them z refl idle
-    record { stands = k.world.stands; last = k.world.last; controls = k.world.controls; unstarted = k.world.unstarted; closed = k.world.closed; halted = k.world.halted }
+    record { stands = k.world.stands; last = k.world.last; controls = k.world.controls; unstarted = k.world.unstarted; closed = k.world.closed; shut = k.world.shut; halted = k.world.halted; stood = k.world.stood }
     record {
       hand = f.hand;
       pass = f.pass;
       known = each_last (λ (g : Gathered). PassFits k.s.history k.d g.pass) v.post.known (gathered u) f.known shown;
-      note = record { taken = f.note.taken; told = f.note.told; cause = f.note.cause };
+      note = record { taken = f.note.taken; told = f.note.told; cause = f.note.cause; stood = f.note.stood };
       drains = λ e. no (sym quiet ∙ e);
       idle = f.idle;
     }
@@ -650,12 +667,12 @@ reads_note id v other u controls quiet seated shape t k me apart them = let z = 
     let there : get_elem? t.views other ≡ some u = sym (set_else t.views id other w apart) ∙ them in let g = k.each other u there in
     let head : Post = record k.head { stop = u.post.stop; taken = u.post.taken; told = u.post.told } in
     joined t k id v other u w head me apart them z refl (ap (λ (x : View). x.holds) shape)
-    record { stands = k.world.stands; last = k.world.last; controls = k.world.controls; unstarted = k.world.unstarted; closed = k.world.closed; halted = k.world.halted }
+    record { stands = k.world.stands; last = k.world.last; controls = k.world.controls; unstarted = k.world.unstarted; closed = k.world.closed; shut = k.world.shut; halted = k.world.halted; stood = k.world.stood }
     record {
       hand = f.hand;
       pass = f.pass;
       known = f.known;
-      note = record { taken = g.note.taken; told = g.note.told; cause = g.note.cause };
+      note = record { taken = g.note.taken; told = g.note.told; cause = g.note.cause; stood = g.note.stood };
       drains = λ e. no (sym quiet ∙ e);
       idle = f.idle;
     }
@@ -757,6 +774,8 @@ meets n id m t k wide me _ = let v = m.0 in let f = k.each id v me in (
           shown = λ j x at. subst (λ (l : List Rec). ShownTo l end x.pass) (sym whole) (shown_to k.s k.d end x.pass k.world.stands stood (f.known j x at));
           closes = λ is. ap (λ (x : Post). x.closed) mine ∙ k.world.closed (stood ∙ ap Some is);
           stops = λ stop is. f.note.cause all.found stop all.told (all.ended ∙ ap Some is);
+          closed_is = λ is. same_Some end Closed (sym stood ∙ k.world.shut (ap (λ (x : Post). x.closed) (sym mine) ∙ is));
+          stop_is = λ stop is. same_Some end (Stopped stop) (sym stood ∙ f.note.stood stop is);
         },
   ),
 )
@@ -778,11 +797,13 @@ opens limit = let d = new_desk limit in let v = newcomer limit first_post in rec
     controls = refl;
     unstarted = λ _. (refl, refl);
     closed = λ e. absurd (none-some _ e);
+    shut = λ e. no e;
     halted = λ stop e. absurd (none-some _ e);
+    stood = λ stop e. absurd (none-some _ e);
   };
   wired = record { wide = refl; homes_one = refl; turn = omega arith; free = λ _. refl; out = λ e. absurd (omega arith) };
   holders = refl;
-  each = λ j u e. ⊎_elim (λ (x : get_elem? [] j ≡ some u). absurd (some-ne-none u (sym x))) (λ (x : v ≡ u). subst (Fits [] d None) x (fits_new [] d None limit first_post (λ _. refl) refl refl refl (λ e'. no e'))) (at_snoc [] v u j e);
+  each = λ j u e. ⊎_elim (λ (x : get_elem? [] j ≡ some u). absurd (some-ne-none u (sym x))) (λ (x : v ≡ u). subst (Fits [] d None) x (fits_new [] d None limit first_post (λ _. refl) refl refl refl refl (λ e'. no e'))) (at_snoc [] v u j e);
   first = (v, refl, refl);
   controls = λ j u e _. at_zero v j u e;
   made = λ h. refl;

@@ -155,12 +155,14 @@ FoundSo before after found = Finds before found × (after ≡ with_found before 
 
 -- The buffer that was taken isn't empty, and what was taken grows by its records: that is all that was accepted then, and is
 -- numbered. Nothing was taken exactly where the intake was found with no more records than were taken; then the empty buffer
--- comes back.
+-- comes back. Behind the drain's stop, the end that is found is that stop.
 abbrev pub SwapsTo : PassState → Post → PassState → Post → Result Buffer Empty → Type 0
 SwapsTo before post after now (Ok full) = (found : Found) × FoundSo before after found × (full.limit ≡ before.limit) × (full.records ≡ [] → ⊥)
     × (now ≡ drain_post post.stop (post.taken ++ full.records)) × (found.count ≡ length now.taken) × Numbered now.taken
+    × ((stop : Stop) → post.stop ≡ Some stop → found.end ≡ Some (Stopped stop))
 SwapsTo before post after now (Err empty) = (found : Found) × FoundSo before after found × (empty.cache ≡ record { limit = before.limit; records = [] })
     × (found.count ≡ length post.taken) × (empty.at ≡ length post.taken) × (empty.end ≡ found.end) × (now ≡ post)
+    × ((stop : Stop) → post.stop ≡ Some stop → found.end ≡ Some (Stopped stop))
 
 -- the end was set where none was found, and its place is that of all records that were found
 abbrev pub stopped_at : Option End → Stop → Post → Post

@@ -8,7 +8,7 @@ use Rattle.mcap_model.specs.declared.ends.End.TheVariants.{Closed, Stopped}
 use Rattle.mcap_model.specs.declared.ends.Stop.{Stop}
 use Rattle.mcap_model.specs.Places.{Each}
 use Rattle.mcap_model.specs.History.{Numbered}
-use Rattle.record_core.specs.Desk.{DeskView, new_desk, accepted, added, found_of, EndIsLast}
+use Rattle.record_core.specs.Desk.{DeskView, new_desk, accepted, added, end_of, found_of, EndIsLast}
 use Rattle.record_core.specs.Machine.{State, accept}
 use Rattle.record_core.specs.Stands.{DeskStandsFor}
 use Rattle.record_core.specs.declared.answers.DeclareRefused.{DeclareRefused}
@@ -82,6 +82,7 @@ pub record Took (m n : Sat) : Type 0 where
   pub is : n ≡ taking m.0 missed d
   pub stood : m.0.post.seated ≡ true → Stood d m.0.pass
   pub drained : m.0.post.drains ≡ true → length m.0.post.taken ≡ d.taken
+  pub halted : (stop : Stop) → m.0.post.stop ≡ Some stop → end_of d ≡ Some (Stopped stop)
 
 -- the turn was another's
 abbrev pub missing : View → View
@@ -230,7 +231,7 @@ AreAll known made = (h : ℕ → ℕ) → total (λ (g : Gathered). h g.number) 
 
 -- What a control, which has made so many publishers, knows and what a drain took are one history, which came to this end: what
 -- each publisher showed is so of the records that were taken, their places with their records are those of the publishers,
--- each once, and the end is that of the control or of the drain.
+-- each once, and the end is that of the control or of the drain: that of whichever set one.
 pub record Met (made : ℕ) (known : List Gathered) (closed : Bool) (stop : Option Stop) (taken : List Rec) (end : End) : Type 0 where
   pub publishers : AreAll known made
   pub numbered : Numbered taken
@@ -238,6 +239,8 @@ pub record Met (made : ℕ) (known : List Gathered) (closed : Bool) (stop : Opti
   pub shown : Each (λ g. ShownTo taken end g.pass) known
   pub closes : end ≡ Closed → closed ≡ true
   pub stops : (s : Stop) → end ≡ Stopped s → stop ≡ Some s
+  pub closed_is : closed ≡ true → end ≡ Closed
+  pub stop_is : (s : Stop) → stop ≡ Some s → end ≡ Stopped s
 
 abbrev pub met : Told
 met st m r n = (n ≡ m) × ((end : End) → IsMet m.0 end → Met m.0.post.made m.0.post.known m.0.post.closed m.0.post.stop m.0.post.taken end)

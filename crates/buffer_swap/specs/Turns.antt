@@ -69,11 +69,12 @@ pub record IsFront (taken history : List Rec) : Type 0 where
   pub same : taken ≡ take (length taken) history
 
 -- What a drain or a note tells: the records that were taken are the first of the history; an end that the drain found stands,
--- and where that is a stop, the drain set it.
+-- and where that is a stop, the drain set it; a stop that the drain set is the desk's end.
 pub record NoteFits (history : List Rec) (d : DeskView) (p : Post) : Type 0 where
   pub taken : IsFront p.taken history
   pub told : (f : Found) → p.told ≡ Some f → FoundFits d f
   pub cause : (f : Found) (stop : Stop) → p.told ≡ Some f → f.end ≡ Some (Stopped stop) → p.stop ≡ Some stop
+  pub stood : (stop : Stop) → p.stop ≡ Some stop → end_of d ≡ Some (Stopped stop)
 
 -- What a view says of the history and of the desk. The last stop that the drain set is handed in.
 pub record Fits (history : List Rec) (d : DeskView) (halt : Option Stop) (v : View) : Type 0 where
@@ -86,15 +87,17 @@ pub record Fits (history : List Rec) (d : DeskView) (halt : Option Stop) (v : Vi
 
 -- ---- the rule
 
--- The desk stands for a state of the machine; it is closed only where the control closed it, and stopped only where the drain
--- stopped it.
+-- The desk stands for a state of the machine; it is closed exactly where the control closed it, and stopped exactly where the
+-- drain stopped it.
 pub record World (s : State) (d : DeskView) (head : Post) (halt : Option Stop) : Type 0 where
   pub stands : DeskStandsFor d s
   pub last : EndIsLast d
   pub controls : head.controls ≡ true
   pub unstarted : head.started ≡ false → (d.taken ≡ 0) × (halt ≡ None)
   pub closed : end_of d ≡ Some Closed → head.closed ≡ true
+  pub shut : head.closed ≡ true → end_of d ≡ Some Closed
   pub halted : (stop : Stop) → end_of d ≡ Some (Stopped stop) → halt ≡ Some stop
+  pub stood : (stop : Stop) → halt ≡ Some stop → end_of d ≡ Some (Stopped stop)
 
 -- the words and the slot of a table: where no seat holds the turn, the desk is at home
 pub record Wired (words : List ℕ) (homes : List (mathlib.Core.Option.Option DeskView)) (d : DeskView) : Type 0 where

@@ -6,7 +6,7 @@ use Rattle.recorder.proofs.unopened.stop.Goals as goal
 
 pub returns-then-is_some-clause-over : goal.returns-then-is_some-clause-over
 returns-then-is_some-clause-over g c =
-    let (found, so, cache, count, at, end, same) = c.in-Err.ensures.swapped in
+    let (found, so, cache, count, at, end, same, stood) = c.in-Err.ensures.swapped in
     let (last, is) = end_there c.in-Err.empty.end (sym c.is_some.ensures ∙ c.if-is_some.true) in (
       last,
       record {

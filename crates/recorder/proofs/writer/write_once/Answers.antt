@@ -16,7 +16,7 @@ returns-in-Err-clause-writes g c =
 
 pub returns-in-Err-clause-over : goal.returns-in-Err-clause-over
 returns-in-Err-clause-over g c =
-    let (found, so, cache, count, at, end, same) = c.in-Err.ensures.swapped in
+    let (found, so, cache, count, at, end, same, stood) = c.in-Err.ensures.swapped in
     if_some c.over_at-over.result _ _ c.over_at-over.ensures (λ n ended. (
       ended.0 ∙ at ∙ ap (λ (p : Post). length p.taken) (sym same),
       ended.1,
