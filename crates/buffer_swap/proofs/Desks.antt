@@ -26,7 +26,7 @@ use Rattle.feed_lane.specs.Pass.{full_at}
 use Rattle.buffer_swap.specs.Shown.{ChannelStands, HeldThere, FoundThere}
 use Rattle.buffer_swap.specs.Plays.{MayCount, NamedAt, LacksAt}
 use Rattle.buffer_swap.proofs.Reasons.{publish_reason, declare_reason}
-use Rattle.buffer_swap.proofs.Numbers.{message_spares, declared_spares, declared_stands, declared_id, lacks_schema, lacks_channel}
+use Rattle.buffer_swap.proofs.Numbers.{message_spares, declared_spares, declared_stands, declared_id, lacks_schema, lacks_channel, schema_left}
 
 -- ---- a desk and its state
 
@@ -215,7 +215,8 @@ pub lacks_channels : (d after : DeskView) (c : ChannelDef) → DeclaredBy d c (E
 lacks_channels d after c is table s stands =
     let why = declare_reason d c (Some declaring.TooManyChannels) is.0 in
     let few : length d.ids.channels ≤ 65535 = subst (λ (x : DeskView). length x.ids.channels ≤ 65535) is.1 table.few_channels in
-    lacks_channel d.ids s.history c (parts d s stands).contents stands.numbered few why.2 why.1
+    let has = (parts d s stands).contents in
+    (lacks_channel d.ids s.history c has stands.numbered few why.2 why.1, schema_left d.ids s.history c.schema has stands.numbered why.3)
 
 -- ---- a desk that is swapped or ended
 

@@ -119,6 +119,11 @@ lacks_channel_on history more d spares lacks =
       }),
     )
 
+lacked_schema : (history more : List Rec) (schema : Option SchemaDef) → schemas_in more ≡ [] → LacksSchema (history ++ more) schema → LacksSchema history schema
+lacked_schema history more None none lacks = lacks
+lacked_schema history more (Some s) none lacks =
+    (sym (same_schemas history more none) ∙ lacks.0, λ id has. lacks.1 id (has_kept history more (schema_of id (fields_of_schema s)) has))
+
 pub lacks_on : (history more : List Rec) (d : ChannelDef) (refusal : DeclareRefused) → Spares history more → IdsLack history d refusal → IdsLack (history ++ more) d refusal
 lacks_on history more d (declaring.TooLarge len) spares lacks = lacks
 lacks_on history more d (declaring.Closed at) spares lacks = lacks
@@ -126,7 +131,8 @@ lacks_on history more d (declaring.Stopped at stop) spares lacks = lacks
 lacks_on history more d (declaring.TooManyRecords count) spares lacks = lacks
 lacks_on history more d (declaring.Full held) spares lacks = lacks
 lacks_on history more d declaring.TooManySchemas spares lacks = lacks_schema_on history more d.schema spares lacks
-lacks_on history more d declaring.TooManyChannels spares lacks = lacks_channel_on history more d spares lacks
+lacks_on history more d declaring.TooManyChannels spares lacks =
+    (lacks_channel_on history more d spares lacks.0, λ there. lacks.1 (lacked_schema history more d.schema (spares.channels lacks.0.0).0 there))
 lacks_on history more d declaring.Memory spares lacks = lacks
 
 -- ---- full buffers

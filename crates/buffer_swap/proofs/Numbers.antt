@@ -227,6 +227,17 @@ schemas_left given new_ones is some = by (nat_lt 0 new_ones) (nat_le 65535 given
     by true false first second both = grind arith
     by true true first second both = absurd cc
 
+-- a schema that needs no new id, or for which one is left, doesn't lack one
+schema_left_by : (ids : Ids) (history : List Rec) (s : SchemaDef) (place : Option ℕ) → HasContents ids history → Numbered history → schema_place ids s ≡ place
+    → (nat_lt 0 (length (new_schema_at place (length ids.schemas) s)) && nat_le 65535 (length ids.schemas)) ≡ false → LacksSchema history (Some s) → ⊥
+schema_left_by ids history s (Some k) has numbered is left lacks = lacks.1 (k + 1) (schema_found ids history s k has numbered is)
+schema_left_by ids history s None has numbered is left lacks =
+    absurd (omega (arith, schemas_left (length ids.schemas) 1 left (omega arith), lacks.0, schemas_counted history, ap length has.schemas))
+
+pub schema_left : (ids : Ids) (history : List Rec) (schema : Option SchemaDef) → HasContents ids history → Numbered history → schemas_lack ids schema ≡ false → LacksSchema history schema → ⊥
+schema_left ids history None has numbered left lacks = lacks
+schema_left ids history (Some s) has numbered left lacks = schema_left_by ids history s (schema_place ids s) has numbered refl left lacks
+
 -- the id of a content that is known, or the next one
 gets_by : (d : DeskView) (c : ChannelDef) (before : PassState) (place : Option ℕ) → channel_place d.ids c ≡ place → before.limit ≡ d.limit → MayHave d c place
     → GetsId before (found_of d) (id_at place (length d.ids.channels)) (new_at place d.ids c)

@@ -36,7 +36,7 @@ LacksSchema history (Some s) = (schema_count history ≡ id_limit) × ((id : ℕ
 abbrev pub LacksChannel : List Rec → ChannelDef → Type 0
 LacksChannel history d = (channel_count history ≡ id_limit) × ((id : ℕ) → ChannelStands history id d → ⊥)
 
--- why a declaration got no id
+-- Why a declaration got no id: where ids of both lacked, that is told of schemas.
 abbrev pub IdsLack : List Rec → ChannelDef → DeclareRefused → Type 0
 IdsLack history d (declaring.TooLarge len) = ⊥
 IdsLack history d (declaring.Closed at) = ⊥
@@ -44,7 +44,7 @@ IdsLack history d (declaring.Stopped at stop) = ⊥
 IdsLack history d (declaring.TooManyRecords count) = ⊥
 IdsLack history d (declaring.Full held) = ⊥
 IdsLack history d declaring.TooManySchemas = LacksSchema history d.schema
-IdsLack history d declaring.TooManyChannels = LacksChannel history d
+IdsLack history d declaring.TooManyChannels = LacksChannel history d × (LacksSchema history d.schema → ⊥)
 IdsLack history d declaring.Memory = ⊥
 
 -- records that take no id where all are given
