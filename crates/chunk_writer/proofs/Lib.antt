@@ -8,4 +8,5 @@ pub mod Through
 pub mod Taking
 pub mod Uncut
 pub mod Plain
+pub mod Fronts
 mod Gathered

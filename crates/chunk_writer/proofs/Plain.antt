@@ -1,8 +1,9 @@
 -- A buffer's records, which stand at top level, are appended in one call.
-use Rattle.std.proofs.Common.{◌≡◌, ℕ, ◌+◌, ◌≤◌, List, [], ◌∷◌, ◌++◌, length, map, take, Option, Some, None, Ok, Err, refl, sym, ap, subst, ◌∙◌, append_assoc, append-nil, length-append, arith}
+use Rattle.std.proofs.Common.{◌≡◌, ℕ, ◌+◌, ◌<◌, ◌≤◌, List, [], ◌∷◌, ◌++◌, length, map, take, Option, Some, None, Ok, Err, refl, sym, ap, subst, ◌∙◌, append_assoc, append-nil, length-append, arith}
 use Rattle.std.specs.List.{concat}
 use Rattle.std.proofs.lemmas.List.{take_all}
 use Rattle.std.proofs.lemmas.Grind.{flat_map-append}
+use Rattle.mcap_wire.specs.Limits.{file_limit}
 use Rattle.rec_data.specs.declared.owned.Rec.{Rec}
 use Rattle.rec_data.specs.Owned.{rec_bytes}
 use Rattle.mcap_io.specs.declared.outside.AppendRefused.{AppendRefused}
@@ -25,7 +26,7 @@ use Rattle.chunk_writer.specs.Bodies.{BodyFor}
 use Rattle.chunk_writer.specs.Planning.{Planning}
 use Rattle.chunk_writer.specs.Plans.{Plans, counted_on, StoppedBefore}
 use Rattle.chunk_writer.specs.Stops.{Cause, Added, refusal}
-use Rattle.chunk_writer.specs.Buffered.{framed_each}
+use Rattle.chunk_writer.specs.Buffered.{framed_each, RefusedAt}
 use Rattle.chunk_writer.specs.Scribes.{ScribeStands, KeepsOn, GivesEntries, PutsFront, sure_blocks}
 use Rattle.mcap_io.proofs.Calls.{adds-adds}
 use Rattle.record_cache.proofs.Apart.{framed_bytes}
@@ -36,17 +37,6 @@ use Rattle.chunk_writer.proofs.Entries.{same_from}
 use Rattle.chunk_writer.proofs.Planned.{has_none, plans_record}
 use Rattle.chunk_writer.proofs.Taking.{stopped_on, keeps_more}
 use Rattle.chunk_writer.proofs.Writing.{stands_going, record_refused}
-
--- Records that stand at top level were appended up to one that was refused, which begins at that offset of their bytes.
-pub record RefusedAt (old now : Option (List ℕ)) (records : List Rec) (at : ℕ) (stop : Stop) : Type 0 where
-  pub before : List Rec
-  pub rec : Rec
-  pub behind : List Rec
-  pub cut : records ≡ before ++ rec ∷ behind
-  pub place : at ≡ length (history_bytes before)
-  pub between : Option (List ℕ)
-  pub front : Adds old between (history_bytes before)
-  pub added : Added between now (rec_bytes rec) (Err stop)
 
 -- ---- the pieces of records that stand at top level
 
@@ -104,6 +94,16 @@ whole_put options opened held now history records p after len is going same long
     subst (λ (q : Planning). ScribeStands options opened now (history ++ records) q) (sym same)
     (stands_going options opened now (history ++ records) (counted_on p len) going (whole_plans options history records p len is long plans)
     (subst (λ (l : List ℕ). Adds opened now l) (sym (plain_written options history records none)) (adds-adds opened held now (written_of options history) (history_bytes records) first adds)))
+
+-- they would pass what a file may hold
+pub past_limit : (options : FileOptions) (history records : List Rec) (p after : Planning) → options.chunk ≡ None → Plans options history p → Plans options (history ++ records) after
+    → file_limit < p.bytes + length (history_bytes records) → Holds after.blocks after.bytes → ⊥
+past_limit options history records p after none before behind past holds =
+    let all = ap (λ (l : List ℕ). length l) (plain_written options history records none) in
+    let old = before.bytes in
+    let new = behind.bytes in
+    let small = holds.small in
+    omega (arith, all, old, new, small, past, length-append (written_of options history) (history_bytes records))
 
 -- ---- no entries
 

@@ -121,7 +121,7 @@ pub starts : (records : List Rec) (at count : ℕ) → count ≤ length records 
 starts records at count within place less = (count, some_left records at count within place less, place)
 
 -- where none are left, all records were put
-all_put : (records : List Rec) (at count : ℕ) → count ≤ length records → at ≡ length (history_bytes (take count records)) → (at < length (history_bytes records) → ⊥) → count ≡ length records
+pub all_put : (records : List Rec) (at count : ℕ) → count ≤ length records → at ≡ length (history_bytes (take count records)) → (at < length (history_bytes records) → ⊥) → count ≡ length records
 all_put records at count within place none = elim (below_or_all count (length records)) [
   | inl below ↦
       let found = there records count below in

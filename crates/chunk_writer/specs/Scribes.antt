@@ -89,6 +89,13 @@ pub blocks_through : {L : Type 0} (seen : L → LiveState) (before after : Scrib
     → OfEach seen before (λ options history. IsSome options.chunk → (seen (store_of after)).waiting ≡ 0)
 blocks_through seen before after records grows going options extras opened history writes = (grows options extras opened history writes).2 going
 
+-- A buffer's records were put: those of a file in chunks, or of a file without chunks where there are some, leave nothing
+-- waiting in the store; and nothing waits there where nothing did.
+pub record GoesThrough (options : FileOptions) (records : List Rec) (before now : ℕ) : Type 0 where
+  pub chunked : IsSome options.chunk → now ≡ 0
+  pub some : (records ≡ [] → ⊥) → now ≡ 0
+  pub still : before ≡ 0 → now ≡ 0
+
 -- a store keeps what it told, whatever it takes behind it
 abbrev pub KeepsOn : Option (List ℕ) → Option (List ℕ) → Type 0
 KeepsOn old new = (before : List ℕ) → old ≡ Some before → (more : List ℕ) × (new ≡ Some (before ++ more))

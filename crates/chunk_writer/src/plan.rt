@@ -1,5 +1,5 @@
 //! The plan of a file: which piece is to be appended next, and how many blocks and bytes there are with it.
-ghost use Rattle.std.specs.Prelude.{◌≡◌, ◌<◌, ◌≤◌, ◌+◌, ◌^◌, ℕ, List, Option, [], ◌∷◌, ◌++◌, length, drop, true, Some, None, IfOk, IfErr, OnOk, OnErr};
+ghost use Rattle.std.specs.Prelude.{◌≡◌, ◌<◌, ◌≤◌, ◌+◌, ◌^◌, ℕ, List, Option, [], ◌∷◌, ◌++◌, length, drop, true, false, Some, None, IfOk, IfErr, OnOk, OnErr};
 ghost use Rattle.mcap_wire.specs.Limits.{block_limit, chunk_size_limit, file_limit};
 ghost use Rattle.rec_data.specs.declared.owned.Rec.{Rec};
 ghost use Rattle.chunk_build.specs.Chunker.{AreFramed};
@@ -255,7 +255,8 @@ impl Plan {
 
     /// Whether records stand at top level, and a file may hold so many bytes of them more.
     pub(crate) fn has_room_for(&self, len: u64) -> bool
-        ensures { result ≡ true → (self.now.body ≡ None) × (self.now.bytes + len ≤ file_limit) }
+        ensures room { result ≡ true → (self.now.body ≡ None) × (self.now.bytes + len ≤ file_limit) }
+        ensures none { result ≡ false → self.now.body ≡ None → file_limit < self.now.bytes + len }
     {
         match &self.body {
             Some(_) => return false,

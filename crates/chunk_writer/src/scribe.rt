@@ -20,9 +20,9 @@ ghost use Rattle.chunk_writer.specs.declared.phase.Phase.TheVariants as phases;
 ghost use Rattle.chunk_writer.specs.Limits.{Holds};
 ghost use Rattle.chunk_writer.specs.Plans.{Plans, StoppedBefore};
 ghost use Rattle.chunk_writer.specs.Stops.{StopsAt, StopsBehind, Cause, StopCause, Appends, Added, refusal};
-ghost use Rattle.chunk_writer.specs.Scribes.{ScribeStands, Writes, Grows, Gathers, Fills, OfEach, KeepsOn, store_of, phase_of, blocks_of, bytes_of, GivesEntry, GivesLast, ListsEntry, PutsFront, Ends, EndsFile, CountsLast, CountsBytes, IsEntryWith, AddsLast};
+ghost use Rattle.chunk_writer.specs.Scribes.{ScribeStands, Writes, Grows, Gathers, Fills, OfEach, KeepsOn, store_of, phase_of, blocks_of, bytes_of, GivesEntry, GivesLast, ListsEntry, PutsFront, GoesThrough, Ends, EndsFile, CountsLast, CountsBytes, IsEntryWith, AddsLast};
 
-use crate::buffered::Buffered;
+use crate::buffered::append_records;
 use crate::extras::Extras;
 use crate::next::Next;
 use crate::phase::Phase;
@@ -49,7 +49,7 @@ pub struct Scribe<L> {
 }
 
 // Why an append was refused.
-fn refused<L: LiveStore>(store: &L, why: AppendRefused) -> Stop
+pub(crate) fn refused<L: LiveStore>(store: &L, why: AppendRefused) -> Stop
     ensures { result ≡ refusal (L.state store.now).faults why }
 {
     match why {
@@ -63,7 +63,7 @@ fn refused<L: LiveStore>(store: &L, why: AppendRefused) -> Stop
 }
 
 // Appends a piece.
-fn append<L: LiveStore>(store: &mut L, piece: &[u8]) -> Result<L::Extent, Stop>
+pub(crate) fn append<L: LiveStore>(store: &mut L, piece: &[u8]) -> Result<L::Extent, Stop>
     ensures appends { Appends (λ e. L.Extent.tells e) (λ e. L.Extent.size e) (L.state store.old) (L.state store.new) piece.now result }
     ensures cause { Cause (L.state store.old).faults (L.state store.new).faults result }
 {
@@ -74,7 +74,7 @@ fn append<L: LiveStore>(store: &mut L, piece: &[u8]) -> Result<L::Extent, Stop>
 }
 
 // Appends a piece, after which all that was appended is with the system.
-fn append_through<L: LiveStore>(store: &mut L, piece: &[u8]) -> Result<L::Extent, Stop>
+pub(crate) fn append_through<L: LiveStore>(store: &mut L, piece: &[u8]) -> Result<L::Extent, Stop>
     ensures appends { Appends (λ e. L.Extent.tells e) (λ e. L.Extent.size e) (L.state store.old) (L.state store.new) piece.now result }
     ensures through { OnOk result ((L.state store.new).waiting ≡ 0) }
     ensures cause { Cause (L.state store.old).faults (L.state store.new).faults result }
@@ -265,7 +265,8 @@ impl<L: LiveStore> Scribe<L> {
     }
 
     /// Puts the buffer's records, in their order, each once, and gives the entries of the blocks that are appended. Where that is
-    /// refused the records behind are dropped. The buffer comes back without records.
+    /// refused the records behind are dropped. The buffer comes back without records. What this appends is with the system then,
+    /// whether there are chunks or not.
     pub fn take(&mut self, full: Cache) -> Taken<L::Extent>
         requires unended { phase_of self.old ≡ phases.Ended → ⊥ }
         ensures grows { Grows L.state self.old self.new full.records }
@@ -275,7 +276,7 @@ impl<L: LiveStore> Scribe<L> {
         ensures cleared { result.cache ≡ record { limit = full.limit; records = [] } }
         ensures goes_on { OnOk result.end ((phase_of self.old ≡ phases.Going) × (phase_of self.new ≡ phases.Going)) }
         ensures within { Holds (blocks_of self.new) (bytes_of self.new) }
-        ensures through { OnOk result.end (OfEach L.state self.old (λ options history. IsSome options.chunk → (L.state (store_of self.new)).waiting ≡ 0)) }
+        ensures through { OnOk result.end (OfEach L.state self.old (λ options history. GoesThrough options full.records (L.state (store_of self.old)).waiting (L.state (store_of self.new)).waiting)) }
         ensures stopped { IfErr result.end (λ stop. phase_of self.new ≡ phases.Stopped stop) }
         ensures kept { (stop : Stop) → phase_of self.old ≡ phases.Stopped stop → (result.end ≡ Err stop) × (result.entries.items ≡ []) × (self.new ≡ self.old) }
         ensures cause { phase_of self.old ≡ phases.Going → Cause (L.state (store_of self.old)).faults (L.state (store_of self.new)).faults result.end }
@@ -312,6 +313,7 @@ impl<L: LiveStore> Scribe<L> {
         ensures keeps { KeepsOn (L.state (store_of self.old)).held (L.state (store_of self.new)).held }
         ensures goes_on { OnOk result (phase_of self.new ≡ phases.Going) }
         ensures within { OnOk result (Holds (blocks_of self.new) (bytes_of self.new)) }
+        ensures through { OnOk result (OfEach L.state self.old (λ options history. GoesThrough options full.now.records (L.state (store_of self.old)).waiting (L.state (store_of self.new)).waiting)) }
         ensures stopped { IfErr result (λ stop. phase_of self.new ≡ phases.Stopped stop) }
         ensures cause { Cause (L.state (store_of self.old)).faults (L.state (store_of self.new)).faults result }
     {
@@ -321,7 +323,8 @@ impl<L: LiveStore> Scribe<L> {
         self.put_each(full, entries)
     }
 
-    // Puts the records of a buffer, which stand at top level, where a file may hold them all. The store appends each.
+    // Puts the records of a buffer, which stand at top level, where a file may hold them all. The store appends each, and none
+    // of them waits in it.
     fn put_plain(&mut self, full: &Cache) -> Result<(), Stop>
         requires going { phase_of self.old ≡ phases.Going }
         requires plain { self.old.plan.body ≡ None }
@@ -332,19 +335,19 @@ impl<L: LiveStore> Scribe<L> {
         ensures keeps { KeepsOn (L.state (store_of self.old)).held (L.state (store_of self.new)).held }
         ensures goes_on { OnOk result (phase_of self.new ≡ phases.Going) }
         ensures within { OnOk result (Holds (blocks_of self.new) (bytes_of self.new)) }
+        ensures through { OnOk result (OfEach L.state self.old (λ options history. GoesThrough options full.now.records (L.state (store_of self.old)).waiting (L.state (store_of self.new)).waiting)) }
         ensures stopped { IfErr result (λ stop. phase_of self.new ≡ phases.Stopped stop) }
         ensures cause { Cause (L.state (store_of self.old)).faults (L.state (store_of self.new)).faults result }
     {
         let blocks = self.plan.blocks();
         let bytes = self.plan.bytes();
-        match self.store.append_each(&Buffered { full }) {
+        match append_records(&mut self.store, full) {
             Ok(()) => {
                 self.plan.count(full.held());
                 return Ok(());
             }
-            Err(refusal) => {
-                let stop = refused(&self.store, refusal.why);
-                self.plan.stop(stop, blocks, bytes + refusal.whole);
+            Err((at, stop)) => {
+                self.plan.stop(stop, blocks, bytes + at);
                 return Err(stop);
             }
         }

@@ -1,6 +1,5 @@
 use Rattle.std.proofs.Common.{[], length, Some, refl, sym, ap, ◌∙◌, append-nil, arith}
 use Rattle.std.proofs.lemmas.Result.{on_ok_weaker}
-use Rattle.chunk_writer.specs.Scribes.{blocks_through}
 use Rattle.chunk_writer.proofs.Writing.{going_apart}
 use Rattle.chunk_writer.proofs.Taking.{front_so, stopped_on}
 use Rattle.chunk_writer.proofs.scribe.Scribe.take.Goals as goal
@@ -73,9 +72,7 @@ pub unreachable-requires : goal.unreachable-requires
 unreachable-requires g c = c.requires.unended (sym c.phase.ensures ∙ c.in-Ended.is)
 
 pub returns-in-Going-clause-through : goal.returns-in-Going-clause-through
-returns-in-Going-clause-through g c =
-    rw c.taken.ensures.end
-    (on_ok_weaker c.put_all-end.result (blocks_through g.L.LiveStore.state c.args.self.now _ c.args.full.records c.put_all-end.ensures.grows) c.put_all-end.ensures.goes_on)
+returns-in-Going-clause-through g c = rw c.taken.ensures.end c.put_all-end.ensures.through
 
 pub returns-in-Stopped-clause-through : goal.returns-in-Stopped-clause-through
 returns-in-Stopped-clause-through g c = rw c.taken-in-Stopped.ensures.end tt
