@@ -5,10 +5,13 @@ use Rattle.rec_data.specs.declared.owned.Rec.{Rec}
 use Rattle.mcap_io.specs.Outside.{SourceState, LiveState}
 use Rattle.mcap_model.specs.declared.ends.End.TheVariants as ends
 use Rattle.mcap_model.specs.declared.ends.Stop.{Stop}
+use Rattle.mcap_model.specs.Places.{Each}
 use Rattle.mcap_model.proofs.Places.{at_none}
 use Rattle.chunk_writer.specs.declared.scribe.Scribe.{Scribe}
 use Rattle.chunk_writer.specs.Stops.{StopsAt, StopCause, Cause}
 use Rattle.chunk_writer.specs.Scribes.{Writes, Grows, EndsFile, store_of}
+use Rattle.feed_lane.specs.declared.report.FeedReport.{FeedReport}
+use Rattle.feed_lane.specs.Feeds.{ListsMessages}
 use Rattle.recorder.specs.declared.options.RecordOptions.{RecordOptions}
 use Rattle.recorder.specs.declared.report.Report.{Report}
 use Rattle.recorder.specs.declared.report.WriterReport.{WriterReport}
@@ -17,6 +20,10 @@ use Rattle.recorder.specs.Onto.{IsWritten, IsAll, IsReported}
 
 same_report : {a b : Report} → Some a ≡ Some b → a ≡ b
 same_report e = cc
+
+-- a report that is handed on lists the same
+pub listed_so : (listed : Bool) (report r : Report) → Some report ≡ Some r → Each (λ (f : FeedReport). ListsMessages f listed) report.feeds.items → Each (λ (f : FeedReport). ListsMessages f listed) r.feeds.items
+listed_so listed report r is it = subst (λ (x : Report). Each (λ (f : FeedReport). ListsMessages f listed) x.feeds.items) (same_report is) it
 
 recorded_so : (options : RecordOptions) (before now : Sides) (history : List Rec) (r : Report) → IsReported options.limit options.lossless before.sources now.sources history r
     → WriterRecorded options.file before.live now.live history r.writer → IsAll history r.writer → Recorded options before now r

@@ -2,7 +2,7 @@ use Rattle.std.proofs.Common.{[], map, refl, sym, ap, ◌∙◌}
 use Rattle.feed_lane.specs.Pass.{PassState}
 use Rattle.buffer_swap.specs.declared.view.View.{View}
 use Rattle.recorder.proofs.Collecting.{map_map}
-use Rattle.recorder.proofs.Filing.{reported_so, zip_same, onto_scribe, onto_nothing}
+use Rattle.recorder.proofs.Filing.{reported_so, listed_so, zip_same, onto_scribe, onto_nothing}
 use Rattle.recorder.proofs.recording.record.Goals as goal
 
 -- nothing was read
@@ -37,3 +37,9 @@ returns-in-Err-open-clause-recorded g c = λ r is.
     let sources = sym (map_map (λ lane. lane.source) source (λ lane. source lane.source) (λ x. refl) lanes.lanes.items) ∙ ap (map source) added.sources in
     onto_nothing state c.args.options.now (map source c.args.feeds.items) (map source ran.result.feeds.items) (state c.args.live) c.in-Err-open.live c.in-Err-open.stop ran.result.report r is
     (reported_so _ _ _ _ _ _ _ [] ran.result.report limit added.same.0 sources ran.ensures.reported) ran.ensures.writer (c.in-Err-open.ensures.refused [] []) c.in-Err-open.ensures.cause
+
+pub returns-in-Ok-open-clause-listed : goal.returns-in-Ok-open-clause-listed
+returns-in-Ok-open-clause-listed g c = λ r is. listed_so c.args.listed c.run_beside-onto.result.report r is c.run_beside-onto.ensures.listed
+
+pub returns-in-Err-open-clause-listed : goal.returns-in-Err-open-clause-listed
+returns-in-Err-open-clause-listed g c = λ r is. let ran = c.run_unwritten-unwritten in listed_so c.args.listed ran.result.report r is ran.ensures.listed
