@@ -145,9 +145,9 @@ fn is_wide(refused: &Refused, index: u64, bytes: u64) -> bool {
 }
 
 // Whether both messages were refused for that.
-fn are_wide(refused: &[Refused], bytes: u64) -> bool {
+fn are_wide(refused: Option<&[Refused]>, bytes: u64) -> bool {
     match refused {
-        [first, second] => is_wide(first, 0, bytes) && is_wide(second, 1, bytes),
+        Some([first, second]) => is_wide(first, 0, bytes) && is_wide(second, 1, bytes),
         _ => false,
     }
 }
@@ -159,7 +159,7 @@ fn a_channel_that_is_too_long_is_not_declared(rt: HostRuntime) -> Result<(), Fai
     let bytes = feed_with_schema(alloc, 1_048_527)?;
     let mut source = MemorySource::new(bytes, Vec::new(alloc));
     let mut pass = Lacking::new();
-    let report = publish_feed(alloc, &mut source, &mut pass);
+    let report = publish_feed(alloc, &mut source, &mut pass, true);
     holds(&rt, are_wide(report.refused.as_slice(), 1_048_577));
     holds(&rt, report.declared.is_empty() && pass.declarations == 0);
     Ok(())
@@ -171,7 +171,7 @@ fn a_channel_at_the_limit_is_declared(rt: HostRuntime) -> Result<(), Fail> {
     let bytes = feed_with_schema(alloc, 1_048_526)?;
     let mut source = MemorySource::new(bytes, Vec::new(alloc));
     let mut pass = Lacking::new();
-    let report = publish_feed(alloc, &mut source, &mut pass);
+    let report = publish_feed(alloc, &mut source, &mut pass, true);
     holds(
         &rt,
         are_both(report.refused.as_slice()) && pass.declarations == 2,
