@@ -55,13 +55,6 @@ entry_before seen store e offset records keeps is = record {
   told = let all = is.told in record { there = λ before holds. all.there (before ++ (keeps before holds).0) (keeps before holds).1; only = all.only };
 }
 
-pub no_entries : {X : Type 0} (seen : SeenExtents X) (options : FileOptions) (history : List Rec) → GivesEntries seen options history [] []
-no_entries seen options history = record {
-  closed = [];
-  sure = ap (sure_blocks options) (append-nil history) ∙ sym (append-nil (sure_blocks options history));
-  each = tt;
-}
-
 pub entries_more : {X : Type 0} (seen : SeenExtents X) (store : LiveState) (options : FileOptions) (history records : List Rec) (r : Rec) (entries more : List (Entry X)) (given : Option (Entry X)) → KeepsOn seen.held store.held
     → GivesEntries seen options history records entries → Lists entries more given → GivesEntry (seen_later seen store) options (history ++ records) r given → GivesEntries seen options history (records ++ r ∷ []) more
 entries_more seen store options history records r entries more None keeps old listed gives = record {

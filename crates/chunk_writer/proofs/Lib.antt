@@ -9,4 +9,5 @@ pub mod Taking
 pub mod Uncut
 pub mod Plain
 pub mod Fronts
+pub mod Taped
 mod Gathered

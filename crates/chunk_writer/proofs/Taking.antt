@@ -26,7 +26,8 @@ use Rattle.chunk_writer.specs.Planning.{Planning}
 use Rattle.chunk_writer.specs.Plans.{StoppedBefore}
 use Rattle.chunk_writer.specs.Stops.{StopsBehind}
 use Rattle.chunk_writer.specs.Scribes.{ScribeStands, Writes, Grows, OfEach, KeepsOn, ListsEntry, GivesEntries, PutsFront, grows_on}
-use Rattle.chunk_writer.proofs.Entries.{seen_later, no_entries, entries_more}
+use Rattle.chunk_writer.specs.Tapes.{no_entries}
+use Rattle.chunk_writer.proofs.Entries.{seen_later, entries_more}
 use Rattle.chunk_writer.proofs.Writing.{going_apart, add_refused, holding, plans_begun, stands_stopped}
 use Rattle.chunk_writer.proofs.Stopping.{put_lacks}
 

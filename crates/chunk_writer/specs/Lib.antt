@@ -5,5 +5,6 @@ pub mod Plans
 pub mod Held
 pub mod Stops
 pub mod Scribes
+pub mod Tapes
 pub mod Buffered
 pub mod Waiting

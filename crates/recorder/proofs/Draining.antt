@@ -1,21 +1,26 @@
 -- What the steps of the writer come to.
-use Rattle.std.proofs.Common.{◌≡◌, ℕ, List, [], ◌++◌, All, Option, Some, None, refl, sym, ap, subst, ◌∙◌, append-nil, append_assoc, arith}
-use Rattle.std.specs.Prelude.{IfSome, is_some, true}
+use Rattle.std.proofs.Common.{◌≡◌, ℕ, List, [], ◌++◌, All, ◌≤◌, Option, Some, None, Result, Ok, Err, refl, sym, ap, subst, ◌∙◌, append-nil, append_assoc, arith}
+use Rattle.std.specs.Prelude.{IfSome, IfErr, OnOk, is_some, true}
 use Rattle.std.proofs.lemmas.Bool.{false≢true}
 use Rattle.std.proofs.lemmas.List.Elements.{All-append}
 use Rattle.std.proofs.lemmas.Option.{same_Some, none-some}
 use Rattle.rec_data.specs.declared.owned.Rec.{Rec}
 use Rattle.mcap_model.specs.declared.ends.End.{End}
+use Rattle.mcap_model.specs.declared.ends.End.TheVariants as ends
 use Rattle.mcap_model.specs.declared.ends.Stop.{Stop}
 use Rattle.mcap_model.specs.declared.ends.Stop.TheVariants as stops
 use Rattle.record_cache.specs.Buffers.{IsKept}
 use Rattle.record_core.specs.Desk.{IsCause}
 use Rattle.chunk_writer.specs.declared.phase.Phase.{Phase}
 use Rattle.chunk_writer.specs.declared.phase.Phase.TheVariants as phases
-use Rattle.chunk_writer.specs.Stops.{StopCause}
+use Rattle.live_entry.specs.declared.entry.Entry.{Entry}
+use Rattle.mcap_io.specs.Outside.{one_more}
+use Rattle.chunk_writer.specs.Tapes.{StopsFor, EndsFor}
 use Rattle.buffer_swap.specs.Posts.{Post}
 use Rattle.buffer_swap.specs.Calls.{stopped_at}
+use Rattle.recorder.specs.Recorded.{answer_of}
 use Rattle.recorder.specs.Writing.{MayWrite, Continues, StopsWith, WritesOn}
+use Rattle.recorder.specs.Onto.{phase_at}
 
 -- ---- phases
 
@@ -31,21 +36,44 @@ stopped_ended stop e = cc
 stopped_same : (a b : Stop) → phases.Stopped a ≡ phases.Stopped b → a ≡ b
 stopped_same a b e = cc
 
-is_cause : (before now : ℕ) (stop : Stop) → StopCause before now stop → IsCause stop
-is_cause before now (stops.Fault faults) cause = omega (arith, cause.0.once, cause.1)
-is_cause before now (stops.Limit blocks bytes) cause = tt
-is_cause before now stops.Memory cause = tt
+is_cause : (before now : ℕ) (limit_met : ℕ → ℕ → Type 0) (stop : Stop) → StopsFor before now limit_met stop → IsCause stop
+is_cause before now limit_met (stops.Fault faults) cause = omega (arith, cause.1)
+is_cause before now limit_met (stops.Limit blocks bytes) cause = tt
+is_cause before now limit_met stops.Memory cause = tt
 
-may_on : (phase : Phase) (before now : ℕ) → Continues phase before now → MayWrite phase
-may_on phases.Going before now continues = record { unended = going_ended; cause = λ stop e. absurd (going_stopped stop e) }
-may_on (phases.Stopped stop) before now continues = record {
+may_on : (limit_met : ℕ → ℕ → Type 0) (phase : Phase) (before now : ℕ) → Continues limit_met phase before now → MayWrite phase
+may_on limit_met phases.Going before now continues = record { unended = going_ended; cause = λ stop e. absurd (going_stopped stop e) }
+may_on limit_met (phases.Stopped stop) before now continues = record {
   unended = stopped_ended stop;
-  cause = λ other e. subst IsCause (stopped_same stop other e) (is_cause before now stop continues);
+  cause = λ other e. subst IsCause (stopped_same stop other e) (is_cause before now limit_met stop continues);
 }
-may_on phases.Ended before now continues = absurd continues
+may_on limit_met phases.Ended before now continues = absurd continues
 
-pub continues_same : (phase : Phase) (n : ℕ) → phase ≡ phases.Going → Continues phase n n
-continues_same phase n is = subst (λ (p : Phase). Continues p n n) (sym is) refl
+pub continues_same : (limit_met : ℕ → ℕ → Type 0) (phase : Phase) (n : ℕ) → phase ≡ phases.Going → Continues limit_met phase n n
+continues_same limit_met phase n is = subst (λ (p : Phase). Continues limit_met p n n) (sym is) (omega arith)
+
+rose_later : (first mid last : ℕ) → first ≤ mid → one_more mid ≤ last → one_more first ≤ last
+rose_later first mid last before rose = omega (arith, before, rose)
+
+-- how far a tape has come once it was ended
+pub phase_so : (phase : Phase) (end : End) (result : Result Unit Stop) → answer_of end ≡ result → OnOk result (phase ≡ phases.Ended) → IfErr result (λ stop. phase ≡ phases.Stopped stop) → phase ≡ phase_at end
+phase_so phase ends.Closed result same ended stopped = subst (λ (r : Result Unit Stop). OnOk r (phase ≡ phases.Ended)) (sym same) ended
+phase_so phase (ends.Stopped stop) result same ended stopped = subst (λ (r : Result Unit Stop). IfErr r (λ why. phase ≡ phases.Stopped why)) (sym same) stopped
+
+-- what comes behind a call that didn't fail has the reason of both
+for_later : (first mid last : ℕ) (limit_met : ℕ → ℕ → Type 0) (stop : Stop) → first ≤ mid → StopsFor mid last limit_met stop → StopsFor first last limit_met stop
+for_later first mid last limit_met (stops.Fault faults) before (rose, some, told) = (rose_later first mid last before rose, some, told)
+for_later first mid last limit_met (stops.Limit blocks bytes) before (met, later) = (met, omega (arith, before, later))
+for_later first mid last limit_met stops.Memory before later = omega (arith, before, later)
+
+pub continues_later : (first mid last : ℕ) (limit_met : ℕ → ℕ → Type 0) (phase : Phase) → first ≤ mid → Continues limit_met phase mid last → Continues limit_met phase first last
+continues_later first mid last limit_met phases.Going before later = omega (arith, before, later)
+continues_later first mid last limit_met (phases.Stopped stop) before later = for_later first mid last limit_met stop before later
+continues_later first mid last limit_met phases.Ended before later = absurd later
+
+pub ends_later : {X : Type 0} (first mid last : ℕ) (limit_met : ℕ → ℕ → Type 0) (end : Result X Stop) → first ≤ mid → EndsFor mid last limit_met end → EndsFor first last limit_met end
+ends_later first mid last limit_met (Ok it) before later = omega (arith, before, later)
+ends_later first mid last limit_met (Err stop) before later = for_later first mid last limit_met stop before later
 
 -- ---- a stop of the drain
 
@@ -72,65 +100,79 @@ stopped_with (Some end) stop post phase was is = was
 
 -- ---- steps
 
-module _ {T : Type 0} (phase : T → Phase) (failures : T → ℕ) (tape later : T) where
-  continues_on : (first : ℕ) (p : Phase) → phase tape ≡ p → Continues p first (failures tape)
-      → (phase tape ≡ phases.Going → Continues (phase later) (failures tape) (failures later))
-      → ((stop : Stop) → phase tape ≡ phases.Stopped stop → later ≡ tape) → Continues (phase later) first (failures later)
-  continues_on first phases.Going is before goes kept = subst (λ (n : ℕ). Continues (phase later) n (failures later)) before (goes is)
+module _ {T : Type 0} (phase : T → Phase) (failures : T → ℕ) (limit_met : T → ℕ → ℕ → Type 0) (tape later : T) where
+  continues_on : (first : ℕ) (p : Phase) → phase tape ≡ p → Continues (limit_met tape) p first (failures tape)
+      → (phase tape ≡ phases.Going → Continues (limit_met later) (phase later) (failures tape) (failures later))
+      → ((stop : Stop) → phase tape ≡ phases.Stopped stop → later ≡ tape) → Continues (limit_met later) (phase later) first (failures later)
+  continues_on first phases.Going is before goes kept = continues_later first (failures tape) (failures later) (limit_met later) (phase later) before (goes is)
   continues_on first (phases.Stopped stop) is before goes kept =
-      subst (λ (t : T). Continues (phase t) first (failures t)) (sym (kept stop is))
-      (subst (λ (q : Phase). Continues q first (failures tape)) (sym is) before)
+      subst (λ (t : T). Continues (limit_met t) (phase t) first (failures t)) (sym (kept stop is))
+      (subst (λ (q : Phase). Continues (limit_met tape) q first (failures tape)) (sym is) before)
   continues_on first phases.Ended is before goes kept = absurd before
 
   pub may_later : (p : Phase) → phase tape ≡ p → MayWrite (phase tape)
-      → (phase tape ≡ phases.Going → Continues (phase later) (failures tape) (failures later))
+      → (phase tape ≡ phases.Going → Continues (limit_met later) (phase later) (failures tape) (failures later))
       → ((stop : Stop) → phase tape ≡ phases.Stopped stop → later ≡ tape) → MayWrite (phase later)
-  may_later phases.Going is may goes kept = may_on (phase later) (failures tape) (failures later) (goes is)
+  may_later phases.Going is may goes kept = may_on (limit_met later) (phase later) (failures tape) (failures later) (goes is)
   may_later (phases.Stopped stop) is may goes kept = subst (λ (t : T). MayWrite (phase t)) (sym (kept stop is)) may
   may_later phases.Ended is may goes kept = absurd (may.unended is)
+
+  -- a tape that was ended has the reason of all
+  pub ended_for : (first : ℕ) (p : Phase) (end : End) → phase tape ≡ p → Continues (limit_met tape) p first (failures tape)
+      → (phase tape ≡ phases.Going → EndsFor {X = Unit {0}} (failures tape) (failures later) (limit_met later) (answer_of end))
+      → ((stop : Stop) → phase tape ≡ phases.Stopped stop → (answer_of end ≡ Err stop) × (later ≡ tape)) → EndsFor {X = Unit {0}} first (failures later) (limit_met later) (answer_of end)
+  ended_for first phases.Going end is before goes kept = ends_later first (failures tape) (failures later) (limit_met later) (answer_of end) before (goes is)
+  ended_for first (phases.Stopped stop) end is before goes kept =
+      let (same, stays) = kept stop is in
+      subst (λ (a : Result Unit Stop). EndsFor first (failures later) (limit_met later) a) (sym same)
+      (subst (λ (t : T). StopsFor first (failures t) (limit_met t) stop) (sym stays) before)
+  ended_for first phases.Ended end is before goes kept = absurd before
 
   pub stops_later : (halt : Option Stop) → StopsWith halt (phase tape) → ((stop : Stop) → phase tape ≡ phases.Stopped stop → later ≡ tape) → StopsWith halt (phase later)
   stops_later halt was kept = λ stop is. ap phase (kept stop (was stop is)) ∙ was stop is
 
-module _ {T : Type 0} (grows : T → T → List Rec → Type 0) (phase : T → Phase) (failures : T → ℕ) where
+module _ {T X : Type 0} (grows : T → T → List Rec → List (Entry X) → Type 0) (phase : T → Phase) (failures : T → ℕ) (limit_met : T → ℕ → ℕ → Type 0) where
   -- nothing was taken
-  pub writes_none : ((t : T) → grows t t []) → (t : T) (before : List Rec) (post : Post) → post.taken ≡ before → MayWrite (phase t) → StopsWith post.stop (phase t)
-      → WritesOn grows phase failures t t before post
+  pub writes_none : ((t : T) → grows t t [] []) → (t : T) (before : List Rec) (post : Post) → post.taken ≡ before → MayWrite (phase t) → StopsWith post.stop (phase t)
+      → WritesOn grows phase failures limit_met t t before post
   writes_none none t before post same may stops = record {
     more = [];
+    entries = [];
     taken = same ∙ sym (append-nil before);
     grown = none t;
     records = λ k d lt. absurd (omega (arith, lt));
     may = may;
     stops = stops;
-    goes = continues_same (phase t) (failures t);
+    goes = continues_same (limit_met t) (phase t) (failures t);
     kept = λ stop is. refl;
   }
 
   -- a buffer was taken
-  pub writes_one : (t u : T) (before records : List Rec) (post : Post) → post.taken ≡ before ++ records → grows t u records → All IsKept records → MayWrite (phase t)
-      → (phase t ≡ phases.Going → Continues (phase u) (failures t) (failures u)) → ((stop : Stop) → phase t ≡ phases.Stopped stop → u ≡ t) → StopsWith post.stop (phase u)
-      → WritesOn grows phase failures t u before post
-  writes_one t u before records post is more all may goes kept stops = record {
+  pub writes_one : (t u : T) (before records : List Rec) (entries : List (Entry X)) (post : Post) → post.taken ≡ before ++ records → grows t u records entries → All IsKept records → MayWrite (phase t)
+      → (phase t ≡ phases.Going → Continues (limit_met u) (phase u) (failures t) (failures u)) → ((stop : Stop) → phase t ≡ phases.Stopped stop → u ≡ t) → StopsWith post.stop (phase u)
+      → WritesOn grows phase failures limit_met t u before post
+  writes_one t u before records entries post is more all may goes kept stops = record {
     more = records;
+    entries = entries;
     taken = is;
     grown = more;
     records = all;
-    may = may_later phase failures t u (phase t) refl may goes kept;
+    may = may_later phase failures limit_met t u (phase t) refl may goes kept;
     stops = stops;
     goes = goes;
     kept = kept;
   }
 
-  pub writes_on : ((t u v : T) (before behind : List Rec) → grows t u before → grows u v behind → grows t v (before ++ behind)) → (t u v : T) (a : List Rec) (one other : Post)
-      → WritesOn grows phase failures t u a one → WritesOn grows phase failures u v one.taken other → WritesOn grows phase failures t v a other
+  pub writes_on : ((t u v : T) (before behind : List Rec) (one other : List (Entry X)) → grows t u before one → grows u v behind other → grows t v (before ++ behind) (one ++ other)) → (t u v : T) (a : List Rec) (one other : Post)
+      → WritesOn grows phase failures limit_met t u a one → WritesOn grows phase failures limit_met u v one.taken other → WritesOn grows phase failures limit_met t v a other
   writes_on on t u v a one other first second = record {
     more = first.more ++ second.more;
+    entries = first.entries ++ second.entries;
     taken = second.taken ∙ ap (λ (l : List Rec). l ++ second.more) first.taken ∙ append_assoc a first.more second.more;
-    grown = on t u v first.more second.more first.grown second.grown;
+    grown = on t u v first.more second.more first.entries second.entries first.grown second.grown;
     records = All-append IsKept first.more second.more first.records second.records;
     may = second.may;
     stops = second.stops;
-    goes = λ going. continues_on phase failures u v (failures t) (phase u) refl (first.goes going) second.goes second.kept;
+    goes = λ going. continues_on phase failures limit_met u v (failures t) (phase u) refl (first.goes going) second.goes second.kept;
     kept = λ stop is. let same = first.kept stop is in second.kept stop (ap phase same ∙ is) ∙ same;
   }

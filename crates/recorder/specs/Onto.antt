@@ -1,29 +1,47 @@
 -- What a recording came to beside its tape.
-use Rattle.std.specs.Prelude.{◌≡◌, ℕ, List, [], length, map, Bool, true, Result}
+use Rattle.std.specs.Prelude.{◌≡◌, ℕ, List, [], length, map, Bool, true, Option, Result}
 use Rattle.rec_data.specs.declared.owned.Rec.{Rec}
 use Rattle.mcap_io.specs.Outside.{SourceState}
+use Rattle.mcap_model.specs.declared.ends.End.{End}
+use Rattle.mcap_model.specs.declared.ends.End.TheVariants as ends
 use Rattle.mcap_model.specs.declared.ends.Stop.{Stop}
 use Rattle.mcap_model.specs.Places.{Each}
 use Rattle.record_cache.specs.Buffers.{IsKept}
+use Rattle.live_entry.specs.declared.entry.Entry.{Entry}
+use Rattle.chunk_writer.specs.declared.phase.Phase.{Phase}
+use Rattle.chunk_writer.specs.declared.phase.Phase.TheVariants as phases
 use Rattle.chunk_writer.specs.declared.tape.Written.{Written}
-use Rattle.chunk_writer.specs.Limits.{Holds}
-use Rattle.chunk_writer.specs.Stops.{Cause}
+use Rattle.chunk_writer.specs.Tapes.{EndsFor}
 use Rattle.recorder.specs.declared.report.Report.{Report}
 use Rattle.recorder.specs.declared.report.WriterReport.{WriterReport}
 use Rattle.recorder.specs.Assembled.{Assembled}
 use Rattle.recorder.specs.Recorded.{FeedRecorded, lane_of, AreFeeds, answer_of}
 
--- the tape grew by the history, and came to the end that is told
-pub record IsWritten {T : Type 0} (grows : T → T → List Rec → Type 0) (end_so : T → T → Written → Result Unit Stop → Type 0) (failures : T → ℕ) (first last : T) (history : List Rec) (w : WriterReport) : Type 0 where
+-- how far a tape has come where a writer ended so
+abbrev pub phase_at : End → Phase
+phase_at ends.Closed = phases.Ended
+phase_at (ends.Stopped stop) = phases.Stopped stop
+
+-- so many blocks and bytes are told
+abbrev pub numbers_of : WriterReport → Written
+numbers_of w = record { blocks = w.blocks; bytes = w.bytes }
+
+-- The tape grew by the history, with the entries of the blocks that were appended, and came to the end that is told, with the
+-- numbers that are told: where the writer closed the tape has ended, else it keeps the refusal.
+pub record IsWritten {T X : Type 0} (grows : T → T → List Rec → List (Entry X) → Type 0) (end_so : T → T → Option (Entry X) → Written → Result Unit Stop → Type 0) (phase : T → Phase) (numbers : T → Written) (failures : T → ℕ) (limit_met : T → ℕ → ℕ → Type 0)
+    (first last : T) (history : List Rec) (w : WriterReport) : Type 0 where
   pub mid : T
-  pub grown : grows first mid history
-  pub ended : end_so mid last (record { blocks = w.blocks; bytes = w.bytes }) (answer_of w.end)
-  pub cause : Cause (failures first) (failures last) (answer_of w.end)
+  pub entries : List (Entry X)
+  pub closing : Option (Entry X)
+  pub grown : grows first mid history entries
+  pub ended : end_so mid last closing (numbers_of w) (answer_of w.end)
+  pub phase_is : phase last ≡ phase_at w.end
+  pub numbers_are : numbers last ≡ numbers_of w
+  pub cause : EndsFor (failures first) (failures last) (limit_met last) (answer_of w.end)
 
 -- all of a history were written
 pub record IsAll (history : List Rec) (w : WriterReport) : Type 0 where
   pub records : w.records ≡ length history
-  pub within : Holds w.blocks w.bytes
   pub kept : Each IsKept history
 
 -- the lanes of a recording, and its history
@@ -32,3 +50,12 @@ pub record IsReported (limit : ℕ) (lossless : Bool) (before now : List SourceS
   pub are : AreFeeds feeds before now r.feeds.items
   pub assembled : Assembled limit (map lane_of feeds) history r.writer.end
   pub unfull : lossless ≡ true → Each (λ f. f.pass.fulls ≡ []) feeds
+
+-- What a recording onto a tape came to: what its lanes read and showed, and the history, which its report describes and by
+-- which the tape grew. What is seen of a tape is handed in.
+pub record RecordedOnto {T X : Type 0} (grows : T → T → List Rec → List (Entry X) → Type 0) (end_so : T → T → Option (Entry X) → Written → Result Unit Stop → Type 0) (phase : T → Phase) (numbers : T → Written) (failures : T → ℕ) (limit_met : T → ℕ → ℕ → Type 0)
+    (limit : ℕ) (lossless : Bool) (before now : List SourceState) (first last : T) (r : Report) : Type 0 where
+  pub history : List Rec
+  pub reported : IsReported limit lossless before now history r
+  pub written : IsWritten grows end_so phase numbers failures limit_met first last history r.writer
+  pub all : IsAll history r.writer

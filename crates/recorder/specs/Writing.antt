@@ -1,12 +1,13 @@
 -- A tape beside a drain: how far the steps of a writer have come.
-use Rattle.std.specs.Prelude.{◌≡◌, ℕ, List, [], ◌++◌, All, Option, Some}
+use Rattle.std.specs.Prelude.{◌≡◌, ℕ, ◌≤◌, List, [], ◌++◌, All, Option, Some}
 use Rattle.rec_data.specs.declared.owned.Rec.{Rec}
 use Rattle.mcap_model.specs.declared.ends.Stop.{Stop}
 use Rattle.record_cache.specs.Buffers.{Buffer, IsKept}
 use Rattle.record_core.specs.Desk.{IsCause}
+use Rattle.live_entry.specs.declared.entry.Entry.{Entry}
 use Rattle.chunk_writer.specs.declared.phase.Phase.{Phase}
 use Rattle.chunk_writer.specs.declared.phase.Phase.TheVariants as phases
-use Rattle.chunk_writer.specs.Stops.{StopCause}
+use Rattle.chunk_writer.specs.Tapes.{StopsFor}
 use Rattle.buffer_swap.specs.Posts.{Post}
 
 abbrev pub empty_buffer : ℕ → Buffer
@@ -17,24 +18,25 @@ pub record MayWrite (phase : Phase) : Type 0 where
   pub unended : phase ≡ phases.Ended → ⊥
   pub cause : (stop : Stop) → phase ≡ phases.Stopped stop → IsCause stop
 
--- A tape that goes on has the failures that it had, and one that stopped has the cause.
-abbrev pub Continues : Phase → ℕ → ℕ → Type 0
-Continues phases.Going before now = now ≡ before
-Continues (phases.Stopped stop) before now = StopCause before now stop
-Continues phases.Ended before now = ⊥
+-- A tape that goes on has no fewer failures than it had, and one that stopped has the reason.
+abbrev pub Continues : (ℕ → ℕ → Type 0) → Phase → ℕ → ℕ → Type 0
+Continues limit_met phases.Going before now = before ≤ now
+Continues limit_met (phases.Stopped stop) before now = StopsFor before now limit_met stop
+Continues limit_met phases.Ended before now = ⊥
 
 -- the drain stopped the intake only for what the tape stopped
 abbrev pub StopsWith : Option Stop → Phase → Type 0
 StopsWith halt phase = (stop : Stop) → halt ≡ Some stop → phase ≡ phases.Stopped stop
 
--- The tape, which was the first one, got the records by which what the drain took has grown, and no others. What is seen of a
--- tape is handed in.
-pub record WritesOn {T : Type 0} (grows : T → T → List Rec → Type 0) (phase : T → Phase) (failures : T → ℕ) (first now : T) (before : List Rec) (post : Post) : Type 0 where
+-- The tape, which was the first one, got the records by which what the drain took has grown, and no others, and gave these
+-- entries. What is seen of a tape is handed in.
+pub record WritesOn {T X : Type 0} (grows : T → T → List Rec → List (Entry X) → Type 0) (phase : T → Phase) (failures : T → ℕ) (limit_met : T → ℕ → ℕ → Type 0) (first now : T) (before : List Rec) (post : Post) : Type 0 where
   pub more : List Rec
+  pub entries : List (Entry X)
   pub taken : post.taken ≡ before ++ more
-  pub grown : grows first now more
+  pub grown : grows first now more entries
   pub records : All IsKept more
   pub may : MayWrite (phase now)
   pub stops : StopsWith post.stop (phase now)
-  pub goes : phase first ≡ phases.Going → Continues (phase now) (failures first) (failures now)
+  pub goes : phase first ≡ phases.Going → Continues (limit_met now) (phase now) (failures first) (failures now)
   pub kept : (stop : Stop) → phase first ≡ phases.Stopped stop → now ≡ first

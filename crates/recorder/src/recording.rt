@@ -14,7 +14,7 @@ ghost use Rattle.feed_lane.specs.Feeds.{ListsMessages};
 ghost use Rattle.buffer_swap.specs.Calls.{first_limit, IsNewTurn, IsOver};
 ghost use Rattle.recorder.specs.Writing.{empty_buffer};
 ghost use Rattle.recorder.specs.Lanes.{IsFresh, LanesRan};
-ghost use Rattle.recorder.specs.Onto.{IsWritten, IsAll, IsReported};
+ghost use Rattle.recorder.specs.Onto.{IsWritten, IsAll, RecordedOnto};
 ghost use Rattle.recorder.specs.Recorded.{sides, Recorded};
 
 use crate::lanes::{Lane, Lanes};
@@ -54,7 +54,7 @@ struct Room<S> {
 
 // A report, with the feeds and the tape.
 #[derive(Drop)]
-struct Onto<S, T> {
+struct Ran<S, T> {
     report: Report,
     feeds: Vec<S>,
     tape: T,
@@ -130,7 +130,7 @@ fn run_beside<R: Threads + Wait + Sync, S: Source + Drop + Send, T: Tape<X: Send
     writer: Writer<'_, T>,
     spare: Cache,
     listed: bool,
-) -> Onto<S, T>
+) -> Ran<S, T>
     requires same_turn { writer.drain.seat.table_id ≡ lanes.control.seat.table_id }
     requires turns { Each (λ lane. lane.pass.publisher.seat.table_id ≡ lanes.control.seat.table_id) lanes.lanes.items }
     requires new { Each (λ lane. lane.pass.publisher.seat.me.0.pass ≡ no_calls lanes.control.seat.me.0.pass.limit) lanes.lanes.items }
@@ -142,8 +142,8 @@ fn run_beside<R: Threads + Wait + Sync, S: Source + Drop + Send, T: Tape<X: Send
     requires none { writer.drain.seat.me.0.post.taken ≡ [] }
     requires unstopped { writer.drain.seat.me.0.post.stop ≡ None }
     requires going { T.phase writer.tape ≡ phases.Going }
-    ensures reported { (history : List Rec) × IsReported lanes.entry.control.seat.me.0.pass.limit lanes.entry.lossless (map (λ lane. S.state lane.source) lanes.entry.lanes.items) (map S.state result.feeds.items) history result.report
-        × IsWritten T.grows T.ends T.failures writer.entry.tape result.tape history result.report.writer × IsAll history result.report.writer }
+    ensures recorded { RecordedOnto T.grows T.ends T.phase T.numbers T.failures T.limit_met lanes.entry.control.seat.me.0.pass.limit lanes.entry.lossless
+        (map (λ lane. S.state lane.source) lanes.entry.lanes.items) (map S.state result.feeds.items) writer.entry.tape result.tape result.report }
     ensures listed { Each (λ f. ListsMessages f listed) result.report.feeds.items }
     ensures stays { AllZip S.stays (map (λ lane. lane.source) lanes.entry.lanes.items) result.feeds.items }
 {
@@ -156,7 +156,7 @@ fn run_beside<R: Threads + Wait + Sync, S: Source + Drop + Send, T: Tape<X: Send
             requires going { T.phase writer.tape ≡ phases.Going }
             ensures turn { result.drain.seat.table_id ≡ writer.entry.drain.seat.table_id }
             ensures over { (end : Last) × IsOver result.drain.seat.me.0.pass result.drain.seat.me.0.post end }
-            ensures written { IsWritten T.grows T.ends T.failures writer.entry.tape result.tape result.drain.seat.me.0.post.taken result.report }
+            ensures written { IsWritten T.grows T.ends T.phase T.numbers T.failures T.limit_met writer.entry.tape result.tape result.drain.seat.me.0.post.taken result.report }
             ensures all { IsAll result.drain.seat.me.0.post.taken result.report }
             ensures stops { (stop : Why) → result.drain.seat.me.0.post.stop ≡ Some stop → result.report.end ≡ Stopped stop }
         { writer.run(rt, spare) },
@@ -186,7 +186,7 @@ fn run_beside<R: Threads + Wait + Sync, S: Source + Drop + Send, T: Tape<X: Send
     } = lanes;
     meet(&mut control, &mut drain);
     places_are_known();
-    Onto {
+    Ran {
         report: Report {
             feeds: reports,
             writer: report,
@@ -245,11 +245,11 @@ pub fn record<
     match Scribe::open(alloc, live, &options.file) {
         Ok(tape) => {
             lanes.add_all(rt, feeds);
-            let onto = run_beside(rt, alloc, lanes, Writer { drain, tape }, spare, listed);
+            let ran = run_beside(rt, alloc, lanes, Writer { drain, tape }, spare, listed);
             return Recording {
-                report: Some(onto.report),
-                feeds: onto.feeds,
-                live: onto.tape.into_store(),
+                report: Some(ran.report),
+                feeds: ran.feeds,
+                live: ran.tape.into_store(),
             };
         }
         Err((live, stop)) => {

@@ -69,7 +69,7 @@ fn write_once<R: Wait, T: Tape>(rt: &R, drain: &mut Drain<'_>, tape: &mut T, spa
     ensures turn { drain.new.seat.table_id ≡ drain.old.seat.table_id }
     ensures limit { drain.new.seat.me.0.pass.limit ≡ drain.old.seat.me.0.pass.limit }
     ensures spare { result.spare ≡ empty_buffer drain.new.seat.me.0.pass.limit }
-    ensures writes { WritesOn T.grows T.phase T.failures tape.old tape.new drain.old.seat.me.0.post.taken drain.new.seat.me.0.post }
+    ensures writes { WritesOn T.grows T.phase T.failures T.limit_met tape.old tape.new drain.old.seat.me.0.post.taken drain.new.seat.me.0.post }
     ensures over { IfSome result.over (λ at. (at ≡ length drain.new.seat.me.0.post.taken) × (end : Last) × IsOver drain.new.seat.me.0.pass drain.new.seat.me.0.post end) }
 {
     let full = match drain.swap(rt, spare) {
@@ -108,7 +108,7 @@ fn write_all<R: Wait, T: Tape>(rt: &R, drain: &mut Drain<'_>, tape: &mut T, spar
     requires may { MayWrite (T.phase tape.old) }
     requires stops { StopsWith drain.old.seat.me.0.post.stop (T.phase tape.old) }
     ensures turn { drain.new.seat.table_id ≡ drain.old.seat.table_id }
-    ensures writes { WritesOn T.grows T.phase T.failures tape.old tape.new drain.old.seat.me.0.post.taken drain.new.seat.me.0.post }
+    ensures writes { WritesOn T.grows T.phase T.failures T.limit_met tape.old tape.new drain.old.seat.me.0.post.taken drain.new.seat.me.0.post }
     ensures count { result ≡ length drain.new.seat.me.0.post.taken }
     ensures over { (end : Last) × IsOver drain.new.seat.me.0.pass drain.new.seat.me.0.post end }
 {
@@ -133,7 +133,7 @@ impl<'t, T: Tape + Drop> Writer<'t, T> {
         requires going { T.phase self.tape ≡ phases.Going }
         ensures turn { result.drain.seat.table_id ≡ self.entry.drain.seat.table_id }
         ensures over { (end : Last) × IsOver result.drain.seat.me.0.pass result.drain.seat.me.0.post end }
-        ensures written { IsWritten T.grows T.ends T.failures self.entry.tape result.tape result.drain.seat.me.0.post.taken result.report }
+        ensures written { IsWritten T.grows T.ends T.phase T.numbers T.failures T.limit_met self.entry.tape result.tape result.drain.seat.me.0.post.taken result.report }
         ensures all { IsAll result.drain.seat.me.0.post.taken result.report }
         ensures stops { (stop : Why) → result.drain.seat.me.0.post.stop ≡ Some stop → result.report.end ≡ Stopped stop }
     {

@@ -16,15 +16,15 @@ pub returns-in-Ok-open-clause-recorded : goal.returns-in-Ok-open-clause-recorded
 returns-in-Ok-open-clause-recorded g c = λ r is.
     let state = g.L.LiveStore.state in
     let source = g.S.Source.state in
-    let onto = c.run_beside-onto in
+    let ran = c.run_beside-ran in
     let added = c.add_all.ensures in
     let lanes = c.add_all.new.self in
-    let (history, reported, written, all) = onto.ensures.reported in
+    let it = ran.ensures.recorded in
     let limit = added.limit ∙ ap (λ (v : View). v.pass.limit) c.start-control.ensures.control ∙ c.in-Ok.ensures.turn.1 in
     let sources = sym (map_map (λ lane. lane.source) source (λ lane. source lane.source) (λ x. refl) lanes.lanes.items) ∙ ap (map source) added.sources in
-    onto_scribe state c.args.options.now (map source c.args.feeds.items) (map source onto.result.feeds.items) (state c.args.live) c.in-Ok-open.tape onto.result.tape c.into_store.result
-    history onto.result.report r is c.into_store.ensures c.in-Ok-open.ensures.stands c.in-Ok-open.ensures.still
-    (reported_so _ _ _ _ _ _ _ history onto.result.report limit added.same.0 sources reported) written all
+    onto_scribe {X = g.row.L-Extent.Denot} state (λ e. g.L.Extent.Extent.tells e) (λ e. g.L.Extent.Extent.size e) c.args.options.now (map source c.args.feeds.items) (map source ran.result.feeds.items) (state c.args.live) c.in-Ok-open.tape ran.result.tape c.into_store.result
+    it.history ran.result.report r is c.into_store.ensures c.in-Ok-open.ensures.stands c.in-Ok-open.ensures.goes_on c.in-Ok-open.ensures.still
+    (reported_so _ _ _ _ _ _ _ it.history ran.result.report limit added.same.0 sources it.reported) it.written it.all
 
 pub returns-in-Err-open-clause-recorded : goal.returns-in-Err-open-clause-recorded
 returns-in-Err-open-clause-recorded g c = λ r is.
@@ -39,7 +39,7 @@ returns-in-Err-open-clause-recorded g c = λ r is.
     (reported_so _ _ _ _ _ _ _ [] ran.result.report limit added.same.0 sources ran.ensures.reported) ran.ensures.writer (c.in-Err-open.ensures.refused [] []) c.in-Err-open.ensures.cause
 
 pub returns-in-Ok-open-clause-listed : goal.returns-in-Ok-open-clause-listed
-returns-in-Ok-open-clause-listed g c = λ r is. listed_so c.args.listed c.run_beside-onto.result.report r is c.run_beside-onto.ensures.listed
+returns-in-Ok-open-clause-listed g c = λ r is. let ran = c.run_beside-ran in listed_so c.args.listed ran.result.report r is ran.ensures.listed
 
 pub returns-in-Err-open-clause-listed : goal.returns-in-Err-open-clause-listed
 returns-in-Err-open-clause-listed g c = λ r is. let ran = c.run_unwritten-unwritten in listed_so c.args.listed ran.result.report r is ran.ensures.listed

@@ -11,7 +11,7 @@ pub returns-in-Err-clause-writes : goal.returns-in-Err-clause-writes
 returns-in-Err-clause-writes g c =
     let members = g.T.Tape in
     let same = c.in-Err.ensures.swapped.6 in
-    writes_none members.grows members.phase members.failures members.grows_none c.args.tape.now c.args.drain.now.seat.me.0.post.taken _
+    writes_none members.grows members.phase members.failures members.limit_met members.grows_none c.args.tape.now c.args.drain.now.seat.me.0.post.taken _
     (ap (λ (p : Post). p.taken) same) c.requires.may (λ stop is. c.requires.stops stop (ap (λ (p : Post). p.stop) (sym same) ∙ is))
 
 pub returns-in-Err-clause-over : goal.returns-in-Err-clause-over
@@ -33,18 +33,18 @@ returns-in-Ok-end-clause-writes g c =
     let members = g.T.Tape in
     let now = c.in-Ok.ensures.swapped.4 in
     let take = c.take-taken.ensures in
-    let kept : (stop : Stop) → members.phase c.args.tape.now ≡ phases.Stopped stop → c.take-taken.new.self ≡ c.args.tape.now = λ stop stopped. (take.kept stop stopped).1 in
+    let kept : (stop : Stop) → members.phase c.args.tape.now ≡ phases.Stopped stop → c.take-taken.new.self ≡ c.args.tape.now = λ stop stopped. (take.kept stop stopped).2 in
     let stops : StopsWith c.swap.new.self.seat.me.0.post.stop (members.phase c.args.tape.now) = λ stop is. c.requires.stops stop (ap (λ (p : Post). p.stop) (sym now) ∙ is) in
-    writes_one members.grows members.phase members.failures c.args.tape.now c.take-taken.new.self c.args.drain.now.seat.me.0.post.taken c.in-Ok.full.records _
+    writes_one members.grows members.phase members.failures members.limit_met c.args.tape.now c.take-taken.new.self c.args.drain.now.seat.me.0.post.taken c.in-Ok.full.records c.take-taken.result.entries.items _
     (ap (λ (p : Post). p.taken) now) take.grows c.held-held.ensures.kept c.requires.may
     (λ going. let on = rw c.in-Ok-end.is at take.goes_on in rw on.1 (rw c.in-Ok-end.is at (take.cause going)))
-    kept (stops_later members.phase members.failures c.args.tape.now c.take-taken.new.self _ stops kept)
+    kept (stops_later members.phase members.failures members.limit_met c.args.tape.now c.take-taken.new.self _ stops kept)
 
 pub stop-requires : goal.stop-requires
 stop-requires g c =
     let stopped = rw c.in-Err-end.is at c.take-taken.ensures.stopped in
-    let may = may_later g.T.Tape.phase g.T.Tape.failures c.args.tape.now c.take-taken.new.self (g.T.Tape.phase c.args.tape.now) refl c.requires.may (λ going. rw stopped (rw c.in-Err-end.is at (c.take-taken.ensures.cause going)))
-    (λ stop was. (c.take-taken.ensures.kept stop was).1) in
+    let may = may_later g.T.Tape.phase g.T.Tape.failures g.T.Tape.limit_met c.args.tape.now c.take-taken.new.self (g.T.Tape.phase c.args.tape.now) refl c.requires.may (λ going. rw stopped (rw c.in-Err-end.is at (c.take-taken.ensures.cause going)))
+    (λ stop was. (c.take-taken.ensures.kept stop was).2) in
     may.cause c.in-Err-end.stop stopped
 
 pub returns-in-Err-end-clause-writes : goal.returns-in-Err-end-clause-writes
@@ -52,14 +52,14 @@ returns-in-Err-end-clause-writes g c =
     let members = g.T.Tape in
     let now = c.in-Ok.ensures.swapped.4 in
     let take = c.take-taken.ensures in
-    let kept : (stop : Stop) → members.phase c.args.tape.now ≡ phases.Stopped stop → c.take-taken.new.self ≡ c.args.tape.now = λ stop stopped. (take.kept stop stopped).1 in
+    let kept : (stop : Stop) → members.phase c.args.tape.now ≡ phases.Stopped stop → c.take-taken.new.self ≡ c.args.tape.now = λ stop stopped. (take.kept stop stopped).2 in
     let stops : StopsWith c.swap.new.self.seat.me.0.post.stop (members.phase c.args.tape.now) = λ stop is. c.requires.stops stop (ap (λ (p : Post). p.stop) (sym now) ∙ is) in
     let stopped = rw c.in-Err-end.is at take.stopped in
     let by = c.stop.ensures.stopped in
     let post = c.swap.new.self.seat.me.0.post in
-    writes_one members.grows members.phase members.failures c.args.tape.now c.take-taken.new.self c.args.drain.now.seat.me.0.post.taken c.in-Ok.full.records _
+    writes_one members.grows members.phase members.failures members.limit_met c.args.tape.now c.take-taken.new.self c.args.drain.now.seat.me.0.post.taken c.in-Ok.full.records c.take-taken.result.entries.items _
     (ap (λ (p : Post). p.taken) by.stopped ∙ stopped_taken by.found.end c.in-Err-end.stop post ∙ ap (λ (p : Post). p.taken) now) take.grows c.held-held.ensures.kept c.requires.may
     (λ going. rw stopped (rw c.in-Err-end.is at (take.cause going)))
     kept
     (λ stop is. stopped_with by.found.end c.in-Err-end.stop post (members.phase c.take-taken.new.self)
-    (stops_later members.phase members.failures c.args.tape.now c.take-taken.new.self post.stop stops kept) stopped stop (ap (λ (p : Post). p.stop) (sym by.stopped) ∙ is))
+    (stops_later members.phase members.failures members.limit_met c.args.tape.now c.take-taken.new.self post.stop stops kept) stopped stop (ap (λ (p : Post). p.stop) (sym by.stopped) ∙ is))
