@@ -21,7 +21,7 @@ use Rattle.recorder.specs.declared.options.RecordOptions.{RecordOptions}
 use Rattle.recorder.specs.declared.report.Report.{Report}
 use Rattle.recorder.specs.declared.report.WriterReport.{WriterReport}
 use Rattle.recorder.specs.Recorded.{answer_of, Sides, sides, WriterRecorded, Recorded}
-use Rattle.recorder.specs.Onto.{IsWritten, IsAll, IsReported}
+use Rattle.recorder.specs.Onto.{IsWritten, IsAll, IsReported, RecordedOnto}
 
 pub same_report : {a b : Report} → Some a ≡ Some b → a ≡ b
 same_report e = cc
@@ -53,6 +53,19 @@ listed_so listed report r is it = subst (λ (x : Report). Each (λ (f : FeedRepo
 pub zip_same : {X : Type 0} (R : X → X → Type 0) → ((x : X) → R x x) → (xs : List X) → AllZip R xs xs
 zip_same R same [] = tt
 zip_same R same (x ∷ xs) = (same x, zip_same R same xs)
+
+-- ---- what a tape took
+
+module _ {T X : Type 0} (grows : T → T → List Rec → List (Entry X) → Type 0) (end_so : T → T → Option (Entry X) → Written → Result Unit Stop → Type 0) (phase : T → Phase) (numbers : T → Written) (failures : T → ℕ) (limit_met : T → ℕ → ℕ → Type 0) where
+  pub onto_so : (l limit : ℕ) (b lossless : Bool) (s sources now : List SourceState) (first last : T) (report r : Report) → Some report ≡ Some r → l ≡ limit → b ≡ lossless → s ≡ sources
+      → RecordedOnto grows end_so phase numbers failures limit_met l b s now first last report → RecordedOnto grows end_so phase numbers failures limit_met limit lossless sources now first last r
+  onto_so l limit b lossless s sources now first last report r is limits losses same it =
+      subst (λ (x : Report). RecordedOnto grows end_so phase numbers failures limit_met limit lossless sources now first last x) (same_report is) (record {
+        history = it.history;
+        reported = reported_so l limit b lossless s sources now it.history report limits losses same it.reported;
+        written = it.written;
+        all = it.all;
+      })
 
 -- ---- what a scribe wrote
 

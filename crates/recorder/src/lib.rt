@@ -14,5 +14,5 @@ mod writer;
 pub use feed_lane::{Accepted, Cause, DeclaredAt, FeedEnd, FeedReport, Refusals, Refused};
 pub use listing::Listing;
 pub use options::RecordOptions;
-pub use recording::{Recording, record};
+pub use recording::{Onto, Recording, record, record_onto};
 pub use report::{Report, WriterReport};

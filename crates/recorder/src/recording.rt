@@ -1,4 +1,4 @@
-//! Recording feeds into one store.
+//! Recording feeds onto a tape, and into one store.
 ghost use Rattle.std.specs.Prelude.{◌≡◌, ◌≤◌, ℕ, List, [], length, map, vec_len, vec_capacity, None, Some, IfOk};
 ghost use Rattle.std.specs.List.{AllZip};
 ghost use Rattle.mcap_wire.specs.Layout.{content_limit};
@@ -33,6 +33,15 @@ use record_core::Desk;
 use std::alloc::Global;
 use std::sync::Wait;
 use std::thread::{Threads, join};
+
+/// A recording's report, with the feeds and the tape that it was handed. There is no report only where memory lacked before
+/// anything was read or taken.
+#[derive(Drop)]
+pub struct Onto<S, T> {
+    pub report: Option<Report>,
+    pub feeds: Vec<S>,
+    pub tape: T,
+}
 
 /// A recording's report, with the feeds and the store that it was handed. There is no report only where memory lacked before
 /// anything was read or appended.
@@ -121,6 +130,17 @@ fn refused<S, L>(feeds: Vec<S>, live: L) -> Recording<S, L>
     }
 }
 
+// The same onto a tape.
+fn unread<S, T>(feeds: Vec<S>, tape: T) -> Onto<S, T>
+    ensures { result ≡ record { report = None; feeds = feeds; tape = tape } }
+{
+    Onto {
+        report: None,
+        feeds,
+        tape,
+    }
+}
+
 // Runs the lanes beside the writer, and makes the report. The control closes the intake once all lanes have ended, while the
 // writer still takes what is left.
 fn run_beside<R: Threads + Wait + Sync, S: Source + Drop + Send, T: Tape<X: Send> + Drop + Send>(
@@ -191,6 +211,64 @@ fn run_beside<R: Threads + Wait + Sync, S: Source + Drop + Send, T: Tape<X: Send
             feeds: reports,
             writer: report,
         },
+        feeds,
+        tape,
+    }
+}
+
+/// Records the feeds onto the tape, which it ends. Each feed has a lane of its own, and the lanes run beside the writer. Of
+/// `options` it uses the limit of the buffer and whether lanes wait: what the tape's file is like is the tape's matter. Where
+/// messages aren't to be listed the report only counts them.
+pub fn record_onto<
+    R: Threads + Wait + Sync,
+    S: Source + Drop + Send,
+    T: Tape<X: Send> + Drop + Send,
+>(
+    rt: &R,
+    alloc: Global,
+    options: &RecordOptions,
+    feeds: Vec<S>,
+    tape: T,
+    listed: bool,
+) -> Onto<S, T>
+    requires some { 1 ≤ options.now.limit }
+    requires small { options.now.limit ≤ buffer_limit }
+    requires feeds { (1 ≤ vec_len feeds) × (vec_len feeds ≤ 64) }
+    requires going { T.phase tape ≡ phases.Going }
+    ensures refused { result.report ≡ None → (result.feeds.items ≡ feeds.items) × (result.tape ≡ tape) }
+    ensures stays { AllZip S.stays feeds.items result.feeds.items }
+    ensures recorded { (r : _) → result.report ≡ Some r → RecordedOnto T.grows T.ends T.phase T.numbers T.failures T.limit_met options.now.limit options.now.lossless (map S.state feeds.items) (map S.state result.feeds.items) tape result.tape r }
+    ensures listed { (r : _) → result.report ≡ Some r → Each (λ f. ListsMessages f listed) r.feeds.items }
+{
+    let Room {
+        mut turn,
+        spare,
+        feeds: back,
+        reports,
+    } = match make_room(alloc, options.limit, feeds.len()) {
+        Ok(room) => room,
+        Err(_) => return unread(feeds, tape),
+    };
+    let (control, drain) = turn.start();
+    let lanes = match lane_room(alloc, feeds.len()) {
+        Ok(lanes) => lanes,
+        Err(_) => return unread(feeds, tape),
+    };
+    let mut lanes = Lanes {
+        control,
+        lossless: options.lossless,
+        lanes,
+        feeds: back,
+        reports,
+    };
+    lanes.add_all(rt, feeds);
+    let Ran {
+        report,
+        feeds,
+        tape,
+    } = run_beside(rt, alloc, lanes, Writer { drain, tape }, spare, listed);
+    Onto {
+        report: Some(report),
         feeds,
         tape,
     }
