@@ -1,5 +1,5 @@
 -- What the steps of the writer come to.
-use Rattle.std.proofs.Common.{◌≡◌, ℕ, List, [], ◌++◌, All, ◌≤◌, Option, Some, None, Result, Ok, Err, refl, sym, ap, subst, ◌∙◌, append-nil, append_assoc, arith}
+use Rattle.std.proofs.Common.{◌≡◌, ℕ, List, [], ◌++◌, All, ◌≤◌, Option, Some, None, Result, Ok, Err, inl, inr, refl, sym, ap, subst, ◌∙◌, append-nil, append_assoc, arith}
 use Rattle.std.specs.Prelude.{IfSome, IfErr, OnOk, is_some, true}
 use Rattle.std.proofs.lemmas.Bool.{false≢true}
 use Rattle.std.proofs.lemmas.List.Elements.{All-append}
@@ -16,15 +16,17 @@ use Rattle.chunk_writer.specs.declared.phase.Phase.TheVariants as phases
 use Rattle.live_entry.specs.declared.entry.Entry.{Entry}
 use Rattle.mcap_io.specs.Outside.{one_more}
 use Rattle.chunk_writer.specs.Tapes.{StopsFor, EndsFor}
+use Rattle.record_core.specs.declared.answers.Found.{Found}
+use Rattle.feed_lane.specs.Pass.{PassState, Finds, with_found}
 use Rattle.buffer_swap.specs.Posts.{Post}
 use Rattle.buffer_swap.specs.Calls.{stopped_at}
 use Rattle.recorder.specs.Recorded.{answer_of}
-use Rattle.recorder.specs.Writing.{MayWrite, Continues, StopsWith, WritesOn}
+use Rattle.recorder.specs.Writing.{MayWrite, Continues, StopsWith, StopsIntake, WritesOn}
 use Rattle.recorder.specs.Onto.{phase_at}
 
 -- ---- phases
 
-going_stopped : (stop : Stop) → phases.Going ≡ phases.Stopped stop → ⊥
+pub going_stopped : (stop : Stop) → phases.Going ≡ phases.Stopped stop → ⊥
 going_stopped stop e = cc
 
 going_ended : phases.Going ≡ phases.Ended → ⊥
@@ -76,6 +78,28 @@ ends_later first mid last limit_met (Ok it) before later = omega (arith, before,
 ends_later first mid last limit_met (Err stop) before later = for_later first mid last limit_met stop before later
 
 -- ---- a stop of the drain
+
+-- nothing was taken, and the intake was looked at
+pub halts_later : (before after : PassState) (post now : Post) (phase : Phase) (found : Found) → Finds before found → after ≡ with_found before found → now ≡ post → StopsIntake before post phase → StopsIntake after now phase
+halts_later before after post now phase found finds looks same halts = λ stop is. elim (halts stop is) [
+  | inl stopped ↦ inl (ap (λ (p : Post). p.stop) same ∙ stopped)
+  | inr ended ↦ inr (record {
+    found = found;
+    end = ended.end;
+    shown = ap (λ (p : PassState). p.found) looks;
+    ended = (finds.later ended.found ended.shown).end ended.end ended.ended;
+  })
+]
+
+-- a tape that goes on hasn't stopped
+pub halts_going : (pass : PassState) (post : Post) (phase : Phase) → phase ≡ phases.Going → StopsIntake pass post phase
+halts_going pass post phase going = λ stop is. absurd (going_stopped stop (sym going ∙ is))
+
+-- the intake was stopped
+pub halts_stopped : (before after : PassState) (post now : Post) (phase : Phase) (found : Found) (stop : Stop) (o : Option End) → found.end ≡ o → after ≡ with_found before found → now ≡ stopped_at o stop post → phase ≡ phases.Stopped stop
+    → StopsIntake after now phase
+halts_stopped before after post now phase found stop None is looks same stopped = λ other so. inl (ap (λ (p : Post). p.stop) same ∙ ap (λ (s : Stop). Some s) (stopped_same stop other (sym stopped ∙ so)))
+halts_stopped before after post now phase found stop (Some end) is looks same stopped = λ other so. inr (record { found = found; end = end; shown = ap (λ (p : PassState). p.found) looks; ended = is })
 
 pub if_some : {X : Type 0} (o : Option X) (P Q : X → Type 0) → IfSome o P → ((x : X) → P x → Q x) → IfSome o Q
 if_some None P Q it on = tt

@@ -1,13 +1,16 @@
 -- A tape beside a drain: how far the steps of a writer have come.
-use Rattle.std.specs.Prelude.{◌≡◌, ℕ, ◌≤◌, List, [], ◌++◌, All, Option, Some}
+use Rattle.std.specs.Prelude.{◌≡◌, ◌⊎◌, ℕ, ◌≤◌, List, [], ◌++◌, All, Option, Some}
 use Rattle.rec_data.specs.declared.owned.Rec.{Rec}
+use Rattle.mcap_model.specs.declared.ends.End.{End}
 use Rattle.mcap_model.specs.declared.ends.Stop.{Stop}
 use Rattle.record_cache.specs.Buffers.{Buffer, IsKept}
 use Rattle.record_core.specs.Desk.{IsCause}
+use Rattle.record_core.specs.declared.answers.Found.{Found}
 use Rattle.live_entry.specs.declared.entry.Entry.{Entry}
 use Rattle.chunk_writer.specs.declared.phase.Phase.{Phase}
 use Rattle.chunk_writer.specs.declared.phase.Phase.TheVariants as phases
 use Rattle.chunk_writer.specs.Tapes.{StopsFor}
+use Rattle.feed_lane.specs.Pass.{PassState}
 use Rattle.buffer_swap.specs.Posts.{Post}
 
 abbrev pub empty_buffer : ℕ → Buffer
@@ -27,6 +30,17 @@ Continues limit_met phases.Ended before now = ⊥
 -- the drain stopped the intake only for what the tape stopped
 abbrev pub StopsWith : Option Stop → Phase → Type 0
 StopsWith halt phase = (stop : Stop) → halt ≡ Some stop → phase ≡ phases.Stopped stop
+
+-- the drain has found that the intake ended
+pub record HasFoundEnd (pass : PassState) : Type 0 where
+  pub found : Found
+  pub end : End
+  pub shown : pass.found ≡ Some found
+  pub ended : found.end ≡ Some end
+
+-- Where the tape stopped the drain has stopped the intake for that, unless it found that the intake had ended.
+abbrev pub StopsIntake : PassState → Post → Phase → Type 0
+StopsIntake pass post phase = (stop : Stop) → phase ≡ phases.Stopped stop → (post.stop ≡ Some stop) ⊎ HasFoundEnd pass
 
 -- The tape, which was the first one, got the records by which what the drain took has grown, and no others, and gave these
 -- entries. What is seen of a tape is handed in.

@@ -6,7 +6,7 @@ ghost use Rattle.mcap_model.specs.declared.ends.End.TheVariants.{Stopped};
 ghost use Rattle.chunk_writer.specs.declared.phase.Phase.TheVariants as phases;
 ghost use Rattle.buffer_swap.specs.Calls.{IsOver};
 ghost use Rattle.recorder.specs.Recorded.{answer_of};
-ghost use Rattle.recorder.specs.Writing.{empty_buffer, MayWrite, StopsWith, WritesOn};
+ghost use Rattle.recorder.specs.Writing.{empty_buffer, MayWrite, StopsWith, StopsIntake, WritesOn};
 ghost use Rattle.recorder.specs.Onto.{IsWritten, IsAll};
 
 use crate::report::WriterReport;
@@ -66,10 +66,13 @@ fn write_once<R: Wait, T: Tape>(rt: &R, drain: &mut Drain<'_>, tape: &mut T, spa
     requires spare { spare ≡ empty_buffer drain.old.seat.me.0.pass.limit }
     requires may { MayWrite (T.phase tape.old) }
     requires stops { StopsWith drain.old.seat.me.0.post.stop (T.phase tape.old) }
+    requires halts { StopsIntake drain.old.seat.me.0.pass drain.old.seat.me.0.post (T.phase tape.old) }
     ensures turn { drain.new.seat.table_id ≡ drain.old.seat.table_id }
     ensures limit { drain.new.seat.me.0.pass.limit ≡ drain.old.seat.me.0.pass.limit }
     ensures spare { result.spare ≡ empty_buffer drain.new.seat.me.0.pass.limit }
     ensures writes { WritesOn T.grows T.phase T.failures T.limit_met tape.old tape.new drain.old.seat.me.0.post.taken drain.new.seat.me.0.post }
+    // Where the tape stopped, so has the intake.
+    ensures halts { StopsIntake drain.new.seat.me.0.pass drain.new.seat.me.0.post (T.phase tape.new) }
     ensures over { IfSome result.over (λ at. (at ≡ length drain.new.seat.me.0.post.taken) × (end : Last) × IsOver drain.new.seat.me.0.pass drain.new.seat.me.0.post end) }
 {
     let full = match drain.swap(rt, spare) {
@@ -107,6 +110,7 @@ fn write_all<R: Wait, T: Tape>(rt: &R, drain: &mut Drain<'_>, tape: &mut T, spar
     requires spare { spare ≡ empty_buffer drain.old.seat.me.0.pass.limit }
     requires may { MayWrite (T.phase tape.old) }
     requires stops { StopsWith drain.old.seat.me.0.post.stop (T.phase tape.old) }
+    requires halts { StopsIntake drain.old.seat.me.0.pass drain.old.seat.me.0.post (T.phase tape.old) }
     ensures turn { drain.new.seat.table_id ≡ drain.old.seat.table_id }
     ensures writes { WritesOn T.grows T.phase T.failures T.limit_met tape.old tape.new drain.old.seat.me.0.post.taken drain.new.seat.me.0.post }
     ensures count { result ≡ length drain.new.seat.me.0.post.taken }

@@ -4,7 +4,7 @@ use Rattle.chunk_writer.specs.declared.phase.Phase.TheVariants as phases
 use Rattle.feed_lane.specs.Pass.{PassState}
 use Rattle.buffer_swap.specs.Posts.{Post}
 use Rattle.recorder.specs.Writing.{StopsWith}
-use Rattle.recorder.proofs.Draining.{if_some, stopped_taken, stopped_with, may_later, stops_later, writes_none, writes_one}
+use Rattle.recorder.proofs.Draining.{if_some, stopped_taken, stopped_with, may_later, stops_later, writes_none, writes_one, halts_later, halts_going, halts_stopped}
 use Rattle.recorder.proofs.writer.write_once.Goals as goal
 
 pub returns-in-Err-clause-writes : goal.returns-in-Err-clause-writes
@@ -63,3 +63,16 @@ returns-in-Err-end-clause-writes g c =
     kept
     (λ stop is. stopped_with by.found.end c.in-Err-end.stop post (members.phase c.take-taken.new.self)
     (stops_later members.phase members.failures members.limit_met c.args.tape.now c.take-taken.new.self post.stop stops kept) stopped stop (ap (λ (p : Post). p.stop) (sym by.stopped) ∙ is))
+
+pub returns-in-Err-clause-halts : goal.returns-in-Err-clause-halts
+returns-in-Err-clause-halts g c =
+    let (found, so, cache, count, at, end, same, stood) = c.in-Err.ensures.swapped in
+    halts_later _ _ _ _ (g.T.Tape.phase c.args.tape.now) found so.0 so.1 same c.requires.halts
+
+pub returns-in-Ok-end-clause-halts : goal.returns-in-Ok-end-clause-halts
+returns-in-Ok-end-clause-halts g c = halts_going c.swap.new.self.seat.me.0.pass c.swap.new.self.seat.me.0.post (g.T.Tape.phase c.take-taken.new.self) (rw c.in-Ok-end.is at c.take-taken.ensures.goes_on).1
+
+pub returns-in-Err-end-clause-halts : goal.returns-in-Err-end-clause-halts
+returns-in-Err-end-clause-halts g c =
+    let by = c.stop.ensures.stopped in
+    halts_stopped c.swap.new.self.seat.me.0.pass c.stop.new.self.seat.me.0.pass c.swap.new.self.seat.me.0.post c.stop.new.self.seat.me.0.post (g.T.Tape.phase c.take-taken.new.self) by.found c.in-Err-end.stop by.found.end refl by.finds.1 by.stopped (rw c.in-Err-end.is at c.take-taken.ensures.stopped)

@@ -2,8 +2,11 @@
 use Rattle.std.proofs.Common.{◌≡◌, List, ◌++◌, Result, refl, sym, ap, subst, ◌∙◌}
 use Rattle.rec_data.specs.declared.owned.Rec.{Rec}
 use Rattle.mcap_model.specs.declared.ends.Stop.{Stop}
-use Rattle.recorder.proofs.Draining.{phase_so, ended_for}
+use Rattle.recorder.proofs.Draining.{halts_going, phase_so, ended_for}
 use Rattle.recorder.proofs.writer.Writer.run.Goals as goal
+
+pub write_all-records-requires-clause-halts : goal.write_all-records-requires-clause-halts
+write_all-records-requires-clause-halts g c = halts_going c.args.self.drain.seat.me.0.pass c.args.self.drain.seat.me.0.post (g.T.Tape.phase c.args.self.tape) c.requires.going
 
 pub returns-clause-written : goal.returns-clause-written
 returns-clause-written g c =
