@@ -313,13 +313,13 @@ expect 0 'recovered messages=1 records=2 extras=0 at=173 short' '' mcaprec recov
 expect_records_of one-recovered.mcap "$one"
 expect 0 'recovered messages=1 records=2 extras=0 at=186 complete' '' mcaprec recover one-recovered.mcap one-again.mcap
 expect_records_of one-again.mcap "$one"
-: >nothing.mcap
-expect 1 '' 'mcaprec: "nothing.mcap": grammar at 0' mcaprec recover nothing.mcap of-nothing.mcap
-expect_size of-nothing.mcap 0
+: >no-bytes.mcap
+expect 1 '' 'mcaprec: "no-bytes.mcap": grammar at 0' mcaprec recover no-bytes.mcap of-no-bytes.mcap
+expect_size of-no-bytes.mcap 0
 expect 3 '' 'mcaprec: "missing.mcap": fault' mcaprec recover missing.mcap of-missing.mcap
 expect_absent of-missing.mcap
-ln -s one-recovered.mcap link.mcap
-expect 3 '' 'mcaprec: "link.mcap": fault' mcaprec recover one-recovered.mcap link.mcap
+ln -s one-recovered.mcap recovered-link.mcap
+expect 3 '' 'mcaprec: "recovered-link.mcap": fault' mcaprec recover one-recovered.mcap recovered-link.mcap
 expect_records_of one-recovered.mcap "$one"
 
 # ---- messages, by time
