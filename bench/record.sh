@@ -4,7 +4,7 @@
 # forty. The kind `chunks` is a plain feed recorded in chunks; of the file that this writes, `again` is its messages recorded in
 # chunks, and `flat` the same recorded plain. Then four feeds and 64 of as many bytes in all are recorded at once, plain and in
 # chunks, beside `cat FEED... >OUT`. At last the most memory is shown that a recording of one million and of twenty million messages
-# of 64 bytes took, whatever MIB is: it must not grow with them.
+# of 64 bytes took, whatever MIB is, with a buffer of 262,144 bytes, which both fill: it must not grow with them.
 # MCAPREC names another program to time in place of the launcher.
 set -e
 export LC_ALL=C
@@ -145,7 +145,7 @@ if [ -x /usr/bin/time ]; then
         rm -f "$work/pipe"
         mkfifo "$work/pipe"
         make_feed 64 1 "$work/pipe" >"$work/many" &
-        peaks+=("$(peak_of "$program" record --lossless /dev/null "$work/pipe")")
+        peaks+=("$(peak_of "$program" record --lossless --limit 262144 /dev/null "$work/pipe")")
         wait
         echo "peak memory of a recording of $(cat "$work/many") messages: ${peaks[-1]} KiB"
     done
