@@ -1,17 +1,3 @@
-mod ItemLemmas
-mod CutLemmas
-mod OneCommand
-mod RowLemmas
-mod RuleLemmas
-mod TurnLemmas
-mod HoldLemmas
-mod WalkLemmas
-mod LeafLemmas
-mod AppLemmas
-mod MatchLemmas
-mod CommandLemmas
-mod LineLemmas
-mod OptionLemmas
 mod Due
 mod Statuses
 mod Whole

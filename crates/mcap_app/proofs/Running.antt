@@ -1,9 +1,9 @@
 -- What the words of a command make of its run.
 use Rattle.std.proofs.Common.{◌≡◌, ℕ, ◌≤◌, Bool, true, false, List, Option, Some, None, sym, subst, ◌∙◌, arith, unwrap_or}
 use Rattle.std.proofs.lemmas.Option.{same_Some}
-use Rattle.mcap_app.specs.declared.command.Command.{Command}
-use Rattle.mcap_app.specs.declared.command.Command.TheVariants as commands
-use Rattle.mcap_app.specs.Commands.{GivesNumber, SizesChunks, Derives}
+use Rattle.command_words.specs.declared.command.Command.{Command}
+use Rattle.command_words.specs.declared.command.Command.TheVariants as commands
+use Rattle.command_words.specs.Commands.{GivesNumber, SizesChunks, Derives}
 use Rattle.recorder.specs.declared.report.Report.{Report}
 use Rattle.command_base.specs.Ran.{Scene}
 use Rattle.mcap_app.proofs.Answered.{not_two as record_not_two}

@@ -1,7 +1,3 @@
-pub mod Items
-pub mod Commands
-pub mod Matches
-pub mod CommandLine
 pub mod ReportTexts
 pub mod Record
 pub mod Sources

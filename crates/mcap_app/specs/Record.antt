@@ -28,7 +28,7 @@ use Rattle.recorder.specs.Recorded.{Sides, sides, Recorded}
 use Rattle.command_base.specs.declared.faults.Counts.{Counts}
 use Rattle.mcap_app.specs.declared.answering.Outcome.{Outcome}
 use Rattle.command_base.specs.Texts.{Trouble, grammar, compressed, limit, output_limit, halt_status}
-use Rattle.mcap_app.specs.Commands.{feed_limit}
+use Rattle.command_words.specs.Commands.{feed_limit}
 use Rattle.mcap_app.specs.ReportTexts.{printed}
 use Rattle.command_base.specs.Ran.{Scene, counts_in, AnyRose, Files, wanted, kept, AreOpened, Leaves, input_faults, output_faults, CountsKept, has_failed, failed_names, blamed_names, when, Findings, Failed, Ran}
 

@@ -1,7 +1,7 @@
 -- What the program does, command by command.
 use Rattle.std.specs.Prelude.{◌≡◌, ◌≤◌, ℕ, [], ◌∷◌, true, false, Option, None}
-use Rattle.mcap_app.specs.declared.command.Command.{Command}
-use Rattle.mcap_app.specs.declared.command.Command.TheVariants as commands
+use Rattle.command_words.specs.declared.command.Command.{Command}
+use Rattle.command_words.specs.declared.command.Command.TheVariants as commands
 use Rattle.recorder.specs.declared.report.Report.{Report}
 use Rattle.command_base.specs.Texts.{no_memory, said}
 use Rattle.command_base.specs.Printing.{Takes}

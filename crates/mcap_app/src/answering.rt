@@ -6,7 +6,7 @@ ghost use Rattle.mcap_io.specs.Outside.{Rose};
 ghost use Rattle.command_base.specs.Texts.{Trouble, trouble_of, complained, bad_words, said};
 ghost use Rattle.command_base.specs.Printing.{Takes};
 ghost use Rattle.feed_lane.specs.Causes.{is_over, is_memory, is_memory_stop};
-ghost use Rattle.mcap_app.specs.Commands.{feed_limit};
+ghost use Rattle.command_words.specs.Commands.{feed_limit};
 ghost use Rattle.mcap_app.specs.Answer.{flags_of, PartFailed, Answers, LacksMemory, FaultsShow};
 ghost use Rattle.command_base.specs.Ran.{first_failed, told_of, Complains};
 ghost use Rattle.mcap_app.specs.Record.{AreFew, end_troubles, first_end, ends_of, reports_in, some_failed, is_limit, passes_limit, is_memory_end, is_memory_writer, lacks_memory as report_lacks, limit_passed};

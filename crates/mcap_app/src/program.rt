@@ -1,7 +1,7 @@
 //! The program: what each command does to the world and to both outputs.
 ghost use Rattle.std.specs.Prelude.{◌≡◌, ◌⊎◌, ◌≤◌, ℕ, [], ◌∷◌, length, None, Some};
-ghost use Rattle.mcap_app.specs.declared.command.Command.{Command as Wanted};
-ghost use Rattle.mcap_app.specs.Commands.{AreBad, Derives};
+ghost use Rattle.command_words.specs.declared.command.Command.{Command as Wanted};
+ghost use Rattle.command_words.specs.Commands.{AreBad, Derives};
 ghost use Rattle.command_base.specs.Texts.{bad_words, no_memory, said};
 ghost use Rattle.mcap_model.specs.Places.{Each};
 ghost use Rattle.feed_lane.specs.Feeds.{ListsMessages};
@@ -9,10 +9,9 @@ ghost use Rattle.command_base.specs.Printing.{Takes};
 ghost use Rattle.command_base.specs.Ran.{scene};
 ghost use Rattle.mcap_app.specs.Runs.{IsAllowed, Runs, LacksForWords};
 
-use crate::command::{Command, WordsRefused};
-use crate::parse::parse_words;
 use crate::recording::{Ended, record_file};
 use command_base::{refuse_for_memory, refuse_words};
+use command_words::{Command, WordsRefused, parse_words};
 use file_commands::{check_file, describe_file, print_file, print_indexed};
 use mcap_io::{Sink, World};
 use mcap_wire::Text;

@@ -2,7 +2,7 @@
 use crate::building::{Pieces, add_text, piece};
 use crate::halt::{Halt, unread};
 use crate::tokens::{Token, tokens_of};
-use mcap_app::{Command, FeedNames, WordsRefused, parse_words};
+use mcap_app::{Command, Names, WordsRefused, parse_words};
 use mcap_wire::Text;
 use std::alloc::{AllocError, Global};
 
@@ -33,7 +33,7 @@ pub(crate) fn words_of(
 }
 
 // The names, each behind a space.
-fn joined(alloc: Global, feeds: &FeedNames) -> Result<String, AllocError> {
+fn joined(alloc: Global, feeds: &Names) -> Result<String, AllocError> {
     let mut names = String::new(alloc);
     for feed in feeds.as_slice() {
         names.push_str(" ")?;

@@ -1,6 +1,6 @@
 -- The words derive the one command that ran, whose numbers are in their ranges and whose status isn't that of bad words.
 use Rattle.std.proofs.Common.{sym, ap, subst, inl, Err}
-use Rattle.mcap_app.specs.declared.command.Command.{Command}
+use Rattle.command_words.specs.declared.command.Command.{Command}
 use Rattle.mcap_app.specs.declared.recording.Ended.{Ended}
 use Rattle.command_base.specs.Ran.{scene}
 use Rattle.mcap_app.specs.Runs.{Runs}

@@ -1,0 +1,14 @@
+mod ItemLemmas
+mod CutLemmas
+mod OneCommand
+mod RowLemmas
+mod RuleLemmas
+mod TurnLemmas
+mod HoldLemmas
+mod WalkLemmas
+mod LeafLemmas
+mod AppLemmas
+mod MatchLemmas
+mod CommandLemmas
+mod LineLemmas
+mod OptionLemmas

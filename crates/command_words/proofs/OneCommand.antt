@@ -1,0 +1,157 @@
+-- Words are those of one command at most.
+use Rattle.std.proofs.Common.{◌≡◌, ℕ, Bool, true, false, List, [], ◌∷◌, Option, Some, None, Ok, Err, codes, refl, sym, ap, subst, ◌∙◌}
+use Rattle.std.specs.Prelude.{IfOk, unwrap_or}
+use Rattle.std.specs.Option.{option_to_list}
+use Rattle.std.specs.Str.{bytes_eq}
+use Rattle.std.specs.Str.Parse.{digits_value}
+use Rattle.std.specs.declared.result.Result.{Result}
+use Rattle.std.proofs.lemmas.Slice.Eq.{bytes_eq-Decides}
+use Rattle.mcap_model.specs.declared.options.FileOptions.{FileOptions}
+use Rattle.mcap_model.specs.declared.replay.Range.{Range}
+use Rattle.command_words.specs.Items.{Word, Item, given}
+use Rattle.command_words.specs.Commands.{Behind, Derives, Flags, GivesNumber, HasChunks, HasProfile, IsCat, IsFileOptions, IsOfFile, IsOnly, IsRange, IsRecord, IsRecover, SizesChunks, name_of, verb_of}
+use Rattle.command_words.specs.declared.command.Command.{Command}
+use Rattle.command_words.specs.declared.command.Command.TheVariants.{Record, Info, Check, Cat, Recover}
+use Rattle.command_words.specs.declared.command.WordsRefused.{WordsRefused}
+use Rattle.command_words.specs.declared.verbs.Verb.{Verb}
+use Rattle.command_words.specs.declared.verbs.Verb.TheVariants as verb
+use Rattle.command_words.proofs.CutLemmas.{one_reading}
+
+-- ---- values
+
+abbrev options_with : Word → Option ℕ → FileOptions
+options_with profile chunk = record { profile = profile; chunk = chunk }
+
+abbrev range_with : ℕ → Option ℕ → Range
+range_with start end = record { start = start; end = end }
+
+pub one_value : (a b : Option Word) → option_to_list a ≡ option_to_list b → b ≡ a
+one_value None None same = refl
+one_value None (Some y) same = cc
+one_value (Some x) None same = cc
+one_value (Some x) (Some y) same = cc
+
+pub one_flag : (values : List Word) (a b : Bool) → Flags values a → Flags values b → b ≡ a
+one_flag values true true is other = refl
+one_flag values true false is other = let wrong : [] ∷ [] ≡ [] = sym is ∙ other in cc
+one_flag values false true is other = let wrong : [] ≡ [] ∷ [] = sym is ∙ other in cc
+one_flag values false false is other = refl
+
+pub one_number : (least most : ℕ) (values : List Word) (a b : Option ℕ) → GivesNumber least most values a → GivesNumber least most values b → b ≡ a
+one_number least most values None None is other = refl
+one_number least most values None (Some n) is (word, other, number) = cc
+one_number least most values (Some m) None (word, is, number) other = cc
+one_number least most values (Some m) (Some n) (word, is, number) (word', other, number') =
+    let same : word' ≡ word = cc in
+    ap (λ (k : ℕ). Some k) (number'.value ∙ ap (λ (w : Word). digits_value 10 w) same ∙ sym number.value)
+
+one_size : (is_plain : Bool) (size : Option ℕ) (a b : Option ℕ) → SizesChunks is_plain size a → SizesChunks is_plain size b → b ≡ a
+one_size true None a b is other = other ∙ sym is
+one_size true (Some n) a b is other = absurd is
+one_size false size a b is other = other ∙ sym is
+
+one_chunk : (items : List Item) (a b : Option ℕ) → HasChunks items a → HasChunks items b → b ≡ a
+one_chunk items a b is other =
+    let plain = one_flag (given (codes "plain") items) is.is_plain other.is_plain is.plain other.plain in
+    let size = one_number 1 67108864 (given (codes "chunk") items) is.size other.size is.sized other.sized in
+    one_size is.is_plain is.size a b is.sizes
+    (subst (λ (p : Bool). SizesChunks p is.size b) plain (subst (λ (n : Option ℕ). SizesChunks other.is_plain n b) size other.sizes))
+
+one_profile : (items : List Item) (a b : Word) → HasProfile items a → HasProfile items b → b ≡ a
+one_profile items a b is other = other.is ∙ ap (λ (v : Option Word). unwrap_or v []) (one_value is.value other.value (sym is.once ∙ other.once)) ∙ sym is.is
+
+options_same : (p q : Word) (c d : Option ℕ) → q ≡ p → d ≡ c → options_with q d ≡ options_with p c
+options_same p q c d profile chunk = cc
+
+one_options : (items : List Item) (a b : FileOptions) → IsFileOptions items a → IsFileOptions items b → b ≡ a
+one_options items a b is other =
+    let chunk = one_chunk items a.chunk b.chunk is.chunk other.chunk in
+    let profile = one_profile items a.profile b.profile is.profile other.profile in
+    options_same a.profile b.profile a.chunk b.chunk profile chunk
+
+range_same : (s t : ℕ) (e f : Option ℕ) → t ≡ s → f ≡ e → range_with t f ≡ range_with s e
+range_same s t e f start end = cc
+
+one_range : (items : List Item) (a b : Range) → IsRange items a → IsRange items b → b ≡ a
+one_range items a b is other =
+    let start = one_number 0 18446744073709551615 (given (codes "start") items) is.start other.start is.started other.started in
+    let from : b.start ≡ a.start = other.from ∙ ap (λ (v : Option ℕ). unwrap_or v 0) start ∙ sym is.from in
+    let end = one_number 0 18446744073709551615 (given (codes "end") items) a.end b.end is.ended other.ended in
+    range_same a.start b.start a.end b.end from end
+
+-- ---- commands
+
+module _ (words : List Word) (out : Word) (feeds : List Word) (file : FileOptions) (limit : ℕ) (lossless : Bool) where
+  one_record : (out' : Word) (feeds' : List Word) (file' : FileOptions) (limit' : ℕ) (lossless' : Bool) → IsRecord words out feeds file limit lossless → IsRecord words out' feeds' file' limit' lossless'
+      → Record out' feeds' file' limit' lossless' ≡ Record out feeds file limit lossless
+  one_record out' feeds' file' limit' lossless' is other =
+      let same = one_reading verb.Record words is.items other.items (out ∷ feeds) (out' ∷ feeds') is.reads other.reads in
+      let places : out' ∷ feeds' ≡ out ∷ feeds = same.1 in
+      let flags : lossless' ≡ lossless = one_flag (given (codes "lossless") is.items) lossless lossless' is.flagged (subst (λ (l : List Item). Flags (given (codes "lossless") l) lossless') same.0 other.flagged) in
+      let files : file' ≡ file = one_options is.items file file' is.options (subst (λ (l : List Item). IsFileOptions l file') same.0 other.options) in
+      let size = one_number 1 1073741824 (given (codes "limit") is.items) is.size other.size is.sized (subst (λ (l : List Item). GivesNumber 1 1073741824 (given (codes "limit") l) other.size) same.0 other.sized) in
+      let limits : limit' ≡ limit = other.limited ∙ ap (λ (v : Option ℕ). unwrap_or v 104857600) size ∙ sym is.limited in
+      cc
+
+one_file : (v : Verb) (words : List Word) (file file' : Word) → IsOfFile v words file → IsOfFile v words file' → file' ≡ file
+one_file v words file file' is other = let same = one_reading v words is.items other.items (file ∷ []) (file' ∷ []) is.reads other.reads in let places = same.1 in cc
+
+one_cat : (words : List Word) (file : Word) (indexed : Bool) (range : Range) (topic : Option Word) (file' : Word) (indexed' : Bool) (range' : Range) (topic' : Option Word) → IsCat words file indexed range topic → IsCat words file' indexed' range' topic'
+    → Cat file' indexed' range' topic' ≡ Cat file indexed range topic
+one_cat words file indexed range topic file' indexed' range' topic' is other =
+    let same = one_reading verb.Cat words is.items other.items (file ∷ []) (file' ∷ []) is.reads other.reads in
+    let places = same.1 in
+    let flags : indexed' ≡ indexed = one_flag (given (codes "indexed") is.items) indexed indexed' is.flagged (subst (λ (l : List Item). Flags (given (codes "indexed") l) indexed') same.0 other.flagged) in
+    let ranges : range' ≡ range = one_range is.items range range' is.ranged (subst (λ (l : List Item). IsRange l range') same.0 other.ranged) in
+    let topics : topic' ≡ topic = one_value topic topic' (sym is.topical ∙ subst (λ (l : List Item). given (codes "topic") l ≡ option_to_list topic') same.0 other.topical) in
+    cc
+
+one_recover : (words : List Word) (input out : Word) (chunk : ℕ) (input' out' : Word) (chunk' : ℕ) → IsRecover words input out chunk → IsRecover words input' out' chunk' → Recover input' out' chunk' ≡ Recover input out chunk
+one_recover words input out chunk input' out' chunk' is other =
+    let same = one_reading verb.Recover words is.items other.items (input ∷ out ∷ []) (input' ∷ out' ∷ []) is.reads other.reads in
+    let places : input' ∷ out' ∷ [] ≡ input ∷ out ∷ [] = same.1 in
+    let size = one_number 1 67108864 (given (codes "chunk") is.items) is.size other.size is.sized (subst (λ (l : List Item). GivesNumber 1 67108864 (given (codes "chunk") l) other.size) same.0 other.sized) in
+    let chunks : chunk' ≡ chunk = other.chunk_is ∙ ap (λ (v : Option ℕ). unwrap_or v 786432) size ∙ sym is.chunk_is in
+    cc
+
+-- the names differ
+two_names : (one two : Word) → bytes_eq one two ≡ false → one ≡ two → ⊥
+two_names one two unlike is = let same : bytes_eq one two ≡ true = (bytes_eq-Decides one two).1 is in let wrong : false ≡ true = sym unlike ∙ same in cc
+
+one_behind : (words : List Word) (a b : Command) → name_of (verb_of a) ≡ name_of (verb_of b) → Behind words a → Behind words b → b ≡ a
+one_behind words (Record out feeds file limit lossless) (Record out' feeds' file' limit' lossless') names is other = one_record words out feeds file limit lossless out' feeds' file' limit' lossless' is other
+one_behind words (Record out feeds file limit lossless) (Info file') names is other = absurd (two_names (codes "record") (codes "info") refl names)
+one_behind words (Record out feeds file limit lossless) (Check file') names is other = absurd (two_names (codes "record") (codes "check") refl names)
+one_behind words (Record out feeds file limit lossless) (Cat file' indexed' range' topic') names is other = absurd (two_names (codes "record") (codes "cat") refl names)
+one_behind words (Record out feeds file limit lossless) (Recover input' out' chunk') names is other = absurd (two_names (codes "record") (codes "recover") refl names)
+one_behind words (Info file) (Record out' feeds' file' limit' lossless') names is other = absurd (two_names (codes "info") (codes "record") refl names)
+one_behind words (Info file) (Info file') names is other = ap (λ (f : Word). Info f) (one_file verb.Info words file file' is other)
+one_behind words (Info file) (Check file') names is other = absurd (two_names (codes "info") (codes "check") refl names)
+one_behind words (Info file) (Cat file' indexed' range' topic') names is other = absurd (two_names (codes "info") (codes "cat") refl names)
+one_behind words (Info file) (Recover input' out' chunk') names is other = absurd (two_names (codes "info") (codes "recover") refl names)
+one_behind words (Check file) (Record out' feeds' file' limit' lossless') names is other = absurd (two_names (codes "check") (codes "record") refl names)
+one_behind words (Check file) (Info file') names is other = absurd (two_names (codes "check") (codes "info") refl names)
+one_behind words (Check file) (Check file') names is other = ap (λ (f : Word). Check f) (one_file verb.Check words file file' is other)
+one_behind words (Check file) (Cat file' indexed' range' topic') names is other = absurd (two_names (codes "check") (codes "cat") refl names)
+one_behind words (Check file) (Recover input' out' chunk') names is other = absurd (two_names (codes "check") (codes "recover") refl names)
+one_behind words (Cat file indexed range topic) (Record out' feeds' file' limit' lossless') names is other = absurd (two_names (codes "cat") (codes "record") refl names)
+one_behind words (Cat file indexed range topic) (Info file') names is other = absurd (two_names (codes "cat") (codes "info") refl names)
+one_behind words (Cat file indexed range topic) (Check file') names is other = absurd (two_names (codes "cat") (codes "check") refl names)
+one_behind words (Cat file indexed range topic) (Cat file' indexed' range' topic') names is other = one_cat words file indexed range topic file' indexed' range' topic' is other
+one_behind words (Cat file indexed range topic) (Recover input' out' chunk') names is other = absurd (two_names (codes "cat") (codes "recover") refl names)
+one_behind words (Recover input out chunk) (Record out' feeds' file' limit' lossless') names is other = absurd (two_names (codes "recover") (codes "record") refl names)
+one_behind words (Recover input out chunk) (Info file') names is other = absurd (two_names (codes "recover") (codes "info") refl names)
+one_behind words (Recover input out chunk) (Check file') names is other = absurd (two_names (codes "recover") (codes "check") refl names)
+one_behind words (Recover input out chunk) (Cat file' indexed' range' topic') names is other = absurd (two_names (codes "recover") (codes "cat") refl names)
+one_behind words (Recover input out chunk) (Recover input' out' chunk') names is other = one_recover words input out chunk input' out' chunk' is other
+
+pub one_command : (words : List Word) (a : Command) → Derives words a → IsOnly words a
+one_command words a is b other =
+    let form : name_of (verb_of a) ∷ is.rest ≡ name_of (verb_of b) ∷ other.rest = sym is.form ∙ other.form in
+    let rest : other.rest ≡ is.rest = cc in
+    let names : name_of (verb_of a) ≡ name_of (verb_of b) = cc in
+    one_behind is.rest a b names is.behind (subst (λ (l : List Word). Behind l b) rest other.behind)
+
+pub only_one : (words : List Word) (result : Result Command WordsRefused) → IfOk result (λ command. Derives words command) → IfOk result (λ command. IsOnly words command)
+only_one words (Ok command) is = one_command words command is
+only_one words (Err refused) is = is

@@ -1,0 +1,162 @@
+-- Which command the words of a command line are.
+use Rattle.std.specs.Prelude.{◌≡◌, ◌≢◌, ◌≤◌, ℕ, ◌^◌, ◌*◌, ◌-◌, Bool, true, false, List, [], ◌∷◌, ◌++◌, codes, length, Option, Some, None, unwrap_or, if◌then◌else◌}
+use Rattle.std.specs.List.{All, flat_map}
+use Rattle.std.specs.Option.{option_to_list}
+use Rattle.std.specs.Str.Parse.{IsNumeral, digits_value}
+use Rattle.mcap_wire.specs.Limits.{chunk_size_limit, buffer_limit, profile_limit}
+use Rattle.mcap_model.specs.declared.options.FileOptions.{FileOptions}
+use Rattle.mcap_model.specs.declared.replay.Range.{Range}
+use Rattle.command_words.specs.Items.{Word, Item, IsCut, given, place_of}
+use Rattle.command_words.specs.declared.command.Command.{Command}
+use Rattle.command_words.specs.declared.command.Command.TheVariants.{Record, Info, Check, Cat, Recover}
+use Rattle.command_words.specs.declared.verbs.Verb.{Verb}
+use Rattle.command_words.specs.declared.verbs.Verb.TheVariants as verb
+
+abbrev pub name_of : Verb → Word
+name_of verb.Record = codes "record"
+name_of verb.Info = codes "info"
+name_of verb.Check = codes "check"
+name_of verb.Cat = codes "cat"
+name_of verb.Recover = codes "recover"
+
+-- the size of chunks where the words say none: 768 KiB
+abbrev pub usual_chunk_size : ℕ
+usual_chunk_size = 768 * 2 ^ 10
+
+-- the bytes of the buffer where the words say none: 100 MiB
+abbrev pub usual_limit : ℕ
+usual_limit = 100 * 2 ^ 20
+
+-- how many feeds are recorded at most
+abbrev pub feed_limit : ℕ
+feed_limit = 64
+
+-- the last nanosecond that can be told
+abbrev pub latest : ℕ
+latest = 2 ^ 64 - 1
+
+-- the words behind the command: these items, and these positionals from left to right
+pub record Reads (verb : Verb) (words : List Word) (items : List Item) (places : List Word) : Type 0 where
+  pub behind : List Word
+  pub cut : IsCut verb words items behind
+  pub all : places ≡ flat_map place_of items ++ behind
+
+-- 1 to 20 decimal digits, whose value is in its range
+pub record IsNumber (least most : ℕ) (word : Word) (number : ℕ) : Type 0 where
+  pub digits : IsNumeral 10 word
+  pub few : length word ≤ 20
+  pub value : number ≡ digits_value 10 word
+  pub above : least ≤ number
+  pub below : number ≤ most
+
+-- the option isn't there, or once with such a number
+abbrev pub GivesNumber : ℕ → ℕ → List Word → Option ℕ → Type 0
+GivesNumber least most values None = values ≡ []
+GivesNumber least most values (Some number) = (word : Word) × (values ≡ word ∷ []) × IsNumber least most word number
+
+-- the flag is there once, or not at all
+abbrev pub Flags : List Word → Bool → Type 0
+Flags values is_there = values ≡ (if is_there then [] ∷ [] else [])
+
+-- the size of the chunks: none with --plain, which --chunk doesn't stand beside
+abbrev pub SizesChunks : Bool → Option ℕ → Option ℕ → Type 0
+SizesChunks true None chunk = chunk ≡ None
+SizesChunks true (Some size) chunk = ⊥
+SizesChunks false size chunk = chunk ≡ Some (unwrap_or size usual_chunk_size)
+
+-- --plain and --chunk
+pub record HasChunks (items : List Item) (chunk : Option ℕ) : Type 0 where
+  pub is_plain : Bool
+  pub plain : Flags (given (codes "plain") items) is_plain
+  pub size : Option ℕ
+  pub sized : GivesNumber 1 chunk_size_limit (given (codes "chunk") items) size
+  pub sizes : SizesChunks is_plain size chunk
+
+-- --profile
+pub record HasProfile (items : List Item) (profile : Word) : Type 0 where
+  pub value : Option Word
+  pub once : given (codes "profile") items ≡ option_to_list value
+  pub is : profile ≡ unwrap_or value []
+  pub short : length profile ≤ profile_limit
+
+-- --plain, --chunk and --profile
+pub record IsFileOptions (items : List Item) (file : FileOptions) : Type 0 where
+  pub chunk : HasChunks items file.chunk
+  pub profile : HasProfile items file.profile
+
+-- record, its options, OUT and each FEED
+pub record IsRecord (words : List Word) (out : Word) (feeds : List Word) (file : FileOptions) (limit : ℕ) (lossless : Bool) : Type 0 where
+  pub items : List Item
+  pub reads : Reads verb.Record words items (out ∷ feeds)
+  pub some : 1 ≤ length feeds
+  pub few : length feeds ≤ feed_limit
+  pub out_named : out ≢ []
+  pub feeds_named : All (λ feed. feed ≢ []) feeds
+  pub differ : All (λ feed. out ≢ feed) feeds
+  pub flagged : Flags (given (codes "lossless") items) lossless
+  pub options : IsFileOptions items file
+  pub size : Option ℕ
+  pub sized : GivesNumber 1 buffer_limit (given (codes "limit") items) size
+  pub limited : limit ≡ unwrap_or size usual_limit
+
+-- a command without options, and FILE
+pub record IsOfFile (verb : Verb) (words : List Word) (file : Word) : Type 0 where
+  pub items : List Item
+  pub reads : Reads verb words items (file ∷ [])
+  pub named : file ≢ []
+
+-- --start and --end
+pub record IsRange (items : List Item) (range : Range) : Type 0 where
+  pub start : Option ℕ
+  pub started : GivesNumber 0 latest (given (codes "start") items) start
+  pub from : range.start ≡ unwrap_or start 0
+  pub ended : GivesNumber 0 latest (given (codes "end") items) range.end
+
+-- cat, its options, and FILE
+pub record IsCat (words : List Word) (file : Word) (indexed : Bool) (range : Range) (topic : Option Word) : Type 0 where
+  pub items : List Item
+  pub reads : Reads verb.Cat words items (file ∷ [])
+  pub named : file ≢ []
+  pub flagged : Flags (given (codes "indexed") items) indexed
+  pub ranged : IsRange items range
+  pub topical : given (codes "topic") items ≡ option_to_list topic
+
+-- recover, --chunk, IN and OUT
+pub record IsRecover (words : List Word) (input out : Word) (chunk : ℕ) : Type 0 where
+  pub items : List Item
+  pub reads : Reads verb.Recover words items (input ∷ out ∷ [])
+  pub in_named : input ≢ []
+  pub out_named : out ≢ []
+  pub differ : input ≢ out
+  pub size : Option ℕ
+  pub sized : GivesNumber 1 chunk_size_limit (given (codes "chunk") items) size
+  pub chunk_is : chunk ≡ unwrap_or size usual_chunk_size
+
+-- the words behind the command are those of this one
+abbrev pub Behind : List Word → Command → Type 0
+Behind words (Record out feeds file limit lossless) = IsRecord words out feeds file limit lossless
+Behind words (Info file) = IsOfFile verb.Info words file
+Behind words (Check file) = IsOfFile verb.Check words file
+Behind words (Cat file indexed range topic) = IsCat words file indexed range topic
+Behind words (Recover input out chunk) = IsRecover words input out chunk
+
+abbrev pub verb_of : Command → Verb
+verb_of (Record out feeds file limit lossless) = verb.Record
+verb_of (Info file) = verb.Info
+verb_of (Check file) = verb.Check
+verb_of (Cat file indexed range topic) = verb.Cat
+verb_of (Recover input out chunk) = verb.Recover
+
+-- the words are those of the command
+pub record Derives (words : List Word) (command : Command) : Type 0 where
+  pub rest : List Word
+  pub form : words ≡ name_of (verb_of command) ∷ rest
+  pub behind : Behind rest command
+
+-- no command has these words
+abbrev pub AreBad : List Word → Type 0
+AreBad words = (command : Command) → Derives words command → ⊥
+
+-- no other command has these words
+abbrev pub IsOnly : List Word → Command → Type 0
+IsOnly words command = (other : Command) → Derives words other → other ≡ command

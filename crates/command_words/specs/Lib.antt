@@ -1,0 +1,4 @@
+pub mod Items
+pub mod Commands
+pub mod Matches
+pub mod CommandLine

@@ -1,0 +1,13 @@
+//! The words of the program: which command they are.
+#![tactic(auto)]
+
+mod command;
+mod command_line;
+mod found;
+mod options;
+mod parse;
+mod read;
+mod verbs;
+
+pub use command::{Command, Names, WordsRefused};
+pub use parse::parse_words;

@@ -1,0 +1,123 @@
+//! What the options of the commands say.
+ghost use Rattle.std.specs.Prelude.{◌≡◌, ℕ, [], Bool, List, Option, IfOk, IfErr, OnErr, codes, unwrap_or};
+ghost use Rattle.command_words.specs.Commands.{HasChunks, HasProfile, IsFileOptions, IsRange, SizesChunks};
+ghost use Rattle.command_words.specs.Items.{Word, Item};
+ghost use Rattle.command_words.specs.Matches.{Shows, rows_found, value_in};
+ghost use Rattle.command_words.specs.declared.verbs.Verb.TheVariants as verb;
+ghost use Rattle.mcap_model.specs.declared.options.FileOptions.{FileOptions as Options};
+ghost use Rattle.mcap_model.specs.declared.replay.Range.{Range as Times};
+
+use crate::command::WordsRefused;
+use crate::found::{BadValue, has_flag, number_of, value_of};
+use clap::ArgMatches;
+use mcap_model::{FileOptions, Range};
+use mcap_wire::Text;
+use std::alloc::Global;
+
+/// The bytes of records from which on a chunk is closed: the most, and those where the words don't say it.
+pub const LARGEST_CHUNK: u64 = 67_108_864;
+
+pub const USUAL_CHUNK: u64 = 786_432;
+
+/// The most bytes of a profile.
+const LONGEST_PROFILE: usize = 65_535;
+
+/// A copy of a word.
+pub fn copy_of(alloc: Global, word: &str) -> Result<Text, WordsRefused>
+    ensures copy { IfOk result (λ copy. copy ≡ word.now) }
+    ensures want { OnErr result (result ≡ Err WordsRefused.Memory) }
+{
+    match Text::copied(alloc, word) {
+        Ok(copy) => return Ok(copy),
+        Err(_) => return Err(WordsRefused::Memory),
+    }
+}
+
+// The size of the chunks, or none with --plain, which --chunk doesn't stand beside.
+fn size_chunks(is_plain: bool, size: Option<u64>) -> Result<Option<u64>, BadValue>
+    ensures chunk { IfOk result (SizesChunks is_plain size) }
+    ensures bad { OnErr result ((chunk : Option ℕ) → SizesChunks is_plain size chunk → ⊥) }
+{
+    match size {
+        Some(size) => {
+            if is_plain {
+                return Err(BadValue);
+            }
+            return Ok(Some(size));
+        }
+        None => {
+            if is_plain {
+                return Ok(None);
+            }
+            return Ok(Some(USUAL_CHUNK));
+        }
+    }
+}
+
+// --plain and --chunk.
+fn chunk_of(found: &ArgMatches) -> Result<Option<u64>, BadValue>
+    ensures chunk { (items : List Item) (places : List Word) → Shows verb.Record items places (rows_found found.now) → IfOk result (HasChunks items) }
+    ensures bad { (items : List Item) (places : List Word) → Shows verb.Record items places (rows_found found.now) → OnErr result ((chunk : Option ℕ) → HasChunks items chunk → ⊥) }
+{
+    match number_of(found, "chunk", 1, LARGEST_CHUNK) {
+        Ok(size) => return size_chunks(has_flag(found, "plain"), size),
+        Err(BadValue) => return Err(BadValue),
+    }
+}
+
+// What --profile says, or nothing.
+fn profile_text<'a>(found: &ArgMatches<'a>) -> &'a str
+    ensures { result.now ≡ unwrap_or (value_in found.now (codes "profile")) [] }
+{
+    match value_of(found, "profile") {
+        Some(profile) => return profile,
+        None => return "",
+    }
+}
+
+// --profile.
+fn profile_of<'a>(found: &ArgMatches<'a>) -> Result<&'a str, BadValue>
+    ensures profile { (items : List Item) (places : List Word) → Shows verb.Record items places (rows_found found.now) → IfOk result (λ profile. HasProfile items profile.now) }
+    ensures bad { (items : List Item) (places : List Word) → Shows verb.Record items places (rows_found found.now) → OnErr result ((profile : Word) → HasProfile items profile → ⊥) }
+{
+    let profile = profile_text(found);
+    if profile.len() > LONGEST_PROFILE {
+        return Err(BadValue);
+    }
+    Ok(profile)
+}
+
+/// The profile and the size of the chunks.
+pub fn file_options(alloc: Global, found: &ArgMatches) -> Result<FileOptions, WordsRefused>
+    ensures options { (items : List Item) (places : List Word) → Shows verb.Record items places (rows_found found.now) → IfOk result (IsFileOptions items) }
+    ensures bad { (items : List Item) (places : List Word) → Shows verb.Record items places (rows_found found.now) → IfErr result (λ refused. refused ≡ WordsRefused.BadWords → (file : Options) → IsFileOptions items file → ⊥) }
+{
+    let chunk = match chunk_of(found) {
+        Ok(chunk) => chunk,
+        Err(BadValue) => return Err(WordsRefused::BadWords),
+    };
+    match profile_of(found) {
+        Ok(profile) => match copy_of(alloc, profile) {
+            Ok(profile) => return Ok(FileOptions { profile, chunk }),
+            Err(refused) => return Err(refused),
+        },
+        Err(BadValue) => return Err(WordsRefused::BadWords),
+    }
+}
+
+/// --start and --end.
+pub fn range_of(found: &ArgMatches) -> Result<Range, BadValue>
+    ensures range { (items : List Item) (places : List Word) → Shows verb.Cat items places (rows_found found.now) → IfOk result (IsRange items) }
+    ensures bad { (items : List Item) (places : List Word) → Shows verb.Cat items places (rows_found found.now) → OnErr result ((range : Times) → IsRange items range → ⊥) }
+{
+    match number_of(found, "start", 0, u64::MAX) {
+        Ok(start) => match number_of(found, "end", 0, u64::MAX) {
+            Ok(end) => return Ok(Range {
+                start: start.unwrap_or(0),
+                end,
+            }),
+            Err(BadValue) => return Err(BadValue),
+        },
+        Err(BadValue) => return Err(BadValue),
+    }
+}

@@ -1,0 +1,277 @@
+//! All the words of a command line.
+ghost use Rattle.std.specs.Prelude.{◌≡◌, ◌≢◌, ◌↔◌, ℕ, List, [], ◌∷◌, Some, Bool, Option, IsTrue, MatchOption, codes, IfOk, IfErr, OnErr, option_map};
+ghost use Rattle.std.specs.List.{All};
+ghost use Rattle.clap.specs.Words.{subcommand_rows_of};
+ghost use Rattle.command_words.specs.Items.{Word, texts};
+ghost use Rattle.command_words.specs.Commands.{AreBad, Behind, Derives, IsCat, IsOnly, IsRecord, IsRecover, verb_of};
+ghost use Rattle.command_words.specs.Matches.{AreFeeds, AreRead, IsReading, rows_found, value_in, values_in};
+ghost use Rattle.command_words.specs.declared.command.Command.{Command as Wanted};
+ghost use Rattle.mcap_model.specs.declared.options.FileOptions.{FileOptions as Options};
+ghost use Rattle.mcap_model.specs.declared.replay.Range.{Range as Times};
+
+use crate::command::{Command, Names, WordsRefused};
+use crate::found::{BadValue, has_flag, is_dash, name_of_file, number_of, value_of, values_of};
+use crate::options::{LARGEST_CHUNK, USUAL_CHUNK, copy_of, file_options, range_of};
+use crate::read::{are_whole, plain_words, read_words};
+use crate::verbs::{Verb, named_verb};
+use clap::ArgMatches;
+use mcap_wire::Text;
+use std::alloc::Global;
+
+/// The most bytes that may be held in memory, and those where the words don't say it.
+const LARGEST_LIMIT: u64 = 1_073_741_824;
+
+const USUAL_LIMIT: u64 = 104_857_600;
+
+/// The most feeds of a recording.
+const FEED_LIMIT: usize = 64;
+
+// A copy of a word that may be there.
+fn maybe_copy(alloc: Global, word: Option<&str>) -> Result<Option<Text>, WordsRefused>
+    ensures copy { IfOk result (λ copy. copy ≡ option_map (λ text. text.now) word.entry) }
+    ensures want { OnErr result (result ≡ Err WordsRefused.Memory) }
+{
+    match word {
+        Some(word) => match copy_of(alloc, word) {
+            Ok(copy) => return Ok(Some(copy)),
+            Err(refused) => return Err(refused),
+        },
+        None => return Ok(None),
+    }
+}
+
+// Whether a name may be a feed's beside that output.
+fn may_be_feed(out: &str, feed: &str) -> bool
+    ensures { IsTrue result ↔ ((feed.now ≢ []) × (out.now ≢ feed.now)) }
+{
+    !feed.is_empty() && out != feed
+}
+
+// Whether each of the names may be.
+fn are_named(out: &str, feeds: &[&str]) -> bool
+    ensures { IsTrue result ↔ All (λ feed. (feed.now ≢ []) × (out.now ≢ feed.now)) feeds.now }
+{
+    feeds.iter().all(|feed| may_be_feed(out, feed))
+}
+
+// Whether the names may be the feeds' beside that output.
+fn are_feeds(out: &str, feeds: &[&str]) -> bool
+    ensures { IsTrue result ↔ AreFeeds out.now (texts feeds.now) }
+{
+    if feeds.is_empty() || feeds.len() > FEED_LIMIT {
+        return false;
+    }
+    are_named(out, feeds)
+}
+
+// Copies of words.
+fn copies_of(alloc: Global, words: &[&str]) -> Result<Names, WordsRefused>
+    ensures copies { IfOk result (λ copies. copies ≡ texts words.now) }
+    ensures want { OnErr result (result ≡ Err WordsRefused.Memory) }
+{
+    let mut copies = Vec::new(alloc);
+    for word in words {
+        let copy = match copy_of(alloc, word) {
+            Ok(copy) => copy,
+            Err(refused) => return Err(refused),
+        };
+        match copies.push(copy) {
+            Ok(()) => {}
+            Err(_) => return Err(WordsRefused::Memory),
+        }
+    }
+    Ok(Names::new(copies))
+}
+
+// The names of the feeds of a recording to that output.
+fn feeds_of(alloc: Global, found: &ArgMatches, out: &str) -> Result<Names, WordsRefused>
+    ensures feeds { IfOk result (λ feeds. (values_in found.now (codes "feed") ≡ feeds) × AreFeeds out.now feeds) }
+    ensures bad { IfErr result (λ refused. refused ≡ WordsRefused.BadWords → AreFeeds out.now (values_in found.now (codes "feed")) → ⊥) }
+{
+    let Some(feeds) = values_of(found, "feed") else {
+        return Err(WordsRefused::BadWords);
+    };
+    if !are_feeds(out, feeds) {
+        return Err(WordsRefused::BadWords);
+    }
+    match copies_of(alloc, feeds) {
+        Ok(feeds) => return Ok(feeds),
+        Err(refused) => return Err(refused),
+    }
+}
+
+// The name of the one file of a command.
+fn one_name(alloc: Global, found: &ArgMatches) -> Result<Text, WordsRefused>
+    ensures file { IfOk result (λ file. (file ≢ []) × (value_in found.now (codes "file") ≡ Some file)) }
+    ensures bad { IfErr result (λ refused. refused ≡ WordsRefused.BadWords → (file : Word) → file ≢ [] → value_in found.now (codes "file") ≢ Some file) }
+{
+    match name_of_file(found, "file") {
+        Some(file) => match copy_of(alloc, file) {
+            Ok(file) => return Ok(file),
+            Err(refused) => return Err(refused),
+        },
+        None => return Err(WordsRefused::BadWords),
+    }
+}
+
+// What was found behind `record`.
+fn record_of(alloc: Global, found: &ArgMatches) -> Result<Command, WordsRefused>
+    ensures command { (words : List Word) → IsReading Verb.Record words (rows_found found.now) → IfOk result (λ command. Behind words command × (verb_of command ≡ Verb.Record)) }
+    ensures bad { (words : List Word) → IsReading Verb.Record words (rows_found found.now) → IfErr result (λ refused. refused ≡ WordsRefused.BadWords → (out : Word) (feeds : List Word) (file : Options) (limit : ℕ) (lossless : Bool) → IsRecord words out feeds file limit lossless → ⊥) }
+{
+    if is_dash(found, "profile") {
+        return Err(WordsRefused::BadWords);
+    }
+    let Some(out) = name_of_file(found, "out") else {
+        return Err(WordsRefused::BadWords);
+    };
+    let limit = match number_of(found, "limit", 1, LARGEST_LIMIT) {
+        Ok(limit) => limit,
+        Err(BadValue) => return Err(WordsRefused::BadWords),
+    };
+    let feeds = match feeds_of(alloc, found, out) {
+        Ok(feeds) => feeds,
+        Err(refused) => return Err(refused),
+    };
+    let file = match file_options(alloc, found) {
+        Ok(file) => file,
+        Err(refused) => return Err(refused),
+    };
+    match copy_of(alloc, out) {
+        Ok(out) => return Ok(Command::Record {
+            out,
+            feeds,
+            file,
+            limit: limit.unwrap_or(USUAL_LIMIT),
+            lossless: has_flag(found, "lossless"),
+        }),
+        Err(refused) => return Err(refused),
+    }
+}
+
+// What was found behind `cat`.
+fn cat_of(alloc: Global, found: &ArgMatches) -> Result<Command, WordsRefused>
+    ensures command { (words : List Word) → IsReading Verb.Cat words (rows_found found.now) → IfOk result (λ command. Behind words command × (verb_of command ≡ Verb.Cat)) }
+    ensures bad { (words : List Word) → IsReading Verb.Cat words (rows_found found.now) → IfErr result (λ refused. refused ≡ WordsRefused.BadWords → (file : Word) (indexed : Bool) (range : Times) (topic : Option Word) → IsCat words file indexed range topic → ⊥) }
+{
+    if is_dash(found, "topic") {
+        return Err(WordsRefused::BadWords);
+    }
+    let range = match range_of(found) {
+        Ok(range) => range,
+        Err(BadValue) => return Err(WordsRefused::BadWords),
+    };
+    let file = match one_name(alloc, found) {
+        Ok(file) => file,
+        Err(refused) => return Err(refused),
+    };
+    match maybe_copy(alloc, value_of(found, "topic")) {
+        Ok(topic) => return Ok(Command::Cat {
+            file,
+            indexed: has_flag(found, "indexed"),
+            range,
+            topic,
+        }),
+        Err(refused) => return Err(refused),
+    }
+}
+
+// The one name of the output beside that input.
+fn only_output<'a>(found: &ArgMatches<'a>, input: &str) -> Option<&'a str>
+    ensures { MatchOption result ((out : Word) → out ≢ [] → input.now ≢ out → values_in found.now (codes "out") ≢ out ∷ []) (λ out. (out.now ≢ []) × (input.now ≢ out.now) × (values_in found.now (codes "out") ≡ out.now ∷ [])) }
+{
+    let Some(names) = values_of(found, "out") else {
+        return None;
+    };
+    if names.len() != 1 || !may_be_feed(input, names[0]) {
+        return None;
+    }
+    Some(names[0])
+}
+
+// What was found behind `recover`.
+fn recover_of(alloc: Global, found: &ArgMatches) -> Result<Command, WordsRefused>
+    ensures command { (words : List Word) → IsReading Verb.Recover words (rows_found found.now) → IfOk result (λ command. Behind words command × (verb_of command ≡ Verb.Recover)) }
+    ensures bad { (words : List Word) → IsReading Verb.Recover words (rows_found found.now) → IfErr result (λ refused. refused ≡ WordsRefused.BadWords → (input out : Word) (chunk : ℕ) → IsRecover words input out chunk → ⊥) }
+{
+    let Some(input) = name_of_file(found, "in") else {
+        return Err(WordsRefused::BadWords);
+    };
+    let Some(out) = only_output(found, input) else {
+        return Err(WordsRefused::BadWords);
+    };
+    let chunk = match number_of(found, "chunk", 1, LARGEST_CHUNK) {
+        Ok(chunk) => chunk.unwrap_or(USUAL_CHUNK),
+        Err(BadValue) => return Err(WordsRefused::BadWords),
+    };
+    let input = match copy_of(alloc, input) {
+        Ok(input) => input,
+        Err(refused) => return Err(refused),
+    };
+    match copy_of(alloc, out) {
+        Ok(out) => return Ok(Command::Recover { input, out, chunk }),
+        Err(refused) => return Err(refused),
+    }
+}
+
+// What was found behind the name of a command.
+fn command_of(alloc: Global, verb: Verb, found: &ArgMatches) -> Result<Command, WordsRefused>
+    ensures command { (words : List Word) → IsReading verb words (rows_found found.now) → IfOk result (λ command. Behind words command × (verb_of command ≡ verb)) }
+    ensures bad { (words : List Word) → IsReading verb words (rows_found found.now) → IfErr result (λ refused. refused ≡ WordsRefused.BadWords → (command : Wanted) → verb_of command ≡ verb → Behind words command → ⊥) }
+{
+    match verb {
+        Verb::Record => return record_of(alloc, found),
+        Verb::Info => match one_name(alloc, found) {
+            Ok(file) => return Ok(Command::Info { file }),
+            Err(refused) => return Err(refused),
+        },
+        Verb::Check => match one_name(alloc, found) {
+            Ok(file) => return Ok(Command::Check { file }),
+            Err(refused) => return Err(refused),
+        },
+        Verb::Cat => return cat_of(alloc, found),
+        Verb::Recover => return recover_of(alloc, found),
+    }
+}
+
+// The command that was found.
+fn found_command(alloc: Global, found: &ArgMatches) -> Result<Command, WordsRefused>
+    ensures command { (words : List Word) → AreRead words (subcommand_rows_of found.now) → IfOk result (Derives words) }
+    ensures bad { (words : List Word) → AreRead words (subcommand_rows_of found.now) → result ≡ Err WordsRefused.BadWords → AreBad words }
+{
+    let Some((name, below)) = found.subcommand() else {
+        return Err(WordsRefused::BadWords);
+    };
+    match named_verb(name) {
+        Some(verb) => return command_of(alloc, verb, below),
+        None => return Err(WordsRefused::BadWords),
+    }
+}
+
+/// Reads the words behind the program's own name: `record [--plain] [--lossless] [--limit N] [--chunk N] [--profile T] OUT
+/// FEED...`, `info FILE`, `check FILE`, `cat [--indexed] [--start N] [--end N] [--topic T] FILE` or `recover [--chunk N] IN OUT`.
+///
+/// Options and positionals stand in any order behind the command, and `--` ends the options. An option has its value
+/// behind `=` in the same word, or in the next word, which then doesn't begin with `-`; each stands at most once. A number
+/// has 1 to 20 decimal digits: N of `--limit` is a number of bytes from 1 to 1,073,741,824 (usually 104,857,600), that of
+/// `--chunk` from 1 to 67,108,864 (usually 786,432), and those of `--start` and `--end` are times below 2^64. A profile has
+/// at most 65,535 bytes. OUT, FEED, FILE and IN aren't empty and no word is `-` alone; 1 to 64 FEEDs stand behind OUT, each
+/// other than OUT, two of which may be equal, and IN is other than OUT; `--plain` and `--chunk` exclude each other.
+///
+/// Where the words are no command the answer is BadWords, and where there is no memory for reading them it may be Memory.
+pub fn parse_words(alloc: Global, words: &[Text]) -> Result<Command, WordsRefused>
+    ensures command { IfOk result (λ command. Derives words.now command) }
+    ensures only { IfOk result (λ command. IsOnly words.now command) }
+    ensures bad { result ≡ Err WordsRefused.BadWords → AreBad words.now }
+{
+    if !are_whole(words) {
+        return Err(WordsRefused::BadWords);
+    }
+    let Ok(plain) = plain_words(alloc, words) else {
+        return Err(WordsRefused::Memory);
+    };
+    match read_words(alloc, &plain) {
+        Ok(found) => return found_command(alloc, &found),
+        Err(refused) => return Err(refused),
+    }
+}

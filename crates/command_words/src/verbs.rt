@@ -1,0 +1,36 @@
+//! The commands by their names.
+ghost use Rattle.std.specs.Prelude.{◌≡◌, ◌≢◌, MatchOption};
+ghost use Rattle.command_words.specs.Commands.{name_of};
+ghost use Rattle.command_words.specs.declared.verbs.Verb.{Verb as Named};
+
+/// A command by its name.
+#[derive(Clone, Copy)]
+pub enum Verb {
+    Record,
+    Info,
+    Check,
+    Cat,
+    Recover,
+}
+
+/// The command of this name.
+pub fn named_verb(name: &str) -> Option<Verb>
+    ensures { MatchOption result ((verb : Named) → name.now ≢ name_of verb) (λ verb. name.now ≡ name_of verb) }
+{
+    if name == "record" {
+        return Some(Verb::Record);
+    }
+    if name == "info" {
+        return Some(Verb::Info);
+    }
+    if name == "check" {
+        return Some(Verb::Check);
+    }
+    if name == "cat" {
+        return Some(Verb::Cat);
+    }
+    if name == "recover" {
+        return Some(Verb::Recover);
+    }
+    None
+}

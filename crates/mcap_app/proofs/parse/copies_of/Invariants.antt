@@ -1,7 +1,0 @@
--- The copies so far are of the words so far.
-use Rattle.std.proofs.Common.{◌≡◌, take}
-use Rattle.mcap_app.specs.Items.{texts}
-use Rattle.mcap_app.proofs.parse.copies_of.Given as goal
-
-abbrev pub invariant-loop-word : goal.invariant-loop-word
-invariant-loop-word l = l.copies.items ≡ texts (take l.word-index l.words)
