@@ -270,7 +270,14 @@ done
 mcaprec record --lossless sixty-four.mcap single-*.mcap >"$room/stdout" 2>&1 || say_wrong '64 feeds are not recorded'
 compare 'the lines of 64 feeds' 64 "$(grep -c 'accepted=1 refused=0 passed=0 end' "$room/stdout")"
 expect_messages_of sixty-four.mcap single-*.mcap
-rm -f single-*.mcap
+# The same by 64 pipes, each written by a process of its own.
+for single in single-*.mcap; do mkfifo "pipe-of-$single" && cat "$single" >"pipe-of-$single" & done
+while [ "$(find . -name 'pipe-of-*' | wc -l)" -lt 64 ]; do sleep 0.1; done
+mcaprec record --lossless sixty-four.mcap pipe-of-single-*.mcap >"$room/stdout" 2>&1 || say_wrong '64 pipes are not recorded'
+compare 'the lines of 64 pipes' 64 "$(grep -c 'accepted=1 refused=0 passed=0 end' "$room/stdout")"
+expect_messages_of sixty-four.mcap single-*.mcap
+wait
+rm -f single-*.mcap pipe-of-*
 
 # Four pipes that four processes write at once, one of which is killed in the midst of a message.
 for n in 1 2 3 4; do mkfifo "pipe-$n"; done
