@@ -97,7 +97,7 @@ impl Board {
     }
 
     // Whether the turn was seen free in a short while. Each look costs whoever has the turn the words' cache line, so between
-    // looks it stays away, twice as long each time: meanwhile another publishes a run of messages. Where a thread waits for the
+    // looks it stays away, longer behind the first ones: meanwhile another publishes a run of messages. Where a thread waits for the
     // processor, it goes first: it may be the one that has the turn, or the drain.
     fn sees_free_turn(&self) -> bool {
         let mut pauses = FIRST_PAUSES;

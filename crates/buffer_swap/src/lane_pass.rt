@@ -8,7 +8,7 @@ use rec_data::ChannelDef;
 use record_core::{DeclareRefused, Declared, Found, NewMessage, PublishRefused};
 use std::sync::Wait;
 
-/// A publisher, the runtime by which it waits, and whether its calls wait for room too, so that none meets a full buffer.
+/// A publisher, the runtime by which it waits, and whether its calls wait for room too, so that none is answered that the buffer is full.
 #[derive(Drop)]
 pub struct LanePass<'r, 't, R: Wait> {
     pub rt: &'r R,

@@ -32,8 +32,9 @@ const ENTRY: usize = 16;
 /// The room with which a row begins, in bytes.
 const FIRST_ENTRIES: usize = 1024;
 
-/// The most room that a row keeps for the next chunk, in bytes, so that a burst on each of many channels doesn't add up.
-const KEPT_ENTRIES: usize = 65_536;
+/// The most room that all rows together keep for the next chunk beside what each begins with, in bytes: bursts on many channels
+/// don't add up.
+const KEPT_ENTRIES: usize = 16_777_216;
 
 // The index of the row of a channel, or the index at which it is to stand.
 fn place_of(rows: &[Row], channel: u16) -> Result<usize, usize>
@@ -165,12 +166,12 @@ fn add_index(row: &Row, bytes: &mut Vec<u8>, parts: &mut Vec<IndexPart>)
     add_bytes(bytes, row.entries.as_slice());
 }
 
-// Takes the entries from a row. Its room stays, unless it is large.
-fn clear_row(alloc: Global, row: &mut Row)
+// Takes the entries from a row. Its room stays, up to so many bytes.
+fn clear_row(alloc: Global, row: &mut Row, most: usize)
     ensures channel { row.new.channel ≡ row.old.channel }
     ensures none { row.new.entries.items ≡ [] }
 {
-    if row.entries.capacity() > KEPT_ENTRIES {
+    if row.entries.capacity() > most.max(FIRST_ENTRIES) {
         row.entries = Vec::new(alloc);
     } else {
         row.entries.clear();
@@ -199,7 +200,8 @@ fn take_index(
     match place_of(rows.as_slice(), channel) {
         Ok(i) => {
             add_index(&rows[i], bytes, parts);
-            clear_row(alloc, &mut rows[i]);
+            let most = KEPT_ENTRIES / rows.len();
+            clear_row(alloc, &mut rows[i], most);
         }
         Err(_) => {}
     }

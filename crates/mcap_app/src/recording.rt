@@ -20,9 +20,9 @@ use std::alloc::Global;
 use std::sync::Wait;
 use std::thread::Threads;
 
-/// How a command ended: its status, and the report of a recording. The status is 0 where all was done, 1 where a feed
-/// or the file breaks a rule or is compressed, 2 for bad words, 3 where the outside failed, 4 where a limit would be passed
-/// and 5 where memory lacked.
+/// How a command ended: its status, and the report of a recording. The status is 0 where all was done, and of a recovery also where
+/// its reading stopped early; 1 where a feed or the file breaks a rule, is compressed or isn't indexed, 2 for bad words, 3 where the
+/// outside failed, 4 where a limit would be passed and 5 where memory lacked.
 pub struct Ended {
     pub status: u8,
     pub report: Option<Report>,

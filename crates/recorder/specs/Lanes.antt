@@ -12,7 +12,7 @@ use Rattle.buffer_swap.specs.Posts.{Gathered, Post}
 use Rattle.recorder.specs.Recorded.{FeedRecorded, AreFeeds}
 
 -- A lane ran to its end: the pass that its publisher showed, with the reasons of all refusals, is one of which its report is
--- true; where it waits for room, it met no full buffer. The report lists messages, or only counts them.
+-- true; where it waits for room, no call was answered that the buffer is full. The report lists messages, or only counts them.
 pub record LaneRan (limit : ℕ) (lossless listed : Bool) (before now : SourceState) (pass : PassState) (report : Option FeedReport) : Type 0 where
   pub feed : FeedReport
   pub is : report ≡ Some feed

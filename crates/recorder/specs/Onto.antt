@@ -39,7 +39,7 @@ pub record IsWritten {T X : Type 0} (grows : T → T → List Rec → List (Entr
   pub numbers_are : numbers last ≡ numbers_of w
   pub cause : EndsFor (failures first) (failures last) (limit_met last) (answer_of w.end)
 
--- all of a history were written
+-- as many records are told as the history has, and each can be framed and is read back
 pub record IsAll (history : List Rec) (w : WriterReport) : Type 0 where
   pub records : w.records ≡ length history
   pub kept : Each IsKept history

@@ -80,7 +80,7 @@ pub record Recorded (options : RecordOptions) (before now : Sides) (r : Report) 
   pub feeds : List FeedRecorded
   pub are : AreFeeds feeds before.sources now.sources r.feeds.items
   pub assembled : Assembled options.limit (map lane_of feeds) history r.writer.end
-  -- where lanes wait for room, no call met a full buffer
+  -- where lanes wait for room, no call was answered that the buffer is full
   pub unfull : options.lossless ≡ true → Each (λ (f : FeedRecorded). f.pass.fulls ≡ []) feeds
   -- each record can be framed, and is read back from its frame
   pub kept : Each IsKept history
