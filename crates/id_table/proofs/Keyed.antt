@@ -16,7 +16,7 @@ use Rattle.id_table.specs.declared.given.GivenIds.{GivenIds}
 use Rattle.id_table.specs.Given.{Lacks, EachOnce, FoundAt, Offers, OffersTo, IsFull, IsFullTo, fresh_to, place_given, KeptKey, with_given, with_given_to}
 use Rattle.id_table.specs.Ids.{Ids}
 use Rattle.id_table.proofs.Places.{at_end}
-use Rattle.id_table.specs.Parts.{Grows, StandAt}
+use Rattle.id_table.specs.Parts.{Grows, StandAt, FoundPlaces}
 use Rattle.id_table.specs.Keys.{Stock, stocked, ShowsSchema, ShowsKey, FoundKey, schema_at, content_at, Stands, AllStand, Stocks}
 
 -- ---- one key
@@ -107,6 +107,10 @@ found_by_key stock keys once all k d (Some n) shows found long = (subst (λ (m :
 
 pub lacks_key : (stock : Stock) (keys : List ChannelKey) → AllStand stock keys → (d : ChannelDef) → FoundKey stock d None → Lacks (map (content_at stock) keys) d
 lacks_key stock keys all d none n at = let l = key_at stock keys all n d at in none l.0 l.2
+
+-- a part of it stands nowhere, and so no key stands for it
+pub lacks_part : (stock : Stock) (keys : List ChannelKey) → AllStand stock keys → (d : ChannelDef) → FoundPlaces stock.texts stock.maps d None → Lacks (map (content_at stock) keys) d
+lacks_part stock keys all d none = lacks_key stock keys all d (λ k shows. none k.parts shows.parts)
 
 -- ---- more behind
 

@@ -6,7 +6,7 @@ ghost use Rattle.indexmap.specs.IndexSet.{spare};
 ghost use Rattle.id_table.specs.Ids.{Ids};
 ghost use Rattle.id_table.specs.Parts.{Grows};
 ghost use Rattle.id_table.specs.Keys.{FoundKey, stocked, content_at, AllStand};
-ghost use Rattle.id_table.specs.Given.{place_given, KeptKey, IsNew, Lacks, LacksTo, EachOnce, Found, FoundAt, Offers, OffersTo, fresh, fresh_to, IsFullTo, Declares, Refuses, PlaceGives, GivesOrFull};
+ghost use Rattle.id_table.specs.Given.{place_given, KeptKey, IsNew, Lacks, LacksTo, EachOnce, Found, FoundAt, Offers, OffersTo, fresh, fresh_to, IsFull, IsFullTo, Declares, Refuses, PlaceGives, GivesOrFull};
 
 use crate::given::{Given, GivenIds, IdRefused};
 use crate::keys::{ChannelKey, key_of, key_with, place_given};
@@ -72,8 +72,21 @@ impl IdTable {
     }
 
     /// The ids of a channel and of its schema. New contents get the next ids, and contents that have ids are never refused.
-    /// The table is unchanged where ids are refused.
+    /// The table is unchanged where ids are refused. A schema's bytes aren't looked at where the channel's other parts show
+    /// that it is refused.
     pub fn declare(&mut self, d: &ChannelDef) -> Result<GivenIds, IdRefused>
+        ensures ok { IfOk result (λ g. Declares self.old d.now g self.new) }
+        ensures err { OnErr result (self.new ≡ self.old) }
+        ensures why { IfErr result (Refuses self.old d.now) }
+    {
+        if lacks_by_parts(&self.schemas, &self.parts, &self.channels, d) {
+            return Err(IdRefused::TooManyChannels);
+        }
+        self.give(d)
+    }
+
+    // The same, with a look at the schema.
+    fn give(&mut self, d: &ChannelDef) -> Result<GivenIds, IdRefused>
         ensures ok { IfOk result (λ g. Declares self.old d.now g self.new) }
         ensures err { OnErr result (self.new ≡ self.old) }
         ensures why { IfErr result (Refuses self.old d.now) }
@@ -254,6 +267,26 @@ fn given_to_channel(
         place_of_channel(schemas, parts, channels, d, key),
         channels.len(),
     )
+}
+
+// Whether all ids of channels are given, some of schemas are left, and a part of the channel is new.
+fn lacks_by_parts(
+    schemas: &IndexSet<SchemaDef>,
+    parts: &Parts,
+    channels: &IndexSet<ChannelKey>,
+    d: &ChannelDef,
+) -> bool
+    requires { AllStand (stocked schemas.now.keys parts.now.texts.keys parts.now.maps.keys) channels.now.keys }
+    ensures schemas { result ≡ true → length schemas.now.keys < id_limit }
+    ensures channels { result ≡ true → IsFull (map (content_at (stocked schemas.now.keys parts.now.texts.keys parts.now.maps.keys)) channels.now.keys) d.now }
+{
+    if schemas.len() >= MAX_IDS || channels.len() < MAX_IDS {
+        return false;
+    }
+    match parts.places(d) {
+        Some(_) => return false,
+        None => return true,
+    }
 }
 
 // A copy of a schema whose id is new, for which the set has room.

@@ -7,7 +7,7 @@ use Rattle.id_table.specs.Ids.{Ids}
 use Rattle.id_table.specs.Given.{Declares}
 use Rattle.id_table.specs.Keys.{stocked, content_at, AllStand}
 use Rattle.id_table.proofs.Keyed.{ids, stand_still, contents_still, same_ids, may_enter, few_with, few_schemas, stand_with, channels_with, schemas_with}
-use Rattle.id_table.proofs.table.IdTable.declare.Goals as goal
+use Rattle.id_table.proofs.table.IdTable.give.Goals as goal
 
 pub invariant_of-self : goal.invariant_of-self
 invariant_of-self c =
