@@ -14,6 +14,7 @@ use Rattle.record_core.specs.declared.answers.NewMessage.{NewMessage}
 use Rattle.feed_lane.specs.declared.report.Accepted.{Accepted}
 use Rattle.feed_lane.specs.Pass.{PassState, Finds, message_record, with_message}
 use Rattle.feed_lane.specs.Lanes.{Lists, messages, Accepts, full_in, InTurnWith, IsGiven, IsListed, ListsFit}
+use Rattle.feed_lane.specs.Kept.{LaneIds}
 use Rattle.feed_lane.specs.Steps.{Extends, HasId, ListsStand}
 use Rattle.feed_lane.proofs.Members.{open_by, finds_above, seen_later, declares_on, accepts_on, cause_on, full_shown, declared_above, accepted_above}
 
@@ -49,7 +50,7 @@ pub record IsTaken (records : List Top) (handled : ℕ) (lists : Lists) (source 
   pub is : IsMessage t source (fields_of_message m)
   pub small : length m.payload.now ≤ 33554432
 
-new_accepts : (records : List Top) (handled : ℕ) (ids : List ℕ) (lists : Lists) (before : PassState) (found : Found) (m : NewMessage) (source : ℕ) (t : Top) → ListsStand records handled (handled + 1) ids lists before → IsTaken records handled lists source t m → Accepts records lists.declared (with_message before found m) (accepted_at handled found.count)
+new_accepts : (records : List Top) (handled : ℕ) (ids : LaneIds) (lists : Lists) (before : PassState) (found : Found) (m : NewMessage) (source : ℕ) (t : Top) → ListsStand records handled (handled + 1) ids lists before → IsTaken records handled lists source t m → Accepts records lists.declared (with_message before found m) (accepted_at handled found.count)
 new_accepts records handled ids lists before found m source t stands taken = record {
   source = source;
   message = fields_of_message m;
@@ -64,7 +65,7 @@ new_accepts records handled ids lists before found m source t stands taken = rec
   own = subst (λ (id : ℕ). Has (before.own ++ (found.count, message_record m) ∷ []) (found.count, message_of id (fields_of_message m))) (sym taken.id.is) (has_last before.own (found.count, message_record m) []);
 }
 
-pub accepted_fits : (records : List Top) (handled : ℕ) (ids : List ℕ) (lists : Lists) (before : PassState) (found : Found) (m : NewMessage) (source : ℕ) (t : Top) → ListsStand records handled (handled + 1) ids lists before → Finds before found → IsTaken records handled lists source t m → ListsFit records (handled + 1) (handled + 1) (with_accepted lists (accepted_at handled found.count)) (with_message before found m)
+pub accepted_fits : (records : List Top) (handled : ℕ) (ids : LaneIds) (lists : Lists) (before : PassState) (found : Found) (m : NewMessage) (source : ℕ) (t : Top) → ListsStand records handled (handled + 1) ids lists before → Finds before found → IsTaken records handled lists source t m → ListsFit records (handled + 1) (handled + 1) (with_accepted lists (accepted_at handled found.count)) (with_message before found m)
 accepted_fits records handled ids lists before found m source t stands finds taken =
     let was = stands.fits in
     let after = with_message before found m in
@@ -125,7 +126,7 @@ accepted_fits records handled ids lists before found m source t stands finds tak
       ];
     }
 
-pub accepted_stands : (records : List Top) (handled : ℕ) (ids : List ℕ) (lists : Lists) (before : PassState) (found : Found) (m : NewMessage) (source : ℕ) (t : Top) → ListsStand records handled (handled + 1) ids lists before → Finds before found → found.end ≡ None → IsTaken records handled lists source t m → ListsStand records (handled + 1) (handled + 1) ids (with_accepted lists (accepted_at handled found.count)) (with_message before found m)
+pub accepted_stands : (records : List Top) (handled : ℕ) (ids : LaneIds) (lists : Lists) (before : PassState) (found : Found) (m : NewMessage) (source : ℕ) (t : Top) → ListsStand records handled (handled + 1) ids lists before → Finds before found → found.end ≡ None → IsTaken records handled lists source t m → ListsStand records (handled + 1) (handled + 1) ids (with_accepted lists (accepted_at handled found.count)) (with_message before found m)
 accepted_stands records handled ids lists before found m source t stands finds end taken =
     let extends = message_extends before found m finds in
     record {

@@ -1,5 +1,5 @@
 -- The channel of the message at hand is declared.
-use Rattle.std.proofs.Common.{◌≡◌, ℕ, ◌+◌, ◌<◌, ◌≤◌, List, [], ◌∷◌, ◌++◌, length, set, refl, sym, ap, None, subst, inl, inr, ◌∙◌, arith}
+use Rattle.std.proofs.Common.{◌≡◌, ℕ, ◌+◌, ◌<◌, ◌≤◌, List, [], ◌∷◌, ◌++◌, length, refl, sym, ap, None, subst, inl, inr, ◌∙◌, arith}
 use Rattle.std.specs.Prelude.{AllPairs}
 use Rattle.rec_data.specs.declared.owned.Rec.{Rec}
 use Rattle.rec_data.specs.declared.channel.ChannelDef.{ChannelDef}
@@ -12,6 +12,7 @@ use Rattle.feed_lane.specs.declared.report.DeclaredAt.{DeclaredAt}
 use Rattle.feed_lane.specs.declared.report.Refused.{Refused}
 use Rattle.feed_lane.specs.Pass.{PassState, placed_from, Finds, AreAdded, with_declared}
 use Rattle.feed_lane.specs.Lanes.{Lists, IsOn, Describes, Declares, IsTried, full_in, IsNamed, InTurnWith, IsGiven, ListsFit}
+use Rattle.feed_lane.specs.Kept.{LaneIds, with_id}
 use Rattle.feed_lane.specs.Steps.{Extends, HasId, IdsStand, ListsStand}
 use Rattle.feed_lane.proofs.Growing.{on_one}
 use Rattle.feed_lane.proofs.Members.{open_by, finds_above, seen_later, in_step_joined, in_step_one, declares_on, accepts_on, accepts_listed, has_id_listed, cause_on, full_shown, placed_at, declared_above, accepted_above}
@@ -22,8 +23,8 @@ with_declaration lists d = record { accepted = lists.accepted; declared = lists.
 
 -- The declaration for the message at hand, whose channel had none: the id that it got, and the records that it added from
 -- the place that was found.
-pub record IsNew (records : List Top) (handled : ℕ) (ids : List ℕ) (source : ℕ) (found : Found) (content : ChannelDef) (d : DeclaredAt) : Type 0 where
-  pub none : At ids source 0
+pub record IsNew (records : List Top) (handled : ℕ) (ids : LaneIds) (source : ℕ) (found : Found) (content : ChannelDef) (d : DeclaredAt) : Type 0 where
+  pub none : At ids.given source 0
   pub on : IsOn records handled source
   pub describes : Describes records source content
   pub index : d.index ≡ handled
@@ -43,7 +44,7 @@ declared_extends before found content channel added finds = record {
   seen = seen_later before (with_declared before found content channel added) found finds refl;
 }
 
-new_declares : (records : List Top) (handled : ℕ) (ids : List ℕ) (source : ℕ) (before : PassState) (found : Found) (content : ChannelDef) (d : DeclaredAt) (is : IsNew records handled ids source found content d) → Declares records (with_declared before found content d.channel is.added) d
+new_declares : (records : List Top) (handled : ℕ) (ids : LaneIds) (source : ℕ) (before : PassState) (found : Found) (content : ChannelDef) (d : DeclaredAt) (is : IsNew records handled ids source found content d) → Declares records (with_declared before found content d.channel is.added) d
 new_declares records handled ids source before found content d is = record {
   source = source;
   on = subst (λ (n : ℕ). IsOn records n source) (sym is.index) is.on;
@@ -58,7 +59,7 @@ new_declares records handled ids source before found content d is = record {
 }
 
 -- no other declaration is for that channel
-not_twice : (records : List Top) (handled : ℕ) (ids : List ℕ) (lists : Lists) (source : ℕ) (before : PassState) (found : Found) (content : ChannelDef) (d : DeclaredAt) → ListsStand records handled handled ids lists before → IsNew records handled ids source found content d → (k : ℕ) (e : DeclaredAt) (channel : ℕ) → At lists.declared k e → IsOn records e.index channel → IsOn records d.index channel → ⊥
+not_twice : (records : List Top) (handled : ℕ) (ids : LaneIds) (lists : Lists) (source : ℕ) (before : PassState) (found : Found) (content : ChannelDef) (d : DeclaredAt) → ListsStand records handled handled ids lists before → IsNew records handled ids source found content d → (k : ℕ) (e : DeclaredAt) (channel : ℕ) → At lists.declared k e → IsOn records e.index channel → IsOn records d.index channel → ⊥
 not_twice records handled ids lists source before found content d stands is k e channel at on on_d =
     let same : channel ≡ source = on_one records handled channel source (subst (λ (n : ℕ). IsOn records n channel) is.index on_d) is.on in
     stands.ids_stand.fresh source e is.none (k, at) (subst (IsOn records e.index) same on)
@@ -84,7 +85,7 @@ own_rises before found added finds was =
       ]
     ])
 
-pub declared_fits : (records : List Top) (handled : ℕ) (ids : List ℕ) (lists : Lists) (source : ℕ) (before : PassState) (found : Found) (content : ChannelDef) (d : DeclaredAt) → ListsStand records handled handled ids lists before → Finds before found → (is : IsNew records handled ids source found content d) → ListsFit records handled (handled + 1) (with_declaration lists d) (with_declared before found content d.channel is.added)
+pub declared_fits : (records : List Top) (handled : ℕ) (ids : LaneIds) (lists : Lists) (source : ℕ) (before : PassState) (found : Found) (content : ChannelDef) (d : DeclaredAt) → ListsStand records handled handled ids lists before → Finds before found → (is : IsNew records handled ids source found content d) → ListsFit records handled (handled + 1) (with_declaration lists d) (with_declared before found content d.channel is.added)
 declared_fits records handled ids lists source before found content d stands finds is =
     let was = stands.fits in
     let after = with_declared before found content d.channel is.added in
@@ -152,22 +153,23 @@ declared_fits records handled ids lists source before found content d stands fin
       apart = was.apart;
     }
 
-new_ids : (records : List Top) (handled : ℕ) (ids : List ℕ) (lists : Lists) (source : ℕ) (before : PassState) (found : Found) (content : ChannelDef) (d : DeclaredAt) → ListsStand records handled handled ids lists before → IsNew records handled ids source found content d → HasId records (lists.declared ++ d ∷ []) source d.channel → IdsStand records (lists.declared ++ d ∷ []) (set ids source d.channel)
+new_ids : (records : List Top) (handled : ℕ) (ids : LaneIds) (lists : Lists) (source : ℕ) (before : PassState) (found : Found) (content : ChannelDef) (d : DeclaredAt) → ListsStand records handled handled ids lists before → IsNew records handled ids source found content d → HasId records (lists.declared ++ d ∷ []) source d.channel → IdsStand records (lists.declared ++ d ∷ []) (with_id ids source d.channel)
 new_ids records handled ids lists source before found content d stands is has = record {
-  fresh = λ other e at listed on. elim (at_set ids source other 0 d.channel at) [
+  fresh = λ other e at listed on. elim (at_set ids.given source other 0 d.channel at) [
     | inl here ↦ omega (arith, here.1, is.some)
     | inr there ↦ elim (at_more lists.declared d listed.0 e listed.1) [
       | inl old ↦ stands.ids_stand.fresh other e there.1 (listed.0, old) on
       | inr last ↦ there.0 (on_one records handled other source (subst (λ (n : ℕ). IsOn records n other) (ap (λ (x : DeclaredAt). x.index) last.1 ∙ is.index) on) is.on)
     ]
   ];
-  known = λ other id at some. elim (at_set ids source other id d.channel at) [
+  kept = stands.ids_stand.kept;
+  known = λ other id at some. elim (at_set ids.given source other id d.channel at) [
     | inl here ↦ subst (λ (n : ℕ). HasId records (lists.declared ++ d ∷ []) other n) (sym here.1) (subst (λ (n : ℕ). HasId records (lists.declared ++ d ∷ []) n d.channel) (sym here.0) has)
     | inr there ↦ has_id_listed records lists.declared (d ∷ []) other id (stands.ids_stand.known other id there.1 some)
   ];
 }
 
-pub new_has_id : (records : List Top) (handled : ℕ) (ids : List ℕ) (lists : Lists) (source : ℕ) (found : Found) (content : ChannelDef) (d : DeclaredAt) → IsNew records handled ids source found content d → HasId records (lists.declared ++ d ∷ []) source d.channel
+pub new_has_id : (records : List Top) (handled : ℕ) (ids : LaneIds) (lists : Lists) (source : ℕ) (found : Found) (content : ChannelDef) (d : DeclaredAt) → IsNew records handled ids source found content d → HasId records (lists.declared ++ d ∷ []) source d.channel
 new_has_id records handled ids lists source found content d is = record {
   by = d;
   listed = has_last lists.declared d [];
@@ -187,7 +189,7 @@ tried_kept records declared d r later was = record {
   ];
 }
 
-pub declared_stands : (records : List Top) (handled : ℕ) (ids : List ℕ) (lists : Lists) (source : ℕ) (before : PassState) (found : Found) (content : ChannelDef) (d : DeclaredAt) → ListsStand records handled handled ids lists before → Finds before found → found.end ≡ None → (is : IsNew records handled ids source found content d) → ListsStand records handled (handled + 1) (set ids source d.channel) (with_declaration lists d) (with_declared before found content d.channel is.added)
+pub declared_stands : (records : List Top) (handled : ℕ) (ids : LaneIds) (lists : Lists) (source : ℕ) (before : PassState) (found : Found) (content : ChannelDef) (d : DeclaredAt) → ListsStand records handled handled ids lists before → Finds before found → found.end ≡ None → (is : IsNew records handled ids source found content d) → ListsStand records handled (handled + 1) (with_id ids source d.channel) (with_declaration lists d) (with_declared before found content d.channel is.added)
 declared_stands records handled ids lists source before found content d stands finds end is =
     let after = with_declared before found content d.channel is.added in
     let extends = declared_extends before found content d.channel is.added finds in

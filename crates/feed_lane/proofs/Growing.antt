@@ -1,5 +1,5 @@
 -- More records of a feed: what was said of the lists still holds.
-use Rattle.std.proofs.Common.{◌≡◌, ◌⊎◌, ℕ, ◌+◌, ◌<◌, List, ◌++◌, length, eqb, Option, Some, None, sym, ap, subst, inl, inr, arith}
+use Rattle.std.proofs.Common.{◌≡◌, ◌⊎◌, ℕ, ◌+◌, ◌<◌, List, ◌++◌, length, eqb, Option, Some, None, Result, Ok, Err, sym, ap, subst, inl, inr, arith}
 use Rattle.std.proofs.lemmas.List.{length-append}
 use Rattle.std.proofs.lemmas.List.Elements.{filter-append}
 use Rattle.rec_data.specs.declared.channel.ChannelDef.{ChannelDef}
@@ -18,9 +18,12 @@ use Rattle.feed_lane.specs.declared.report.DeclaredAt.{DeclaredAt}
 use Rattle.feed_lane.specs.declared.report.Refused.{Refused}
 use Rattle.feed_lane.specs.declared.report.Cause.{Cause}
 use Rattle.feed_lane.specs.declared.report.Cause.TheVariants as causes
+use Rattle.feed_lane.specs.declared.ids.KeptSchema.{KeptSchema}
+use Rattle.feed_lane.specs.declared.lane.Lane.{Lane}
 use Rattle.feed_lane.specs.Pass.{PassState}
 use Rattle.feed_lane.specs.Lanes.{Lists, messages, IsOn, SchemaShown, Describes, Declares, Accepts, IsLong, IsChannelOf, IsWide, LacksId, CauseFits, IsUndeclared, IsTried, lacks_of, IsNamed, IsLacking, InStep, ListsFit}
-use Rattle.feed_lane.specs.Steps.{HasId, IdsStand, ListsStand}
+use Rattle.feed_lane.specs.Kept.{LaneIds, KeptStands, with_kept}
+use Rattle.feed_lane.specs.Steps.{lists_of, HasId, IdsStand, ListsStand, ChannelFound}
 use Rattle.feed_lane.proofs.Members.{in_step_on}
 
 -- ---- what the records show
@@ -148,7 +151,7 @@ tried_more records more declared pass r below declares was = record {
 }
 
 -- a channel that got no id was declared for no message
-pub undeclared_yet : (records : List Top) (handled source : ℕ) (declared : List DeclaredAt) (ids : List ℕ) → IdsStand records declared ids → At ids source 0 → IsOn records handled source → IsUndeclared records declared handled
+pub undeclared_yet : (records : List Top) (handled source : ℕ) (declared : List DeclaredAt) (ids : LaneIds) → IdsStand records declared ids → At ids.given source 0 → IsOn records handled source → IsUndeclared records declared handled
 undeclared_yet records handled source declared ids stand none on other d on_other has on_d =
     absurd (stand.fresh source d none has (subst (IsOn records d.index) (on_one records handled other source on_other on) on_d))
 
@@ -232,12 +235,13 @@ has_id_more records more declared source id has = record {
   is = has.is;
 }
 
-pub stands_more : (records more : List Top) (handled bound : ℕ) (ids : List ℕ) (lists : Lists) (pass : PassState) → ListsStand records handled bound ids lists pass → ListsStand (records ++ more) handled bound ids lists pass
+pub stands_more : (records more : List Top) (handled bound : ℕ) (ids : LaneIds) (lists : Lists) (pass : PassState) → ListsStand records handled bound ids lists pass → ListsStand (records ++ more) handled bound ids lists pass
 stands_more records more handled bound ids lists pass was = record {
   fits = fits_more records more handled bound lists pass was.fits;
   ids_stand = record {
     fresh = λ source d at has on. was.ids_stand.fresh source d at has (declared_less records more pass d source (was.fits.declares has.0 d has.1) on);
     known = λ source id at some. has_id_more records more lists.declared source id (was.ids_stand.known source id at some);
+    kept = schema_more records more ids.kept.id ids.kept.schema was.ids_stand.kept;
   };
   going = was.going;
   firsts = was.firsts;
@@ -251,7 +255,7 @@ stands_more records more handled bound ids lists pass was = record {
 -- ---- between the steps
 
 -- a declaration may have been made for the message at hand
-pub may_declare : (records : List Top) (handled : ℕ) (ids : List ℕ) (lists : Lists) (pass : PassState) → ListsStand records handled handled ids lists pass → ListsStand records handled (handled + 1) ids lists pass
+pub may_declare : (records : List Top) (handled : ℕ) (ids : LaneIds) (lists : Lists) (pass : PassState) → ListsStand records handled handled ids lists pass → ListsStand records handled (handled + 1) ids lists pass
 may_declare records handled ids lists pass stands =
     let was = stands.fits in
     record {
@@ -287,3 +291,29 @@ may_declare records handled ids lists pass stands =
       is_open = stands.is_open;
       tried = stands.tried;
     }
+
+-- ---- what is kept
+
+-- the same with another schema of the feed
+pub keeping : (records : List Top) (handled bound : ℕ) (ids : LaneIds) (lists : Lists) (pass : PassState) (kept : KeptSchema) → KeptStands records kept → ListsStand records handled bound ids lists pass
+    → ListsStand records handled bound (with_kept ids kept) lists pass
+keeping records handled bound ids lists pass kept stood stands = record {
+  fits = stands.fits;
+  ids_stand = record { fresh = stands.ids_stand.fresh; known = stands.ids_stand.known; kept = stood };
+  going = stands.going;
+  firsts = stands.firsts;
+  tos = stands.tos;
+  is_open = stands.is_open;
+  tried = stands.tried;
+}
+
+pub found_keeping : (lane : Lane) (records : List Top) (handled source : ℕ) (pass : PassState) (kept : KeptSchema) (result : Result ℕ Cause) → KeptStands records kept → ChannelFound lane records handled source pass result
+    → ChannelFound (record lane { ids = with_kept lane.ids kept }) records handled source pass result
+found_keeping lane records handled source pass kept (Ok id) stood found = (found.0, keeping records handled (handled + 1) lane.ids (lists_of lane) pass kept stood found.1)
+found_keeping lane records handled source pass kept (Err cause) stood due = record {
+  before = due.before;
+  stands = keeping records handled (handled + 1) lane.ids (lists_of lane) due.before kept stood due.stands;
+  refusal = due.refusal;
+  some = due.some;
+  tried = due.tried;
+}

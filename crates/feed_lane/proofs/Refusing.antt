@@ -14,6 +14,7 @@ use Rattle.feed_lane.specs.declared.report.Refused.{Refused}
 use Rattle.feed_lane.specs.declared.report.Cause.{Cause}
 use Rattle.feed_lane.specs.Pass.{FullAt, Reason, PassState}
 use Rattle.feed_lane.specs.Lanes.{Lists, messages, CauseFits, IsTried, full_in, fulls_of, lack_in, lacks_of, reason_in, reasons_of, IsNamed, IsLacking, InStep, InTurnWith, ListsFit}
+use Rattle.feed_lane.specs.Kept.{LaneIds}
 use Rattle.feed_lane.specs.Steps.{goes_on, IsRefusal, ListsStand, LastEnds, ListsTell}
 use Rattle.feed_lane.proofs.Members.{in_step_joined, declares_on, accepts_on, cause_on, declared_above, accepted_above}
 
@@ -30,7 +31,7 @@ at_in xs ys n x at = elim (at_either xs ys n x at) [
   | inr later ↦ inr (later.0, later.2)
 ]
 
-pub refused_fits : (records : List Top) (handled : ℕ) (ids : List ℕ) (lists : Lists) (before after : PassState) (cause : Cause) → ListsStand records handled (handled + 1) ids lists before → IsRefusal records handled before after cause → handled < length (messages records) → ListsFit records (handled + 1) (handled + 1) (with_refused lists (refused_at handled cause)) after
+pub refused_fits : (records : List Top) (handled : ℕ) (ids : LaneIds) (lists : Lists) (before after : PassState) (cause : Cause) → ListsStand records handled (handled + 1) ids lists before → IsRefusal records handled before after cause → handled < length (messages records) → ListsFit records (handled + 1) (handled + 1) (with_refused lists (refused_at handled cause)) after
 refused_fits records handled ids lists before after cause stands is some =
     let was = stands.fits in
     let new = refused_at handled cause in
@@ -101,14 +102,14 @@ tried_more records lists new was now = λ k r at. elim (at_more lists.refused ne
 ]
 
 -- what the lists tell with one more refusal
-pub refused_tells : (records : List Top) (handled : ℕ) (ids : List ℕ) (lists : Lists) (before after : PassState) (cause : Cause) → ListsStand records handled (handled + 1) ids lists before → IsRefusal records handled before after cause → IsTried records lists.declared (refused_at handled cause) → ListsTell records (with_refused lists (refused_at handled cause)) after
+pub refused_tells : (records : List Top) (handled : ℕ) (ids : LaneIds) (lists : Lists) (before after : PassState) (cause : Cause) → ListsStand records handled (handled + 1) ids lists before → IsRefusal records handled before after cause → IsTried records lists.declared (refused_at handled cause) → ListsTell records (with_refused lists (refused_at handled cause)) after
 refused_tells records handled ids lists before after cause stands is tried = record {
   firsts = λ k d at. is.extends.seen d.first (stands.firsts k d at);
   tried = tried_more records lists (refused_at handled cause) stands.tried tried;
 }
 
 -- the lane goes on
-pub refused_stands : (records : List Top) (handled : ℕ) (ids : List ℕ) (lists : Lists) (before after : PassState) (cause : Cause) → ListsStand records handled (handled + 1) ids lists before → IsRefusal records handled before after cause → handled < length (messages records) → IsTried records lists.declared (refused_at handled cause) → goes_on cause ≡ true → ListsStand records (handled + 1) (handled + 1) ids (with_refused lists (refused_at handled cause)) after
+pub refused_stands : (records : List Top) (handled : ℕ) (ids : LaneIds) (lists : Lists) (before after : PassState) (cause : Cause) → ListsStand records handled (handled + 1) ids lists before → IsRefusal records handled before after cause → handled < length (messages records) → IsTried records lists.declared (refused_at handled cause) → goes_on cause ≡ true → ListsStand records (handled + 1) (handled + 1) ids (with_refused lists (refused_at handled cause)) after
 refused_stands records handled ids lists before after cause stands is some tried on =
     let new = refused_at handled cause in
     record {

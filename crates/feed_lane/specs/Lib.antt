@@ -1,6 +1,7 @@
 pub mod Pass
 pub mod Causes
 pub mod Lanes
+pub mod Kept
 pub mod Sizes
 pub mod Steps
 pub mod Feeds

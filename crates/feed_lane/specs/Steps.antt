@@ -28,6 +28,7 @@ use Rattle.feed_lane.specs.declared.lane.Lane.{Lane}
 use Rattle.feed_lane.specs.declared.lane.Over.{Over}
 use Rattle.feed_lane.specs.declared.lane.Over.TheVariants as overs
 use Rattle.feed_lane.specs.Pass.{FullAt, PassState, FoundAtLeast}
+use Rattle.feed_lane.specs.Kept.{LaneIds, KeptStands}
 use Rattle.feed_lane.specs.Lanes.{Lists, messages, IsOn, CauseFits, IsTried, full_in, lack_in, reason_in, IsLacking, InStep, ListsFit, LaneFits}
 
 -- ---- what a pass shows, call by call
@@ -70,15 +71,16 @@ pub record HasId (records : List Top) (declared : List DeclaredAt) (source id : 
   pub on : IsOn records by.index source
   pub is : by.channel ≡ id
 
--- for each id that a channel of a feed may have, the id that it got, or 0
-pub record IdsStand (records : List Top) (declared : List DeclaredAt) (ids : List ℕ) : Type 0 where
-  pub fresh : (source : ℕ) (d : DeclaredAt) → At ids source 0 → Has declared d → IsOn records d.index source → ⊥
-  pub known : (source id : ℕ) → At ids source id → (id ≡ 0 → ⊥) → HasId records declared source id
+-- for each id that a channel of a feed may have, the id that it got, or 0; and the schema that is kept is the feed's
+pub record IdsStand (records : List Top) (declared : List DeclaredAt) (ids : LaneIds) : Type 0 where
+  pub fresh : (source : ℕ) (d : DeclaredAt) → At ids.given source 0 → Has declared d → IsOn records d.index source → ⊥
+  pub known : (source id : ℕ) → At ids.given source id → (id ≡ 0 → ⊥) → HasId records declared source id
+  pub kept : KeptStands records ids.kept
 
 abbrev pub lists_of : Lane → Lists
 lists_of lane = record { accepted = lane.accepted.items; declared = lane.declared.items; refused = lane.refused.items }
 
-pub record ListsStand (records : List Top) (handled bound : ℕ) (ids : List ℕ) (lists : Lists) (pass : PassState) : Type 0 where
+pub record ListsStand (records : List Top) (handled bound : ℕ) (ids : LaneIds) (lists : Lists) (pass : PassState) : Type 0 where
   pub fits : ListsFit records handled bound lists pass
   pub ids_stand : IdsStand records lists.declared ids
   pub going : Each (λ r. goes_on r.cause ≡ true) lists.refused

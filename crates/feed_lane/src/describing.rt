@@ -1,5 +1,5 @@
 //! A channel of a feed as it is declared.
-ghost use Rattle.std.specs.Prelude.{◌≡◌, ◌<◌, ◌≤◌, ◌^◌, true, Some, List, length, IfOk, IfSome};
+ghost use Rattle.std.specs.Prelude.{◌≡◌, ◌<◌, ◌≤◌, ◌^◌, Some, List, length, IfOk, IfSome};
 ghost use Rattle.mcap_wire.specs.Limits.{declaration_limit};
 ghost use Rattle.mcap_wire.specs.Maps.{pair_texts};
 ghost use Rattle.rec_data.specs.Owned.{rec_bytes};
@@ -9,27 +9,15 @@ ghost use Rattle.mcap_model.specs.History.{channel_of};
 ghost use Rattle.record_core.specs.Sights.{SchemaFits, DefFits};
 ghost use Rattle.record_core.specs.Desk.{schema_size};
 ghost use Rattle.feed_lane.specs.Lanes.{definition_of, SchemaShown, Describes};
+ghost use Rattle.feed_lane.specs.Kept.{KeptStands};
 ghost use Rattle.feed_lane.specs.Sizes.{shown_by, IsSchemaLength, IsLength};
 
+use crate::ids::{KeptSchema, no_schema};
 use mcap_model::Tables;
 use mcap_wire::{Bytes, Memory, Pairs, Text};
 use rec_data::{Channel, ChannelDef, Schema, SchemaDef};
 use record_core::DECLARATION_LIMIT;
 use std::alloc::Global;
-
-// Whether a schema was kept that is this one.
-fn is_kept(kept: &Option<SchemaDef>, schema: &Schema<'_>) -> bool
-    ensures { result ≡ true → kept.now ≡ Some (definition_of schema.now.name.now schema.now.encoding.now schema.now.payload.now) }
-{
-    match kept {
-        None => return false,
-        Some(kept) => {
-            return kept.name.as_str() == schema.name
-                && kept.encoding.as_str() == schema.encoding
-                && kept.payload.as_slice() == schema.payload;
-        }
-    }
-}
 
 // A copy of a schema.
 fn copied(alloc: Global, schema: &Schema<'_>) -> Result<Option<SchemaDef>, Memory>
@@ -51,30 +39,21 @@ fn copied(alloc: Global, schema: &Schema<'_>) -> Result<Option<SchemaDef>, Memor
     }));
 }
 
-// The schema that was kept, if it is this one, and else a copy: many channels may have one long schema.
-fn kept_or_copied(
-    alloc: Global,
-    schema: &Schema<'_>,
-    kept: Option<SchemaDef>,
-) -> Result<Option<SchemaDef>, Memory>
-    ensures { IfOk result (λ s. s ≡ Some (definition_of schema.now.name.now schema.now.encoding.now schema.now.payload.now)) }
-{
-    if is_kept(&kept, schema) {
-        return Ok(kept);
-    }
-    return copied(alloc, schema);
-}
-
-// The schema of that id, or none for 0. A channel's schema is always there.
+// The schema of that id, or none for 0: the one that was kept under it, which isn't looked at, or else a copy. A channel's
+// schema is always there.
 fn schema_of(
     alloc: Global,
     tables: &Tables,
     id: u16,
-    kept: Option<SchemaDef>,
+    kept: KeptSchema,
 ) -> Result<Option<SchemaDef>, Memory>
-    ensures shows { IfOk result (λ s. (records : List Top) → TablesOf records tables.now → SchemaShown records id s) }
+    requires { SchemaFits kept.schema }
+    ensures shows { IfOk result (λ s. (records : List Top) → TablesOf records tables.now → KeptStands records kept → SchemaShown records id s) }
     ensures fits { IfOk result SchemaFits }
 {
+    if id == kept.id {
+        return Ok(kept.schema);
+    }
     if id == 0 {
         return Ok(None);
     }
@@ -85,7 +64,7 @@ fn schema_of(
         Ok(schema) => schema,
         Err(_) => return Err(Memory),
     };
-    match kept_or_copied(alloc, &schema, kept) {
+    match copied(alloc, &schema) {
         Ok(shown) => return Ok(shown),
         Err(memory) => return Err(memory),
     }
@@ -96,18 +75,49 @@ pub fn definition(alloc: Global, tables: &Tables, source: u16) -> Result<Channel
     ensures describes { IfOk result (λ d. (records : List Top) → TablesOf records tables.now → Describes records source d) }
     ensures fits { IfOk result DefFits }
 {
-    definition_over(alloc, tables, source, None)
+    match definition_over(alloc, tables, source, no_schema()) {
+        Ok(described) => return Ok(described.channel),
+        Err(memory) => return Err(memory),
+    }
 }
 
-/// The same, without a copy of the schema where that is the one that is handed in.
+/// A channel as it is declared, and the id of its schema in the feed, or 0.
+#[derive(Drop)]
+pub(crate) struct Described {
+    pub channel: ChannelDef,
+    pub schema_id: u16,
+}
+
+impl Described {
+    /// Its schema, with its id in the feed.
+    pub(crate) fn into_schema(self) -> KeptSchema
+        ensures { result ≡ record { id = self.schema_id; schema = self.channel.schema } }
+    {
+        let Described { channel, schema_id } = self;
+        let ChannelDef {
+            topic: _,
+            message_encoding: _,
+            metadata: _,
+            schema,
+        } = channel;
+        KeptSchema {
+            id: schema_id,
+            schema,
+        }
+    }
+}
+
+/// The same, without a look at the schema where that is the one that is handed in.
 pub(crate) fn definition_over(
     alloc: Global,
     tables: &Tables,
     source: u16,
-    kept: Option<SchemaDef>,
-) -> Result<ChannelDef, Memory>
-    ensures describes { IfOk result (λ d. (records : List Top) → TablesOf records tables.now → Describes records source d) }
-    ensures fits { IfOk result DefFits }
+    kept: KeptSchema,
+) -> Result<Described, Memory>
+    requires { SchemaFits kept.schema }
+    ensures describes { IfOk result (λ d. (records : List Top) → TablesOf records tables.now → KeptStands records kept → Describes records source d.channel) }
+    ensures shows { IfOk result (λ d. (records : List Top) → TablesOf records tables.now → KeptStands records kept → SchemaShown records d.schema_id d.channel.schema) }
+    ensures fits { IfOk result (λ d. DefFits d.channel) }
 {
     let Some(content) = tables.channels.find(source) else {
         return Err(Memory);
@@ -126,11 +136,14 @@ pub(crate) fn definition_over(
         return Err(Memory);
     };
     match schema_of(alloc, tables, channel.schema_id, kept) {
-        Ok(schema) => return Ok(ChannelDef {
-            topic,
-            message_encoding,
-            metadata,
-            schema,
+        Ok(schema) => return Ok(Described {
+            channel: ChannelDef {
+                topic,
+                message_encoding,
+                metadata,
+                schema,
+            },
+            schema_id: channel.schema_id,
         }),
         Err(memory) => return Err(memory),
     }

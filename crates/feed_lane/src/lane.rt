@@ -212,7 +212,7 @@ impl Lane {
         requires { vec_len self.old.declared + 1 ≤ vec_capacity self.old.declared }
         ensures found { (begun : P) (before : PassState) → P.since begun pass.old before → ThenShows (P.since begun pass.new) before (λ after.
             (records : List Top) (handled : ℕ) → LaneStands self.old records handled before → AreKnown records tables.now
-            → IsOn records handled source → At self.old.ids source 0 → ChannelFound self.new records handled source after result) }
+            → IsOn records handled source → At self.old.ids.given source 0 → ChannelFound self.new records handled source after result) }
         ensures passed { self.new.passed ≡ self.old.passed }
         ensures accepted { self.new.accepted ≡ self.old.accepted }
         ensures refused { self.new.refused ≡ self.old.refused }
@@ -223,9 +223,9 @@ impl Lane {
         }
         let kept = self.ids.take_schema();
         match definition_over(alloc, tables, source, kept) {
-            Ok(channel) => {
-                let found = self.declare_as(source, &channel, pass);
-                self.ids.keep_schema(channel);
+            Ok(described) => {
+                let found = self.declare_as(source, &described.channel, pass);
+                self.ids.keep_schema(described.into_schema());
                 return found;
             }
             Err(_) => return Err(Cause::Memory),
@@ -243,7 +243,7 @@ impl Lane {
         requires fits { DefFits channel.now }
         ensures found { (begun : P) (before : PassState) → P.since begun pass.old before → ThenShows (P.since begun pass.new) before (λ after.
             (records : List Top) (handled : ℕ) → LaneStands self.old records handled before → Describes records source channel.now
-            → IsOn records handled source → At self.old.ids source 0 → ChannelFound self.new records handled source after result) }
+            → IsOn records handled source → At self.old.ids.given source 0 → ChannelFound self.new records handled source after result) }
         ensures passed { self.new.passed ≡ self.old.passed }
         ensures accepted { self.new.accepted ≡ self.old.accepted }
         ensures refused { self.new.refused ≡ self.old.refused }

@@ -3,7 +3,7 @@ use Rattle.feed_lane.proofs.Definitions.{channel_made, channel_lengths, pairs_le
 use Rattle.feed_lane.proofs.describing.definition_over.Goals as goal
 
 pub returns-in-Ok-schema_of-clause-describes : goal.returns-in-Ok-schema_of-clause-describes
-returns-in-Ok-schema_of-clause-describes c = λ records are.
+returns-in-Ok-schema_of-clause-describes c = λ records are kept.
     let s = c.in-Ok.channel in
     record {
       shown = channel_made s.schema_id s.topic.now s.message_encoding.now s.metadata;
@@ -11,7 +11,7 @@ returns-in-Ok-schema_of-clause-describes c = λ records are.
       topic = c.in-Ok-copied.ensures;
       encoding = c.in-Ok-copied-2.ensures;
       metadata = c.in-Ok-sorted.ensures;
-      schema = c.in-Ok-schema_of.ensures.shows records are;
+      schema = c.in-Ok-schema_of.ensures.shows records are kept;
     }
 
 pub returns-in-Ok-schema_of-clause-fits : goal.returns-in-Ok-schema_of-clause-fits

@@ -5,8 +5,8 @@ use Rattle.feed_lane.specs.Lanes.{SchemaShown}
 use Rattle.feed_lane.proofs.Definitions.{shows_def}
 use Rattle.feed_lane.proofs.describing.schema_of.Goals as goal
 
-pub returns-in-Ok-kept_or_copied-clause-shows : goal.returns-in-Ok-kept_or_copied-clause-shows
-returns-in-Ok-kept_or_copied-clause-shows c = λ records are.
+pub returns-in-Ok-copied-clause-shows : goal.returns-in-Ok-copied-clause-shows
+returns-in-Ok-copied-clause-shows c = λ records are kept.
     let s = c.in-Ok.schema in
-    subst (λ (o : Option SchemaDef). SchemaShown records c.args.id o) (sym c.in-Ok-kept_or_copied.ensures)
+    subst (λ (o : Option SchemaDef). SchemaShown records c.args.id o) (sym c.in-Ok-copied.ensures)
     (shows_def records c.args.tables.now c.args.id s.id c.in-Some.content.now s.name.now s.encoding.now s.payload.now are c.in-Some.ensures c.in-Ok.ensures.shown)

@@ -1,12 +1,13 @@
-use Rattle.std.proofs.Common.{ℕ, List, refl, sym, subst, Err}
+use Rattle.std.proofs.Common.{◌+◌, refl, sym, subst, Err}
 use Rattle.mcap_model.proofs.Places.{at_within}
 use Rattle.mcap_model.specs.Places.{At}
 use Rattle.record_core.specs.declared.answers.DeclareRefused.TheVariants as declaring
 use Rattle.feed_lane.specs.declared.report.Cause.TheVariants as causes
 use Rattle.feed_lane.specs.Pass.{for_size, with_reason}
 use Rattle.feed_lane.specs.Lanes.{messages, IsChannelOf}
+use Rattle.feed_lane.specs.Kept.{LaneIds, KeptStands, no_schema}
 use Rattle.feed_lane.specs.Steps.{lists_of, ListsStand, ChannelFound}
-use Rattle.feed_lane.proofs.Growing.{may_declare, undeclared_yet}
+use Rattle.feed_lane.proofs.Growing.{may_declare, undeclared_yet, keeping, found_keeping}
 use Rattle.feed_lane.proofs.Calls.{unchanged, memory_tried, declare_refused, declare_tried}
 use Rattle.feed_lane.proofs.lane.Lane.declare.Goals as goal
 
@@ -18,9 +19,9 @@ returns-in-Err-clause-found g c = λ begun before since. (
   refl,
   λ records handled stands known on none.
       let l = c.args.self.now in
-      subst (λ (ids : List ℕ). ChannelFound (record l { ids = ids }) records handled c.args.source before (Err causes.Memory)) (sym c.take_schema-kept.ensures) (record {
+      subst (λ (ids : LaneIds). ChannelFound (record l { ids = ids }) records handled c.args.source before (Err causes.Memory)) (sym c.take_schema-kept.ensures.rest) (record {
         before = before;
-        stands = may_declare records handled l.ids (lists_of l) before stands;
+        stands = keeping records handled (handled + 1) l.ids (lists_of l) before no_schema refl (may_declare records handled l.ids (lists_of l) before stands);
         refusal = unchanged records handled before;
         some = at_within (messages records) handled on.top on.at;
         tried = memory_tried records l.declared.items handled (undeclared_yet records handled c.args.source l.declared.items l.ids stands.ids_stand none on);
@@ -31,17 +32,20 @@ pub returns-in-Ok-clause-found : goal.returns-in-Ok-clause-found
 returns-in-Ok-clause-found g c = λ begun before since.
     let l = c.args.self.now in
     let call = c.declare_as-found in
-    let same = sym c.take_schema-kept.ensures in
+    let same = sym c.take_schema-kept.ensures.rest in
     let shown = call.ensures.found begun before since in (
       shown.0,
       shown.1,
       shown.2,
       λ records handled stands known on none.
+          let kept : KeptStands records c.take_schema-kept.result = subst (KeptStands records) (sym c.take_schema-kept.ensures.kept) stands.ids_stand.kept in
+          let next : KeptStands records c.into_schema.result = subst (KeptStands records) (sym c.into_schema.ensures) (c.in-Ok.ensures.shows records known.tables_are kept) in
           let now = shown.3 records handled
-          (subst (λ (ids : List ℕ). ListsStand records handled handled ids (lists_of l) before) same stands)
-          (c.in-Ok.ensures.describes records known.tables_are) on
-          (subst (λ (ids : List ℕ). At ids c.args.source 0) same none) in
-          subst (λ (ids : List ℕ). ChannelFound (record call.new.self { ids = ids }) records handled c.args.source shown.0 call.result) (sym c.keep_schema.ensures) now,
+          (subst (λ (ids : LaneIds). ListsStand records handled handled ids (lists_of l) before) same (keeping records handled handled l.ids (lists_of l) before no_schema refl stands))
+          (c.in-Ok.ensures.describes records known.tables_are kept) on
+          (subst (λ (ids : LaneIds). At ids.given c.args.source 0) same none) in
+          subst (λ (ids : LaneIds). ChannelFound (record call.new.self { ids = ids }) records handled c.args.source shown.0 call.result) (sym c.keep_schema.ensures)
+          (found_keeping call.new.self records handled c.args.source shown.0 c.into_schema.result call.result next now),
     )
 
 -- the records of the channel are too long, and no call was made

@@ -1,8 +1,9 @@
-use Rattle.std.proofs.Common.{◌≡◌, ◌+◌, ◌∷◌, ◌++◌, [], ℕ, List, sym, ap, subst, ◌∙◌, Ok, Err}
+use Rattle.std.proofs.Common.{◌≡◌, ◌+◌, ◌∷◌, ◌++◌, [], List, sym, ap, subst, ◌∙◌, Ok, Err}
 use Rattle.mcap_model.proofs.Places.{at_within}
 use Rattle.feed_lane.specs.declared.report.DeclaredAt.{DeclaredAt}
 use Rattle.feed_lane.specs.declared.report.Cause.{Cause}
 use Rattle.feed_lane.specs.Lanes.{messages, IsTried}
+use Rattle.feed_lane.specs.Kept.{LaneIds}
 use Rattle.feed_lane.specs.Steps.{lists_of, HasId, ListsStand, IsRefusal, declare_cause}
 use Rattle.feed_lane.proofs.Growing.{may_declare, undeclared_yet}
 use Rattle.feed_lane.proofs.Declaring.{IsNew, declared_stands, new_has_id}
@@ -36,7 +37,7 @@ returns-in-Ok-clause-found g c = λ begun before since.
           let now = declared_stands records handled l.ids (lists_of l) c.args.source before call.0 content d stands call.3 call.4 is in (
             subst (λ (declared : List DeclaredAt). HasId records declared c.args.source given.channel) (sym c.add.ensures) (new_has_id records handled l.ids (lists_of l) c.args.source call.0 content d is),
             subst (λ (declared : List DeclaredAt). ListsStand records handled (handled + 1) c.set.new.self (record { accepted = l.accepted.items; declared = declared; refused = l.refused.items }) after) (sym c.add.ensures)
-                (subst (λ (ids : List ℕ). ListsStand records handled (handled + 1) ids (record { accepted = l.accepted.items; declared = l.declared.items ++ d ∷ []; refused = l.refused.items }) after) (sym c.set.ensures)
+                (subst (λ (ids : LaneIds). ListsStand records handled (handled + 1) ids (record { accepted = l.accepted.items; declared = l.declared.items ++ d ∷ []; refused = l.refused.items }) after) (sym c.set.ensures)
                 (subst (ListsStand records handled (handled + 1) _ (record { accepted = l.accepted.items; declared = l.declared.items ++ d ∷ []; refused = l.refused.items })) (sym call.9) now)),
           ),
     )

@@ -1,0 +1,28 @@
+-- What a lane keeps of its declarations.
+use Rattle.std.specs.Prelude.{ℕ, List, set, None}
+use Rattle.mcap_model.specs.Tops.{Top}
+use Rattle.feed_lane.specs.declared.ids.KeptSchema.{KeptSchema}
+use Rattle.feed_lane.specs.Lanes.{SchemaShown}
+
+-- For each id that a channel of a feed may have, the id that its declaration got, or 0; and a schema of the feed.
+pub record LaneIds : Type 0 where
+  pub given : List ℕ
+  pub kept : KeptSchema
+
+abbrev pub lane_ids : List ℕ → KeptSchema → LaneIds
+lane_ids given kept = record { given = given; kept = kept }
+
+abbrev pub no_schema : KeptSchema
+no_schema = record { id = 0; schema = None }
+
+-- with that id for a channel
+abbrev pub with_id : LaneIds → ℕ → ℕ → LaneIds
+with_id ids source id = record ids { given = set ids.given source id }
+
+-- with that schema
+abbrev pub with_kept : LaneIds → KeptSchema → LaneIds
+with_kept ids kept = record ids { kept = kept }
+
+-- the schema is that of its id in the feed
+abbrev pub KeptStands : List Top → KeptSchema → Type 0
+KeptStands records kept = SchemaShown records kept.id kept.schema
