@@ -44,5 +44,5 @@ impl<R: Wait> Pass for LanePass<'_, '_, R> {
         self.publisher.found()
     }
 
-    ghost refuses_size = { λ begun now before len shows. (shows.0, shows.1, shows.2, ap (λ (p : PassState). record p { reasons = before.reasons ++ for_size len ∷ [] }) shows.3, shows.4) };
+    ghost refuses_size = { λ begun now before len over shows. (shows.0, shows.1, shows.2, ap (λ (p : PassState). record p { reasons = before.reasons ++ for_size len ∷ [] }) shows.3, shows.4) };
 }

@@ -34,9 +34,10 @@ pub data Reason : Type 0 where
   for_room : FullAt → Reason
   for_id : DeclareRefused → Reason
 
--- The records that the pass added, each with its place; the ids that its declarations got; where it met a full buffer;
--- the declarations that no id was left for; the reasons of all refusals but want of memory; how the intake stood in its last
--- call, before what that did; and how many bytes a buffer may hold before it is full.
+-- The records that the pass added, each with its place; the ids that its declarations got; where it was
+-- answered that the buffer is full; the declarations that no id was left for; the reasons of all refusals but want of memory,
+-- those for size also without a call; how the intake stood in its last call, before what that did; and how many bytes a buffer may
+-- hold before it is full.
 pub record PassState : Type 0 where
   pub own : List (ℕ × Rec)
   pub named : List (ℕ × ChannelDef)

@@ -1,5 +1,6 @@
 //! What a lane hands its declarations and messages to.
-ghost use Rattle.std.specs.Prelude.{◌≡◌, ℕ};
+ghost use Rattle.std.specs.Prelude.{◌≡◌, ◌<◌, ℕ};
+ghost use Rattle.mcap_wire.specs.Limits.{declaration_limit};
 ghost use Rattle.record_core.specs.Sights.{DefFits};
 ghost use Rattle.feed_lane.specs.Pass.{PassState, for_size, with_reason, DeclaredInto, PublishedBy};
 
@@ -28,5 +29,5 @@ pub trait Pass {
         ensures { (begun : Self) (now : PassState) → since begun self.now now → result ≡ now.found };
 
     /// What is refused for its size alone needs no call: the pass shows as well that it was refused so.
-    ghost refuses_size: { (begun now : Self) (before : PassState) (len : ℕ) → since begun now before → since begun now (with_reason before (for_size len)) };
+    ghost refuses_size: { (begun now : Self) (before : PassState) (len : ℕ) → declaration_limit < len → since begun now before → since begun now (with_reason before (for_size len)) };
 }

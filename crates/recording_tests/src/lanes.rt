@@ -101,7 +101,7 @@ impl Pass for Lacking {
         })
     }
 
-    ghost refuses_size = { λ begun t before len shows. (before.reasons ++ for_size len ∷ [], ap (λ (p : PassState). record p { reasons = before.reasons ++ for_size len ∷ [] }) shows.1) };
+    ghost refuses_size = { λ begun t before len over shows. (before.reasons ++ for_size len ∷ [], ap (λ (p : PassState). record p { reasons = before.reasons ++ for_size len ∷ [] }) shows.1) };
 }
 
 // Whether that message was refused for want of memory.

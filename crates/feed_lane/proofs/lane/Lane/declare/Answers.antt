@@ -54,7 +54,7 @@ returns-in-Some-clause-found g c = λ begun before since.
     let l = c.args.self.now in
     let after = with_reason before (for_size c.in-Some.len) in (
       after,
-      g.met.P.Pass.refuses_size begun c.args.pass.now before c.in-Some.len since,
+      g.met.P.Pass.refuses_size begun c.args.pass.now before c.in-Some.len c.in-Some.ensures.over since,
       refl,
       λ records handled stands known on none.
           let long = c.in-Some.ensures.size records known.tables_are in
