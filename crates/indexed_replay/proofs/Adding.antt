@@ -167,6 +167,22 @@ listed_skip file range spot entries i k e old new at is outside adds =
       | inr same ↦ absurd (both_ways (is_within range e.0) outside (ap (is_within range) (sym (ap (λ (p : ℕ × ℕ). p.0) same)) ∙ (range_decided range s.log_time).1 listed.in_range))
     ])
 
+-- an entry that stands before too
+pub listed_again : (file : List ℕ) (range : Range) (spot : Spot) (entries : List (ℕ × ℕ)) (i j k : ℕ) (e : ℕ × ℕ) (old new : List Shown) → At {X = ℕ × ℕ} entries i e → At {X = ℕ × ℕ} entries j e → j < i → k ≡ suc i
+    → Adds (IsListed file range spot (take i entries)) old new → Adds (IsListed file range spot (take k entries)) old new
+listed_again file range spot entries i j k e old new at before less is adds =
+    adds_same (IsListed file range spot (take i entries)) (IsListed file range spot (take k entries)) old new adds
+    (λ s listed. listed_first file range spot entries i k s (omega (arith, is)) listed)
+    (λ s listed. elim (taken_or {X = ℕ × ℕ} entries i e at k is (s.log_time, s.place.inner) listed.entry) [
+      | inl there ↦ record { entry = there; in_range = listed.in_range; channel_is = listed.channel_is; stands = listed.stands }
+      | inr same ↦ record {
+        entry = subst (λ (p : ℕ × ℕ). Has {X = ℕ × ℕ} (take i entries) p) (sym same) (taken_last {X = ℕ × ℕ} entries j i e before less);
+        in_range = listed.in_range;
+        channel_is = listed.channel_is;
+        stands = listed.stands;
+      }
+    ])
+
 pub listed_none : (file : List ℕ) (range : Range) (spot : Spot) (entries : List (ℕ × ℕ)) (old : List Shown) → Adds (IsListed file range spot (take 0 entries)) old old
 listed_none file range spot entries old = adds_none (IsListed file range spot (take 0 entries)) old (λ s listed. let has = listed.entry in at_none {X = ℕ × ℕ} has.0 (s.log_time, s.place.inner) has.1)
 

@@ -114,7 +114,7 @@ contains_has xs x there = (there.0, subst (λ y. At xs there.0 y) there.2 (at_re
 has_contains : {X : Type 0} (xs : List X) (x : X) → Has xs x → Contains xs x
 has_contains xs x there = let within = at_within xs there.0 x there.1 in (there.0, within, at_one xs there.0 (get_or xs there.0 x) x (at_read xs there.0 x within) there.1)
 
-pub has_moved : (xs ys : List Lead) (x : Lead) → IsPermutation xs ys → Has xs x → Has ys x
+pub has_moved : {X : Type 0} (xs ys : List X) (x : X) → IsPermutation xs ys → Has xs x → Has ys x
 has_moved xs ys x moves has = contains_has ys x (Contains-permutation xs ys x moves (has_contains xs x has))
 
 abbrev pub Agrees : Lead → Lead → Type 0

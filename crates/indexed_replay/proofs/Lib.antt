@@ -1,6 +1,7 @@
 pub mod Headed
 pub mod Messaging
 pub mod Adding
+pub mod Timely
 pub mod Wanting
 pub mod Listing
 pub mod Chunking

@@ -127,6 +127,12 @@ entry_cost file range chunk entry = if is_within range entry.0 then message_cost
 abbrev pub entries_cost : List ℕ → Range → ℕ → List (ℕ × ℕ) → ℕ
 entries_cost file range chunk entries = sum_by (entry_cost file range chunk) entries
 
+-- These are the entries in the range, in some order, and reading their messages asks for what that of all entries does.
+pub record AreTimely (range : Range) (entries timely : List (ℕ × ℕ)) : Type 0 where
+  pub are : (entry : ℕ × ℕ) → Has {X = ℕ × ℕ} timely entry → Has {X = ℕ × ℕ} entries entry
+  pub all : (entry : ℕ × ℕ) → Has {X = ℕ × ℕ} entries entry → InRange range entry.0 → Has {X = ℕ × ℕ} timely entry
+  pub cost : (file : List ℕ) (chunk : ℕ) → entries_cost file range chunk timely ≤ entries_cost file range chunk entries
+
 abbrev pub AsksEntries : ℕ → Range → ℕ → List (ℕ × ℕ) → StoreState → StoreState → Type 0
 AsksEntries len range chunk entries old new = (file : List ℕ) → old.bytes ≡ Some file → length file ≡ len → new.asked ≤ old.asked + entries_cost file range chunk entries
 

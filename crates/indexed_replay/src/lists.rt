@@ -150,6 +150,7 @@ fn check_channel(
 
 // Adds the messages to which a Message Index of that content leads, and says whether each of them stands there.
 fn show_content<T: Store>(
+    alloc: Global,
     store: &mut T,
     request: &Request,
     spot: Spot,
@@ -169,6 +170,7 @@ fn show_content<T: Store>(
     };
     if is_wanted(request.tables, spot.channel, request.topic) {
         return show_entries(
+            alloc,
             store,
             request.len,
             request.range,
@@ -205,7 +207,7 @@ pub(crate) fn show_list<T: Store>(
         Err(why) => return Err(why),
     };
     match found {
-        Some(content) => return show_content(store, request, spot, &content, shown),
+        Some(content) => return show_content(alloc, store, request, spot, &content, shown),
         None => {
             return Err(ReplayRefused::Flaw {
                 rule: 12,

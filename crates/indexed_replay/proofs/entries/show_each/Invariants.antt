@@ -2,7 +2,7 @@ use Rattle.std.proofs.Common.{◌≡◌, ℕ, ◌+◌, ◌≤◌, List, length, 
 use Rattle.mcap_io.specs.Stores.{StoreStays}
 use Rattle.indexed_replay.specs.Steps.{Adds, IsListed, entries_cost}
 use Rattle.time_player.specs.Keeping.{kept_in}
-use Rattle.indexed_replay.proofs.entries.show_entries.Given as goal
+use Rattle.indexed_replay.proofs.entries.show_each.Given as goal
 
 abbrev pub invariant-entries : goal.invariant-entries
 invariant-entries g l = record {
