@@ -537,6 +537,115 @@ expect 1 '' 'mcaprec: "text.csv": grammar at 0' mcaprec info text.csv
 # shellcheck disable=SC2016  # the inner shell is to expand it
 expect 3 '' 'mcaprec: output: fault' sh -c 'mcaprec check "$1" >/dev/full' sh "$one"
 
+# ---- small files that once cost gigabytes or hours: each ends within a minute and little memory
+
+# Writes by a program in awk, for which number(bytes, value), text(t), record(opcode, length), channel(id, schema, topic) and
+# message(id, n) write.
+writing() {
+    LC_ALL=C awk "
+        function number(bytes, value) { while (bytes-- > 0) { printf \"%c\", value % 256; value = int(value / 256) } }
+        function text(t) { number(4, length(t)); printf \"%s\", t }
+        function record(opcode, len) { number(1, opcode); number(8, len) }
+        function channel(id, schema, topic) { record(4, 16 + length(topic)); number(2, id); number(2, schema); text(topic); number(4, 0); number(4, 0) }
+        function message(id, n) { record(5, 22); number(2, id); number(4, n); number(8, n); number(8, n) }
+        BEGIN { $1 }"
+}
+# A feed of a schema of so many bytes, so many channels of it with a message on each, and so many messages more on the last.
+feed_of() {
+    printf '\211MCAP0\r\n\001\010\0\0\0\0\0\0\0' && head -c 8 /dev/zero
+    writing "size = $1; channels = $2; more = $3"'
+        record(3, 16 + size); number(2, 1); text("s"); text("e"); number(4, size); for (k = 0; k < size; k++) { printf "x" }
+        for (k = 0; k < channels; k++) { channel(k, 1, "/t" k); message(k, k) }
+        for (k = 0; k < more; k++) { message(channels - 1, channels + k) }
+        record(15, 4); number(4, 0)'
+}
+# An indexed file of one chunk of so many empty messages, with so many Chunk Indexes of it.
+indexed_of() {
+    printf '\211MCAP0\r\n\001\010\0\0\0\0\0\0\0' && head -c 8 /dev/zero
+    writing "messages = $1; indexes = $2"'
+        size = 27 + 31 * messages; list = 25 + 49 + size; start = list + 15 + 16 * messages + 13
+        record(6, 40 + size); number(8, 0); number(8, messages - 1); number(8, size); number(4, 0); number(4, 0); number(8, size)
+        channel(1, 0, "/a"); for (k = 0; k < messages; k++) { message(1, k) }
+        record(7, 6 + 16 * messages); number(2, 1); number(4, 16 * messages)
+        for (k = 0; k < messages; k++) { number(8, k); number(8, 27 + 31 * k) }
+        record(15, 4); number(4, 0)
+        channel(1, 0, "/a")
+        record(11, 46); number(8, messages); number(2, 0); number(4, 1); number(4, 0); number(4, 0); number(4, indexes)
+        number(8, 0); number(8, messages - 1); number(4, 0)
+        for (k = 0; k < indexes; k++) {
+            record(8, 74); number(8, 0); number(8, messages - 1); number(8, 25); number(8, 49 + size)
+            number(4, 10); number(2, 1); number(8, list); number(8, 15 + 16 * messages); number(4, 0); number(8, size); number(8, size)
+        }
+        record(2, 20); number(8, start); number(8, 0); number(4, 0)'
+    printf '\211MCAP0\r\n'
+}
+# An indexed file of one chunk of one message of so many bytes of data, with so many entries that lead to it.
+repeated_of() {
+    printf '\211MCAP0\r\n\001\010\0\0\0\0\0\0\0' && head -c 8 /dev/zero
+    writing "data = $1; entries = $2"'
+        size = 27 + 31 + data; list = 25 + 49 + size; start = list + 15 + 16 * entries + 13
+        record(6, 40 + size); number(8, 1); number(8, 1); number(8, size); number(4, 0); number(4, 0); number(8, size)
+        channel(1, 0, "/a"); record(5, 22 + data); number(2, 1); number(4, 1); number(8, 1); number(8, 1)
+        for (k = 0; k < data; k++) { printf "x" }
+        record(7, 6 + 16 * entries); number(2, 1); number(4, 16 * entries)
+        for (k = 0; k < entries; k++) { number(8, 1); number(8, 27) }
+        record(15, 4); number(4, 0)
+        channel(1, 0, "/a")
+        record(11, 46); number(8, 1); number(2, 0); number(4, 1); number(4, 0); number(4, 0); number(4, 1); number(8, 1); number(8, 1); number(4, 0)
+        record(8, 74); number(8, 1); number(8, 1); number(8, 25); number(8, 49 + size)
+        number(4, 10); number(2, 1); number(8, list); number(8, 15 + 16 * entries); number(4, 0); number(8, size); number(8, size)
+        record(2, 20); number(8, start); number(8, 0); number(4, 0)'
+    printf '\211MCAP0\r\n'
+}
+# A plain file of one Metadata with so many keys, not in order.
+keyed_of() {
+    printf '\211MCAP0\r\n\001\010\0\0\0\0\0\0\0' && head -c 8 /dev/zero
+    writing "keys = $1"'
+        record(12, 9 + 16 * keys); text("k"); number(4, 16 * keys)
+        for (k = 0; k < keys; k++) { text(sprintf("%08d", (k * 7919) % keys)); text("") }
+        record(15, 4); number(4, 0); record(2, 20); number(8, 0); number(8, 0); number(4, 0)'
+    printf '\211MCAP0\r\n'
+}
+# Runs a command with so many KiB of memory and at most a minute of the processor.
+within() {
+    # shellcheck disable=SC2016  # the inner shell is to expand them
+    sh -c 'ulimit -v "$1"; ulimit -t 60; shift; "$@"' sh "$@"
+}
+
+# The buffers of a recording are reserved whole, which takes 277 MB; a schema is held once however many channels have it.
+feed_of 900000 65535 0 >wide.mcap
+filter='sed s/bytes=[0-9]*/bytes=N/'
+expect 0 'feed 1 accepted=65535 refused=0 passed=0 end
+file records=131071 blocks=7 bytes=N closed' '' within 800000 mcaprec record wide-out.mcap wide.mcap
+feed_of 900000 65536 500000 >wide.mcap
+expect 4 'feed 1 accepted=65535 refused=500001 passed=0 end
+file records=131071 blocks=7 bytes=N closed' 'mcaprec: "wide-out.mcap": limit' within 800000 mcaprec record wide-out.mcap wide.mcap
+feed_of 1 65535 100000 >wide.mcap
+expect 0 'feed 1 accepted=165535 refused=0 passed=0 end
+file records=231071 blocks=231071 bytes=N closed' '' within 800000 mcaprec record --chunk 1 wide-out.mcap wide.mcap
+filter='cat'
+rm -f wide.mcap wide-out.mcap
+
+indexed_of 20000 1 >led.mcap
+expect 0 'ok indexed messages=20000 channels=1 schemas=0 chunks=1 attachments=0 metadata=0' '' within 100000 mcaprec check led.mcap
+indexed_of 20000 10000 >led.mcap
+within 100000 mcaprec cat --indexed led.mcap >"$room/stdout" 2>"$room/stderr"
+compare 'the status where a chunk has 10,000 Chunk Indexes' 1 $?
+compare 'what is said of them' 'mcaprec: "led.mcap": flaw V12 at N' "$(sed 's/at [0-9]*/at N/' "$room/stderr")"
+rm -f led.mcap
+
+repeated_of 1000000 1 >repeated.mcap
+expect 0 'ok indexed messages=1 channels=1 schemas=0 chunks=1 attachments=0 metadata=0' '' within 100000 mcaprec check repeated.mcap
+repeated_of 1000000 200000 >repeated.mcap
+within 100000 mcaprec cat --indexed repeated.mcap >"$room/stdout" 2>"$room/stderr"
+compare 'the status where an entry stands 200,000 times' 0 $?
+compare 'the length of what is shown of its message' $((2 * 1000000 + 14)) "$(($(wc -c <"$room/stdout")))"
+rm -f repeated.mcap
+
+keyed_of 40000 >keyed.mcap
+expect 0 'ok plain messages=0 channels=0 schemas=0 chunks=0 attachments=0 metadata=1' '' within 100000 mcaprec check keyed.mcap
+rm -f keyed.mcap
+
 # ---- an output that is a pipe
 
 mkfifo out-pipe
