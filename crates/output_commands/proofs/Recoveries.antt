@@ -43,7 +43,7 @@ well input (recoveries.Refused refusals.Memory) trouble e = absurd cc
 -- ---- what the output holds
 
 -- what a keeping left under the name
-placed_so : (text : List ℕ) (all now : Names) (out : List ℕ) (result : Result Unit Failed) → Placed all now out text result → IsPlaced text (went_well result) (all out) (now out)
+pub placed_so : (text : List ℕ) (all now : Names) (out : List ℕ) (result : Result Unit Failed) → Placed all now out text result → IsPlaced text (went_well result) (all out) (now out)
 placed_so text all now out (Ok it) placed = placed
 placed_so text all now out (Err why) placed = placed
 
@@ -260,7 +260,7 @@ unfolding recovered_line number_text
 line_is_said r e = cons_some _ _ e
 
 -- what a sink took of a line in one go
-wrote : (before now : SinkState) (line : List ℕ) (result : Result Unit Short) → WritesAll before now line result → Tells before now line
+pub wrote : (before now : SinkState) (line : List ℕ) (result : Result Unit Short) → WritesAll before now line result → Tells before now line
 wrote before now line (Ok it) all = inl (record { still = all.0; adds = all.1 })
 wrote before now line (Err short) part = inr (record { rises = part.0; adds = λ start is. let took = part.2 start is in (took.0, omega arith, took.2, took.3) })
 

@@ -1,12 +1,12 @@
 //! Which parts of the outside failed under a command that reads one file and writes another, and what is told of it.
-ghost use Rattle.std.specs.Prelude.{◌≡◌, ◌⊎◌, true};
+ghost use Rattle.std.specs.Prelude.{◌≡◌, ◌⊎◌, true, false};
 ghost use Rattle.mcap_io.specs.Outside.{Rose};
 ghost use Rattle.command_base.specs.Texts.{complained};
 ghost use Rattle.command_base.specs.Ran.{troubles_of, Complains};
 ghost use Rattle.output_commands.specs.OneOutput.{Ending, halts_in, is_limited, is_lack, findings_of, files_of, failed_of, FaultsShow};
 
 use command_base::{Complaint, Counts, complain_of, due_when, rose};
-use mcap_io::Sink;
+use mcap_io::{OpenRefused, Sink};
 
 /// Which parts of the outside failed: the file that was read, the one that was written, or standard output.
 #[derive(Clone, Copy)]
@@ -14,6 +14,17 @@ pub struct Failures {
     pub input: bool,
     pub out: bool,
     pub printing: bool,
+}
+
+/// Whether an opening was refused since the outside failed.
+pub(crate) fn is_failed(why: OpenRefused) -> bool
+    ensures failed { result ≡ true → why ≡ OpenRefused.Failed }
+    ensures memory { result ≡ false → why ≡ OpenRefused.Memory }
+{
+    match why {
+        OpenRefused::Failed => true,
+        OpenRefused::Memory => false,
+    }
 }
 
 /// Which parts failed between the two counts. A fault of the world that no answer told of is the output's.

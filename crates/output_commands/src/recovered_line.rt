@@ -5,9 +5,9 @@ ghost use Rattle.output_commands.specs.Recover.{number_text, recovered_line, why
 use command_base::{LINE_ROOM, Line};
 use mcap_recover::{Recovered, Why};
 
-// Puts a number behind its name, behind the line.
+/// Puts a number behind its name, behind the line.
 #[tactic(auto, unfolding(crate::specs::Recover::number_text))]
-fn push_named(line: &mut Line, name: &str, number: u64)
+pub(crate) fn push_named(line: &mut Line, name: &str, number: u64)
     requires { length line.old + length name.now + 20 ≤ LINE_ROOM }
     ensures text { line.new ≡ line.old ++ number_text name.now number }
     ensures len { length line.new ≤ length line.old + length name.now + 20 }

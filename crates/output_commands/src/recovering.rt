@@ -7,10 +7,10 @@ ghost use Rattle.command_base.specs.Ran.{scene};
 ghost use Rattle.output_commands.specs.OneOutput.{text_of, halts_in, is_limited, is_lack};
 ghost use Rattle.output_commands.specs.Recover.{recovery_of as came_to, unopened_so, ending_of, NamesRecovered, RecoversFile};
 
-use crate::failures::{answer_output, failures_of};
+use crate::failures::{answer_output, failures_of, is_failed};
 use crate::recovered_line::line_of_recovered;
 use command_base::{Complaint, Counts, has_failed};
-use mcap_io::{LiveStore, OpenRefused, Sink, Source, World, write_all_of};
+use mcap_io::{LiveStore, Sink, Source, World, write_all_of};
 use mcap_recover::{RecoverRefused, Recovered, recover};
 use std::alloc::Global;
 
@@ -40,17 +40,6 @@ fn recovery_of(answer: Result<Recovered, RecoverRefused>) -> Recovery
     match answer {
         Ok(recovered) => Recovery::Made { recovered },
         Err(why) => Recovery::Refused { why },
-    }
-}
-
-// Whether an opening was refused since the outside failed.
-fn is_failed(why: OpenRefused) -> bool
-    ensures failed { result ≡ true → why ≡ OpenRefused.Failed }
-    ensures memory { result ≡ false → why ≡ OpenRefused.Memory }
-{
-    match why {
-        OpenRefused::Failed => true,
-        OpenRefused::Memory => false,
     }
 }
 

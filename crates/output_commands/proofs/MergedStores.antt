@@ -1,0 +1,267 @@
+-- What a merge of stores says of the bytes that they tell: what its output holds, which input halts, and what it decides.
+use Rattle.std.proofs.Common.{◌≡◌, ◌⊎◌, ℕ, zero, suc, Bool, true, false, ◌||◌, List, [], ◌∷◌, length, map, Some, Result, Ok, Err, refl, sym, ap, subst, inl, inr, ◌∙◌, arith}
+use Rattle.std.specs.Prelude.{IfOk, IfErr}
+use Rattle.std.specs.List.{AllZip}
+use Rattle.std.proofs.lemmas.Option.{same_Some}
+use Rattle.mcap_io.specs.Outside.{Told, went_well, Names, Placed, LiveState, WorldState, Opening}
+use Rattle.mcap_io.specs.Stores.{StoreState, IsUnused, TellsStore}
+use Rattle.mcap_io.specs.declared.outside.Failed.{Failed}
+use Rattle.rec_data.specs.declared.owned.Rec.{Rec}
+use Rattle.mcap_model.specs.declared.ends.Stop.{Stop}
+use Rattle.mcap_model.specs.declared.ends.Stop.TheVariants as stops
+use Rattle.mcap_model.specs.Places.{At, Each}
+use Rattle.mcap_model.specs.Tops.{Top}
+use Rattle.mcap_model.specs.File.{file_of}
+use Rattle.mcap_model.specs.Pieces.{file_pieces}
+use Rattle.mcap_model.specs.Merged.{Merged as MergesTo, AreRead}
+use Rattle.mcap_model.proofs.Places.{at_none, at_within}
+use Rattle.mcap_model.proofs.NamedTopics.{zip_front, zip_back}
+use Rattle.mcap_model.proofs.Pieces.{pieces_make_files, stops_leave_prefixes}
+use Rattle.chunk_writer.specs.Stops.{StopCause}
+use Rattle.mcap_merge.specs.declared.answers.Merged.{Merged}
+use Rattle.mcap_merge.specs.declared.answers.MergeRefused.{MergeRefused}
+use Rattle.mcap_merge.specs.declared.answers.MergeRefused.TheVariants as merges
+use Rattle.mcap_merge.specs.Inputs.{Read, tops_of}
+use Rattle.mcap_merge.specs.Reading.{IsReadOf, HaltsFirst}
+use Rattle.mcap_merge.specs.Filed.{merged_options, MergeIs, IsWriterRefusal, MergeStops, MergesInto, MergeFails}
+use Rattle.command_base.specs.Texts.{Trouble, grammar, compressed, limit, asked_status}
+use Rattle.command_base.specs.Ran.{failed_so, has_failed}
+use Rattle.command_base.proofs.Counting.{failed_often}
+use Rattle.output_commands.specs.declared.merging.Merging.{Merging}
+use Rattle.output_commands.specs.SomeInputs.{InputKept, entry_of, back_stores}
+use Rattle.output_commands.specs.SomeOutput.{halted, failing, ending_status, HaltsWell, some_failed}
+use Rattle.output_commands.specs.Merge.{HoldsBytes, HoldsFirst, HoldsNothing, OutputHolds, MergesStores, unopened_so, some_refused, merging_of, IsMerging, name_at, ending_of, FirstHalts, Decides}
+use Rattle.output_commands.proofs.Recoveries.{placed_so}
+
+-- what the library answers, by its clauses
+pub merges_so : (given back : List StoreState) (live stored : LiveState) (chunk : ℕ) (answer : Result Merged MergeRefused) → IfOk answer (λ m. MergesInto given back live stored chunk m) → IfErr answer (λ why. MergeFails given back live stored chunk why)
+    → MergesStores given back live stored chunk answer
+merges_so given back live stored chunk (Ok m) merged refused = merged
+merges_so given back live stored chunk (Err why) merged refused = refused
+
+-- ---- the bytes of the stores
+
+-- the store tells these bytes
+abbrev pub TellsBytes : StoreState → List ℕ → Type 0
+TellsBytes store bytes = store.bytes ≡ Some bytes
+
+pub files_told : (w : WorldState) (told : Told) (inputs : List (List ℕ)) (given : List StoreState) (files : List (List ℕ)) → w.told ≡ Some told → AllZip (TellsStore w) inputs given → AllZip (HoldsBytes told) inputs files → AllZip TellsBytes given files
+files_told w told [] [] [] here tells there = tt
+files_told w told [] [] (f ∷ fs) here tells there = absurd there
+files_told w told [] (s ∷ ss) fs here tells there = absurd tells
+files_told w told (i ∷ is) [] fs here tells there = absurd tells
+files_told w told (i ∷ is) (s ∷ ss) [] here tells there = absurd there
+files_told w told (i ∷ is) (s ∷ ss) (f ∷ fs) here tells there = ((tells.0 told here).0 ∙ there.0, files_told w told is ss fs here tells.1 there.1)
+
+are_read : (given : List StoreState) (files : List (List ℕ)) (reads : List Read) → AllZip TellsBytes given files → AllZip IsReadOf given reads → AreRead files (tops_of reads)
+are_read [] [] [] told are = tt
+are_read [] [] (r ∷ rs) told are = absurd are
+are_read [] (f ∷ fs) rs told are = absurd told
+are_read (s ∷ ss) [] rs told are = absurd told
+are_read (s ∷ ss) (f ∷ fs) [] told are = absurd are
+are_read (s ∷ ss) (f ∷ fs) (r ∷ rs) told are = (are.0 f told.0, are_read ss fs rs told.1 are.1)
+
+merges_to : (given : List StoreState) (files : List (List ℕ)) (profile : List ℕ) (extras : List Top) (history : List Rec) → AllZip TellsBytes given files → MergeIs given profile extras history → MergesTo files profile extras history
+merges_to given files profile extras history told is = record { inputs = tops_of is.reads; read = are_read given files is.reads told is.are; merge = is.merge }
+
+-- ---- why a writer stops
+
+-- a writer breaks no rule of an input
+not_grammar : (stop : Stop) (input offset : ℕ) (A : Type 0) → IsWriterRefusal stop (merges.Grammar input offset) → A
+not_grammar (stops.Fault faults) input offset A is = absurd cc
+not_grammar (stops.Limit blocks bytes) input offset A is = absurd cc
+not_grammar stops.Memory input offset A is = absurd cc
+
+not_compressed : (stop : Stop) (input offset : ℕ) (name : List ℕ) (A : Type 0) → IsWriterRefusal stop (merges.Compressed input offset name) → A
+not_compressed (stops.Fault faults) input offset name A is = absurd cc
+not_compressed (stops.Limit blocks bytes) input offset name A is = absurd cc
+not_compressed stops.Memory input offset name A is = absurd cc
+
+not_limit : (stop : Stop) (input offset : ℕ) (A : Type 0) → IsWriterRefusal stop (merges.Limit input offset) → A
+not_limit (stops.Fault faults) input offset A is = absurd cc
+not_limit (stops.Limit blocks bytes) input offset A is = absurd cc
+not_limit stops.Memory input offset A is = absurd cc
+
+not_schemas : (stop : Stop) (A : Type 0) → IsWriterRefusal stop merges.TooManySchemas → A
+not_schemas (stops.Fault faults) A is = absurd cc
+not_schemas (stops.Limit blocks bytes) A is = absurd cc
+not_schemas stops.Memory A is = absurd cc
+
+not_channels : (stop : Stop) (A : Type 0) → IsWriterRefusal stop merges.TooManyChannels → A
+not_channels (stops.Fault faults) A is = absurd cc
+not_channels (stops.Limit blocks bytes) A is = absurd cc
+not_channels stops.Memory A is = absurd cc
+
+-- ---- what the output holds
+
+module _ (chunk : ℕ) (given : List StoreState) (live stored : LiveState) (files : List (List ℕ)) (out : List ℕ) (all now : Names) (result : Result Unit Failed) (told : AllZip TellsBytes given files) (none : live.held ≡ Some []) (placed : (text : List ℕ) → stored.held ≡ Some text → Placed all now out text result) where
+  -- where nothing was written
+  nothing_placed : stored ≡ live → HoldsNothing (went_well result) (all out) (now out)
+  nothing_placed same = placed_so [] all now out result (placed [] (ap (λ (l : LiveState). l.held) same ∙ none))
+
+  -- where the writer stopped
+  first_placed : (why : MergeRefused) → MergeStops given live stored chunk why → HoldsFirst chunk files (went_well result) (all out) (now out)
+  first_placed why it =
+      let options = merged_options it.profile chunk in
+      let (blocks, bytes, stops_at) = it.stands in
+      let (text, held, stopped) = stops_at.took [] none in
+      let prefix = stops_leave_prefixes (file_pieces options it.extras it.history) stops_at.place it.stop text bytes stopped in
+      record {
+        profile = it.profile;
+        extras = it.extras;
+        history = it.history;
+        merges = merges_to given files it.profile it.extras it.history told it.is;
+        text = text;
+        part = (prefix.0, prefix.1 ∙ pieces_make_files options it.extras it.history);
+        placed = placed_so text all now out result (placed text held);
+      }
+
+pub output_holds : (chunk : ℕ) (given back : List StoreState) (live stored : LiveState) (answer : Result Merged MergeRefused) (files : List (List ℕ)) (out : List ℕ) (all now : Names) (result : Result Unit Failed) → MergesStores given back live stored chunk answer
+    → AllZip TellsBytes given files → live.held ≡ Some [] → ((text : List ℕ) → stored.held ≡ Some text → Placed all now out text result) → OutputHolds chunk files answer (went_well result) (all out) (now out)
+output_holds chunk given back live stored (Ok m) files out all now result it told none placed = record {
+  profile = it.profile;
+  extras = it.extras;
+  history = it.history;
+  merges = merges_to given files it.profile it.extras it.history told it.is;
+  messages = it.messages;
+  records = it.records;
+  placed = placed_so (file_of (merged_options it.profile chunk) it.extras it.history) all now out result (placed (file_of (merged_options it.profile chunk) it.extras it.history) (it.file [] none));
+}
+output_holds chunk given back live stored (Err (merges.Fault faults)) files out all now result (inl nothing) told none placed = inl (nothing_placed chunk given live stored files out all now result told none placed nothing.0)
+output_holds chunk given back live stored (Err (merges.Fault faults)) files out all now result (inr some) told none placed = inr (first_placed chunk given live stored files out all now result told none placed (merges.Fault faults) some.1)
+output_holds chunk given back live stored (Err (merges.Grammar input offset)) files out all now result (inl nothing) told none placed = nothing_placed chunk given live stored files out all now result told none placed nothing.0
+output_holds chunk given back live stored (Err (merges.Grammar input offset)) files out all now result (inr some) told none placed = not_grammar some.1.stop input offset _ some.1.answer
+output_holds chunk given back live stored (Err (merges.Compressed input offset name)) files out all now result (inl nothing) told none placed = nothing_placed chunk given live stored files out all now result told none placed nothing.0
+output_holds chunk given back live stored (Err (merges.Compressed input offset name)) files out all now result (inr some) told none placed = not_compressed some.1.stop input offset name _ some.1.answer
+output_holds chunk given back live stored (Err (merges.Limit input offset)) files out all now result (inl nothing) told none placed = nothing_placed chunk given live stored files out all now result told none placed nothing.0
+output_holds chunk given back live stored (Err (merges.Limit input offset)) files out all now result (inr some) told none placed = not_limit some.1.stop input offset _ some.1.answer
+output_holds chunk given back live stored (Err merges.TooManySchemas) files out all now result (inl nothing) told none placed = nothing_placed chunk given live stored files out all now result told none placed nothing.0
+output_holds chunk given back live stored (Err merges.TooManySchemas) files out all now result (inr some) told none placed = not_schemas some.1.stop _ some.1.answer
+output_holds chunk given back live stored (Err merges.TooManyChannels) files out all now result (inl nothing) told none placed = nothing_placed chunk given live stored files out all now result told none placed nothing.0
+output_holds chunk given back live stored (Err merges.TooManyChannels) files out all now result (inr some) told none placed = not_channels some.1.stop _ some.1.answer
+output_holds chunk given back live stored (Err (merges.FileLimit blocks bytes)) files out all now result (inl nothing) told none placed = elim nothing.1 [ inl never ↦ absurd never | inr (still, reads, are, never) ↦ absurd never ]
+output_holds chunk given back live stored (Err (merges.FileLimit blocks bytes)) files out all now result (inr some) told none placed = first_placed chunk given live stored files out all now result told none placed (merges.FileLimit blocks bytes) some.1
+output_holds chunk given back live stored (Err merges.Memory) files out all now result (inl nothing) told none placed = inl (nothing_placed chunk given live stored files out all now result told none placed nothing.0)
+output_holds chunk given back live stored (Err merges.Memory) files out all now result (inr some) told none placed = inr (first_placed chunk given live stored files out all now result told none placed merges.Memory some.1)
+
+-- ---- which input halts
+
+-- the trouble of an input that halts, and its number
+halted_so : (inputs : List (List ℕ)) (given : List StoreState) (k : ℕ) (trouble : Trouble) (P : List ℕ → Type 0) → length inputs ≡ length given → HaltsFirst given k P → (asked_status trouble ≡ 1) ⊎ (asked_status trouble ≡ 4) → HaltsWell inputs (halted k trouble)
+halted_so inputs given k trouble P long (before, s, at, so) asked n other e =
+    let number : k ≡ n = cc in
+    let same : trouble ≡ other = cc in
+    let within = at_within given k s at in
+    (omega (arith, number, within, long), subst (λ (t : Trouble). (asked_status t ≡ 1) ⊎ (asked_status t ≡ 4)) same asked)
+
+pub merges_well : (inputs : List (List ℕ)) (chunk : ℕ) (given back : List StoreState) (live stored : LiveState) (answer : Result Merged MergeRefused) → length inputs ≡ length given → MergesStores given back live stored chunk answer → HaltsWell inputs (ending_of inputs (merging_of answer))
+merges_well inputs chunk given back live stored (Ok m) long it n trouble e = absurd cc
+merges_well inputs chunk given back live stored (Err (merges.Fault faults)) long it n trouble e = absurd cc
+merges_well inputs chunk given back live stored (Err (merges.Grammar input offset)) long (inl (same, inl (still, first))) n trouble e = halted_so inputs given input (grammar (name_at inputs input) offset) _ long first (inl refl) n trouble e
+merges_well inputs chunk given back live stored (Err (merges.Grammar input offset)) long (inl (same, inr (still, reads, are, never))) n trouble e = absurd never
+merges_well inputs chunk given back live stored (Err (merges.Grammar input offset)) long (inr some) n trouble e = not_grammar some.1.stop input offset _ some.1.answer
+merges_well inputs chunk given back live stored (Err (merges.Compressed input offset name)) long (inl (same, inl (still, first))) n trouble e = halted_so inputs given input (compressed (name_at inputs input) name offset) _ long first (inl refl) n trouble e
+merges_well inputs chunk given back live stored (Err (merges.Compressed input offset name)) long (inl (same, inr (still, reads, are, never))) n trouble e = absurd never
+merges_well inputs chunk given back live stored (Err (merges.Compressed input offset name)) long (inr some) n trouble e = not_compressed some.1.stop input offset name _ some.1.answer
+merges_well inputs chunk given back live stored (Err (merges.Limit input offset)) long (inl (same, inl (still, first))) n trouble e = halted_so inputs given input (limit (name_at inputs input) offset) _ long first (inr refl) n trouble e
+merges_well inputs chunk given back live stored (Err (merges.Limit input offset)) long (inl (same, inr (still, reads, are, never))) n trouble e = absurd never
+merges_well inputs chunk given back live stored (Err (merges.Limit input offset)) long (inr some) n trouble e = not_limit some.1.stop input offset _ some.1.answer
+merges_well inputs chunk given back live stored (Err merges.TooManySchemas) long it n trouble e = absurd cc
+merges_well inputs chunk given back live stored (Err merges.TooManyChannels) long it n trouble e = absurd cc
+merges_well inputs chunk given back live stored (Err (merges.FileLimit blocks bytes)) long it n trouble e = absurd cc
+merges_well inputs chunk given back live stored (Err merges.Memory) long it n trouble e = absurd cc
+
+-- ---- what failed
+
+or_first : (a b : Bool) → a ≡ true → (a || b) ≡ true
+or_first true b is = refl
+or_first false b is = absurd cc
+
+or_second : (a b : Bool) → b ≡ true → (a || b) ≡ true
+or_second true b is = refl
+or_second false b is = is
+
+-- an input whose store failed is told of
+flag_at : (ks : List InputKept) (n : ℕ) (s : StoreState) → At (back_stores ks) n s → (s.faults ≡ 0 → ⊥) → some_failed (map (λ (k : InputKept). has_failed (entry_of k)) ks) ≡ true
+flag_at [] n s at some = absurd (at_none n s at)
+flag_at (k ∷ ks) zero s at some = or_first (has_failed (entry_of k)) _ (failed_often k.well k.back.faults (λ none. some (ap (λ (x : StoreState). x.faults) (sym (same_Some k.back s at)) ∙ none)))
+flag_at (k ∷ ks) (suc n) s at some = or_second (has_failed (entry_of k)) _ (flag_at ks n s at some)
+
+stop_shows : (stop : Stop) (faults before now : ℕ) (well : Bool) → IsWriterRefusal stop (merges.Fault faults) → StopCause before now stop → before ≡ 0 → failed_so well now ≡ true
+stop_shows (stops.Fault count) faults before now well is cause new = failed_often well now (λ none. omega (arith, cause.0.once, none, new))
+stop_shows (stops.Limit blocks bytes) faults before now well is cause new = absurd cc
+stop_shows stops.Memory faults before now well is cause new = absurd cc
+
+-- where the merge failed, a store did
+pub fault_shows : (inputs : List (List ℕ)) (chunk : ℕ) (given : List StoreState) (live stored : LiveState) (well : Bool) (ks : List InputKept) (answer : Result Merged MergeRefused) → MergesStores given (back_stores ks) live stored chunk answer → Each IsUnused given → live.faults ≡ 0
+    → ending_of inputs (merging_of answer) ≡ failing → (some_failed (map (λ (k : InputKept). has_failed (entry_of k)) ks) ≡ true) ⊎ (failed_so well stored.faults ≡ true)
+fault_shows inputs chunk given live stored well ks (Ok m) it unused new e = absurd cc
+fault_shows inputs chunk given live stored well ks (Err (merges.Fault faults)) (inl (same, inl (k, was, now, at_was, at_now, rises, count, others))) unused new e =
+    let none = (unused k was at_was).faults in
+    inl (flag_at ks k now at_now (λ zero_is. omega (arith, rises.once, none, zero_is)))
+fault_shows inputs chunk given live stored well ks (Err (merges.Fault faults)) (inl (same, inr (still, reads, are, never))) unused new e = absurd never
+fault_shows inputs chunk given live stored well ks (Err (merges.Fault faults)) (inr (still, it)) unused new e = inr (stop_shows it.stop faults live.faults stored.faults well it.answer it.cause new)
+fault_shows inputs chunk given live stored well ks (Err (merges.Grammar input offset)) it unused new e = absurd cc
+fault_shows inputs chunk given live stored well ks (Err (merges.Compressed input offset name)) it unused new e = absurd cc
+fault_shows inputs chunk given live stored well ks (Err (merges.Limit input offset)) it unused new e = absurd cc
+fault_shows inputs chunk given live stored well ks (Err merges.TooManySchemas) it unused new e = absurd cc
+fault_shows inputs chunk given live stored well ks (Err merges.TooManyChannels) it unused new e = absurd cc
+fault_shows inputs chunk given live stored well ks (Err (merges.FileLimit blocks bytes)) it unused new e = absurd cc
+fault_shows inputs chunk given live stored well ks (Err merges.Memory) it unused new e = absurd cc
+
+-- ---- what the bytes decide
+
+first_halts : (given : List StoreState) (files : List (List ℕ)) (n : ℕ) (P : List ℕ → Type 0) → AllZip TellsBytes given files → HaltsFirst given n P → FirstHalts files n P
+first_halts given files n P told (before, s, at, so) =
+    let (bytes, there, is) = zip_front TellsBytes given files n s told at in
+    record {
+      before = λ k other earlier found.
+          let (store, at_store, tells) = zip_back TellsBytes given files k other told found in
+          let (r, whole) = before k store earlier at_store in
+          let ended = whole other tells in
+          (r.tops, ended.0, ended.1);
+      bytes = bytes;
+      at = there;
+      so = so bytes is;
+    }
+
+merge_decides : (inputs : List (List ℕ)) (chunk : ℕ) (given back : List StoreState) (live stored : LiveState) (answer : Result Merged MergeRefused) (files : List (List ℕ)) (status : ℕ) → MergesStores given back live stored chunk answer → AllZip TellsBytes given files
+    → (ending_of inputs (merging_of answer) ≡ failing → ⊥) → status ≡ ending_status (ending_of inputs (merging_of answer)) → Decides files (merging_of answer) status
+merge_decides inputs chunk given back live stored (Ok m) files status it told other is = ((tops_of it.is.reads, are_read given files it.is.reads told it.is.are, tt), is)
+merge_decides inputs chunk given back live stored (Err (merges.Fault faults)) files status it told other is = absurd (other refl)
+merge_decides inputs chunk given back live stored (Err (merges.Grammar input offset)) files status (inl (same, inl (still, first))) told other is = (first_halts given files input _ told first, is)
+merge_decides inputs chunk given back live stored (Err (merges.Grammar input offset)) files status (inl (same, inr (still, reads, are, never))) told other is = absurd never
+merge_decides inputs chunk given back live stored (Err (merges.Grammar input offset)) files status (inr some) told other is = not_grammar some.1.stop input offset _ some.1.answer
+merge_decides inputs chunk given back live stored (Err (merges.Compressed input offset name)) files status (inl (same, inl (still, first))) told other is = (first_halts given files input _ told first, is)
+merge_decides inputs chunk given back live stored (Err (merges.Compressed input offset name)) files status (inl (same, inr (still, reads, are, never))) told other is = absurd never
+merge_decides inputs chunk given back live stored (Err (merges.Compressed input offset name)) files status (inr some) told other is = not_compressed some.1.stop input offset name _ some.1.answer
+merge_decides inputs chunk given back live stored (Err (merges.Limit input offset)) files status (inl (same, inl (still, first))) told other is = (first_halts given files input _ told first, is)
+merge_decides inputs chunk given back live stored (Err (merges.Limit input offset)) files status (inl (same, inr (still, reads, are, never))) told other is = absurd never
+merge_decides inputs chunk given back live stored (Err (merges.Limit input offset)) files status (inr some) told other is = not_limit some.1.stop input offset _ some.1.answer
+merge_decides inputs chunk given back live stored (Err merges.TooManySchemas) files status (inl (same, inl never)) told other is = absurd never
+merge_decides inputs chunk given back live stored (Err merges.TooManySchemas) files status (inl (same, inr (still, reads, are, many))) told other is = ((tops_of reads, are_read given files reads told are, many), is)
+merge_decides inputs chunk given back live stored (Err merges.TooManySchemas) files status (inr some) told other is = not_schemas some.1.stop _ some.1.answer
+merge_decides inputs chunk given back live stored (Err merges.TooManyChannels) files status (inl (same, inl never)) told other is = absurd never
+merge_decides inputs chunk given back live stored (Err merges.TooManyChannels) files status (inl (same, inr (still, reads, are, many))) told other is = ((tops_of reads, are_read given files reads told are, many), is)
+merge_decides inputs chunk given back live stored (Err merges.TooManyChannels) files status (inr some) told other is = not_channels some.1.stop _ some.1.answer
+merge_decides inputs chunk given back live stored (Err (merges.FileLimit blocks bytes)) files status (inl (same, inl never)) told other is = absurd never
+merge_decides inputs chunk given back live stored (Err (merges.FileLimit blocks bytes)) files status (inl (same, inr (still, reads, are, never))) told other is = absurd never
+merge_decides inputs chunk given back live stored (Err (merges.FileLimit blocks bytes)) files status (inr (still, it)) told other is = ((tops_of it.is.reads, are_read given files it.is.reads told it.is.are, tt), is)
+merge_decides inputs chunk given back live stored (Err merges.Memory) files status it told other is = is
+
+-- an opening that was refused failed, or memory lacked for it
+refusal_decides : (inputs files : List (List ℕ)) (failed : Bool) (status : ℕ) → (ending_of inputs (unopened_so failed) ≡ failing → ⊥) → status ≡ ending_status (ending_of inputs (unopened_so failed)) → Decides files (unopened_so failed) status
+refusal_decides inputs files true status other is = absurd (other refl)
+refusal_decides inputs files false status other is = is
+
+-- where nothing failed, the bytes under the inputs' names decide
+pub merging_decides : (chunk : ℕ) (inputs : List (List ℕ)) (out : List ℕ) (old new : WorldState) (entries : List Opening) (merging : Merging) (told : Told) (files : List (List ℕ)) (status : ℕ) → IsMerging chunk inputs out old new entries merging → old.told ≡ Some told
+    → AllZip (HoldsBytes told) inputs files → (ending_of inputs merging ≡ failing → ⊥) → status ≡ ending_status (ending_of inputs merging) → Decides files merging status
+merging_decides chunk inputs out old new entries merging told files status (inl (refusal, unreached)) here there other is =
+    let same = refusal.answer in
+    subst (λ (m : Merging). Decides files m status) (sym same)
+    (refusal_decides inputs files (some_refused entries) status (λ e. other (ap (ending_of inputs) same ∙ e)) (is ∙ ap (λ (m : Merging). ending_status (ending_of inputs m)) same))
+merging_decides chunk inputs out old new entries merging told files status (inr (answer, same, reached)) here there other is =
+    subst (λ (m : Merging). Decides files m status) (sym same)
+    (merge_decides inputs chunk reached.given (back_stores reached.kept_inputs) reached.live reached.stored answer files status reached.merges (files_told old told inputs reached.given files here reached.tells there)
+    (λ e. other (ap (ending_of inputs) same ∙ e)) (is ∙ ap (λ (m : Merging). ending_status (ending_of inputs m)) same))

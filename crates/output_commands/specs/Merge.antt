@@ -1,0 +1,194 @@
+-- What the merging of files does: to the names of the world, to both outputs, and how it ends.
+use Rattle.std.specs.Prelude.{◌≡◌, ◌⊎◌, ◌≤◌, ◌<◌, not, ℕ, List, [], ◌∷◌, ◌++◌, codes, map, get_or, length, filter, Bool, true, false, Option, Some, None, Result, Ok, Err}
+use Rattle.std.specs.List.{AllZip, list_any}
+use Rattle.rec_data.specs.declared.owned.Rec.{Rec}
+use Rattle.mcap_io.specs.Outside.{LiveState, WorldState, Told, Opening}
+use Rattle.mcap_io.specs.Stores.{StoreState, IsUnused, TellsStore}
+use Rattle.mcap_io.specs.declared.outside.ObjectKind.TheVariants as kinds
+use Rattle.mcap_wire.specs.Limits.{id_limit}
+use Rattle.mcap_model.specs.Places.{At, Each}
+use Rattle.mcap_model.specs.Tops.{Top}
+use Rattle.mcap_model.specs.Kept.{reading_limits, Halts, at_end, grammar as breaks, compressed as names, beyond}
+use Rattle.mcap_model.specs.History.{is_message}
+use Rattle.mcap_model.specs.File.{file_of, IsPrefix}
+use Rattle.mcap_model.specs.Merged.{Merged as MergesTo, AreRead, IsUsed, SchemaIsUsed, AtMost, MoreThan}
+use Rattle.mcap_merge.specs.declared.answers.Merged.{Merged}
+use Rattle.mcap_merge.specs.declared.answers.MergeRefused.{MergeRefused}
+use Rattle.mcap_merge.specs.declared.answers.MergeRefused.TheVariants as merges
+use Rattle.mcap_merge.specs.Filed.{merged_options, MergesInto, MergeFails}
+use Rattle.command_base.specs.Texts.{grammar, compressed, limit}
+use Rattle.command_base.specs.Ran.{Scene, counts_in, AnyRose, kept}
+use Rattle.output_commands.specs.declared.merging.Merging.{Merging}
+use Rattle.output_commands.specs.declared.merging.Merging.TheVariants as mergings
+use Rattle.output_commands.specs.declared.merging.Outcome.{Outcome}
+use Rattle.output_commands.specs.Recover.{IsPlaced, number_text}
+use Rattle.output_commands.specs.SomeInputs.{InputKept, entry_of, names_kept, back_stores}
+use Rattle.output_commands.specs.SomeOutput.{Ending, was_written, halted, limited, failing, lacked, HaltsWell, some_failed, NamesKept, Unreached, ReadsSomeWritesOne}
+
+-- ---- what the output holds
+
+-- these bytes stand under the name
+abbrev pub HoldsBytes : Told → List ℕ → List ℕ → Type 0
+HoldsBytes told name bytes = told.names name ≡ Some bytes
+
+-- the file that merging makes of these files was put there, and these are the numbers of its records
+pub record HoldsMerged (chunk : ℕ) (files : List (List ℕ)) (m : Merged) (well : Bool) (before now : Option (List ℕ)) : Type 0 where
+  pub profile : List ℕ
+  pub extras : List Top
+  pub history : List Rec
+  pub merges : MergesTo files profile extras history
+  pub messages : m.messages ≡ length (filter is_message history)
+  pub records : m.records ≡ length history
+  pub placed : IsPlaced (file_of (merged_options profile chunk) extras history) well before now
+
+-- a first part of it was put there
+pub record HoldsFirst (chunk : ℕ) (files : List (List ℕ)) (well : Bool) (before now : Option (List ℕ)) : Type 0 where
+  pub profile : List ℕ
+  pub extras : List Top
+  pub history : List Rec
+  pub merges : MergesTo files profile extras history
+  pub text : List ℕ
+  pub part : IsPrefix text (file_of (merged_options profile chunk) extras history)
+  pub placed : IsPlaced text well before now
+
+-- nothing was put there
+abbrev pub HoldsNothing : Bool → Option (List ℕ) → Option (List ℕ) → Type 0
+HoldsNothing well before now = IsPlaced [] well before now
+
+-- of these files, by what a merge answered
+abbrev pub OutputHolds : ℕ → List (List ℕ) → Result Merged MergeRefused → Bool → Option (List ℕ) → Option (List ℕ) → Type 0
+OutputHolds chunk files (Ok m) well before now = HoldsMerged chunk files m well before now
+OutputHolds chunk files (Err (merges.Fault faults)) well before now = HoldsNothing well before now ⊎ HoldsFirst chunk files well before now
+OutputHolds chunk files (Err (merges.Grammar input offset)) well before now = HoldsNothing well before now
+OutputHolds chunk files (Err (merges.Compressed input offset name)) well before now = HoldsNothing well before now
+OutputHolds chunk files (Err (merges.Limit input offset)) well before now = HoldsNothing well before now
+OutputHolds chunk files (Err merges.TooManySchemas) well before now = HoldsNothing well before now
+OutputHolds chunk files (Err merges.TooManyChannels) well before now = HoldsNothing well before now
+OutputHolds chunk files (Err (merges.FileLimit blocks bytes)) well before now = HoldsFirst chunk files well before now
+OutputHolds chunk files (Err merges.Memory) well before now = HoldsNothing well before now ⊎ HoldsFirst chunk files well before now
+
+-- ---- the names
+
+-- what the library says of a merge of stores into a live store
+abbrev pub MergesStores : List StoreState → List StoreState → LiveState → LiveState → ℕ → Result Merged MergeRefused → Type 0
+MergesStores given back live stored chunk (Ok m) = MergesInto given back live stored chunk m
+MergesStores given back live stored chunk (Err why) = MergeFails given back live stored chunk why
+
+-- All were opened. The stores under the inputs' names were merged into the one under the output's, and all were taken back.
+pub record Reached (chunk : ℕ) (inputs : List (List ℕ)) (out : List ℕ) (old new : WorldState) (entries : List Opening) (result : Result Merged MergeRefused) : Type 0 where
+  -- as the world gave them and as it took them back, in the order of the words, and whether that went well
+  pub given : List StoreState
+  pub kept_inputs : List InputKept
+  pub names_are : inputs ≡ names_kept kept_inputs
+  pub live : LiveState
+  pub stored : LiveState
+  pub live_kept : Bool
+  pub merges : MergesStores given (back_stores kept_inputs) live stored chunk result
+  -- each store told the bytes under its input's name, which is there, where the world tells
+  pub tells : AllZip (TellsStore old) inputs given
+  pub unused : Each IsUnused given
+  pub live_unused : live.faults ≡ 0
+  -- and then the output's name holds what was merged of these bytes
+  pub file : (told now : Told) (files : List (List ℕ)) → old.told ≡ Some told → new.told ≡ Some now → AllZip (HoldsBytes told) inputs files
+      → OutputHolds chunk files result live_kept (told.names out) (now.names out)
+  pub kept_are : entries ≡ map entry_of kept_inputs ++ kept kinds.Live out (record { well = live_kept; faults = stored.faults; left = None; asked = 0 }) ∷ []
+
+-- an opening failed, or memory lacked for it
+abbrev pub unopened_so : Bool → Merging
+unopened_so true = mergings.Unopened
+unopened_so false = mergings.Refused merges.Memory
+
+-- the last opening was refused: a failure has its entry, a want of memory none
+abbrev pub some_refused : List Opening → Bool
+some_refused entries = list_any (λ (entry : Opening). not entry.given) entries
+
+pub record IsRefusal (inputs : List (List ℕ)) (entries : List Opening) (merging : Merging) : Type 0 where
+  pub answer : merging ≡ unopened_so (some_refused entries)
+  pub fewer : some_refused entries ≡ false → length entries ≤ length inputs
+
+abbrev pub merging_of : Result Merged MergeRefused → Merging
+merging_of (Ok m) = mergings.Made m
+merging_of (Err why) = mergings.Refused why
+
+-- what became of all names
+abbrev pub IsMerging : ℕ → List (List ℕ) → List ℕ → WorldState → WorldState → List Opening → Merging → Type 0
+IsMerging chunk inputs out old new entries merging = (IsRefusal inputs entries merging × Unreached out old new entries)
+    ⊎ ((result : Result Merged MergeRefused) × (merging ≡ merging_of result) × Reached chunk inputs out old new entries result)
+
+-- ---- the line
+
+-- merged inputs=I messages=M records=R
+unfoldable pub merged_line : ℕ → Merged → List ℕ
+merged_line inputs m = number_text (codes "merged inputs=") inputs ++ (number_text (codes " messages=") m.messages ++ (number_text (codes " records=") m.records ++ codes "\n"))
+
+-- the name of the input of that number, from 0
+abbrev pub name_at : List (List ℕ) → ℕ → List ℕ
+name_at inputs n = get_or inputs n []
+
+-- how the merging ended
+abbrev pub refusal_ending : List (List ℕ) → MergeRefused → Ending
+refusal_ending inputs (merges.Fault faults) = failing
+refusal_ending inputs (merges.Grammar input offset) = halted input (grammar (name_at inputs input) offset)
+refusal_ending inputs (merges.Compressed input offset name) = halted input (compressed (name_at inputs input) name offset)
+refusal_ending inputs (merges.Limit input offset) = halted input (limit (name_at inputs input) offset)
+refusal_ending inputs merges.TooManySchemas = limited
+refusal_ending inputs merges.TooManyChannels = limited
+refusal_ending inputs (merges.FileLimit blocks bytes) = limited
+refusal_ending inputs merges.Memory = lacked
+
+abbrev pub ending_of : List (List ℕ) → Merging → Ending
+ending_of inputs mergings.Unopened = failing
+ending_of inputs (mergings.Made m) = was_written (merged_line (length inputs) m)
+ending_of inputs (mergings.Refused why) = refusal_ending inputs why
+
+-- what became of all names, and which of them failed; where the merging failed, a failure of one is told
+pub record NamesMerged (chunk : ℕ) (inputs : List (List ℕ)) (out : List ℕ) (old new : WorldState) (outcome : Outcome) : Type 0 where
+  pub entries : List Opening
+  pub comes : IsMerging chunk inputs out old new entries outcome.merging
+  pub names : NamesKept inputs out old new entries outcome.inputs_failed.items outcome.out_failed
+  pub well : HaltsWell inputs (ending_of inputs outcome.merging)
+  pub sure : ending_of inputs outcome.merging ≡ failing → (some_failed outcome.inputs_failed.items ≡ true) ⊎ (outcome.out_failed ≡ true)
+
+-- ---- the status
+
+-- a reading of these bytes comes to their Data End
+abbrev pub IsWhole : List ℕ → Type 0
+IsWhole bytes = (tops : List Top) × (end : ℕ) × Halts reading_limits bytes tops (at_end end)
+
+-- the file of that number, from 0, halts so, and those before it come to their Data Ends
+pub record FirstHalts (files : List (List ℕ)) (n : ℕ) (halts : List ℕ → Type 0) : Type 0 where
+  pub before : (k : ℕ) (bytes : List ℕ) → k < n → At files k bytes → IsWhole bytes
+  pub bytes : List ℕ
+  pub at : At files n bytes
+  pub so : halts bytes
+
+-- all files come to their Data Ends, and that is so of their records
+abbrev pub OfRead : List (List ℕ) → (List (List Top) → Type 0) → Type 0
+OfRead files P = (inputs : List (List Top)) × AreRead files inputs × P inputs
+
+-- Where nothing failed, the bytes decide, but for want of memory and for the limits of a file.
+abbrev pub Decides : List (List ℕ) → Merging → ℕ → Type 0
+Decides files mergings.Unopened status = ⊥
+Decides files (mergings.Made m) status = OfRead files (λ inputs. Unit {0}) × (status ≡ 0)
+Decides files (mergings.Refused (merges.Fault faults)) status = ⊥
+Decides files (mergings.Refused (merges.Grammar input offset)) status = FirstHalts files input (λ bytes. (tops : List Top) × (rule : ℕ) × Halts reading_limits bytes tops (breaks offset rule)) × (status ≡ 1)
+Decides files (mergings.Refused (merges.Compressed input offset name)) status = FirstHalts files input (λ bytes. (tops : List Top) × Halts reading_limits bytes tops (names offset name)) × (status ≡ 1)
+Decides files (mergings.Refused (merges.Limit input offset)) status = FirstHalts files input (λ bytes. (tops : List Top) × Halts reading_limits bytes tops (beyond offset)) × (status ≡ 4)
+Decides files (mergings.Refused merges.TooManySchemas) status = OfRead files (λ inputs. MoreThan id_limit (SchemaIsUsed inputs)) × (status ≡ 4)
+Decides files (mergings.Refused merges.TooManyChannels) status = OfRead files (λ inputs. MoreThan id_limit (IsUsed inputs) × AtMost id_limit (SchemaIsUsed inputs)) × (status ≡ 4)
+Decides files (mergings.Refused (merges.FileLimit blocks bytes)) status = OfRead files (λ inputs. Unit {0}) × (status ≡ 4)
+Decides files (mergings.Refused merges.Memory) status = status ≡ 5
+
+-- ---- the command
+
+-- what `merge` does
+pub record MergesFiles (chunk : ℕ) (inputs : List (List ℕ)) (out : List ℕ) (old new : Scene) (status : ℕ) : Type 0 where
+  -- the inputs are opened as stores, and then the output; this is what the merging came to, and what the output holds of it
+  pub entries : List Opening
+  pub merging : Merging
+  pub comes : IsMerging chunk inputs out old.world new.world entries merging
+  -- standard output takes the line of what was merged, and standard error the troubles
+  pub ran : ReadsSomeWritesOne inputs out old new entries (ending_of inputs merging) status
+  -- where the world tells, the bytes under the inputs' names decide, unless a count rises
+  pub decided : (told : Told) (files : List (List ℕ)) → old.world.told ≡ Some told → AllZip (HoldsBytes told) inputs files
+      → (AnyRose (counts_in old) (counts_in new) → ⊥) → Decides files merging status

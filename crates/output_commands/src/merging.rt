@@ -1,0 +1,306 @@
+//! Merging files under their names into a file under another.
+ghost use Rattle.std.specs.Prelude.{◌≡◌, ◌≤◌, ◌<◌, ◌^◌, ℕ, List, [], length, map, vec_len, vec_capacity};
+ghost use Rattle.mcap_io.specs.Outside.{WorldState};
+ghost use Rattle.mcap_wire.specs.Limits.{chunk_size_limit};
+ghost use Rattle.command_base.specs.Printing.{Takes};
+ghost use Rattle.command_base.specs.Ran.{scene};
+ghost use Rattle.output_commands.specs.SomeInputs.{InputsOpened};
+ghost use Rattle.output_commands.specs.SomeOutput.{AreFew, HaltsWell, text_of, halts_in, is_limited, is_lack, halted_lists};
+ghost use Rattle.output_commands.specs.Merge.{merging_of as came_to, unopened_so, name_at, refusal_ending, ending_of, NamesMerged, MergesFiles};
+
+use crate::blaming::{Halted, answer_inputs, failed_parts};
+use crate::failures::is_failed;
+use crate::inputs::{Room, add_refused, keep_inputs, make_room, open_inputs};
+use crate::merged_line::line_of_merged;
+use command_base::{Complaint, Counts, has_failed};
+use mcap_io::{LiveStore, Sink, World, write_all_of};
+use mcap_merge::{MergeRefused, Merged, merge};
+use mcap_wire::Text;
+use std::alloc::Global;
+
+/// What the merging of files came to.
+#[derive(Drop)]
+pub enum Merging {
+    /// The world failed to open one of the names.
+    Unopened,
+    /// The output was written.
+    Made { merged: Merged },
+    /// It was refused; or memory lacked for an opening.
+    Refused { why: MergeRefused },
+}
+
+/// What became of all names: the merging, and for each whether its opening, its object or the keeping failed. Of the inputs these
+/// are the answers for those that were reached, in their order.
+#[derive(Drop)]
+pub struct Outcome {
+    pub merging: Merging,
+    pub inputs_failed: Vec<bool>,
+    pub out_failed: bool,
+}
+
+// A merging by its answer.
+fn merging_of(answer: Result<Merged, MergeRefused>) -> Merging
+    ensures { result ≡ came_to answer }
+{
+    match answer {
+        Ok(merged) => Merging::Made { merged },
+        Err(why) => Merging::Refused { why },
+    }
+}
+
+// Nothing was merged, since an opening failed, or else for want of memory.
+fn unopened(failed: bool) -> Merging
+    ensures { result ≡ unopened_so failed }
+{
+    if failed {
+        return Merging::Unopened;
+    }
+    return Merging::Refused {
+        why: MergeRefused::Memory,
+    };
+}
+
+// Opens the output, merges the inputs that were opened into it, and keeps all.
+fn merge_opened<W: World>(
+    alloc: Global,
+    chunk: u64,
+    inputs: &[Text],
+    out: &str,
+    room: Room<W::Store>,
+    world: &mut W,
+) -> Outcome
+    requires some { 1 ≤ chunk }
+    requires within { chunk ≤ chunk_size_limit }
+    requires few { AreFew inputs.now }
+    requires many { vec_len room.stores ≡ length inputs.now }
+    requires none { room.failed.items ≡ [] }
+    requires room { length inputs.now ≤ vec_capacity room.failed }
+    ensures { (before : WorldState) → InputsOpened before (W.state world.old) inputs.now (map W.Store.state room.stores.items)
+        → before.faults < 2 ^ 64 → before.input_faults < 2 ^ 64 → before.output_faults < 2 ^ 64
+        → NamesMerged chunk inputs.now out.now before (W.state world.new) result }
+{
+    let Room {
+        mut stores,
+        mut failed,
+    } = room;
+    let live = match world.live(out) {
+        Ok(live) => live,
+        Err(why) => {
+            let out_failed = is_failed(why);
+            keep_inputs(world, inputs, stores, &mut failed);
+            return Outcome {
+                merging: unopened(out_failed),
+                inputs_failed: failed,
+                out_failed,
+            };
+        }
+    };
+    let (live, answer) = merge(alloc, &mut stores, live, chunk);
+    let live_faults = live.faults();
+    keep_inputs(world, inputs, stores, &mut failed);
+    let live_kept = world.keep_live(out, live);
+    Outcome {
+        merging: merging_of(answer),
+        inputs_failed: failed,
+        out_failed: has_failed(live_faults, live_kept),
+    }
+}
+
+// Opens all names, merges the inputs into the output, and keeps all.
+fn merge_names<W: World>(
+    alloc: Global,
+    chunk: u64,
+    inputs: &[Text],
+    out: &str,
+    world: &mut W,
+) -> Outcome
+    requires some { 1 ≤ chunk }
+    requires within { chunk ≤ chunk_size_limit }
+    requires few { AreFew inputs.now }
+    requires world_fits { (W.state world.old).faults < 2 ^ 64 }
+    requires inputs_fit { (W.state world.old).input_faults < 2 ^ 64 }
+    requires outputs_fit { (W.state world.old).output_faults < 2 ^ 64 }
+    ensures { NamesMerged chunk inputs.now out.now (W.state world.old) (W.state world.new) result }
+{
+    let Room {
+        mut stores,
+        mut failed,
+    } = match make_room(alloc, inputs.len()) {
+        Ok(room) => room,
+        Err(_) => {
+            return Outcome {
+                merging: unopened(false),
+                inputs_failed: Vec::new(alloc),
+                out_failed: false,
+            };
+        }
+    };
+    match open_inputs(world, inputs, &mut stores) {
+        Ok(()) => {
+            let room = Room { stores, failed };
+            return merge_opened(alloc, chunk, inputs, out, room, world);
+        }
+        Err(why) => {
+            let input_failed = is_failed(why);
+            keep_inputs(world, &inputs[..stores.len()], stores, &mut failed);
+            add_refused(&mut failed, input_failed);
+            return Outcome {
+                merging: unopened(input_failed),
+                inputs_failed: failed,
+                out_failed: false,
+            };
+        }
+    }
+}
+
+// Prints the line of what was merged, if something was. It takes no memory.
+fn print_merging<O: Sink>(out: &mut O, inputs: &[Text], merging: &Merging)
+    ensures { Takes (O.state out.old) (O.state out.new) (text_of (ending_of inputs.now merging.now)) }
+{
+    match merging {
+        Merging::Made { merged } => {
+            let line = line_of_merged(inputs.len() as u64, *merged);
+            match write_all_of(out, line.as_bytes()) {
+                Ok(()) => return,
+                Err(_) => return,
+            }
+        }
+        Merging::Unopened => return,
+        Merging::Refused { .. } => return,
+    }
+}
+
+// The name of the input of that number, from 0.
+fn name_of(inputs: &[Text], number: u32) -> &str
+    requires { number < length inputs.now }
+    ensures { result.now ≡ name_at inputs.now number }
+{
+    inputs[number as usize].as_str()
+}
+
+// The input that couldn't be read, and the complaint of it, where a merge was refused for that.
+fn halted_by<'a>(inputs: &'a [Text], why: &'a MergeRefused) -> Option<Halted<'a>>
+    requires { HaltsWell inputs.now (refusal_ending inputs.now why.now) }
+    ensures { halted_lists result ≡ halts_in (refusal_ending inputs.now why.now) }
+{
+    match why {
+        MergeRefused::Grammar { input, offset } => Some(Halted {
+            input: *input as usize,
+            complaint: Complaint::Grammar {
+                name: name_of(inputs, *input),
+                offset: *offset,
+            },
+        }),
+        MergeRefused::Compressed {
+            input,
+            offset,
+            name,
+        } => Some(Halted {
+            input: *input as usize,
+            complaint: Complaint::Compressed {
+                name: name_of(inputs, *input),
+                compression: name.as_str(),
+                offset: *offset,
+            },
+        }),
+        MergeRefused::Limit { input, offset } => Some(Halted {
+            input: *input as usize,
+            complaint: Complaint::Limit {
+                name: name_of(inputs, *input),
+                offset: *offset,
+            },
+        }),
+        MergeRefused::Fault { .. } | MergeRefused::Memory => None,
+        MergeRefused::TooManySchemas | MergeRefused::TooManyChannels => None,
+        MergeRefused::FileLimit { .. } => None,
+    }
+}
+
+// The same of what a merging came to.
+fn halted_in<'a>(inputs: &'a [Text], merging: &'a Merging) -> Option<Halted<'a>>
+    requires { HaltsWell inputs.now (ending_of inputs.now merging.now) }
+    ensures { halted_lists result ≡ halts_in (ending_of inputs.now merging.now) }
+{
+    match merging {
+        Merging::Refused { why } => halted_by(inputs, why),
+        Merging::Unopened | Merging::Made { .. } => None,
+    }
+}
+
+// Whether the output would pass a limit.
+fn is_at_limit(merging: &Merging) -> bool
+    ensures { (inputs : List (List ℕ)) → result ≡ is_limited (ending_of inputs merging.now) }
+{
+    match merging {
+        Merging::Refused {
+            why: MergeRefused::TooManySchemas
+            | MergeRefused::TooManyChannels
+            | MergeRefused::FileLimit { .. },
+        } => true,
+        Merging::Refused {
+            why: MergeRefused::Fault { .. }
+            | MergeRefused::Grammar { .. }
+            | MergeRefused::Compressed { .. }
+            | MergeRefused::Limit { .. }
+            | MergeRefused::Memory,
+        } => false,
+        Merging::Unopened | Merging::Made { .. } => false,
+    }
+}
+
+// Whether memory lacked.
+fn has_lacked(merging: &Merging) -> bool
+    ensures { (inputs : List (List ℕ)) → result ≡ is_lack (ending_of inputs merging.now) }
+{
+    match merging {
+        Merging::Refused {
+            why: MergeRefused::Memory,
+        } => true,
+        Merging::Refused {
+            why: MergeRefused::Fault { .. }
+            | MergeRefused::Grammar { .. }
+            | MergeRefused::Compressed { .. }
+            | MergeRefused::Limit { .. }
+            | MergeRefused::TooManySchemas
+            | MergeRefused::TooManyChannels
+            | MergeRefused::FileLimit { .. },
+        } => false,
+        Merging::Unopened | Merging::Made { .. } => false,
+    }
+}
+
+/// Merges 1 to 64 files under their names into a new file under another, in chunks of that size in bytes: their messages by log
+/// time, and of one time by the order of the inputs and the place in them, on channels that are numbered by content. Prints on
+/// `out` how many inputs, messages and records that were, and answers the status: 1 where an input breaks a rule or is
+/// compressed, 3 where the outside failed, 4 where an input passes a limit or the new file would, and 5 where memory lacked.
+pub fn merge_file<W: World, O: Sink, E: Sink>(
+    alloc: Global,
+    chunk: u64,
+    inputs: &[Text],
+    out_name: &str,
+    world: &mut W,
+    out: &mut O,
+    err: &mut E,
+) -> u8
+    requires some { 1 ≤ chunk }
+    requires within { chunk ≤ chunk_size_limit }
+    requires few { AreFew inputs.now }
+    ensures { MergesFiles chunk inputs.now out_name.now
+        (scene (W.state world.old) (O.state out.old) (E.state err.old))
+        (scene (W.state world.new) (O.state out.new) (E.state err.new))
+        result }
+{
+    let before = Counts::of(world, out);
+    let outcome = merge_names(alloc, chunk, inputs, out_name, world);
+    print_merging(out, inputs, &outcome.merging);
+    let now = Counts::of(world, out);
+    let failed = failed_parts(
+        &before,
+        &now,
+        outcome.inputs_failed.as_slice(),
+        outcome.out_failed,
+    );
+    let halted = halted_in(inputs, &outcome.merging);
+    let (limited, lacked) = (is_at_limit(&outcome.merging), has_lacked(&outcome.merging));
+    answer_inputs(err, inputs, out_name, halted, limited, lacked, failed)
+}
