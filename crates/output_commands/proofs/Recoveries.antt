@@ -103,6 +103,7 @@ output_holds chunk source back live stored (Ok r) bytes out all now result it to
   messages = it.messages;
   records = it.records;
   extras_are = it.extras_are;
+  within = it.within;
   placed = placed_so (file_of (recovered_options it.profile chunk) it.extras it.history) all now out result (placed (file_of (recovered_options it.profile chunk) it.extras it.history) (it.file [] none));
 }
 output_holds chunk source back live stored (Err (refusals.Fault faults)) bytes out all now result it told none placed = part_placed chunk bytes out all now stored.held result (stands_part chunk source live stored bytes told none it.1) placed

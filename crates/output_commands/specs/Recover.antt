@@ -7,8 +7,10 @@ use Rattle.mcap_model.specs.Tops.{Top}
 use Rattle.mcap_model.specs.Rules.{V1}
 use Rattle.mcap_model.specs.Kept.{Halt, reading_limits, Halts}
 use Rattle.mcap_model.specs.History.{is_message}
+use Rattle.mcap_model.specs.Blocks.{pieces_of, blocks_in}
 use Rattle.mcap_model.specs.File.{file_of, IsPrefix}
 use Rattle.mcap_model.specs.Repaired.{Repairs, Repaired}
+use Rattle.chunk_writer.specs.Limits.{Holds}
 use Rattle.mcap_recover.specs.declared.answers.Why.{Why}
 use Rattle.mcap_recover.specs.declared.answers.Why.TheVariants as whys
 use Rattle.mcap_recover.specs.declared.answers.Recovered.{Recovered}
@@ -44,6 +46,8 @@ pub record HoldsRecovered (chunk : ℕ) (bytes : List ℕ) (r : Recovered) (well
   pub messages : r.messages ≡ length (filter is_message history)
   pub records : r.records ≡ length history
   pub extras_are : r.extras ≡ length extras
+  -- that file is within the limits of writing
+  pub within : Holds (length (blocks_in (pieces_of (Some chunk) history))) (length (file_of (recovered_options profile chunk) extras history))
   pub placed : IsPlaced (file_of (recovered_options profile chunk) extras history) well before now
 
 -- a first part of the file that repairing makes of the bytes was put there
