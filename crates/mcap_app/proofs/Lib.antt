@@ -11,3 +11,6 @@ mod Answered
 mod Running
 mod RoundTrip
 mod Sound
+mod Unrepeated
+mod Recovered
+mod FirstParts

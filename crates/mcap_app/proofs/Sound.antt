@@ -2,7 +2,7 @@
 use Rattle.std.proofs.Common.{◌≡◌, ◌⊎◌, ℕ, ◌≤◌, List, [], ◌++◌, length, Option, Some, None, refl, ap, subst, inl, inr, ◌∙◌, arith, length-append}
 use Rattle.std.proofs.lemmas.Bool.{both_ways}
 use Rattle.mcap_wire.specs.Layout.{magic}
-use Rattle.mcap_io.specs.Outside.{WorldState}
+use Rattle.mcap_io.specs.Outside.{WorldState, Told}
 use Rattle.mcap_model.specs.declared.checked.Verdict.{Verdict}
 use Rattle.mcap_model.specs.declared.checked.Verdict.TheVariants as verdicts
 use Rattle.mcap_model.specs.declared.options.FileOptions.{FileOptions}
@@ -34,9 +34,10 @@ use Rattle.file_check.specs.Checking.{IsSo, HaltsBefore, MeetsLimit}
 use Rattle.file_check.proofs.RealLimits.{limits_are_real}
 use Rattle.file_commands.specs.declared.checking.Judgement.{Judgement}
 use Rattle.file_commands.specs.declared.checking.Judgement.TheVariants as judgements
-use Rattle.file_commands.specs.Check.{verdict_status, Decides}
+use Rattle.file_commands.specs.Check.{verdict_status, Decides, FileChecks}
+use Rattle.command_base.specs.Ran.{Scene, counts_in, AnyRose}
 use Rattle.mcap_app.specs.Record.{back_sources}
-use Rattle.mcap_app.specs.Laws.{IsSaid, RecordingsAreSound}
+use Rattle.mcap_app.specs.Laws.{IsSaid, PrintsSound, RecordingsAreSound}
 use Rattle.mcap_app.proofs.RoundTrip.{closed_left}
 
 -- ---- no compression
@@ -112,9 +113,9 @@ unindexed options history written none full = unindexed_at options.profile optio
 -- ---- the check
 
 -- a file that is sound, and not fully indexed where there are no chunks
-record IsExact (options : FileOptions) (file : List ℕ) : Type 0 where
-  sound : IsSound options file
-  plain : options.chunk ≡ None → IsFullyIndexed file → ⊥
+pub record IsExact (options : FileOptions) (file : List ℕ) : Type 0 where
+  pub sound : IsSound options file
+  pub plain : options.chunk ≡ None → IsFullyIndexed file → ⊥
 
 plain_said : (chunk : Option ℕ) (file : List ℕ) → ((size : ℕ) → chunk ≡ Some size → IsFullyIndexed file) → (IsFullyIndexed file → ⊥) → chunk ≡ None
 plain_said None file indexed missing = refl
@@ -149,6 +150,19 @@ ends_well options file tops end (judgements.Refused (refusals.Compressed n name)
 ends_well options file tops end (judgements.Refused (refusals.Limit n)) answer exact halts is = absurd (meets_none options file n exact.sound is.0)
 ends_well options file tops end (judgements.Refused refusals.Memory) answer exact halts is = inr is
 
+-- a check of such a file that is read to its Data End, in which no count rises
+pub found_sound : (options : FileOptions) (file name : List ℕ) (tops : List Top) (end : ℕ) (later last : Scene) (told : Told) (answer : ℕ) → IsExact options file → Halts reading_limits file tops (at_end end) → later.world.told ≡ Some told
+    → told.names name ≡ Some file → FileChecks name later last answer → (AnyRose (counts_in later) (counts_in last) → ⊥) → ((answer ≡ 0) × PrintsSound options.chunk later.out last.out) ⊎ (answer ≡ 5)
+found_sound options file name tops end later last told answer exact halts here held checks quiet =
+    let decided = checks.decided told file here held quiet in
+    elim (ends_well options file tops end checks.judgement answer exact halts decided) [
+      | inr other ↦ inr other
+      | inl zero_is ↦
+          let given = checks.whole zero_is in
+          let so : IsSo file given.0 = (subst (λ (j : Judgement). Decides file j answer) given.1 decided).0 in
+          inl (zero_is, record { verdict = given.0; said = said_of options file given.0 exact so; line = given.3 })
+    ]
+
 pub recordings_are_sound : RecordingsAreSound
 recordings_are_sound options out feeds old new later last r answer told allowed text it here same checks quiet =
     let is = it.reported r refl in
@@ -160,11 +174,4 @@ recordings_are_sound options out feeds old new later last r answer told allowed 
     let valid = recordings_are_valid options (sides is.given is.live) (sides (back_sources is.kept_feeds) is.live_now) r stands.1 is.recorded stands.0 in
     let exact : IsExact options.file file = record { sound = valid.1; plain = unindexed options.file is.recorded.history valid.0 } in
     let tells : later.world.told ≡ Some left.0 = ap (λ (w : WorldState). w.told) same ∙ left.1 in
-    let decided = checks.decided left.0 file tells held quiet in
-    elim (ends_well options.file file reads.tops reads.end checks.judgement answer exact reads.halts decided) [
-      | inr other ↦ inr other
-      | inl zero_is ↦
-          let given = checks.whole zero_is in
-          let so : IsSo file given.0 = (subst (λ (j : Judgement). Decides file j answer) given.1 decided).0 in
-          inl (zero_is, record { verdict = given.0; said = said_of options.file file given.0 exact so; line = given.3 })
-    ]
+    found_sound options.file file out reads.tops reads.end later last left.0 answer exact reads.halts tells held checks quiet

@@ -1,22 +1,36 @@
--- Laws of the commands: what is recorded is printed, and keeps all rules.
-use Rattle.std.specs.Prelude.{◌≡◌, ◌⊎◌, ℕ, List, filter, refl, Option, Some, None, IsUtf8}
-use Rattle.std.specs.List.{AllZip}
+-- Laws of the commands: what is recorded is printed, keeps all rules, and is recovered where only a first part of it is left.
+use Rattle.std.specs.Prelude.{◌≡◌, ◌⊎◌, ◌^◌, ◌<◌, ◌≤◌, ℕ, List, [], length, take, filter, refl, true, Option, Some, None, IsUtf8}
+use Rattle.std.specs.List.{AllZip, flat_map}
+use Rattle.mcap_wire.specs.Limits.{chunk_size_limit}
 use Rattle.mcap_io.specs.Outside.{SinkState, Told}
 use Rattle.rec_data.specs.declared.owned.Rec.{Rec}
 use Rattle.mcap_model.specs.declared.checked.Verdict.{Verdict}
 use Rattle.mcap_model.specs.declared.checked.Verdict.TheVariants as verdicts
-use Rattle.mcap_model.specs.Tops.{Top, flat}
+use Rattle.mcap_model.specs.declared.ends.End.TheVariants as ends
+use Rattle.mcap_model.specs.declared.options.FileOptions.{FileOptions}
+use Rattle.mcap_model.specs.Tops.{Top, offset_behind, flat}
+use Rattle.mcap_model.specs.Rules.{V1}
 use Rattle.mcap_model.specs.History.{is_message, flat_history}
 use Rattle.mcap_model.specs.Scan.{Seen, Scan, Replay}
+use Rattle.mcap_model.specs.Blocks.{pieces_of, blocks_in}
+use Rattle.mcap_model.specs.File.{file_of, IsPrefix}
+use Rattle.mcap_model.specs.Valid.{IsValid, IsFullyIndexed}
+use Rattle.mcap_model.specs.Recovery.{piece_records, FrontIsRepaired}
 use Rattle.time_player.specs.Text.{cat_text}
 use Rattle.mcap_model.specs.Laws.{HoldsSeen}
+use Rattle.chunk_writer.specs.Limits.{Holds}
 use Rattle.recorder.specs.declared.report.Report.{Report}
 use Rattle.command_base.specs.Printing.{TellsAll}
 use Rattle.command_base.specs.Ran.{Scene, counts_in, AnyRose}
 use Rattle.recorder.specs.declared.options.RecordOptions.{RecordOptions}
+use Rattle.recorder.specs.Laws.{IsSound}
+use Rattle.mcap_recover.specs.declared.answers.Recovered.{Recovered}
+use Rattle.mcap_recover.specs.declared.answers.Why.TheVariants as whys
+use Rattle.mcap_recover.specs.Recovering.{recovered_options}
 use Rattle.mcap_app.specs.Record.{AreAllowed, Records}
 use Rattle.file_commands.specs.Cat.{Selection, Cats}
 use Rattle.file_commands.specs.Check.{verdict_line, FileChecks}
+use Rattle.output_commands.specs.Recover.{recovered_line, RecoversFile}
 
 -- all messages are asked for
 abbrev pub everything : Selection
@@ -63,3 +77,104 @@ RecordingsAreSound = (options : RecordOptions) (out : List ℕ) (feeds : List (L
     → Records options out feeds old new (Some r) 0 → old.world.told ≡ Some told
     → later.world ≡ new.world → FileChecks out later last answer → (AnyRose (counts_in later) (counts_in last) → ⊥)
     → ((answer ≡ 0) × PrintsSound options.file.chunk later.out last.out) ⊎ (answer ≡ 5)
+
+-- ---- what is recovered keeps all rules
+
+-- a chunk size that the words of a recovery may give
+abbrev pub IsChunkSize : ℕ → Type 0
+IsChunkSize chunk = (1 ≤ chunk) × (chunk ≤ chunk_size_limit)
+
+-- A line was printed of what was recovered, and under the output's name stands a file, which is valid and fully indexed where
+-- the line tells fewer than 2^32 Attachments and Metadata: a summary has no more room for their number.
+pub record LeavesSound (out : List ℕ) (old new : Scene) : Type 0 where
+  pub recovered : Recovered
+  pub line : TellsAll old.out new.out (recovered_line recovered)
+  pub told : Told
+  pub tells : new.world.told ≡ Some told
+  pub file : List ℕ
+  pub there : told.names out ≡ Some file
+  pub valid : recovered.extras < 2 ^ 32 → IsValid file
+  pub indexed : recovered.extras < 2 ^ 32 → IsFullyIndexed file
+
+-- A recovery with the status 0 in a world that tells leaves such a file, whatever its input was.
+abbrev pub RecoveriesAreSound : Type 0
+RecoveriesAreSound = (chunk : ℕ) (input out : List ℕ) (old new : Scene) (told : Told) → IsChunkSize chunk
+    → RecoversFile chunk input out old new 0 → old.world.told ≡ Some told → LeavesSound out old new
+
+-- ---- a recording of which a first part is left is recovered
+
+-- a first part of the file of a history that holds the magic
+pub record IsFirstPart (options : FileOptions) (history : List Rec) (part : List ℕ) : Type 0 where
+  pub part_is : IsPrefix part (file_of options [] history)
+  pub magic : V1 part
+
+-- that file is within the limits of writing
+abbrev pub IsWithin : FileOptions → List Rec → Type 0
+IsWithin options history = Holds (length (blocks_in (pieces_of options.chunk history))) (length (file_of options [] history))
+
+-- A recording in a world that tells, whatever its end, of which a record was accepted and the output was kept, leaves such a part
+-- under the output's name; and where its writer closed, its file is within the limits.
+abbrev pub RecordingsLeaveFirstParts : Type 0
+RecordingsLeaveFirstParts = (options : RecordOptions) (out : List ℕ) (feeds : List (List ℕ)) (old new : Scene) (r : Report) (answer : ℕ) (told now : Told) → (it : Records options out feeds old new (Some r) answer)
+    → old.world.told ≡ Some told → new.world.told ≡ Some now → (it.reported r refl).live_kept ≡ true → ((it.reported r refl).recorded.history ≡ [] → ⊥)
+    → ((part : List ℕ) × (now.names out ≡ Some part) × IsFirstPart options.file (it.reported r refl).recorded.history part)
+    × (r.writer.end ≡ ends.Closed → IsWithin options.file (it.reported r refl).recorded.history)
+
+-- the records of the first so many pieces of the file of a history
+abbrev pub first_records : FileOptions → List Rec → ℕ → List Rec
+first_records options history pieces = flat_map piece_records (take pieces (pieces_of options.chunk history))
+
+-- What repairing makes of a first part of a file without extras: of the history just the records of those pieces that are whole
+-- there, unchanged.
+pub record KeepsFirst (options : FileOptions) (history : List Rec) (part : List ℕ) : Type 0 where
+  pub front : FrontIsRepaired options [] history part
+  pub none : front.kept ≡ []
+  pub records : front.first ≡ first_records options history front.piece_count
+
+-- the options of the new file, and the file
+abbrev pub new_options : {options : FileOptions} {history : List Rec} {part : List ℕ} → ℕ → KeepsFirst options history part → FileOptions
+new_options chunk keeps = recovered_options keeps.front.profile chunk
+
+abbrev pub new_file : {options : FileOptions} {history : List Rec} {part : List ℕ} → ℕ → KeepsFirst options history part → List ℕ
+new_file chunk keeps = file_of (new_options chunk keeps) [] keeps.front.first
+
+-- A check of that name in a world like this one, in which no count rises, finds no flaw, no compression and no limit of
+-- reading, but that the file is fully indexed, and prints that; or memory lacked for the check.
+abbrev pub IsFoundIndexed : ℕ → List ℕ → Scene → Type 0
+IsFoundIndexed chunk name scene = (later last : Scene) (answer : ℕ) → later.world ≡ scene.world → FileChecks name later last answer → (AnyRose (counts_in later) (counts_in last) → ⊥)
+    → ((answer ≡ 0) × PrintsSound (Some chunk) later.out last.out) ⊎ (answer ≡ 5)
+
+-- The file of what is kept of a first part stands under the output's name, sound; its numbers were printed, with where and why
+-- the part ends; and a check finds it fully indexed.
+pub record RecoversFirst (options : FileOptions) (history : List Rec) (chunk : ℕ) (part out : List ℕ) (old new : Scene) : Type 0 where
+  pub keeps : KeepsFirst options history part
+  pub told : Told
+  pub tells : new.world.told ≡ Some told
+  pub there : told.names out ≡ Some (new_file chunk keeps)
+  pub sound : IsSound (new_options chunk keeps) (new_file chunk keeps)
+  pub recovered : Recovered
+  pub messages : recovered.messages ≡ length (filter is_message keeps.front.first)
+  pub records : recovered.records ≡ length keeps.front.first
+  pub extras : recovered.extras ≡ 0
+  pub at : recovered.at ≡ offset_behind keeps.front.whole
+  pub complete : keeps.front.others ≡ [] → recovered.why ≡ whys.Complete
+  pub short : (keeps.front.others ≡ [] → ⊥) → recovered.why ≡ whys.Short
+  pub line : TellsAll old.out new.out (recovered_line recovered)
+  pub checked : IsFoundIndexed chunk out new
+
+-- that file would pass a limit of writing
+abbrev pub PassesLimit : FileOptions → List Rec → ℕ → List ℕ → Type 0
+PassesLimit options history chunk part = (keeps : KeepsFirst options history part)
+    × (IsWithin (new_options chunk keeps) keeps.front.first → ⊥)
+
+-- A recording, whatever its end, whose file is within the limits; and a first part of that, as its writer left it, under whatever
+-- name of a world that tells. A recovery of that name, in which no count rises, leaves the file of just the records that are
+-- whole there; or that file would pass a limit; or memory lacked.
+abbrev pub RecordingsAreRecovered : Type 0
+RecordingsAreRecovered = (options : RecordOptions) (out : List ℕ) (feeds : List (List ℕ)) (old new : Scene) (r : Report) (answer : ℕ) → AreAllowed options → IsUtf8 options.file.profile
+    → (it : Records options out feeds old new (Some r) answer) → IsWithin options.file (it.reported r refl).recorded.history
+    → (part : List ℕ) → IsFirstPart options.file (it.reported r refl).recorded.history part
+    → (chunk : ℕ) (input output : List ℕ) (later last : Scene) (status : ℕ) (told : Told) → IsChunkSize chunk → later.world.told ≡ Some told → told.names input ≡ Some part
+    → RecoversFile chunk input output later last status → (AnyRose (counts_in later) (counts_in last) → ⊥)
+    → ((status ≡ 0) × RecoversFirst options.file (it.reported r refl).recorded.history chunk part output later last)
+    ⊎ (((status ≡ 4) × PassesLimit options.file (it.reported r refl).recorded.history chunk part) ⊎ (status ≡ 5))

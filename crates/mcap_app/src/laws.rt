@@ -1,5 +1,7 @@
 //! Laws of the commands, each as the contract of a function that does nothing.
-ghost use Rattle.mcap_app.specs.Laws.{RecordingsArePrinted, RecordingsAreSound};
+ghost use Rattle.mcap_app.specs.Laws.{RecordingsArePrinted, RecordingsAreSound, RecoveriesAreSound, RecordingsLeaveFirstParts, RecordingsAreRecovered};
+
+use mcap_laws::{fronts_are_repaired, repairs_can_be_written};
 
 /// What was recorded with the status 0 is printed, unless a count rises or memory lacks.
 pub fn recordings_are_printed()
@@ -11,3 +13,23 @@ pub fn recordings_are_printed()
 pub fn recordings_are_sound()
     ensures { RecordingsAreSound }
 {}
+
+/// What is recovered with the status 0 is a valid and fully indexed file, where it has fewer than 2^32 Attachments and Metadata.
+pub fn recoveries_are_sound()
+    ensures { RecoveriesAreSound }
+{
+    repairs_can_be_written();
+}
+
+/// A recording that accepted a record and whose output was kept leaves a first part of its file, with the magic.
+pub fn recordings_leave_first_parts()
+    ensures { RecordingsLeaveFirstParts }
+{}
+
+/// Of a first part of a recording's file just the records that are whole there are recovered, and checked as fully indexed,
+/// unless a count rises, a limit is passed or memory lacks.
+pub fn recordings_are_recovered()
+    ensures { RecordingsAreRecovered }
+{
+    fronts_are_repaired();
+}

@@ -1,0 +1,273 @@
+-- What is recovered of a first part of the file of a recording.
+use Rattle.std.proofs.Common.{◌≡◌, ◌⊎◌, ℕ, zero, suc, ◌+◌, ◌-◌, ◌≤◌, true, List, [], ◌∷◌, ◌++◌, length, take, drop, Option, Some, Err, refl, sym, ap, subst, inl, inr, ◌∙◌, append_assoc, arith, length-append}
+use Rattle.std.specs.Prelude.{IsUtf8, filter}
+use Rattle.std.specs.List.{flat_map}
+use Rattle.std.proofs.lemmas.Bool.{both_ways, cases_lt}
+use Rattle.std.proofs.lemmas.List.{take-append-drop}
+use Rattle.std.proofs.lemmas.Grind.{flat_map-append}
+use Rattle.std.proofs.lemmas.Option.{same_Some}
+use Rattle.mcap_wire.specs.Layout.{framed, magic}
+use Rattle.mcap_wire.specs.Limits.{profile_limit}
+use Rattle.rec_data.specs.Records.{header_text}
+use Rattle.rec_data.specs.declared.owned.Rec.{Rec}
+use Rattle.mcap_io.specs.Outside.{WorldState, Told}
+use Rattle.mcap_model.specs.declared.ends.End.TheVariants as ends
+use Rattle.mcap_model.specs.declared.ends.Stop.TheVariants as stops
+use Rattle.mcap_model.specs.declared.options.FileOptions.{FileOptions}
+use Rattle.mcap_model.specs.Places.{At, Each}
+use Rattle.mcap_model.specs.Tops.{Top, offset_behind}
+use Rattle.mcap_model.specs.Rules.{V1}
+use Rattle.mcap_model.specs.Kept.{Halt, SameHalt, at_end, grammar, compressed, beyond}
+use Rattle.mcap_model.specs.History.{is_message, Follows, Numbered}
+use Rattle.mcap_model.specs.Blocks.{Piece, block_in, blocks_in, pieces_of}
+use Rattle.mcap_model.specs.File.{front as front_bytes, library, file_of}
+use Rattle.mcap_model.specs.Pieces.{joined, file_pieces}
+use Rattle.mcap_model.specs.Repaired.{Repairs}
+use Rattle.mcap_model.specs.Recovery.{piece_records, FrontIsRepaired, FrontsAreRepaired}
+use Rattle.mcap_model.proofs.Places.{at_kept, each_front}
+use Rattle.mcap_model.proofs.Lists.{cut_at}
+use Rattle.mcap_model.proofs.Halting.{readings_halt_once}
+use Rattle.mcap_model.proofs.Section.{pieces_hold}
+use Rattle.mcap_model.proofs.WrittenChunks.{empty_utf8}
+use Rattle.mcap_model.proofs.Pieces.{pieces_make_files}
+use Rattle.mcap_model.proofs.Readings.{kept_once}
+use Rattle.mcap_model.proofs.Repairs.{repairs_once}
+use Rattle.record_cache.specs.Buffers.{IsKept}
+use Rattle.chunk_writer.specs.Limits.{Holds}
+use Rattle.chunk_writer.specs.Stops.{StopsAt}
+use Rattle.recorder.specs.Laws.{AreReadable, ReadsAs}
+use Rattle.recorder.specs.Recorded.{sides}
+use Rattle.recorder.proofs.ReadBack.{IsClosedFile, closed_file, can_be_read, files_read_back}
+use Rattle.recorder.proofs.Validity.{can_be_written, files_sound}
+use Rattle.mcap_recover.specs.declared.answers.Why.{Why}
+use Rattle.mcap_recover.specs.declared.answers.Why.TheVariants as whys
+use Rattle.mcap_recover.specs.declared.answers.RecoverRefused.TheVariants as refusals
+use Rattle.mcap_recover.specs.Recovering.{recovered_options, TellsHalt}
+use Rattle.command_base.specs.Ran.{Scene}
+use Rattle.output_commands.specs.declared.recovering.Recovery.{Recovery}
+use Rattle.output_commands.specs.declared.recovering.Recovery.TheVariants as recoveries
+use Rattle.output_commands.specs.Recover.{HoldsRecovered, Decides, RecoversFile}
+use Rattle.mcap_app.specs.Record.{back_sources}
+use Rattle.mcap_app.specs.Laws.{IsChunkSize, IsFirstPart, IsWithin, first_records, KeepsFirst, RecoversFirst, PassesLimit, RecordingsLeaveFirstParts, RecordingsAreRecovered}
+use Rattle.mcap_app.proofs.Unrepeated.{unrepeated}
+use Rattle.mcap_app.proofs.Sound.{IsExact, found_sound}
+use Rattle.mcap_app.proofs.Recovered.{reached, made}
+
+-- ---- what is kept of the history
+
+take_none : {X : Type 0} (n : ℕ) (xs : List X) → xs ≡ [] → take n xs ≡ []
+take_none zero xs none = refl
+take_none (suc n) xs none = ap (take (suc n)) none
+
+-- a recording's history: its ids are given in order, and each record was kept in a buffer
+record AreRecorded (history : List Rec) : Type 0 where
+  numbered : Numbered history
+  kept : Each IsKept history
+
+firsts_recorded : (first rest history : List Rec) → first ++ rest ≡ history → AreRecorded history → AreRecorded first
+firsts_recorded first rest history parted are = record {
+  numbered = each_front Follows first rest (subst Numbered (sym parted) are.numbered);
+  kept = λ n r at. are.kept n r (subst (λ (l : List Rec). At l n r) parted (at_kept first rest n r at));
+}
+
+pieces_part : (n : ℕ) (pieces : List Piece) → flat_map piece_records (take n pieces) ++ flat_map piece_records (drop n pieces) ≡ flat_map piece_records pieces
+pieces_part n pieces = sym (flat_map-append piece_records (take n pieces) (drop n pieces)) ∙ ap (λ (l : List Piece). flat_map piece_records l) (take-append-drop n pieces)
+
+-- the records of the first pieces are some
+record KeepsRecorded (options : FileOptions) (history : List Rec) (part : List ℕ) : Type 0 where
+  keeps : KeepsFirst options history part
+  are : AreRecorded keeps.front.first
+
+keeps_first : (options : FileOptions) (history : List Rec) (part : List ℕ) → AreRecorded history → FrontIsRepaired options [] history part → KeepsRecorded options history part
+keeps_first options history part are front =
+    let pieces = pieces_of options.chunk history in
+    let n = front.piece_count in
+    let firsts = firsts_recorded (first_records options history n) (flat_map piece_records (drop n pieces)) history (pieces_part n pieces ∙ pieces_hold options.chunk history) are in
+    let same : front.first ≡ first_records options history n = front.first_is ∙ unrepeated (first_records options history n) firsts.numbered in
+    record {
+      keeps = record { front = front; none = front.kept_is ∙ take_none front.extra_count [] refl; records = same };
+      are = subst AreRecorded (sym same) firsts;
+    }
+
+-- ---- the new file
+
+readable_so : (profile : List ℕ) (chunk : ℕ) → IsUtf8 profile → length profile ≤ profile_limit → IsChunkSize chunk → AreReadable (recovered_options profile chunk)
+readable_so profile chunk text few size = record {
+  profile = text;
+  short = omega (arith, few);
+  size = λ n is. subst IsChunkSize (same_Some chunk n is) size;
+}
+
+-- its profile is that of the first file, or none
+new_readable : (options : FileOptions) (history : List Rec) (part : List ℕ) (chunk : ℕ) (front : FrontIsRepaired options [] history part) → IsUtf8 options.profile → length options.profile ≤ profile_limit → IsChunkSize chunk
+    → AreReadable (recovered_options front.profile chunk)
+new_readable options history part chunk front text few size = elim (cases_lt (length part) (length (front_bytes options.profile))) [
+  | inl cut ↦ subst (λ (p : List ℕ). AreReadable (recovered_options p chunk)) (sym (front.no_header cut)) (readable_so [] chunk empty_utf8 (omega arith) size)
+  | inr whole ↦ subst (λ (p : List ℕ). AreReadable (recovered_options p chunk)) (sym (front.header whole)) (readable_so options.profile chunk text few size)
+]
+
+-- a file of recorded records that is within the limits
+abbrev closed_so : (options : FileOptions) (history : List Rec) → AreRecorded history → IsWithin options history
+    → IsClosedFile options history (length (blocks_in (pieces_of options.chunk history))) (length (file_of options [] history))
+closed_so options history are within = record { numbered = are.numbered; kept = are.kept; within = within; blocks_are = refl; bytes_are = refl }
+
+no_extras : (profile : List ℕ) (chunk : ℕ) (a b : List Top) (c d : List Rec) → a ≡ b → c ≡ d → file_of (recovered_options profile chunk) a c ≡ file_of (recovered_options profile chunk) b d
+no_extras profile chunk a b c d first second = ap (λ (l : List Top). file_of (recovered_options profile chunk) l c) first ∙ ap (λ (l : List Rec). file_of (recovered_options profile chunk) b l) second
+
+-- ---- where the part ends
+
+ends_same : (at n : ℕ) → at_end at ≡ at_end n → at ≡ n
+ends_same at n e = cc
+
+ended : (at : ℕ) (why : Why) (halt : Halt) (n : ℕ) → TellsHalt at why halt → SameHalt halt (at_end n) → (at ≡ n) × (why ≡ whys.Complete)
+ended at whys.Complete halt n is same = (ends_same at n (subst (λ (h : Halt). SameHalt h (at_end n)) is same), refl)
+ended at whys.Short halt n is same = absurd (subst (λ (h : Halt). SameHalt h (at_end n)) is same)
+ended at whys.Grammar halt n (rule, is, other) same = absurd (subst (λ (h : Halt). SameHalt h (at_end n)) is same)
+ended at whys.Compressed halt n (name, is) same = let apart : compressed at name ≡ at_end n = subst (λ (h : Halt). SameHalt h (at_end n)) is same in absurd cc
+ended at whys.Limit halt n is same = let apart : beyond at ≡ at_end n = subst (λ (h : Halt). SameHalt h (at_end n)) is same in absurd cc
+
+cut_short : (at : ℕ) (why : Why) (halt : Halt) (n : ℕ) → TellsHalt at why halt → SameHalt halt (grammar n 4) → (at ≡ n) × (why ≡ whys.Short)
+cut_short at whys.Complete halt n is same = absurd (subst (λ (h : Halt). SameHalt h (grammar n 4)) is same)
+cut_short at whys.Short halt n is same = let both : SameHalt (grammar at 4) (grammar n 4) = subst (λ (h : Halt). SameHalt h (grammar n 4)) is same in (both.0, refl)
+cut_short at whys.Grammar halt n (rule, is, other) same = let both : SameHalt (grammar at rule) (grammar n 4) = subst (λ (h : Halt). SameHalt h (grammar n 4)) is same in absurd (other (both.1.1 refl))
+cut_short at whys.Compressed halt n (name, is) same = absurd (subst (λ (h : Halt). SameHalt h (grammar n 4)) is same)
+cut_short at whys.Limit halt n is same = absurd (subst (λ (h : Halt). SameHalt h (grammar n 4)) is same)
+
+-- ---- a limit of writing
+
+limit_passed : (options : FileOptions) (history : List Rec) (opened now : Option (List ℕ)) (blocks bytes : ℕ) → StopsAt options [] history opened now (stops.Limit blocks bytes) blocks bytes
+    → IsWithin options history → ⊥
+limit_passed options history opened now blocks bytes stop within =
+    let pieces = pieces_of options.chunk history in
+    let n = stop.place + 1 - 1 in
+    let few = within.few in
+    let among = ap (λ (l : List Piece). length (blocks_in l)) (sym (take-append-drop n pieces)) ∙ ap (λ (l : List (List Rec)). length l) (flat_map-append block_in (take n pieces) (drop n pieces)) in
+    let parts = file_pieces options [] history in
+    let cut = cut_at parts stop.place stop.next stop.at in
+    let small = within.small in
+    let all : file_of options [] history ≡ joined (take stop.place parts) ++ (stop.next ++ joined cut.0) = sym (pieces_make_files options [] history) ∙ ap joined cut.1 ∙ flat_map-append (λ (piece : List ℕ). piece) (take stop.place parts) (stop.next ∷ cut.0) in
+    let size = ap (λ (l : List ℕ). length l) all in
+    stop.why.2 (record {
+      few = omega (arith, few, among, length-append (blocks_in (take n pieces)) (blocks_in (drop n pieces)));
+      small = omega (arith, small, size, stop.bytes_are, length-append (joined (take stop.place parts)) (stop.next ++ joined cut.0), length-append stop.next (joined cut.0));
+    })
+
+-- ---- what a recovery of the part came to
+
+module _ (options : FileOptions) (history : List Rec) (part : List ℕ) (recorded : KeepsRecorded options history part) (text : IsUtf8 options.profile) (few : length options.profile ≤ profile_limit) (chunk : ℕ) (size : IsChunkSize chunk) (input output : List ℕ) (later last : Scene) (told : Told) (here : later.world.told ≡ Some told) (there : told.names input ≡ Some part) where
+  abbrev keeps : KeepsFirst options history part
+  keeps = recorded.keeps
+
+  abbrev new_options : FileOptions
+  new_options = recovered_options keeps.front.profile chunk
+
+  abbrev file : List ℕ
+  file = file_of new_options [] keeps.front.first
+
+  abbrev blocks : ℕ
+  blocks = length (blocks_in (pieces_of (Some chunk) keeps.front.first))
+
+  recovers_first : (status : ℕ) → RecoversFile chunk input output later last status → status ≡ 0 → RecoversFirst options history chunk part output later last
+  recovers_first status it zero_is =
+      let all = made chunk input output later last told status it here zero_is in
+      let r = all.recovered in
+      let same_part : all.bytes ≡ part = same_Some all.bytes part (sym all.there ∙ there) in
+      let holds : HoldsRecovered chunk part r true (told.names output) (all.now.names output) = subst (λ (l : List ℕ). HoldsRecovered chunk l r true (told.names output) (all.now.names output)) same_part all.holds in
+      let own = keeps.front.repaired in
+      let repairs : Repairs own.tops holds.profile holds.extras holds.history =
+      subst (λ (tops : List Top). Repairs tops holds.profile holds.extras holds.history) (kept_once part holds.tops own.tops holds.halts.kept own.kept) holds.repairs in
+      let (profiles, extras, histories) = repairs_once own.tops holds.extras keeps.front.kept holds.profile keeps.front.profile holds.history keeps.front.first repairs own.repairs in
+      let no_extra : holds.extras ≡ [] = extras ∙ keeps.none in
+      let file_is : file_of (recovered_options holds.profile chunk) holds.extras holds.history ≡ file =
+      ap (λ (p : List ℕ). file_of (recovered_options p chunk) holds.extras holds.history) profiles ∙ no_extras keeps.front.profile chunk holds.extras [] holds.history keeps.front.first no_extra histories in
+      let within : IsWithin new_options keeps.front.first =
+      subst (λ (l : List ℕ). Holds blocks (length l)) file_is
+      (subst (λ (l : List Rec). Holds (length (blocks_in (pieces_of (Some chunk) l))) (length (file_of (recovered_options holds.profile chunk) holds.extras holds.history))) histories holds.within) in
+      let readable = new_readable options history part chunk keeps.front text few size in
+      let closed = closed_so new_options keeps.front.first recorded.are within in
+      let written = can_be_written new_options keeps.front.first blocks (length file) readable closed in
+      let sound = files_sound new_options keeps.front.first blocks (length file) readable closed written in
+      let reads : ReadsAs file keeps.front.first = files_read_back new_options keeps.front.first blocks (length file) readable closed in
+      let exact : IsExact new_options file = record { sound = sound; plain = λ none full. absurd cc } in
+      let placed : all.now.names output ≡ Some file = holds.placed ∙ ap Some file_is in
+      let behind = offset_behind keeps.front.whole in
+      let all_read : keeps.front.others ≡ [] → (r.at ≡ behind) × (r.why ≡ whys.Complete) = λ none.
+      ended r.at r.why holds.halt behind holds.told (readings_halt_once part holds.tops keeps.front.whole holds.halt (at_end behind) holds.halts (keeps.front.complete none)).1 in
+      let cut : (keeps.front.others ≡ [] → ⊥) → (r.at ≡ behind) × (r.why ≡ whys.Short) = λ some.
+      cut_short r.at r.why holds.halt behind holds.told (readings_halt_once part holds.tops keeps.front.whole holds.halt (grammar behind 4) holds.halts (keeps.front.short some)).1 in
+      record {
+        keeps = keeps;
+        told = all.now;
+        tells = all.tells;
+        there = placed;
+        sound = sound;
+        recovered = r;
+        messages = holds.messages ∙ ap (λ (l : List Rec). length (filter is_message l)) histories;
+        records = holds.records ∙ ap (λ (l : List Rec). length l) histories;
+        extras = holds.extras_are ∙ ap (λ (l : List Top). length l) no_extra;
+        at = at_either keeps.front.others refl (λ none. (all_read none).0) (λ some. (cut some).0);
+        complete = λ none. (all_read none).1;
+        short = λ some. (cut some).1;
+        line = all.line;
+        checked = λ next end answer same checks quiet.
+            found_sound new_options file output reads.tops reads.end next end all.now answer exact reads.halts (ap (λ (w : WorldState). w.told) same ∙ all.tells) placed checks quiet;
+      }
+    where
+      at_either : {P : Type 0} (others : List Top) → keeps.front.others ≡ others → (keeps.front.others ≡ [] → P) → ((keeps.front.others ≡ [] → ⊥) → P) → P
+      at_either [] is none some = none is
+      at_either (t ∷ ts) is none some = some (λ e. let apart : t ∷ ts ≡ [] = sym is ∙ e in absurd cc)
+
+  passes : (blocks bytes status : ℕ) (it : RecoversFile chunk input output later last status) → it.recovery ≡ recoveries.Refused (refusals.Limit blocks bytes) → PassesLimit options history chunk part
+  passes blocks bytes status it is =
+      let all = reached chunk input output later.world last.world it.entries it.recovery (Err (refusals.Limit blocks bytes)) it.comes is (λ e. absurd cc) in
+      let stop = all.recovers.2.of_repaired part ((all.tells told here).0 ∙ there) keeps.front.profile keeps.front.kept keeps.front.first keeps.front.repaired in
+      let stopped : StopsAt new_options [] keeps.front.first all.live.held all.stored.held (stops.Limit blocks bytes) blocks bytes =
+      subst (λ (l : List Top). StopsAt new_options l keeps.front.first all.live.held all.stored.held (stops.Limit blocks bytes) blocks bytes) keeps.none stop in
+      (keeps, limit_passed new_options keeps.front.first all.live.held all.stored.held blocks bytes stopped)
+
+  abbrev Comes : ℕ → Type 0
+  Comes status = ((status ≡ 0) × RecoversFirst options history chunk part output later last) ⊎ (((status ≡ 4) × PassesLimit options history chunk part) ⊎ (status ≡ 5))
+
+  comes : (status : ℕ) (it : RecoversFile chunk input output later last status) (recovery : Recovery) → it.recovery ≡ recovery → V1 part → Decides part recovery status → Comes status
+  comes status it recoveries.Unopened is begins decided = absurd decided
+  comes status it (recoveries.Made r) is begins decided = inl (decided.1, recovers_first status it decided.1)
+  comes status it (recoveries.Refused (refusals.Fault faults)) is begins decided = absurd decided
+  comes status it (recoveries.Refused refusals.NoMagic) is begins decided = absurd (decided.0 begins)
+  comes status it (recoveries.Refused (refusals.Limit blocks bytes)) is begins decided = inr (inl (decided.1, passes blocks bytes status it is))
+  comes status it (recoveries.Refused refusals.Memory) is begins decided = inr (inr decided)
+
+-- ---- the laws
+
+begins_so : (profile more : List ℕ) → V1 (front_bytes profile ++ more)
+unfolding front_bytes
+begins_so profile more = (framed 1 (header_text (record { profile = profile; library = library })) ++ more, append_assoc magic (framed 1 (header_text (record { profile = profile; library = library }))) more)
+
+pub recordings_leave_first_parts : RecordingsLeaveFirstParts
+recordings_leave_first_parts options out feeds old new r answer told now it here tells well some =
+    let is = it.reported r refl in
+    let history = is.recorded.history in
+    let holds = is.file told now here tells in
+    let begun = holds.begun some well in
+    let part : (part : List ℕ) × (now.names out ≡ Some part) × IsFirstPart options.file history part = elim holds.part [
+      | inl (text, stands, size, prefix) ↦ (text, stands, record { part_is = prefix; magic = subst V1 (same_Some (front_bytes options.file.profile ++ begun.0) text (sym begun.1 ∙ stands)) (begins_so options.file.profile begun.0) })
+      | inr (same, unwell) ↦ absurd (both_ways is.live_kept unwell well)
+    ] in
+    let within : r.writer.end ≡ ends.Closed → IsWithin options.file history = λ closed.
+    let file = (closed_file options (sides is.given is.live) (sides (back_sources is.kept_feeds) is.live_now) r is.recorded closed).0 in
+    let few = file.within.few in
+    let small = file.within.small in
+    record { few = omega (arith, few, file.blocks_are); small = omega (arith, small, file.bytes_are) } in
+    (part, within)
+
+pub recordings_are_recovered : FrontsAreRepaired → RecordingsAreRecovered
+recordings_are_recovered fronts_are_repaired options out feeds old new r answer allowed text it within part first chunk input output later last status told size here there recovers quiet =
+    let recorded = (it.reported r refl).recorded in
+    let history = recorded.history in
+    let are : AreRecorded history = record { numbered = recorded.assembled.numbered; kept = recorded.kept } in
+    let short = allowed.short in
+    let readable : AreReadable options.file = record { profile = text; short = omega (arith, short); size = allowed.size } in
+    let blocks = length (blocks_in (pieces_of options.file.chunk history)) in
+    let closed = closed_so options.file history are within in
+    let written = can_be_written options.file history blocks (length (file_of options.file [] history)) readable closed in
+    let front = fronts_are_repaired options.file part [] history written (can_be_read options.file history readable are.kept within.small) first.part_is first.magic in
+    comes options.file history part (keeps_first options.file history part are front) text short chunk size input output later last told here there status recovers recovers.recovery refl first.magic (recovers.decided told part here there quiet)

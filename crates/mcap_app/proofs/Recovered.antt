@@ -1,0 +1,132 @@
+-- What a recovery left keeps all rules.
+use Rattle.std.proofs.Common.{◌≡◌, ◌⊎◌, ℕ, ◌^◌, ◌<◌, Bool, true, false, List, [], ◌∷◌, ◌++◌, Option, Some, None, Result, Ok, Err, refl, sym, ap, subst, inl, inr, ◌∙◌, arith}
+use Rattle.std.specs.Prelude.{◌==◌, IsSome}
+use Rattle.std.proofs.lemmas.Bool.{both_ways}
+use Rattle.mcap_io.specs.Outside.{WorldState, Told, Keeping, Opening}
+use Rattle.mcap_io.specs.declared.outside.ObjectKind.TheVariants as kinds
+use Rattle.mcap_model.specs.declared.options.FileOptions.{FileOptions}
+use Rattle.mcap_model.specs.File.{file_of}
+use Rattle.mcap_model.specs.Laws.{CanBeWritten}
+use Rattle.mcap_model.specs.Recovery.{RepairsCanBeWritten}
+use Rattle.mcap_model.proofs.Logging.{few_filtered}
+use Rattle.mcap_laws.proofs.Validity.{files_are_valid, files_are_indexed}
+use Rattle.mcap_recover.specs.declared.answers.Recovered.{Recovered}
+use Rattle.mcap_recover.specs.declared.answers.RecoverRefused.{RecoverRefused}
+use Rattle.mcap_recover.specs.declared.answers.RecoverRefused.TheVariants as refusals
+use Rattle.mcap_recover.specs.Recovering.{recovered_options}
+use Rattle.command_base.specs.Printing.{TellsAll}
+use Rattle.command_base.specs.Ran.{Scene, kept, failed_so, named_when, failed_names}
+use Rattle.output_commands.specs.declared.recovering.Recovery.{Recovery}
+use Rattle.output_commands.specs.declared.recovering.Recovery.TheVariants as recoveries
+use Rattle.output_commands.specs.OneOutput.{was_written}
+use Rattle.output_commands.specs.Recover.{HoldsRecovered, Reached, IsRefusal, recovery_of, IsRecovery, recovered_line, ending_of, RecoversFile}
+use Rattle.mcap_app.specs.Laws.{RecoveriesAreSound}
+
+-- ---- what it came to
+
+refused_so : (entries : List Opening) (recovery : Recovery) → IsRefusal entries recovery → (recovery ≡ recoveries.Unopened) ⊎ (recovery ≡ recoveries.Refused refusals.Memory)
+refused_so [] recovery is = inr is
+refused_so (entry ∷ []) recovery (inl is) = inl is.1
+refused_so (entry ∷ []) recovery (inr is) = inr is.1
+refused_so (entry ∷ other ∷ more) recovery is = inl is.1
+
+opened_both : (result : Result Recovered RecoverRefused) → recovery_of result ≡ recoveries.Unopened → ⊥
+opened_both (Ok r) e = absurd cc
+opened_both (Err why) e = absurd cc
+
+lacks_memory : (result : Result Recovered RecoverRefused) → recovery_of result ≡ recoveries.Refused refusals.Memory → result ≡ Err refusals.Memory
+lacks_memory (Ok r) e = absurd cc
+lacks_memory (Err why) e = cc
+
+same_result : (result other : Result Recovered RecoverRefused) → recovery_of result ≡ recovery_of other → result ≡ other
+same_result (Ok a) (Ok b) e = cc
+same_result (Ok a) (Err why) e = absurd cc
+same_result (Err why) (Ok b) e = absurd cc
+same_result (Err why) (Err other) e = cc
+
+-- both names were given, unless memory lacked
+pub reached : (chunk : ℕ) (input out : List ℕ) (old new : WorldState) (entries : List Opening) (recovery : Recovery) (result : Result Recovered RecoverRefused) → IsRecovery chunk input out old new entries recovery → recovery ≡ recovery_of result
+    → (result ≡ Err refusals.Memory → ⊥) → Reached chunk input out old new entries result
+reached chunk input out old new entries recovery result (inl (refusal, unreached)) is enough = elim (refused_so entries recovery refusal) [
+  | inl unopened ↦ absurd (opened_both result (sym is ∙ unopened))
+  | inr memory ↦ absurd (enough (lacks_memory result (sym is ∙ memory)))
+]
+reached chunk input out old new entries recovery result (inr (answer, same, it)) is enough = subst (Reached chunk input out old new entries) (same_result answer result (sym same ∙ is)) it
+
+-- ---- both names were kept
+
+some_last : (names : List (List ℕ)) (name : List ℕ) → names ++ name ∷ [] ≡ [] → ⊥
+some_last [] name e = absurd cc
+some_last (x ∷ xs) name e = absurd cc
+
+well_kept : (input out : List ℕ) (source : Keeping) (well : Bool) (faults : ℕ) → failed_names (kept kinds.Source input source ∷ kept kinds.Live out (record { well = well; faults = faults; left = None; asked = 0 }) ∷ []) ≡ [] → well ≡ true
+well_kept input out source true faults none = refl
+well_kept input out source false faults none = absurd (some_last (named_when (failed_so source.well source.faults) input) out none)
+
+-- ---- a recovery that was made
+
+same_text : (a b : List ℕ) → was_written a ≡ was_written b → a ≡ b
+same_text a b e = cc
+
+line_of : (input : List ℕ) (recovery : Recovery) (text : List ℕ) → ending_of input recovery ≡ was_written text → (r : Recovered) × (recovery ≡ recoveries.Made r) × (text ≡ recovered_line r)
+line_of input recoveries.Unopened text e = absurd cc
+line_of input (recoveries.Made r) text e = (r, refl, sym (same_text (recovered_line r) text e))
+line_of input (recoveries.Refused (refusals.Fault faults)) text e = absurd cc
+line_of input (recoveries.Refused refusals.NoMagic) text e = absurd cc
+line_of input (recoveries.Refused (refusals.Limit blocks bytes)) text e = absurd cc
+line_of input (recoveries.Refused refusals.Memory) text e = absurd cc
+
+bytes_of : (found : Option (List ℕ)) → IsSome found → (bytes : List ℕ) × (found ≡ Some bytes)
+bytes_of None some = absurd (both_ways false refl some)
+bytes_of (Some bytes) some = (bytes, refl)
+
+-- what was printed, and what stands under the output's name of the bytes under that of the input
+pub record WasMade (chunk : ℕ) (input out : List ℕ) (old new : Scene) (told : Told) : Type 0 where
+  pub recovered : Recovered
+  pub line : TellsAll old.out new.out (recovered_line recovered)
+  pub now : Told
+  pub tells : new.world.told ≡ Some now
+  pub bytes : List ℕ
+  pub there : told.names input ≡ Some bytes
+  pub holds : HoldsRecovered chunk bytes recovered true (told.names out) (now.names out)
+
+pub made : (chunk : ℕ) (input out : List ℕ) (old new : Scene) (told : Told) (status : ℕ) → RecoversFile chunk input out old new status → old.world.told ≡ Some told → status ≡ 0 → WasMade chunk input out old new told
+made chunk input out old new told status it here zero_is =
+    let (none, printed) = it.ran.whole zero_is in
+    let (text, ended, taken) = printed in
+    let (r, is, line) = line_of input it.recovery text ended in
+    let all = reached chunk input out old.world new.world it.entries it.recovery (Ok r) it.comes is (λ e. absurd cc) in
+    let left = it.ran.ran.leaves told here in
+    let (bytes, there) = bytes_of (told.names input) (all.tells told here).1 in
+    let source : Keeping = record { well = all.source_kept; faults = all.back.faults; left = all.back.left; asked = 0 } in
+    let well = well_kept input out source all.live_kept all.stored.faults (ap failed_names (sym all.kept_are) ∙ none) in
+    record {
+      recovered = r;
+      line = subst (λ (l : List ℕ). TellsAll old.out new.out l) line taken;
+      now = left.0;
+      tells = left.1;
+      bytes = bytes;
+      there = there;
+      holds = subst (λ (b : Bool). HoldsRecovered chunk bytes r b (told.names out) (left.0.names out)) well (all.file told left.0 bytes here left.1 there);
+    }
+
+-- ---- the law
+
+pub recoveries_are_sound : RepairsCanBeWritten → RecoveriesAreSound
+recoveries_are_sound repairs_can_be_written chunk input out old new told size it here =
+    let all = made chunk input out old new told 0 it here refl in
+    let holds = all.holds in
+    let options : FileOptions = recovered_options holds.profile chunk in
+    let written : all.recovered.extras < 2 ^ 32 → CanBeWritten options holds.extras holds.history = λ few.
+    repairs_can_be_written options holds.tops holds.extras holds.history chunk holds.halts.kept.good holds.repairs refl (omega (arith, size.0)) size.1 holds.within.few holds.within.small
+    (omega (arith, few, holds.extras_are, few_filtered (λ t. t.op == 9) holds.extras)) (omega (arith, few, holds.extras_are, few_filtered (λ t. t.op == 12) holds.extras)) in
+    record {
+      recovered = all.recovered;
+      line = all.line;
+      told = all.now;
+      tells = all.tells;
+      file = file_of options holds.extras holds.history;
+      there = holds.placed;
+      valid = λ few. files_are_valid options holds.extras holds.history (written few);
+      indexed = λ few. files_are_indexed options holds.extras holds.history chunk refl (written few);
+    }
