@@ -109,7 +109,8 @@ usage: mcaprec
   info FILE
   check FILE
   cat [--indexed] [--start N] [--end N] [--topic T] FILE
-  recover [--chunk N] IN OUT'
+  recover [--chunk N] IN OUT
+  merge [--chunk N] OUT IN...'
 
 "$root/mcaprec" info "$one" >/dev/null </dev/null
 compare 'the status of the first run' 0 $?
@@ -332,6 +333,23 @@ expect 3 '' 'mcaprec: "missing.mcap": fault' mcaprec recover missing.mcap of-mis
 expect_absent of-missing.mcap
 ln -s one-recovered.mcap recovered-link.mcap
 expect 3 '' 'mcaprec: "recovered-link.mcap": fault' mcaprec recover one-recovered.mcap recovered-link.mcap
+expect_records_of one-recovered.mcap "$one"
+
+# ---- files that are merged
+
+expect 2 '' "$usage" mcaprec merge "$one"
+expect 2 '' "$usage" mcaprec merge merged.mcap "$one" merged.mcap
+expect 0 'merged inputs=2 messages=2 records=3' '' mcaprec merge merged.mcap "$one" "$one"
+expect_size merged.mcap 524
+expect 0 '10 9 1 1 "/a" aa
+10 9 1 1 "/a" aa' '' mcaprec cat --indexed merged.mcap
+expect 0 'merged inputs=2 messages=6 records=10' '' mcaprec merge merged.mcap "$session" "$one"
+expect 0 'ok indexed messages=6 channels=3 schemas=1 chunks=1 attachments=0 metadata=0' '' mcaprec check merged.mcap
+expect 1 '' 'mcaprec: "cut.mcap": grammar at 25' mcaprec merge merged-cut.mcap "$one" cut.mcap
+expect_size merged-cut.mcap 0
+expect 3 '' 'mcaprec: "missing.mcap": fault' mcaprec merge merged-none.mcap "$one" missing.mcap
+expect_absent merged-none.mcap
+expect 3 '' 'mcaprec: "recovered-link.mcap": fault' mcaprec merge recovered-link.mcap one-recovered.mcap
 expect_records_of one-recovered.mcap "$one"
 
 # ---- messages, by time

@@ -15,10 +15,10 @@ use Rattle.clap.specs.declared.parser.matches.ArgMatches.TheViews.{out-ArgMatche
 use Rattle.mcap_model.specs.declared.options.FileOptions.{FileOptions}
 use Rattle.mcap_model.specs.declared.replay.Range.{Range}
 use Rattle.command_words.specs.Items.{Word, Item, flag, joined, apart, plain, IsFlag, IsFree, IsItem, IsOption, given, place_of, texts, words_of}
-use Rattle.command_words.specs.Commands.{AreBad, Behind, Derives, Flags, GivesNumber, IsCat, IsFileOptions, IsNumber, IsOfFile, IsRange, IsRecord, IsRecover, Reads, name_of, verb_of}
+use Rattle.command_words.specs.Commands.{AreBad, Behind, Derives, Flags, GivesNumber, IsCat, IsFileOptions, IsMerge, IsNumber, IsOfFile, IsRange, IsRecord, IsRecover, Reads, name_of, verb_of}
 use Rattle.command_words.specs.Matches.{AreFeeds, AreRead, AreUnread, AtPlaces, Fits, HasRoom, IsLoose, IsReading, all_found}
 use Rattle.command_words.specs.declared.command.Command.{Command}
-use Rattle.command_words.specs.declared.command.Command.TheVariants.{Record, Info, Check, Cat, Recover}
+use Rattle.command_words.specs.declared.command.Command.TheVariants.{Record, Info, Check, Cat, Recover, Merge}
 use Rattle.command_words.specs.declared.verbs.Verb.{Verb}
 use Rattle.command_words.specs.declared.verbs.Verb.TheVariants as verb
 use Rattle.command_words.proofs.CutLemmas.{loose_cut, one_cut}
@@ -124,6 +124,7 @@ IsOfOne verb.Info = ⊤
 IsOfOne verb.Check = ⊤
 IsOfOne verb.Cat = ⊤
 IsOfOne verb.Recover = ⊥
+IsOfOne verb.Merge = ⊥
 
 one_few : (v : Verb) (n : ℕ) → IsOfOne v → HasRoom v n → n ≤ 1
 one_few verb.Record n one few = absurd one
@@ -131,6 +132,7 @@ one_few verb.Info n one few = few
 one_few verb.Check n one few = few
 one_few verb.Cat n one few = few
 one_few verb.Recover n one few = absurd one
+one_few verb.Merge n one few = absurd one
 
 one_placed : (v : Verb) (places : List Word) (Has : Word → List Word → Type 0) → IsOfOne v → AtPlaces v places Has → Has (codes "file") places
 one_placed verb.Record places Has one placed = absurd one
@@ -138,6 +140,7 @@ one_placed verb.Info places Has one placed = placed
 one_placed verb.Check places Has one placed = placed
 one_placed verb.Cat places Has one placed = placed
 one_placed verb.Recover places Has one placed = absurd one
+one_placed verb.Merge places Has one placed = absurd one
 
 one_place : (places : List Word) (a : Word) → slice_get places 0 ≡ Some a → length places ≤ 1 → places ≡ a ∷ []
 one_place [] a first few = cc
@@ -182,7 +185,50 @@ pair_are words rows reading input out is = (
   reading.shows.placed.1 ∙ ap (λ (l : List Word). drop 1 l) is,
 )
 
+-- and of a merge
+merged_places : (words : List Word) (rows : List Row) (reading : IsReading verb.Merge words rows) (out : Word) (inputs : List Word) → first_of (codes "out") rows ≡ Some out → all_found (codes "in") rows ≡ inputs → places_in reading ≡ out ∷ inputs
+merged_places words rows reading out inputs is is2 =
+    out_first (places_in reading) out (ap (λ (l : List Word). slice_get l 0) (sym reading.shows.placed.0) ∙ sym (first_all (codes "out") rows) ∙ is)
+    ∙ ap (λ (l : List Word). out ∷ l) (sym reading.shows.placed.1 ∙ is2)
+
+merged_are : (words : List Word) (rows : List Row) (reading : IsReading verb.Merge words rows) (out : Word) (inputs : List Word) → places_in reading ≡ out ∷ inputs → (first_of (codes "out") rows ≡ Some out) × (all_found (codes "in") rows ≡ inputs)
+merged_are words rows reading out inputs is = (
+  first_all (codes "out") rows ∙ ap (λ (l : List Word). slice_get l 0) (reading.shows.placed.0 ∙ ap (λ (l : List Word). take 1 l) is),
+  reading.shows.placed.1 ∙ ap (λ (l : List Word). drop 1 l) is,
+)
+
 -- ---- commands
+
+pub merge_is : (words : List Word) (rows : List Row) (reading : IsReading verb.Merge words rows) (out : Word) (inputs : List Word) (size : Option ℕ) → first_of (codes "out") rows ≡ Some out → all_found (codes "in") rows ≡ inputs → out ≢ [] → AreFeeds out inputs
+    → GivesNumber 1 67108864 (option_to_list (first_of (codes "chunk") rows)) size → IsMerge words out inputs (unwrap_or size 786432)
+merge_is words rows reading out inputs size is is2 named feeding sized = record {
+  items = reading.items;
+  reads = subst (Reads verb.Merge words reading.items) (merged_places words rows reading out inputs is is2)
+      (exact_reading verb.Merge words rows reading (λ name same. subst (λ (n : Word). first_of n rows ≢ Some (codes "-")) (sym same) (number_clean 1 67108864 (first_of (codes "chunk") rows) size sized)));
+  some = feeding.0;
+  few = feeding.1;
+  out_named = named;
+  inputs_named = λ i d less. (feeding.2 i d less).0;
+  differ = λ i d less. (feeding.2 i d less).1;
+  size = size;
+  sized = subst (λ (l : List Word). GivesNumber 1 67108864 l size) (sym (reading.shows.options (codes "chunk") refl)) sized;
+  chunk_is = refl;
+}
+
+-- the words of a merge have these names and this size
+module _ (words : List Word) (rows : List Row) (reading : IsReading verb.Merge words rows) (out : Word) (inputs : List Word) (chunk : ℕ) (is : IsMerge words out inputs chunk) where
+  pub merge_names : (first_of (codes "out") rows ≡ Some out) × (all_found (codes "in") rows ≡ inputs)
+  merge_names = merged_are words rows reading out inputs (sym (same_reading verb.Merge words rows reading is.items (out ∷ inputs) is.reads).1)
+
+  pub merge_size : GivesNumber 1 67108864 (option_to_list (first_of (codes "chunk") rows)) is.size
+  merge_size =
+      let same = ap (given (codes "chunk")) (same_reading verb.Merge words rows reading is.items (out ∷ inputs) is.reads).0 ∙ reading.shows.options (codes "chunk") refl in
+      subst (λ (l : List Word). GivesNumber 1 67108864 l is.size) same is.sized
+
+  -- the inputs are those that are found beside this output
+  pub merge_fed : (name : Word) → first_of (codes "out") rows ≡ Some name → AreFeeds name (all_found (codes "in") rows)
+  merge_fed name found = subst (λ (n : Word). AreFeeds n (all_found (codes "in") rows)) (same_Some out name (sym merge_names.0 ∙ found))
+      (subst (AreFeeds out) (sym merge_names.1) (is.some, is.few, λ i d less. (is.inputs_named i d less, is.differ i d less)))
 
 pub recover_is : (words : List Word) (rows : List Row) (reading : IsReading verb.Recover words rows) (input out : Word) (size : Option ℕ) → first_of (codes "in") rows ≡ Some input → all_found (codes "out") rows ≡ out ∷ [] → input ≢ [] → out ≢ [] → input ≢ out
     → GivesNumber 1 67108864 (option_to_list (first_of (codes "chunk") rows)) size → IsRecover words input out (unwrap_or size 786432)
@@ -320,6 +366,13 @@ fits_recover words input out chunk is = record {
   few = tt;
 }
 
+fits_merge : (words : List Word) (out : Word) (inputs : List Word) (chunk : ℕ) (is : IsMerge words out inputs chunk) → Fits verb.Merge is.items (out ∷ inputs)
+fits_merge words out inputs chunk is = record {
+  options = λ name same. subst (Once verb.Merge is.items) (sym same) (once_number 1 67108864 (given (codes "chunk") is.items) is.size is.sized);
+  flags = λ name none. absurd none;
+  few = tt;
+}
+
 -- words that fit no command are bad
 pub unread_bad : (words : List Word) → AreUnread words → AreBad words
 unread_bad words unread (Record out feeds file limit lossless) is =
@@ -337,6 +390,9 @@ unread_bad words unread (Cat file indexed range topic) is =
 unread_bad words unread (Recover input out chunk) is =
     let recover_of : IsRecover is.rest input out chunk = is.behind in
     unread verb.Recover is.rest recover_of.items (input ∷ out ∷ []) is.form recover_of.reads (fits_recover is.rest input out chunk recover_of)
+unread_bad words unread (Merge out inputs chunk) is =
+    let merge_of : IsMerge is.rest out inputs chunk = is.behind in
+    unread verb.Merge is.rest merge_of.items (out ∷ inputs) is.form merge_of.reads (fits_merge is.rest out inputs chunk merge_of)
 
 -- and so are words of which one is `-`
 item_whole : (v : Verb) (item : Item) → IsItem v item → All NoDash (words_of item)
@@ -363,6 +419,7 @@ name_whole verb.Info same = cc
 name_whole verb.Check same = cc
 name_whole verb.Cat same = cc
 name_whole verb.Recover same = cc
+name_whole verb.Merge same = cc
 
 behind_whole : (words : List Word) (command : Command) → Behind words command → All NoDash words
 behind_whole words (Record out feeds file limit lossless) is = let one : IsRecord words out feeds file limit lossless = is in reads_whole verb.Record words one.items (out ∷ feeds) one.reads
@@ -370,6 +427,7 @@ behind_whole words (Info file) is = let one : IsOfFile verb.Info words file = is
 behind_whole words (Check file) is = let one : IsOfFile verb.Check words file = is in reads_whole verb.Check words one.items (file ∷ []) one.reads
 behind_whole words (Cat file indexed range topic) is = let one : IsCat words file indexed range topic = is in reads_whole verb.Cat words one.items (file ∷ []) one.reads
 behind_whole words (Recover input out chunk) is = let one : IsRecover words input out chunk = is in reads_whole verb.Recover words one.items (input ∷ out ∷ []) one.reads
+behind_whole words (Merge out inputs chunk) is = let one : IsMerge words out inputs chunk = is in reads_whole verb.Merge words one.items (out ∷ inputs) one.reads
 
 pub derived_whole : (words : List Word) (command : Command) → Derives words command → All (λ word. word ≢ codes "-") words
 derived_whole words command is =
@@ -437,26 +495,37 @@ one_verb verb.Record verb.Info same = cc
 one_verb verb.Record verb.Check same = cc
 one_verb verb.Record verb.Cat same = cc
 one_verb verb.Record verb.Recover same = cc
+one_verb verb.Record verb.Merge same = cc
 one_verb verb.Info verb.Record same = cc
 one_verb verb.Info verb.Info same = refl
 one_verb verb.Info verb.Check same = cc
 one_verb verb.Info verb.Cat same = cc
 one_verb verb.Info verb.Recover same = cc
+one_verb verb.Info verb.Merge same = cc
 one_verb verb.Check verb.Record same = cc
 one_verb verb.Check verb.Info same = cc
 one_verb verb.Check verb.Check same = refl
 one_verb verb.Check verb.Cat same = cc
 one_verb verb.Check verb.Recover same = cc
+one_verb verb.Check verb.Merge same = cc
 one_verb verb.Cat verb.Record same = cc
 one_verb verb.Cat verb.Info same = cc
 one_verb verb.Cat verb.Check same = cc
 one_verb verb.Cat verb.Cat same = refl
 one_verb verb.Cat verb.Recover same = cc
+one_verb verb.Cat verb.Merge same = cc
 one_verb verb.Recover verb.Record same = cc
 one_verb verb.Recover verb.Info same = cc
 one_verb verb.Recover verb.Check same = cc
 one_verb verb.Recover verb.Cat same = cc
 one_verb verb.Recover verb.Recover same = refl
+one_verb verb.Recover verb.Merge same = cc
+one_verb verb.Merge verb.Record same = cc
+one_verb verb.Merge verb.Info same = cc
+one_verb verb.Merge verb.Check same = cc
+one_verb verb.Merge verb.Cat same = cc
+one_verb verb.Merge verb.Recover same = cc
+one_verb verb.Merge verb.Merge same = refl
 
 pub one_name : (a b : Verb) → name_of a ≡ name_of b → a ≡ b
 one_name a b same = one_verb a b ((bytes_eq-Decides (name_of a) (name_of b)).1 same)
@@ -475,6 +544,7 @@ only_record words bad (Info file) same is = cc
 only_record words bad (Check file) same is = cc
 only_record words bad (Cat file indexed range topic) same is = cc
 only_record words bad (Recover input out chunk) same is = cc
+only_record words bad (Merge out inputs chunk) same is = cc
 
 pub only_info : (words : List Word) → ((file : Word) → IsOfFile verb.Info words file → ⊥) → (command : Command) → verb_of command ≡ verb.Info → Behind words command → ⊥
 only_info words bad (Record out feeds file limit lossless) same is = cc
@@ -482,6 +552,7 @@ only_info words bad (Info file) same is = bad file is
 only_info words bad (Check file) same is = cc
 only_info words bad (Cat file indexed range topic) same is = cc
 only_info words bad (Recover input out chunk) same is = cc
+only_info words bad (Merge out inputs chunk) same is = cc
 
 pub only_check : (words : List Word) → ((file : Word) → IsOfFile verb.Check words file → ⊥) → (command : Command) → verb_of command ≡ verb.Check → Behind words command → ⊥
 only_check words bad (Record out feeds file limit lossless) same is = cc
@@ -489,6 +560,7 @@ only_check words bad (Info file) same is = cc
 only_check words bad (Check file) same is = bad file is
 only_check words bad (Cat file indexed range topic) same is = cc
 only_check words bad (Recover input out chunk) same is = cc
+only_check words bad (Merge out inputs chunk) same is = cc
 
 pub only_cat : (words : List Word) → ((file : Word) (indexed : Bool) (range : Range) (topic : Option Word) → IsCat words file indexed range topic → ⊥) → (command : Command) → verb_of command ≡ verb.Cat → Behind words command → ⊥
 only_cat words bad (Record out feeds file limit lossless) same is = cc
@@ -496,6 +568,7 @@ only_cat words bad (Info file) same is = cc
 only_cat words bad (Check file) same is = cc
 only_cat words bad (Cat file indexed range topic) same is = bad file indexed range topic is
 only_cat words bad (Recover input out chunk) same is = cc
+only_cat words bad (Merge out inputs chunk) same is = cc
 
 pub only_recover : (words : List Word) → ((input out : Word) (chunk : ℕ) → IsRecover words input out chunk → ⊥) → (command : Command) → verb_of command ≡ verb.Recover → Behind words command → ⊥
 only_recover words bad (Record out feeds file limit lossless) same is = cc
@@ -503,6 +576,15 @@ only_recover words bad (Info file) same is = cc
 only_recover words bad (Check file) same is = cc
 only_recover words bad (Cat file indexed range topic) same is = cc
 only_recover words bad (Recover input out chunk) same is = bad input out chunk is
+only_recover words bad (Merge out inputs chunk) same is = cc
+
+pub only_merge : (words : List Word) → ((out : Word) (inputs : List Word) (chunk : ℕ) → IsMerge words out inputs chunk → ⊥) → (command : Command) → verb_of command ≡ verb.Merge → Behind words command → ⊥
+only_merge words bad (Record out feeds file limit lossless) same is = cc
+only_merge words bad (Info file) same is = cc
+only_merge words bad (Check file) same is = cc
+only_merge words bad (Cat file indexed range topic) same is = cc
+only_merge words bad (Recover input out chunk) same is = cc
+only_merge words bad (Merge out inputs chunk) same is = bad out inputs chunk is
 
 pub of_named_file : (v : Verb) (words : List Word) (rows : List Row) (reading : IsReading v words rows) (file : Word) → IsOfOne v → IsOfFile v words file → (file ≢ []) × (first_of (codes "file") rows ≡ Some file)
 of_named_file v words rows reading file one is = (is.named, file_of_file v words rows reading file one is)

@@ -32,6 +32,7 @@ nothing_placed verb.Info = refl
 nothing_placed verb.Check = refl
 nothing_placed verb.Cat = refl
 nothing_placed verb.Recover = (refl, refl)
+nothing_placed verb.Merge = (refl, refl)
 
 no_words : (verb : Verb) → HasRoom verb 0
 no_words verb.Record = tt
@@ -39,6 +40,7 @@ no_words verb.Info = omega arith
 no_words verb.Check = omega arith
 no_words verb.Cat = omega arith
 no_words verb.Recover = tt
+no_words verb.Merge = tt
 
 pub holds_nothing : (verb : Verb) → Holds verb [] [] []
 holds_nothing verb = record {
@@ -134,6 +136,14 @@ put_placed verb.Recover (x ∷ xs) rows id word is placed =
     let same : codes "out" ≡ id = cc in
     subst (λ (i : Word). AtPlaces verb.Recover (x ∷ xs ++ word ∷ []) (Gathered (put i word rows))) same
     (put_others (codes "out") word (codes "in") rows (λ equal. in_not_out (sym equal)) ∙ placed.0, put_gathers (codes "out") word xs rows placed.1)
+put_placed verb.Merge [] rows id word is placed =
+    let same : codes "out" ≡ id = cc in
+    subst (λ (i : Word). AtPlaces verb.Merge (word ∷ []) (Gathered (put i word rows))) same
+    (put_gathers (codes "out") word [] rows placed.0, put_others (codes "out") word (codes "in") rows (λ equal. in_not_out (sym equal)) ∙ placed.1)
+put_placed verb.Merge (x ∷ xs) rows id word is placed =
+    let same : codes "in" ≡ id = cc in
+    subst (λ (i : Word). AtPlaces verb.Merge (x ∷ xs ++ word ∷ []) (Gathered (put i word rows))) same
+    (put_others (codes "in") word (codes "out") rows in_not_out ∙ placed.0, put_gathers (codes "in") word xs rows placed.1)
 
 pub holds_place : (verb : Verb) (items : List Item) (places : List Word) (rows : List Row) (id word : Word) → place_for verb (length places) ≡ Some id → Holds verb items places rows
     → Holds verb items (places ++ word ∷ []) (put id word rows)

@@ -9,9 +9,9 @@ use Rattle.std.proofs.lemmas.Slice.Eq.{bytes_eq-Decides}
 use Rattle.mcap_model.specs.declared.options.FileOptions.{FileOptions}
 use Rattle.mcap_model.specs.declared.replay.Range.{Range}
 use Rattle.command_words.specs.Items.{Word, Item, given}
-use Rattle.command_words.specs.Commands.{Behind, Derives, Flags, GivesNumber, HasChunks, HasProfile, IsCat, IsFileOptions, IsOfFile, IsOnly, IsRange, IsRecord, IsRecover, SizesChunks, name_of, verb_of}
+use Rattle.command_words.specs.Commands.{Behind, Derives, Flags, GivesNumber, HasChunks, HasProfile, IsCat, IsFileOptions, IsMerge, IsOfFile, IsOnly, IsRange, IsRecord, IsRecover, SizesChunks, name_of, verb_of}
 use Rattle.command_words.specs.declared.command.Command.{Command}
-use Rattle.command_words.specs.declared.command.Command.TheVariants.{Record, Info, Check, Cat, Recover}
+use Rattle.command_words.specs.declared.command.Command.TheVariants.{Record, Info, Check, Cat, Recover, Merge}
 use Rattle.command_words.specs.declared.command.WordsRefused.{WordsRefused}
 use Rattle.command_words.specs.declared.verbs.Verb.{Verb}
 use Rattle.command_words.specs.declared.verbs.Verb.TheVariants as verb
@@ -114,6 +114,14 @@ one_recover words input out chunk input' out' chunk' is other =
     let chunks : chunk' ≡ chunk = other.chunk_is ∙ ap (λ (v : Option ℕ). unwrap_or v 786432) size ∙ sym is.chunk_is in
     cc
 
+one_merge : (words : List Word) (out : Word) (inputs : List Word) (chunk : ℕ) (out' : Word) (inputs' : List Word) (chunk' : ℕ) → IsMerge words out inputs chunk → IsMerge words out' inputs' chunk' → Merge out' inputs' chunk' ≡ Merge out inputs chunk
+one_merge words out inputs chunk out' inputs' chunk' is other =
+    let same = one_reading verb.Merge words is.items other.items (out ∷ inputs) (out' ∷ inputs') is.reads other.reads in
+    let places : out' ∷ inputs' ≡ out ∷ inputs = same.1 in
+    let size = one_number 1 67108864 (given (codes "chunk") is.items) is.size other.size is.sized (subst (λ (l : List Item). GivesNumber 1 67108864 (given (codes "chunk") l) other.size) same.0 other.sized) in
+    let chunks : chunk' ≡ chunk = other.chunk_is ∙ ap (λ (v : Option ℕ). unwrap_or v 786432) size ∙ sym is.chunk_is in
+    cc
+
 -- the names differ
 two_names : (one two : Word) → bytes_eq one two ≡ false → one ≡ two → ⊥
 two_names one two unlike is = let same : bytes_eq one two ≡ true = (bytes_eq-Decides one two).1 is in let wrong : false ≡ true = sym unlike ∙ same in cc
@@ -124,26 +132,37 @@ one_behind words (Record out feeds file limit lossless) (Info file') names is ot
 one_behind words (Record out feeds file limit lossless) (Check file') names is other = absurd (two_names (codes "record") (codes "check") refl names)
 one_behind words (Record out feeds file limit lossless) (Cat file' indexed' range' topic') names is other = absurd (two_names (codes "record") (codes "cat") refl names)
 one_behind words (Record out feeds file limit lossless) (Recover input' out' chunk') names is other = absurd (two_names (codes "record") (codes "recover") refl names)
+one_behind words (Record out feeds file limit lossless) (Merge out' inputs' chunk') names is other = absurd (two_names (codes "record") (codes "merge") refl names)
 one_behind words (Info file) (Record out' feeds' file' limit' lossless') names is other = absurd (two_names (codes "info") (codes "record") refl names)
 one_behind words (Info file) (Info file') names is other = ap (λ (f : Word). Info f) (one_file verb.Info words file file' is other)
 one_behind words (Info file) (Check file') names is other = absurd (two_names (codes "info") (codes "check") refl names)
 one_behind words (Info file) (Cat file' indexed' range' topic') names is other = absurd (two_names (codes "info") (codes "cat") refl names)
 one_behind words (Info file) (Recover input' out' chunk') names is other = absurd (two_names (codes "info") (codes "recover") refl names)
+one_behind words (Info file) (Merge out' inputs' chunk') names is other = absurd (two_names (codes "info") (codes "merge") refl names)
 one_behind words (Check file) (Record out' feeds' file' limit' lossless') names is other = absurd (two_names (codes "check") (codes "record") refl names)
 one_behind words (Check file) (Info file') names is other = absurd (two_names (codes "check") (codes "info") refl names)
 one_behind words (Check file) (Check file') names is other = ap (λ (f : Word). Check f) (one_file verb.Check words file file' is other)
 one_behind words (Check file) (Cat file' indexed' range' topic') names is other = absurd (two_names (codes "check") (codes "cat") refl names)
 one_behind words (Check file) (Recover input' out' chunk') names is other = absurd (two_names (codes "check") (codes "recover") refl names)
+one_behind words (Check file) (Merge out' inputs' chunk') names is other = absurd (two_names (codes "check") (codes "merge") refl names)
 one_behind words (Cat file indexed range topic) (Record out' feeds' file' limit' lossless') names is other = absurd (two_names (codes "cat") (codes "record") refl names)
 one_behind words (Cat file indexed range topic) (Info file') names is other = absurd (two_names (codes "cat") (codes "info") refl names)
 one_behind words (Cat file indexed range topic) (Check file') names is other = absurd (two_names (codes "cat") (codes "check") refl names)
 one_behind words (Cat file indexed range topic) (Cat file' indexed' range' topic') names is other = one_cat words file indexed range topic file' indexed' range' topic' is other
 one_behind words (Cat file indexed range topic) (Recover input' out' chunk') names is other = absurd (two_names (codes "cat") (codes "recover") refl names)
+one_behind words (Cat file indexed range topic) (Merge out' inputs' chunk') names is other = absurd (two_names (codes "cat") (codes "merge") refl names)
 one_behind words (Recover input out chunk) (Record out' feeds' file' limit' lossless') names is other = absurd (two_names (codes "recover") (codes "record") refl names)
 one_behind words (Recover input out chunk) (Info file') names is other = absurd (two_names (codes "recover") (codes "info") refl names)
 one_behind words (Recover input out chunk) (Check file') names is other = absurd (two_names (codes "recover") (codes "check") refl names)
 one_behind words (Recover input out chunk) (Cat file' indexed' range' topic') names is other = absurd (two_names (codes "recover") (codes "cat") refl names)
 one_behind words (Recover input out chunk) (Recover input' out' chunk') names is other = one_recover words input out chunk input' out' chunk' is other
+one_behind words (Recover input out chunk) (Merge out' inputs' chunk') names is other = absurd (two_names (codes "recover") (codes "merge") refl names)
+one_behind words (Merge out inputs chunk) (Record out' feeds' file' limit' lossless') names is other = absurd (two_names (codes "merge") (codes "record") refl names)
+one_behind words (Merge out inputs chunk) (Info file') names is other = absurd (two_names (codes "merge") (codes "info") refl names)
+one_behind words (Merge out inputs chunk) (Check file') names is other = absurd (two_names (codes "merge") (codes "check") refl names)
+one_behind words (Merge out inputs chunk) (Cat file' indexed' range' topic') names is other = absurd (two_names (codes "merge") (codes "cat") refl names)
+one_behind words (Merge out inputs chunk) (Recover input' out' chunk') names is other = absurd (two_names (codes "merge") (codes "recover") refl names)
+one_behind words (Merge out inputs chunk) (Merge out' inputs' chunk') names is other = one_merge words out inputs chunk out' inputs' chunk' is other
 
 pub one_command : (words : List Word) (a : Command) → Derives words a → IsOnly words a
 one_command words a is b other =

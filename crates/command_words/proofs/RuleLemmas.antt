@@ -32,6 +32,7 @@ rules_of verb.Info = place_rule (codes "file") 1 ∷ []
 rules_of verb.Check = place_rule (codes "file") 1 ∷ []
 rules_of verb.Cat = flag_rule (codes "indexed") ∷ option_rule (codes "start") ∷ option_rule (codes "end") ∷ option_rule (codes "topic") ∷ place_rule (codes "file") 1 ∷ []
 rules_of verb.Recover = option_rule (codes "chunk") ∷ place_rule (codes "in") 1 ∷ rest_rule (codes "out") 2 ∷ []
+rules_of verb.Merge = option_rule (codes "chunk") ∷ place_rule (codes "out") 1 ∷ rest_rule (codes "in") 2 ∷ []
 
 pub is_text : (a b : Word) → (a ≡ b) ⊎ (bytes_eq a b ≡ false)
 is_text a b = go (bytes_eq a b) refl
@@ -80,6 +81,10 @@ named verb.Recover name = elim (is_text (codes "chunk") name) [
   | inl is ↦ inr (inl (sym is))
   | inr no1 ↦ inr (inr (rw no1 refl))
 ]
+named verb.Merge name = elim (is_text (codes "chunk") name) [
+  | inl is ↦ inr (inl (sym is))
+  | inr no1 ↦ inr (inr (rw no1 refl))
+]
 
 -- by its name and by its id an argument is found
 abbrev pub Found : Verb → Word → Rule → Type 0
@@ -92,6 +97,7 @@ flag_found verb.Info name is = absurd is
 flag_found verb.Check name is = absurd is
 flag_found verb.Cat name is = subst (λ n. Found verb.Cat n (flag_rule n)) (sym is) (refl, refl)
 flag_found verb.Recover name is = absurd is
+flag_found verb.Merge name is = absurd is
 
 pub option_found : (verb : Verb) (name : Word) → IsOption verb name → Found verb name (option_rule name)
 option_found verb.Record name (inl is) = subst (λ n. Found verb.Record n (option_rule n)) (sym is) (refl, refl)
@@ -103,6 +109,7 @@ option_found verb.Cat name (inl is) = subst (λ n. Found verb.Cat n (option_rule
 option_found verb.Cat name (inr (inl is)) = subst (λ n. Found verb.Cat n (option_rule n)) (sym is) (refl, refl)
 option_found verb.Cat name (inr (inr is)) = subst (λ n. Found verb.Cat n (option_rule n)) (sym is) (refl, refl)
 option_found verb.Recover name is = subst (λ n. Found verb.Recover n (option_rule n)) (sym is) (refl, refl)
+option_found verb.Merge name is = subst (λ n. Found verb.Merge n (option_rule n)) (sym is) (refl, refl)
 
 pub no_short : (verb : Verb) (letter : ℕ) → arg_by_short (rules_of verb) letter ≡ None
 no_short verb.Record letter = refl
@@ -110,6 +117,7 @@ no_short verb.Info letter = refl
 no_short verb.Check letter = refl
 no_short verb.Cat letter = refl
 no_short verb.Recover letter = refl
+no_short verb.Merge letter = refl
 
 past_one : (n : ℕ) → (1 == suc (suc n)) ≡ false
 past_one n = grind (arith, nat_tests)
@@ -122,6 +130,7 @@ IsPlace verb.Info id = id ≡ codes "file"
 IsPlace verb.Check id = id ≡ codes "file"
 IsPlace verb.Cat id = id ≡ codes "file"
 IsPlace verb.Recover id = (id ≡ codes "in") ⊎ (id ≡ codes "out")
+IsPlace verb.Merge id = (id ≡ codes "out") ⊎ (id ≡ codes "in")
 
 -- the positional that takes a word behind so many, and where it stands
 abbrev pub place_for : Verb → ℕ → Option Word
@@ -135,6 +144,8 @@ place_for verb.Cat zero = Some (codes "file")
 place_for verb.Cat (suc n) = None
 place_for verb.Recover zero = Some (codes "in")
 place_for verb.Recover (suc n) = Some (codes "out")
+place_for verb.Merge zero = Some (codes "out")
+place_for verb.Merge (suc n) = Some (codes "in")
 
 abbrev pub position_for : Verb → ℕ → ℕ
 position_for verb.Record zero = 1
@@ -144,6 +155,8 @@ position_for verb.Check n = suc n
 position_for verb.Cat n = suc n
 position_for verb.Recover zero = 1
 position_for verb.Recover (suc n) = 2
+position_for verb.Merge zero = 1
+position_for verb.Merge (suc n) = 2
 
 abbrev pub rule_for : Verb → ℕ → Word → Rule
 rule_for verb.Record zero id = place_rule id 1
@@ -153,6 +166,8 @@ rule_for verb.Check n id = place_rule id 1
 rule_for verb.Cat n id = place_rule id 1
 rule_for verb.Recover zero id = place_rule id 1
 rule_for verb.Recover (suc n) id = rest_rule id 2
+rule_for verb.Merge zero id = place_rule id 1
+rule_for verb.Merge (suc n) id = rest_rule id 2
 
 pub place_found : (verb : Verb) (n : ℕ) → arg_by_index (rules_of verb) (position_for verb n) ≡ option_map (rule_for verb n) (place_for verb n)
 place_found verb.Record zero = refl
@@ -165,6 +180,8 @@ place_found verb.Cat zero = refl
 place_found verb.Cat (suc n) = rw (past_one n) refl
 place_found verb.Recover zero = refl
 place_found verb.Recover (suc n) = refl
+place_found verb.Merge zero = refl
+place_found verb.Merge (suc n) = refl
 
 pub place_by_id : (verb : Verb) (n : ℕ) (id : Word) → place_for verb n ≡ Some id → arg_by_id (rules_of verb) id ≡ Some (rule_for verb n id)
 place_by_id verb.Record zero id is = let same : codes "out" ≡ id = cc in subst (λ i. arg_by_id (rules_of verb.Record) i ≡ Some (place_rule i 1)) same refl
@@ -177,6 +194,8 @@ place_by_id verb.Cat zero id is = let same : codes "file" ≡ id = cc in subst (
 place_by_id verb.Cat (suc n) id is = cc
 place_by_id verb.Recover zero id is = let same : codes "in" ≡ id = cc in subst (λ i. arg_by_id (rules_of verb.Recover) i ≡ Some (place_rule i 1)) same refl
 place_by_id verb.Recover (suc n) id is = let same : codes "out" ≡ id = cc in subst (λ i. arg_by_id (rules_of verb.Recover) i ≡ Some (rest_rule i 2)) same refl
+place_by_id verb.Merge zero id is = let same : codes "out" ≡ id = cc in subst (λ i. arg_by_id (rules_of verb.Merge) i ≡ Some (place_rule i 1)) same refl
+place_by_id verb.Merge (suc n) id is = let same : codes "in" ≡ id = cc in subst (λ i. arg_by_id (rules_of verb.Merge) i ≡ Some (rest_rule i 2)) same refl
 
 pub place_is : (verb : Verb) (n : ℕ) (id : Word) → place_for verb n ≡ Some id → IsPlace verb id
 place_is verb.Record zero id is = inl (cc)
@@ -189,6 +208,8 @@ place_is verb.Cat zero id is = cc
 place_is verb.Cat (suc n) id is = cc
 place_is verb.Recover zero id is = inl (cc)
 place_is verb.Recover (suc n) id is = inr (cc)
+place_is verb.Merge zero id is = inl (cc)
+place_is verb.Merge (suc n) id is = inr (cc)
 
 -- two arguments have two ids
 abbrev NoLong : Verb → Word → Type 0
@@ -202,6 +223,8 @@ place_short verb.Check id is = subst (NoLong verb.Check) (sym is) (place_rule (c
 place_short verb.Cat id is = subst (NoLong verb.Cat) (sym is) (place_rule (codes "file") 1, refl, refl)
 place_short verb.Recover id (inl is) = subst (NoLong verb.Recover) (sym is) (place_rule (codes "in") 1, refl, refl)
 place_short verb.Recover id (inr is) = subst (NoLong verb.Recover) (sym is) (rest_rule (codes "out") 2, refl, refl)
+place_short verb.Merge id (inl is) = subst (NoLong verb.Merge) (sym is) (place_rule (codes "out") 1, refl, refl)
+place_short verb.Merge id (inr is) = subst (NoLong verb.Merge) (sym is) (rest_rule (codes "in") 2, refl, refl)
 
 long_not_place : (verb : Verb) (name id : Word) (a : Rule) → arg_by_id (rules_of verb) name ≡ Some a → a.long ≡ Some name → IsPlace verb id → name ≢ id
 long_not_place verb name id a found long place same =
@@ -230,6 +253,7 @@ places_map verb.Info words Has Gets turn has = turn (codes "file") words refl ha
 places_map verb.Check words Has Gets turn has = turn (codes "file") words refl has
 places_map verb.Cat words Has Gets turn has = turn (codes "file") words refl has
 places_map verb.Recover words Has Gets turn has = (turn (codes "in") (take 1 words) (inl refl) has.0, turn (codes "out") (drop 1 words) (inr refl) has.1)
+places_map verb.Merge words Has Gets turn has = (turn (codes "out") (take 1 words) (inl refl) has.0, turn (codes "in") (drop 1 words) (inr refl) has.1)
 
 -- ---- how many
 
@@ -244,6 +268,8 @@ room verb.Cat zero fits = (codes "file", refl)
 room verb.Cat (suc n) fits = absurd (omega (arith, fits))
 room verb.Recover zero fits = (codes "in", refl)
 room verb.Recover (suc n) fits = (codes "out", refl)
+room verb.Merge zero fits = (codes "out", refl)
+room verb.Merge (suc n) fits = (codes "in", refl)
 
 pub has_room : (verb : Verb) (n : ℕ) (id : Word) → place_for verb n ≡ Some id → HasRoom verb (suc n)
 has_room verb.Record n id is = tt
@@ -254,6 +280,7 @@ has_room verb.Check (suc n) id is = cc
 has_room verb.Cat zero id is = omega arith
 has_room verb.Cat (suc n) id is = cc
 has_room verb.Recover n id is = tt
+has_room verb.Merge n id is = tt
 
 pub room_less : (verb : Verb) (m n : ℕ) → m ≤ n → HasRoom verb n → HasRoom verb m
 room_less verb.Record m n less fits = tt
@@ -261,3 +288,4 @@ room_less verb.Info m n less fits = omega (arith, less, fits)
 room_less verb.Check m n less fits = omega (arith, less, fits)
 room_less verb.Cat m n less fits = omega (arith, less, fits)
 room_less verb.Recover m n less fits = tt
+room_less verb.Merge m n less fits = tt

@@ -8,7 +8,7 @@ use Rattle.mcap_model.specs.declared.options.FileOptions.{FileOptions}
 use Rattle.mcap_model.specs.declared.replay.Range.{Range}
 use Rattle.command_words.specs.Items.{Word, Item, IsCut, given, place_of}
 use Rattle.command_words.specs.declared.command.Command.{Command}
-use Rattle.command_words.specs.declared.command.Command.TheVariants.{Record, Info, Check, Cat, Recover}
+use Rattle.command_words.specs.declared.command.Command.TheVariants.{Record, Info, Check, Cat, Recover, Merge}
 use Rattle.command_words.specs.declared.verbs.Verb.{Verb}
 use Rattle.command_words.specs.declared.verbs.Verb.TheVariants as verb
 
@@ -18,6 +18,7 @@ name_of verb.Info = codes "info"
 name_of verb.Check = codes "check"
 name_of verb.Cat = codes "cat"
 name_of verb.Recover = codes "recover"
+name_of verb.Merge = codes "merge"
 
 -- the size of chunks where the words say none: 768 KiB
 abbrev pub usual_chunk_size : ℕ
@@ -27,7 +28,7 @@ usual_chunk_size = 768 * 2 ^ 10
 abbrev pub usual_limit : ℕ
 usual_limit = 100 * 2 ^ 20
 
--- how many feeds are recorded at most
+-- how many feeds are recorded, or files merged, at most
 abbrev pub feed_limit : ℕ
 feed_limit = 64
 
@@ -132,6 +133,19 @@ pub record IsRecover (words : List Word) (input out : Word) (chunk : ℕ) : Type
   pub sized : GivesNumber 1 chunk_size_limit (given (codes "chunk") items) size
   pub chunk_is : chunk ≡ unwrap_or size usual_chunk_size
 
+-- merge, --chunk, OUT and each IN
+pub record IsMerge (words : List Word) (out : Word) (inputs : List Word) (chunk : ℕ) : Type 0 where
+  pub items : List Item
+  pub reads : Reads verb.Merge words items (out ∷ inputs)
+  pub some : 1 ≤ length inputs
+  pub few : length inputs ≤ feed_limit
+  pub out_named : out ≢ []
+  pub inputs_named : All (λ input. input ≢ []) inputs
+  pub differ : All (λ input. out ≢ input) inputs
+  pub size : Option ℕ
+  pub sized : GivesNumber 1 chunk_size_limit (given (codes "chunk") items) size
+  pub chunk_is : chunk ≡ unwrap_or size usual_chunk_size
+
 -- the words behind the command are those of this one
 abbrev pub Behind : List Word → Command → Type 0
 Behind words (Record out feeds file limit lossless) = IsRecord words out feeds file limit lossless
@@ -139,6 +153,7 @@ Behind words (Info file) = IsOfFile verb.Info words file
 Behind words (Check file) = IsOfFile verb.Check words file
 Behind words (Cat file indexed range topic) = IsCat words file indexed range topic
 Behind words (Recover input out chunk) = IsRecover words input out chunk
+Behind words (Merge out inputs chunk) = IsMerge words out inputs chunk
 
 abbrev pub verb_of : Command → Verb
 verb_of (Record out feeds file limit lossless) = verb.Record
@@ -146,6 +161,7 @@ verb_of (Info file) = verb.Info
 verb_of (Check file) = verb.Check
 verb_of (Cat file indexed range topic) = verb.Cat
 verb_of (Recover input out chunk) = verb.Recover
+verb_of (Merge out inputs chunk) = verb.Merge
 
 -- the words are those of the command
 pub record Derives (words : List Word) (command : Command) : Type 0 where

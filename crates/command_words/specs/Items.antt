@@ -24,6 +24,7 @@ IsFlag verb.Info name = ⊥
 IsFlag verb.Check name = ⊥
 IsFlag verb.Cat name = name ≡ codes "indexed"
 IsFlag verb.Recover name = ⊥
+IsFlag verb.Merge name = ⊥
 
 -- the names that take a value
 abbrev pub IsOption : Verb → Word → Type 0
@@ -32,6 +33,7 @@ IsOption verb.Info name = ⊥
 IsOption verb.Check name = ⊥
 IsOption verb.Cat name = (name ≡ codes "start") ⊎ ((name ≡ codes "end") ⊎ (name ≡ codes "topic"))
 IsOption verb.Recover name = name ≡ codes "chunk"
+IsOption verb.Merge name = name ≡ codes "chunk"
 
 -- no `=` stands in the text
 abbrev pub IsBare : List ℕ → Type 0

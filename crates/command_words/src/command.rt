@@ -67,6 +67,12 @@ pub enum Command {
         out: Text,
         chunk: u64,
     },
+    /// Merge the files under the names `inputs` to the file `out`, in chunks of `chunk` bytes of records.
+    Merge {
+        out: Text,
+        inputs: Names,
+        chunk: u64,
+    },
 }
 
 /// Why words give no command.

@@ -91,6 +91,15 @@ fn recover<'a>(alloc: Global) -> Result<Command<'a>, AllocError>
     with_rest(command, alloc, "out")
 }
 
+// `merge`.
+fn merge<'a>(alloc: Global) -> Result<Command<'a>, AllocError>
+    ensures { IfOk result (IsMade (verb_app verb.Merge)) }
+{
+    let command = with_option(Ok(Command::new(alloc, "merge")), alloc, "chunk");
+    let command = with_place(command, alloc, "out");
+    with_rest(command, alloc, "in")
+}
+
 // The program without its commands, and without help or a version.
 fn bare_program<'a>(alloc: Global) -> Command<'a>
     ensures { IsMade bare_top result }
@@ -128,7 +137,7 @@ fn with_verb<'a>(
     }
 }
 
-/// The program with its five commands, without help or a version. That a positional is there is looked at where it is
+/// The program with its six commands, without help or a version. That a positional is there is looked at where it is
 /// read, as is what stands in it.
 pub fn program_command<'a>(alloc: Global) -> Result<Command<'a>, AllocError>
     ensures { IfOk result (IsMade program) }
@@ -137,5 +146,6 @@ pub fn program_command<'a>(alloc: Global) -> Result<Command<'a>, AllocError>
     let command = with_verb(command, of_file(alloc, "info"));
     let command = with_verb(command, of_file(alloc, "check"));
     let command = with_verb(command, cat(alloc));
-    with_verb(command, recover(alloc))
+    let command = with_verb(command, recover(alloc));
+    with_verb(command, merge(alloc))
 }

@@ -3,7 +3,7 @@ ghost use Rattle.std.specs.Prelude.{◌≡◌, ◌≢◌, ◌↔◌, ℕ, List, 
 ghost use Rattle.std.specs.List.{All};
 ghost use Rattle.clap.specs.Words.{subcommand_rows_of};
 ghost use Rattle.command_words.specs.Items.{Word, texts};
-ghost use Rattle.command_words.specs.Commands.{AreBad, Behind, Derives, IsCat, IsOnly, IsRecord, IsRecover, verb_of};
+ghost use Rattle.command_words.specs.Commands.{AreBad, Behind, Derives, IsCat, IsMerge, IsOnly, IsRecord, IsRecover, verb_of};
 ghost use Rattle.command_words.specs.Matches.{AreFeeds, AreRead, IsReading, rows_found, value_in, values_in};
 ghost use Rattle.command_words.specs.declared.command.Command.{Command as Wanted};
 ghost use Rattle.mcap_model.specs.declared.options.FileOptions.{FileOptions as Options};
@@ -23,7 +23,7 @@ const LARGEST_LIMIT: u64 = 1_073_741_824;
 
 const USUAL_LIMIT: u64 = 104_857_600;
 
-/// The most feeds of a recording.
+/// The most feeds of a recording, or files of a merge.
 const FEED_LIMIT: usize = 64;
 
 // A copy of a word that may be there.
@@ -83,12 +83,17 @@ fn copies_of(alloc: Global, words: &[&str]) -> Result<Names, WordsRefused>
     Ok(Names::new(copies))
 }
 
-// The names of the feeds of a recording to that output.
-fn feeds_of(alloc: Global, found: &ArgMatches, out: &str) -> Result<Names, WordsRefused>
-    ensures feeds { IfOk result (λ feeds. (values_in found.now (codes "feed") ≡ feeds) × AreFeeds out.now feeds) }
-    ensures bad { IfErr result (λ refused. refused ≡ WordsRefused.BadWords → AreFeeds out.now (values_in found.now (codes "feed")) → ⊥) }
+// The names at that place of the feeds of a recording to that output, or of the files that are merged into it.
+fn feeds_of(
+    alloc: Global,
+    found: &ArgMatches,
+    place: &str,
+    out: &str,
+) -> Result<Names, WordsRefused>
+    ensures feeds { IfOk result (λ feeds. (values_in found.now place.now ≡ feeds) × AreFeeds out.now feeds) }
+    ensures bad { IfErr result (λ refused. refused ≡ WordsRefused.BadWords → AreFeeds out.now (values_in found.now place.now) → ⊥) }
 {
-    let Some(feeds) = values_of(found, "feed") else {
+    let Some(feeds) = values_of(found, place) else {
         return Err(WordsRefused::BadWords);
     };
     if !are_feeds(out, feeds) {
@@ -129,7 +134,7 @@ fn record_of(alloc: Global, found: &ArgMatches) -> Result<Command, WordsRefused>
         Ok(limit) => limit,
         Err(BadValue) => return Err(WordsRefused::BadWords),
     };
-    let feeds = match feeds_of(alloc, found, out) {
+    let feeds = match feeds_of(alloc, found, "feed", out) {
         Ok(feeds) => feeds,
         Err(refused) => return Err(refused),
     };
@@ -214,6 +219,28 @@ fn recover_of(alloc: Global, found: &ArgMatches) -> Result<Command, WordsRefused
     }
 }
 
+// What was found behind `merge`.
+fn merge_of(alloc: Global, found: &ArgMatches) -> Result<Command, WordsRefused>
+    ensures command { (words : List Word) → IsReading Verb.Merge words (rows_found found.now) → IfOk result (λ command. Behind words command × (verb_of command ≡ Verb.Merge)) }
+    ensures bad { (words : List Word) → IsReading Verb.Merge words (rows_found found.now) → IfErr result (λ refused. refused ≡ WordsRefused.BadWords → (out : Word) (inputs : List Word) (chunk : ℕ) → IsMerge words out inputs chunk → ⊥) }
+{
+    let Some(out) = name_of_file(found, "out") else {
+        return Err(WordsRefused::BadWords);
+    };
+    let chunk = match number_of(found, "chunk", 1, LARGEST_CHUNK) {
+        Ok(chunk) => chunk.unwrap_or(USUAL_CHUNK),
+        Err(BadValue) => return Err(WordsRefused::BadWords),
+    };
+    let inputs = match feeds_of(alloc, found, "in", out) {
+        Ok(inputs) => inputs,
+        Err(refused) => return Err(refused),
+    };
+    match copy_of(alloc, out) {
+        Ok(out) => return Ok(Command::Merge { out, inputs, chunk }),
+        Err(refused) => return Err(refused),
+    }
+}
+
 // What was found behind the name of a command.
 fn command_of(alloc: Global, verb: Verb, found: &ArgMatches) -> Result<Command, WordsRefused>
     ensures command { (words : List Word) → IsReading verb words (rows_found found.now) → IfOk result (λ command. Behind words command × (verb_of command ≡ verb)) }
@@ -231,6 +258,7 @@ fn command_of(alloc: Global, verb: Verb, found: &ArgMatches) -> Result<Command, 
         },
         Verb::Cat => return cat_of(alloc, found),
         Verb::Recover => return recover_of(alloc, found),
+        Verb::Merge => return merge_of(alloc, found),
     }
 }
 
@@ -249,14 +277,16 @@ fn found_command(alloc: Global, found: &ArgMatches) -> Result<Command, WordsRefu
 }
 
 /// Reads the words behind the program's own name: `record [--plain] [--lossless] [--limit N] [--chunk N] [--profile T] OUT
-/// FEED...`, `info FILE`, `check FILE`, `cat [--indexed] [--start N] [--end N] [--topic T] FILE` or `recover [--chunk N] IN OUT`.
+/// FEED...`, `info FILE`, `check FILE`, `cat [--indexed] [--start N] [--end N] [--topic T] FILE`, `recover [--chunk N] IN OUT`
+/// or `merge [--chunk N] OUT IN...`.
 ///
 /// Options and positionals stand in any order behind the command, and `--` ends the options. An option has its value
 /// behind `=` in the same word, or in the next word, which then doesn't begin with `-`; each stands at most once. A number
 /// has 1 to 20 decimal digits: N of `--limit` is a number of bytes from 1 to 1,073,741,824 (usually 104,857,600), that of
 /// `--chunk` from 1 to 67,108,864 (usually 786,432), and those of `--start` and `--end` are times below 2^64. A profile has
 /// at most 65,535 bytes. OUT, FEED, FILE and IN aren't empty and no word is `-` alone; 1 to 64 FEEDs stand behind OUT, each
-/// other than OUT, two of which may be equal, and IN is other than OUT; `--plain` and `--chunk` exclude each other.
+/// other than OUT, two of which may be equal, as 1 to 64 INs do behind that of `merge`, and the one IN of `recover` is other than
+/// OUT; `--plain` and `--chunk` exclude each other.
 ///
 /// Where the words are no command the answer is BadWords, and where there is no memory for reading them it may be Memory.
 pub fn parse_words(alloc: Global, words: &[Text]) -> Result<Command, WordsRefused>

@@ -11,6 +11,7 @@ pub enum Verb {
     Check,
     Cat,
     Recover,
+    Merge,
 }
 
 /// The command of this name.
@@ -31,6 +32,9 @@ pub fn named_verb(name: &str) -> Option<Verb>
     }
     if name == "recover" {
         return Some(Verb::Recover);
+    }
+    if name == "merge" {
+        return Some(Verb::Merge);
     }
     None
 }

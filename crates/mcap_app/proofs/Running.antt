@@ -12,6 +12,7 @@ use Rattle.file_commands.proofs.Checks.{not_two as check_not_two}
 use Rattle.file_commands.proofs.Cats.{not_two as cat_not_two}
 use Rattle.file_commands.proofs.Followings.{indexed_not_two}
 use Rattle.output_commands.proofs.Recoveries.{recovers_not_two}
+use Rattle.output_commands.proofs.Merges.{merges_not_two}
 use Rattle.mcap_app.specs.Runs.{IsAllowed, Runs}
 
 -- no command has the status of bad words
@@ -22,6 +23,7 @@ not_two (commands.Check file) old new report status runs two = check_not_two _ _
 not_two (commands.Cat file true range topic) old new report status runs two = indexed_not_two _ _ _ _ _ runs.0 two
 not_two (commands.Cat file false range topic) old new report status runs two = cat_not_two _ _ _ _ _ runs.0 two
 not_two (commands.Recover input out chunk) old new report status runs two = recovers_not_two _ _ _ _ _ _ runs.0 two
+not_two (commands.Merge out inputs chunk) old new report status runs two = merges_not_two _ _ _ _ _ _ runs.0 two
 
 -- ---- ranges
 
@@ -61,3 +63,7 @@ allowed words (commands.Recover input out chunk) derives =
     let is = derives.behind in
     let sizes = in_range 1 67108864 786432 _ is.size is.sized (omega arith) (omega arith) in
     (omega (arith, is.chunk_is, sizes.0), omega (arith, is.chunk_is, sizes.1))
+allowed words (commands.Merge out inputs chunk) derives =
+    let is = derives.behind in
+    let sizes = in_range 1 67108864 786432 _ is.size is.sized (omega arith) (omega arith) in
+    (omega (arith, is.chunk_is, sizes.0), omega (arith, is.chunk_is, sizes.1), (is.some, is.few))

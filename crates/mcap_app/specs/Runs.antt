@@ -13,14 +13,17 @@ use Rattle.file_commands.specs.Cat.{selection, Cats}
 use Rattle.file_commands.specs.Indexed.{IndexedCats}
 use Rattle.mcap_wire.specs.Limits.{chunk_size_limit}
 use Rattle.output_commands.specs.Recover.{RecoversFile}
+use Rattle.output_commands.specs.SomeOutput.{AreFew as AreFewInputs}
+use Rattle.output_commands.specs.Merge.{MergesFiles}
 
--- the numbers and texts of a recording are in their ranges
+-- the numbers and texts of a command are in their ranges
 abbrev pub IsAllowed : Command → Type 0
 IsAllowed (commands.Record out feeds file limit lossless) = AreAllowed (record { file = file; limit = limit; lossless = lossless }) × AreFew feeds
 IsAllowed (commands.Info file) = Unit {0}
 IsAllowed (commands.Check file) = Unit {0}
 IsAllowed (commands.Cat file indexed range topic) = Unit {0}
 IsAllowed (commands.Recover input out chunk) = (1 ≤ chunk) × (chunk ≤ chunk_size_limit)
+IsAllowed (commands.Merge out inputs chunk) = (1 ≤ chunk) × (chunk ≤ chunk_size_limit) × AreFewInputs inputs
 
 -- only a recording has a report
 abbrev pub Runs : Command → Scene → Scene → Option Report → ℕ → Type 0
@@ -30,6 +33,7 @@ Runs (commands.Check file) old new report status = FileChecks file old new statu
 Runs (commands.Cat file false range topic) old new report status = Cats (selection range topic) file old new status × (report ≡ None)
 Runs (commands.Cat file true range topic) old new report status = IndexedCats (selection range topic) file old new status × (report ≡ None)
 Runs (commands.Recover input out chunk) old new report status = RecoversFile chunk input out old new status × (report ≡ None)
+Runs (commands.Merge out inputs chunk) old new report status = MergesFiles chunk inputs out old new status × (report ≡ None)
 
 -- memory lacked for reading the words, and nothing else was done
 pub record LacksForWords (old new : Scene) (report : Option Report) (status : ℕ) : Type 0 where

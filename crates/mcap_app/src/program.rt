@@ -15,7 +15,7 @@ use command_words::{Command, WordsRefused, parse_words};
 use file_commands::{check_file, describe_file, print_file, print_indexed};
 use mcap_io::{Sink, World};
 use mcap_wire::Text;
-use output_commands::recover_file;
+use output_commands::{merge_file, recover_file};
 use recorder::RecordOptions;
 use std::sync::Wait;
 use std::thread::Threads;
@@ -96,6 +96,14 @@ fn run_command<R: AllocGlobal + Threads + Wait + Sync, W: World, O: Sink, E: Sin
         } => {
             let (input, name) = (input.as_str(), name.as_str());
             return unreported(recover_file(alloc, chunk, input, name, world, out, err));
+        }
+        Command::Merge {
+            out: name,
+            inputs,
+            chunk,
+        } => {
+            let (inputs, name) = (inputs.as_slice(), name.as_str());
+            return unreported(merge_file(alloc, chunk, inputs, name, world, out, err));
         }
     }
 }

@@ -87,6 +87,10 @@ fn said(alloc: Global, command: &Command) -> Result<String, AllocError> {
             let (input, out) = (input.as_str(), out.as_str());
             format!(in alloc; "recover {input} {out} chunk={chunk}")
         }
+        Command::Merge { out, inputs, chunk } => {
+            let (out, inputs) = (out.as_str(), joined(alloc, inputs)?);
+            format!(in alloc; "merge {out}{inputs} chunk={chunk}")
+        }
     }
 }
 
