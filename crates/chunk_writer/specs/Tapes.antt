@@ -1,5 +1,5 @@
--- Why a tape stops, and a scribe as a tape.
-use Rattle.std.specs.Prelude.{◌≡◌, ℕ, ◌≤◌, List, [], ◌∷◌, ◌++◌, length, Option, Some, None, Result, Ok, Err}
+-- What a tape took and may take, why it stops, and a scribe as a tape.
+use Rattle.std.specs.Prelude.{◌≡◌, ℕ, ◌≤◌, List, [], ◌∷◌, ◌++◌, length, All, Option, Some, None, Result, Ok, Err}
 use Rattle.std.specs.List.{AllZip}
 use Rattle.std.proofs.Common.{refl, sym, ap, subst, ◌∙◌, append-nil, append_assoc}
 use Rattle.rec_data.specs.declared.owned.Rec.{Rec}
@@ -8,8 +8,10 @@ use Rattle.mcap_model.specs.declared.options.FileOptions.{FileOptions}
 use Rattle.mcap_model.specs.declared.ends.Stop.{Stop}
 use Rattle.mcap_model.specs.declared.ends.Stop.TheVariants as stops
 use Rattle.mcap_model.specs.Tops.{Top}
+use Rattle.mcap_model.specs.History.{Numbered}
 use Rattle.mcap_model.specs.File.{written_of}
 use Rattle.mcap_model.proofs.ShownMessages.{zip_joined}
+use Rattle.record_cache.specs.Buffers.{IsKept}
 use Rattle.live_entry.specs.declared.entry.Entry.{Entry}
 use Rattle.live_entry.specs.Entries.{SeenExtents, IsEntryOf, seen_before}
 use Rattle.chunk_writer.specs.declared.phase.Phase.{Phase}
@@ -19,6 +21,25 @@ use Rattle.chunk_writer.specs.declared.tape.Written.{Written}
 use Rattle.chunk_writer.specs.Limits.{Holds}
 use Rattle.chunk_writer.specs.Stops.{StopsAt, StopCause, Cause}
 use Rattle.chunk_writer.specs.Scribes.{Writes, Grows, EndsFile, OfEach, KeepsOn, GivesEntries, GivesLast, CountsLast, store_of, phase_of, blocks_of, bytes_of, sure_blocks, grows_none, grows_on}
+
+-- ---- what a tape took
+
+-- Since it was new a tape took these records, which are numbered, and of which a buffer may keep each. What is seen of a tape is
+-- handed in.
+pub record HasTaken {T X : Type 0} (is_new : T → Type 0) (grows : T → T → List Rec → List (Entry X) → Type 0) (now : T) (taken : List Rec) : Type 0 where
+  pub first : T
+  pub entries : List (Entry X)
+  pub begun : is_new first
+  pub grown : grows first now taken entries
+  pub numbered : Numbered taken
+  pub kept : All IsKept taken
+
+-- it may take these records behind those: with them all are numbered
+pub record MayTake {T X : Type 0} (is_new : T → Type 0) (grows : T → T → List Rec → List (Entry X) → Type 0) (now : T) (records : List Rec) : Type 0 where
+  pub taken : List Rec
+  pub has : HasTaken is_new grows now taken
+  pub numbered : Numbered (taken ++ records)
+  pub kept : All IsKept records
 
 -- ---- why a tape stops
 

@@ -7,7 +7,7 @@ ghost use Rattle.chunk_writer.specs.declared.phase.Phase.TheVariants as phases;
 ghost use Rattle.chunk_writer.specs.declared.phase.Phase.{Phase as TapePhase};
 ghost use Rattle.chunk_writer.specs.declared.tape.Written.{Written as Numbers};
 ghost use Rattle.chunk_writer.specs.Scribes.{store_of, phase_of, blocks_of, bytes_of};
-ghost use Rattle.chunk_writer.specs.Tapes.{EndsFor, TakesOn, EndsOn, MeetsLimit, takes_none, takes_on};
+ghost use Rattle.chunk_writer.specs.Tapes.{HasTaken, MayTake, EndsFor, TakesOn, EndsOn, MeetsLimit, takes_none, takes_on};
 
 use crate::phase::Phase;
 use crate::scribe::Scribe;
@@ -47,6 +47,9 @@ pub struct Finished<X> {
 pub trait Tape {
     type X: Extent;
 
+    /// It has taken nothing yet.
+    ghost is_new: { Self → Type 0 };
+
     /// The second is the first, later: of whatever list the first stands, the second stands for that list with these records
     /// behind it; and these are the entries of the blocks that were appended.
     ghost grows: { Self → Self → List Rec → List (BlockEntry Self.X) → Type 0 };
@@ -70,9 +73,10 @@ pub trait Tape {
     ghost grows_on: { (t u v : Self) (before behind : List Rec) (first second : List (BlockEntry Self.X)) → grows t u before first → grows u v behind second → grows t v (before ++ behind) (first ++ second) };
 
     /// Puts the buffer's records, in their order, each once, and gives the entries of the blocks that are appended, in theirs.
-    /// Where that is refused the records behind are dropped.
+    /// Where that is refused the records behind are dropped. The records are numbered behind all that it took since it was new.
     fn take(&mut self, full: Cache) -> Taken<Self::X>
         requires unended { phase self.old ≡ phases.Ended → ⊥ }
+        requires behind { MayTake is_new grows self.old full.records }
         ensures grows { grows self.old self.new full.records result.entries.items }
         ensures cleared { result.cache ≡ record { limit = full.limit; records = [] } }
         ensures goes_on { OnOk result.end ((phase self.old ≡ phases.Going) × (phase self.new ≡ phases.Going)) }
@@ -83,6 +87,7 @@ pub trait Tape {
     /// Writes what ends the file, and gives the entry of the last block, if that is appended here.
     fn finish(&mut self) -> Finished<Self::X>
         requires unended { phase self.old ≡ phases.Ended → ⊥ }
+        requires behind { (taken : List Rec) × HasTaken is_new grows self.old taken }
         ensures ends { ends self.old self.new result.last (record { blocks = result.blocks; bytes = result.bytes }) result.end }
         ensures numbers { numbers self.new ≡ record { blocks = result.blocks; bytes = result.bytes } }
         ensures ended { OnOk result.end (phase self.new ≡ phases.Ended) }
@@ -102,6 +107,9 @@ pub trait Tape {
 
 impl<L: LiveStore> Tape for Scribe<L> {
     type X = L::Extent;
+
+    // It takes whatever it is handed.
+    ghost is_new = { λ s. Unit {0} };
 
     ghost grows = { λ before after records entries. TakesOn L.state (λ e. L.Extent.tells e) (λ e. L.Extent.size e) before after records entries };
 

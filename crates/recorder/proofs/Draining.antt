@@ -9,13 +9,15 @@ use Rattle.mcap_model.specs.declared.ends.End.{End}
 use Rattle.mcap_model.specs.declared.ends.End.TheVariants as ends
 use Rattle.mcap_model.specs.declared.ends.Stop.{Stop}
 use Rattle.mcap_model.specs.declared.ends.Stop.TheVariants as stops
+use Rattle.mcap_model.specs.History.{Numbered}
+use Rattle.mcap_model.proofs.Places.{at_none}
 use Rattle.record_cache.specs.Buffers.{IsKept}
 use Rattle.record_core.specs.Desk.{IsCause}
 use Rattle.chunk_writer.specs.declared.phase.Phase.{Phase}
 use Rattle.chunk_writer.specs.declared.phase.Phase.TheVariants as phases
 use Rattle.live_entry.specs.declared.entry.Entry.{Entry}
 use Rattle.mcap_io.specs.Outside.{one_more}
-use Rattle.chunk_writer.specs.Tapes.{StopsFor, EndsFor}
+use Rattle.chunk_writer.specs.Tapes.{HasTaken, MayTake, StopsFor, EndsFor}
 use Rattle.record_core.specs.declared.answers.Found.{Found}
 use Rattle.feed_lane.specs.Pass.{PassState, Finds, with_found}
 use Rattle.buffer_swap.specs.Posts.{Post}
@@ -200,3 +202,35 @@ module _ {T X : Type 0} (grows : T → T → List Rec → List (Entry X) → Typ
     goes = λ going. continues_on phase failures limit_met u v (failures t) (phase u) refl (first.goes going) second.goes second.kept;
     kept = λ stop is. let same = first.kept stop is in second.kept stop (ap phase same ∙ is) ∙ same;
   }
+
+-- ---- what a tape took since it was new
+
+module _ {T X : Type 0} (is_new : T → Type 0) (grows : T → T → List Rec → List (Entry X) → Type 0) where
+  pub has_none : ((t : T) → grows t t [] []) → (t : T) → is_new t → (before : List Rec) → before ≡ [] → HasTaken is_new grows t before
+  has_none none t begun before is = subst (HasTaken is_new grows t) (sym is) (record {
+    first = t;
+    entries = [];
+    begun = begun;
+    grown = none t;
+    numbered = λ n r at. absurd (at_none n r at);
+    kept = λ k d lt. absurd (omega (arith, lt));
+  })
+
+  pub may_take : (t : T) (before records after : List Rec) → HasTaken is_new grows t before → after ≡ before ++ records → Numbered after → All IsKept records → MayTake is_new grows t records
+  may_take t before records after has is numbered kept = record {
+    taken = before;
+    has = has;
+    numbered = subst Numbered is numbered;
+    kept = kept;
+  }
+
+  pub has_more : ((t u v : T) (a b : List Rec) (one other : List (Entry X)) → grows t u a one → grows u v b other → grows t v (a ++ b) (one ++ other))
+      → (t u : T) (before records after : List Rec) (entries : List (Entry X)) → HasTaken is_new grows t before → grows t u records entries → All IsKept records → Numbered (before ++ records) → after ≡ before ++ records → HasTaken is_new grows u after
+  has_more on t u before records after entries has more kept numbered is = subst (HasTaken is_new grows u) (sym is) (record {
+    first = has.first;
+    entries = has.entries ++ entries;
+    begun = has.begun;
+    grown = on has.first t u before records has.entries entries has.grown more;
+    numbered = numbered;
+    kept = All-append IsKept before records has.kept kept;
+  })

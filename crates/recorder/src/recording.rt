@@ -162,6 +162,7 @@ fn run_beside<R: Threads + Wait + Sync, S: Source + Drop + Send, T: Tape<X: Send
     requires none { writer.drain.seat.me.0.post.taken ≡ [] }
     requires unstopped { writer.drain.seat.me.0.post.stop ≡ None }
     requires going { T.phase writer.tape ≡ phases.Going }
+    requires unused { T.is_new writer.tape }
     ensures recorded { RecordedOnto T.grows T.ends T.phase T.numbers T.failures T.limit_met lanes.entry.control.seat.me.0.pass.limit lanes.entry.lossless
         (map (λ lane. S.state lane.source) lanes.entry.lanes.items) (map S.state result.feeds.items) writer.entry.tape result.tape result.report }
     ensures listed { Each (λ f. ListsMessages f listed) result.report.feeds.items }
@@ -174,6 +175,7 @@ fn run_beside<R: Threads + Wait + Sync, S: Source + Drop + Send, T: Tape<X: Send
             requires none { writer.drain.seat.me.0.post.taken ≡ [] }
             requires unstopped { writer.drain.seat.me.0.post.stop ≡ None }
             requires going { T.phase writer.tape ≡ phases.Going }
+            requires unused { T.is_new writer.tape }
             ensures turn { result.drain.seat.table_id ≡ writer.entry.drain.seat.table_id }
             ensures over { (end : Last) × IsOver result.drain.seat.me.0.pass result.drain.seat.me.0.post end }
             ensures written { IsWritten T.grows T.ends T.phase T.numbers T.failures T.limit_met writer.entry.tape result.tape result.drain.seat.me.0.post.taken result.report }
@@ -216,7 +218,7 @@ fn run_beside<R: Threads + Wait + Sync, S: Source + Drop + Send, T: Tape<X: Send
     }
 }
 
-/// Records the feeds onto the tape, which it ends. Each feed has a lane of its own, and the lanes run beside the writer. Of
+/// Records the feeds onto the tape, which is new, and ends it. Each feed has a lane of its own, and the lanes run beside the writer. Of
 /// `options` it uses the limit of the buffer and whether lanes wait: what the tape's file is like is the tape's matter. Where
 /// messages aren't to be listed the report only counts them.
 pub fn record_onto<
@@ -235,6 +237,7 @@ pub fn record_onto<
     requires small { options.now.limit ≤ buffer_limit }
     requires feeds { (1 ≤ vec_len feeds) × (vec_len feeds ≤ 64) }
     requires going { T.phase tape ≡ phases.Going }
+    requires unused { T.is_new tape }
     ensures refused { result.report ≡ None → (result.feeds.items ≡ feeds.items) × (result.tape ≡ tape) }
     ensures stays { AllZip S.stays feeds.items result.feeds.items }
     ensures recorded { (r : _) → result.report ≡ Some r → RecordedOnto T.grows T.ends T.phase T.numbers T.failures T.limit_met options.now.limit options.now.lossless (map S.state feeds.items) (map S.state result.feeds.items) tape result.tape r }

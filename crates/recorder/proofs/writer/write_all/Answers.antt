@@ -6,7 +6,7 @@ pub steps-init : goal.steps-init
 steps-init g c =
     let members = g.T.Tape in
     let drain = c.args.drain.now in
-    (refl, c.requires.spare, writes_none members.grows members.phase members.failures members.limit_met members.grows_none c.args.tape.now drain.seat.me.0.post.taken drain.seat.me.0.post refl c.requires.may c.requires.stops, c.requires.halts)
+    (refl, c.requires.spare, writes_none members.grows members.phase members.failures members.limit_met members.grows_none c.args.tape.now drain.seat.me.0.post.taken drain.seat.me.0.post refl c.requires.may c.requires.stops, c.requires.halts, c.requires.has)
 
 pub returns-in-Some-over-clause-writes : goal.returns-in-Some-over-clause-writes
 returns-in-Some-over-clause-writes g c =
@@ -22,4 +22,5 @@ steps-preserved g c =
       step.ensures.spare,
       writes_on members.grows members.phase members.failures members.limit_met members.grows_on c.args.tape.now c.steps.tape step.new.tape _ _ _ c.steps.invariant.2 step.ensures.writes,
       step.ensures.halts,
+      step.ensures.has,
     )

@@ -1,10 +1,12 @@
-use Rattle.std.proofs.Common.{◌≡◌, length, refl, sym, ap, ◌∙◌}
+use Rattle.std.proofs.Common.{◌≡◌, length, refl, sym, ap, subst, ◌∙◌}
 use Rattle.mcap_model.specs.declared.ends.Stop.{Stop}
 use Rattle.chunk_writer.specs.declared.phase.Phase.TheVariants as phases
 use Rattle.feed_lane.specs.Pass.{PassState}
 use Rattle.buffer_swap.specs.Posts.{Post}
+use Rattle.mcap_model.specs.History.{Numbered}
+use Rattle.chunk_writer.specs.Tapes.{HasTaken}
 use Rattle.recorder.specs.Writing.{StopsWith}
-use Rattle.recorder.proofs.Draining.{if_some, stopped_taken, stopped_with, may_later, stops_later, writes_none, writes_one, halts_later, halts_going, halts_stopped}
+use Rattle.recorder.proofs.Draining.{if_some, stopped_taken, stopped_with, may_later, stops_later, writes_none, writes_one, may_take, has_more, halts_later, halts_going, halts_stopped}
 use Rattle.recorder.proofs.writer.write_once.Goals as goal
 
 pub returns-in-Err-clause-writes : goal.returns-in-Err-clause-writes
@@ -76,3 +78,30 @@ pub returns-in-Err-end-clause-halts : goal.returns-in-Err-end-clause-halts
 returns-in-Err-end-clause-halts g c =
     let by = c.stop.ensures.stopped in
     halts_stopped c.swap.new.self.seat.me.0.pass c.stop.new.self.seat.me.0.pass c.swap.new.self.seat.me.0.post c.stop.new.self.seat.me.0.post (g.T.Tape.phase c.take-taken.new.self) by.found c.in-Err-end.stop by.found.end refl by.finds.1 by.stopped (rw c.in-Err-end.is at c.take-taken.ensures.stopped)
+
+pub take-taken-requires-clause-behind : goal.take-taken-requires-clause-behind
+take-taken-requires-clause-behind g c =
+    let members = g.T.Tape in
+    may_take members.is_new members.grows c.args.tape.now c.args.drain.now.seat.me.0.post.taken c.in-Ok.full.records c.swap.new.self.seat.me.0.post.taken c.requires.has
+    (ap (λ (p : Post). p.taken) c.in-Ok.ensures.swapped.4) c.in-Ok.ensures.swapped.6 c.held-held.ensures.kept
+
+pub returns-in-Err-clause-has : goal.returns-in-Err-clause-has
+returns-in-Err-clause-has g c =
+    let members = g.T.Tape in
+    subst (HasTaken members.is_new members.grows c.args.tape.now) (ap (λ (p : Post). p.taken) (sym c.in-Err.ensures.swapped.6)) c.requires.has
+
+pub returns-in-Ok-end-clause-has : goal.returns-in-Ok-end-clause-has
+returns-in-Ok-end-clause-has g c =
+    let members = g.T.Tape in
+    let is = ap (λ (p : Post). p.taken) c.in-Ok.ensures.swapped.4 in
+    has_more members.is_new members.grows members.grows_on c.args.tape.now c.take-taken.new.self c.args.drain.now.seat.me.0.post.taken c.in-Ok.full.records _ c.take-taken.result.entries.items
+    c.requires.has c.take-taken.ensures.grows c.held-held.ensures.kept (subst Numbered is c.in-Ok.ensures.swapped.6) is
+
+pub returns-in-Err-end-clause-has : goal.returns-in-Err-end-clause-has
+returns-in-Err-end-clause-has g c =
+    let members = g.T.Tape in
+    let is = ap (λ (p : Post). p.taken) c.in-Ok.ensures.swapped.4 in
+    let by = c.stop.ensures.stopped in
+    has_more members.is_new members.grows members.grows_on c.args.tape.now c.take-taken.new.self c.args.drain.now.seat.me.0.post.taken c.in-Ok.full.records _ c.take-taken.result.entries.items
+    c.requires.has c.take-taken.ensures.grows c.held-held.ensures.kept (subst Numbered is c.in-Ok.ensures.swapped.6)
+    (ap (λ (p : Post). p.taken) by.stopped ∙ stopped_taken by.found.end c.in-Err-end.stop c.swap.new.self.seat.me.0.post ∙ is)

@@ -2,7 +2,7 @@
 use Rattle.std.proofs.Common.{◌≡◌, List, ◌++◌, Result, refl, sym, ap, subst, ◌∙◌}
 use Rattle.rec_data.specs.declared.owned.Rec.{Rec}
 use Rattle.mcap_model.specs.declared.ends.Stop.{Stop}
-use Rattle.recorder.proofs.Draining.{halts_going, phase_so, ended_for}
+use Rattle.recorder.proofs.Draining.{halts_going, phase_so, ended_for, has_none}
 use Rattle.recorder.proofs.writer.Writer.run.Goals as goal
 
 pub write_all-records-requires-clause-halts : goal.write_all-records-requires-clause-halts
@@ -29,3 +29,8 @@ returns-clause-written g c =
       cause = ended_for members.phase members.failures members.limit_met mid last (members.failures first) (members.phase mid) end refl (wrote.goes c.requires.going)
           (λ going. rw c.end_by.ensures (finish.cause going)) (λ stop is. let kept = finish.kept stop is in (c.end_by.ensures ∙ kept.0, kept.2));
     }
+
+pub write_all-records-requires-clause-has : goal.write_all-records-requires-clause-has
+write_all-records-requires-clause-has g c =
+    let members = g.T.Tape in
+    has_none members.is_new members.grows members.grows_none c.args.self.tape c.requires.unused c.args.self.drain.seat.me.0.post.taken c.requires.none
