@@ -43,15 +43,15 @@ pub record MayTake {T X : Type 0} (is_new : T → Type 0) (grows : T → T → L
 
 -- ---- why a tape stops
 
--- At a fault its count of failures rose in the call, and the fault carries a count of one at least and of that at most; at a
--- limit its own limit is met; and the count hasn't fallen.
+-- At a fault its count of failures rose in the call, and the fault carries a count of one at least and of that at most; else the
+-- count stands still, and at a limit its own limit is met.
 abbrev pub StopsFor : ℕ → ℕ → (ℕ → ℕ → Type 0) → Stop → Type 0
 StopsFor before now limit_met (stops.Fault faults) = Rose before now × (1 ≤ faults) × (faults ≤ now)
-StopsFor before now limit_met (stops.Limit blocks bytes) = limit_met blocks bytes × (before ≤ now)
-StopsFor before now limit_met stops.Memory = before ≤ now
+StopsFor before now limit_met (stops.Limit blocks bytes) = limit_met blocks bytes × (now ≡ before)
+StopsFor before now limit_met stops.Memory = now ≡ before
 
 abbrev pub EndsFor : {X : Type 0} → ℕ → ℕ → (ℕ → ℕ → Type 0) → Result X Stop → Type 0
-EndsFor before now limit_met (Ok it) = before ≤ now
+EndsFor before now limit_met (Ok it) = now ≡ before
 EndsFor before now limit_met (Err stop) = StopsFor before now limit_met stop
 
 -- ---- a scribe as a tape

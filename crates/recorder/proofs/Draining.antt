@@ -56,7 +56,7 @@ may_on limit_met phases.Ended before now continues = absurd continues
 pub continues_same : (limit_met : ℕ → ℕ → Type 0) (phase : Phase) (n : ℕ) → phase ≡ phases.Going → Continues limit_met phase n n
 continues_same limit_met phase n is = subst (λ (p : Phase). Continues limit_met p n n) (sym is) (omega arith)
 
-rose_later : (first mid last : ℕ) → first ≤ mid → one_more mid ≤ last → one_more first ≤ last
+rose_later : (first mid last : ℕ) → mid ≡ first → one_more mid ≤ last → one_more first ≤ last
 rose_later first mid last before rose = omega (arith, before, rose)
 
 -- how far a tape has come once it was ended
@@ -65,17 +65,17 @@ phase_so phase ends.Closed result same ended stopped = subst (λ (r : Result Uni
 phase_so phase (ends.Stopped stop) result same ended stopped = subst (λ (r : Result Unit Stop). IfErr r (λ why. phase ≡ phases.Stopped why)) (sym same) stopped
 
 -- what comes behind a call that didn't fail has the reason of both
-for_later : (first mid last : ℕ) (limit_met : ℕ → ℕ → Type 0) (stop : Stop) → first ≤ mid → StopsFor mid last limit_met stop → StopsFor first last limit_met stop
+for_later : (first mid last : ℕ) (limit_met : ℕ → ℕ → Type 0) (stop : Stop) → mid ≡ first → StopsFor mid last limit_met stop → StopsFor first last limit_met stop
 for_later first mid last limit_met (stops.Fault faults) before (rose, some, told) = (rose_later first mid last before rose, some, told)
 for_later first mid last limit_met (stops.Limit blocks bytes) before (met, later) = (met, omega (arith, before, later))
 for_later first mid last limit_met stops.Memory before later = omega (arith, before, later)
 
-pub continues_later : (first mid last : ℕ) (limit_met : ℕ → ℕ → Type 0) (phase : Phase) → first ≤ mid → Continues limit_met phase mid last → Continues limit_met phase first last
+pub continues_later : (first mid last : ℕ) (limit_met : ℕ → ℕ → Type 0) (phase : Phase) → mid ≡ first → Continues limit_met phase mid last → Continues limit_met phase first last
 continues_later first mid last limit_met phases.Going before later = omega (arith, before, later)
 continues_later first mid last limit_met (phases.Stopped stop) before later = for_later first mid last limit_met stop before later
 continues_later first mid last limit_met phases.Ended before later = absurd later
 
-pub ends_later : {X : Type 0} (first mid last : ℕ) (limit_met : ℕ → ℕ → Type 0) (end : Result X Stop) → first ≤ mid → EndsFor mid last limit_met end → EndsFor first last limit_met end
+pub ends_later : {X : Type 0} (first mid last : ℕ) (limit_met : ℕ → ℕ → Type 0) (end : Result X Stop) → mid ≡ first → EndsFor mid last limit_met end → EndsFor first last limit_met end
 ends_later first mid last limit_met (Ok it) before later = omega (arith, before, later)
 ends_later first mid last limit_met (Err stop) before later = for_later first mid last limit_met stop before later
 

@@ -21,9 +21,9 @@ pub record MayWrite (phase : Phase) : Type 0 where
   pub unended : phase ≡ phases.Ended → ⊥
   pub cause : (stop : Stop) → phase ≡ phases.Stopped stop → IsCause stop
 
--- A tape that goes on has no fewer failures than it had, and one that stopped has the reason.
+-- A tape that goes on has as many failures as it had, and one that stopped has the reason.
 abbrev pub Continues : (ℕ → ℕ → Type 0) → Phase → ℕ → ℕ → Type 0
-Continues limit_met phases.Going before now = before ≤ now
+Continues limit_met phases.Going before now = now ≡ before
 Continues limit_met (phases.Stopped stop) before now = StopsFor before now limit_met stop
 Continues limit_met phases.Ended before now = ⊥
 
