@@ -1,0 +1,11 @@
+use Rattle.std.proofs.Common.{List, length}
+use Rattle.mcap_model.specs.Tops.{Top}
+use Rattle.mcap_model.specs.Walk.{walk_at, walk_rest}
+use Rattle.message_sums.proofs.Added.{WalkedSoFar, AddsSoFar}
+use Rattle.message_sums.proofs.adding.add_inside.Given as goal
+
+abbrev pub decreases-records : goal.decreases-records
+decreases-records l = length (walk_rest l.walk)
+
+abbrev pub invariant-records : goal.invariant-records
+invariant-records l = (done : List Top) × WalkedSoFar l.records (walk_at l.walk) (walk_rest l.walk) done × AddsSoFar done l.fn.sums l.sums

@@ -1,0 +1,27 @@
+-- The sums of messages: each modulo 2^64.
+use Rattle.std.specs.Prelude.{ℕ, ◌+◌, ◌%◌, ◌^◌, List, length, sum}
+use Rattle.std.specs.List.{sum_by}
+use Rattle.rec_data.specs.Fields.{MessageFields}
+use Rattle.message_sums.specs.declared.sums.Sums.{Sums}
+
+-- what a message has of the total: its log time and the values of its data's bytes
+abbrev pub value_of : MessageFields → ℕ
+value_of m = m.log_time + sum m.payload
+
+abbrev pub bytes_of : MessageFields → ℕ
+bytes_of m = length m.payload
+
+abbrev pub sums_of : List MessageFields → Sums
+sums_of messages = record {
+  messages = length messages % 2 ^ 64;
+  bytes = sum_by bytes_of messages % 2 ^ 64;
+  total = sum_by value_of messages % 2 ^ 64;
+}
+
+-- the sums with one message more
+abbrev pub with_message : Sums → MessageFields → Sums
+with_message sums m = record {
+  messages = (sums.messages + 1) % 2 ^ 64;
+  bytes = (sums.bytes + bytes_of m) % 2 ^ 64;
+  total = (sums.total + value_of m) % 2 ^ 64;
+}
