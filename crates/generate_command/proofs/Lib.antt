@@ -1,0 +1,4 @@
+mod Printed
+mod Reread
+mod Stores
+mod Told

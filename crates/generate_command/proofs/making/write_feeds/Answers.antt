@@ -1,0 +1,42 @@
+-- The opening, the recording and the keeping come to what is said of the name.
+use Rattle.std.proofs.Common.{Bool, map, sym, subst, ap}
+use Rattle.generated_feed.specs.contracts.feed.GeneratedFeedSource.TheImpl as it
+use Rattle.generate_command.specs.Making.{NameWritten}
+use Rattle.generate_command.proofs.Stores.{unopened_output, written}
+use Rattle.generate_command.proofs.making.write_feeds.Goals as goal
+
+pub returns-in-Err-Failed : goal.returns-in-Err-Failed
+returns-in-Err-Failed g c =
+    unopened_output c.args.options.now (map it.ghosts.state c.args.feeds.items) c.args.out.now (g.W.World.state c.args.world.now) (g.W.World.state c.live.new.self) c.in-Err-Failed.field-0
+    c.in-Err-Failed.ensures.opens c.in-Err-Failed.ensures.counts c.in-Err-Failed.ensures.cause c.requires.world_fits c.requires.inputs_fit c.requires.outputs_fit
+
+pub returns-in-Err-Memory : goal.returns-in-Err-Memory
+returns-in-Err-Memory g c =
+    unopened_output c.args.options.now (map it.ghosts.state c.args.feeds.items) c.args.out.now (g.W.World.state c.args.world.now) (g.W.World.state c.live.new.self) c.in-Err-Memory.field-0
+    c.in-Err-Memory.ensures.opens c.in-Err-Memory.ensures.counts c.in-Err-Memory.ensures.cause c.requires.world_fits c.requires.inputs_fit c.requires.outputs_fit
+
+pub returns : goal.returns
+returns g c =
+    let live_state = g.W.Live.LiveStore.state in
+    let options = c.args.options.now in
+    let sources = map it.ghosts.state c.args.feeds.items in
+    let w0 = g.W.World.state c.args.world.now in
+    let w2 = g.W.World.state c.keep_live-kept.new.self in
+    let report = c.record-report.result.report in
+    subst (λ (b : Bool). NameWritten options sources c.args.out.now w0 w2 (record { report = report; kept = b })) (sym c.is_kept.ensures)
+    (written options sources (map it.ghosts.state c.record-report.result.feeds.items) c.args.out.now w0 (g.W.World.state c.live.new.self) w2 (live_state c.in-Ok.live) (live_state c.record-report.result.live) report c.keep_live-kept.result (record {
+      opens = c.in-Ok.ensures.opens;
+      stands = c.in-Ok.ensures.counts;
+      still = c.in-Ok.ensures.cause;
+      nothing = c.in-Ok.ensures.tells;
+      unused = c.in-Ok.ensures.unused;
+      unreported = λ none. ap live_state (c.record-report.ensures.refused none).1;
+      recorded = c.record-report.ensures.recorded;
+      keeps = c.keep_live-kept.ensures.keeps;
+      inputs = c.keep_live-kept.ensures.input_faults;
+      outputs = c.keep_live-kept.ensures.output_faults;
+      cause = c.keep_live-kept.ensures.cause;
+      world_fits = c.requires.world_fits;
+      inputs_fit = c.requires.inputs_fit;
+      outputs_fit = c.requires.outputs_fit;
+    }))

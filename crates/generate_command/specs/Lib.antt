@@ -1,0 +1,4 @@
+pub mod Lines
+pub mod Back
+pub mod Making
+pub mod Generating

@@ -1,0 +1,278 @@
+//! The command: recording generated feeds, reading the file back, and telling of both.
+ghost use Rattle.std.specs.Prelude.{◌≡◌, ◌≤◌, ◌<◌, ◌^◌, ◌↔◌, ◌||◌, ◌⊎◌, ◌++◌, List, ℕ, true, IsTrue};
+ghost use Rattle.std.specs.List.{list_any};
+ghost use Rattle.mcap_io.specs.Outside.{Rose};
+ghost use Rattle.feed_lane.specs.Causes.{is_over, is_memory, is_memory_stop};
+ghost use Rattle.command_base.specs.Texts.{complained, fault, output_limit, output_fault, no_memory};
+ghost use Rattle.command_base.specs.Printing.{Takes};
+ghost use Rattle.command_base.specs.Ran.{scene, AnyRose, when, Complains};
+ghost use Rattle.generate_command.specs.Making.{AreAllowed};
+ghost use Rattle.generate_command.specs.Generating.{is_closed as closes, is_limit, is_memory_end, is_memory_writer, limit_passed, lacks_memory as names_lack, is_sound as stands_whole, ReadsBack, text_after, halts_after, is_lack_after, LackIsTold, Generates};
+
+use crate::back::{Back, has_lacked, print_sums, read_back, reading_complaint};
+use crate::making::{Numbers, Written, write_generated};
+use command_base::{Complaint, Counts, complain_of, due_when, rose};
+use mcap_io::{Sink, World};
+use mcap_model::{End, Stop};
+use recorder::{FeedEnd, FeedReport, RecordOptions, Report};
+use std::alloc::Global;
+use std::sync::Wait;
+use std::thread::Threads;
+
+/// How a generation ended: its status, and the report of the recording.
+pub struct Generated {
+    pub status: u8,
+    pub report: Option<Report>,
+}
+
+// Whether the writer closed its file.
+fn is_closed(end: End) -> bool
+    ensures { result ≡ closes end }
+{
+    match end {
+        End::Closed => true,
+        End::Stopped { .. } => false,
+    }
+}
+
+// Whether the file is whole and stands under its name.
+fn is_sound(written: &Written) -> bool
+    ensures { result ≡ stands_whole written.now.report written.now.kept }
+{
+    match &written.report {
+        Some(report) => return is_closed(report.writer.end) && written.kept,
+        None => return false,
+    }
+}
+
+// Whether the writer stopped at a limit.
+fn is_at_limit(end: End) -> bool
+    ensures { result ≡ is_limit end }
+{
+    match end {
+        End::Stopped {
+            stop: Stop::Limit { .. },
+        } => true,
+        End::Closed | End::Stopped { .. } => false,
+    }
+}
+
+// Whether one of the feed's messages was refused for a limit.
+fn has_too_much(feed: &FeedReport) -> bool
+    ensures { result ≡ list_any (λ x. is_over x.cause) feed.now.refused.items }
+{
+    feed.refused.has_limit()
+}
+
+// Whether one of the messages of all feeds was.
+fn have_too_much(feeds: &[FeedReport]) -> bool
+    ensures { result ≡ list_any (λ f. list_any (λ x. is_over x.cause) f.refused.items) feeds.now }
+{
+    feeds.iter().any(|feed| has_too_much(feed))
+}
+
+// Whether the file or a message would have passed a limit.
+fn has_limit(report: &Option<Report>) -> bool
+    ensures { result ≡ limit_passed report.now }
+{
+    match report {
+        Some(report) => {
+            return is_at_limit(report.writer.end) || have_too_much(&report.feeds);
+        }
+        None => return false,
+    }
+}
+
+// Whether the writer stopped for want of memory.
+fn is_out_of_memory(stop: Stop) -> bool
+    ensures { result ≡ is_memory_stop stop }
+{
+    match stop {
+        Stop::Memory => true,
+        Stop::Fault { .. } | Stop::Limit { .. } => false,
+    }
+}
+
+// Whether the reading of the feed ended for want of memory.
+fn is_end_for_memory(end: &FeedEnd) -> bool
+    ensures { result ≡ is_memory_end end.now }
+{
+    match end {
+        FeedEnd::Memory => true,
+        FeedEnd::Done
+        | FeedEnd::Grammar { .. }
+        | FeedEnd::Compressed { .. }
+        | FeedEnd::Limit { .. }
+        | FeedEnd::Fault { .. }
+        | FeedEnd::Ended => false,
+    }
+}
+
+// Whether memory lacked for the feed, or for one of its messages.
+fn feed_lacked(feed: &FeedReport) -> bool
+    ensures { result ≡ (is_memory_end feed.now.end || list_any (λ x. is_memory x.cause) feed.now.refused.items) }
+{
+    is_end_for_memory(&feed.end) || feed.refused.has_lack()
+}
+
+// Whether memory lacked for one of the feeds.
+fn feeds_lacked(feeds: &[FeedReport]) -> bool
+    ensures { result ≡ list_any (λ f. is_memory_end f.end || list_any (λ x. is_memory x.cause) f.refused.items) feeds.now }
+{
+    feeds.iter().any(|feed| feed_lacked(feed))
+}
+
+// Whether memory lacked for the file.
+fn writer_lacked(end: End) -> bool
+    ensures { result ≡ is_memory_writer end }
+{
+    match end {
+        End::Stopped { stop } => is_out_of_memory(stop),
+        End::Closed => false,
+    }
+}
+
+// Whether the report names a want of memory.
+fn names_memory(report: &Report) -> bool
+    ensures { result ≡ names_lack report.now }
+{
+    writer_lacked(report.writer.end) || feeds_lacked(&report.feeds)
+}
+
+// Whether a count of the world rose.
+fn world_rose(before: &Counts, now: &Counts) -> bool
+    ensures { IsTrue result ↔ Rose before.now.world now.now.world ⊎ (Rose before.now.inputs now.now.inputs ⊎ Rose before.now.outputs now.now.outputs) }
+{
+    rose(before.world, now.world)
+        || rose(before.inputs, now.inputs)
+        || rose(before.outputs, now.outputs)
+}
+
+// Whether any count rose.
+fn any_rose(before: &Counts, now: &Counts) -> bool
+    ensures { IsTrue result ↔ AnyRose before.now now.now }
+{
+    world_rose(before, now) || rose(before.printing, now.printing)
+}
+
+// Whether memory lacked for the reading back.
+fn back_lacked(back: &Option<Back>) -> bool
+    ensures { (feeds : ℕ) (out : List ℕ) → result ≡ is_lack_after feeds out back.now }
+{
+    match back {
+        Some(back) => return has_lacked(&back.reading),
+        None => return false,
+    }
+}
+
+// Whether memory lacked: the report or the reading back tells of it, or there is no report though nothing failed.
+fn is_lack(before: &Counts, now: &Counts, report: &Option<Report>, back: &Option<Back>) -> bool
+    ensures { (feeds : ℕ) (out : List ℕ) → LackIsTold before.now now.now feeds out report.now back.now result }
+{
+    match report {
+        Some(report) => return names_memory(report) || back_lacked(back),
+        None => return !any_rose(before, now),
+    }
+}
+
+// The complaint of the reading back.
+fn back_complaint<'a>(out: &'a str, back: &'a Option<Back>) -> Option<Complaint<'a>>
+    ensures { (feeds : ℕ) → complained result ≡ halts_after feeds out.now back.now }
+{
+    match back {
+        Some(back) => return reading_complaint(out, &back.reading),
+        None => return None,
+    }
+}
+
+// Reads the file back, if it is whole and stands under its name.
+fn read_written<W: World>(
+    alloc: Global,
+    out: &str,
+    world: &mut W,
+    written: &Written,
+) -> Option<Back>
+    requires world_fits { (W.state world.old).faults < 2 ^ 64 }
+    requires inputs_fit { (W.state world.old).input_faults < 2 ^ 64 }
+    requires outputs_fit { (W.state world.old).output_faults < 2 ^ 64 }
+    ensures { ReadsBack (stands_whole written.now.report written.now.kept) out.now (W.state world.old) (W.state world.new) result }
+{
+    if is_sound(written) {
+        return Some(read_back(alloc, out, world));
+    }
+    return None;
+}
+
+// Prints the line of what was read back, if something was.
+fn print_back<O: Sink>(out: &mut O, feeds: u64, back: &Option<Back>)
+    ensures { (file : List ℕ) → Takes (O.state out.old) (O.state out.new) (text_after feeds file back.now) }
+{
+    match back {
+        Some(back) => return print_sums(out, feeds, &back.reading),
+        None => return,
+    }
+}
+
+// Complains of what halted the reading back, of faults, of a limit and of a want of memory, and answers the status that this asks
+// for.
+fn answer<'a, E: Sink>(
+    err: &mut E,
+    out: &'a str,
+    halt: Option<Complaint<'a>>,
+    blamed: bool,
+    limited: bool,
+    printing: bool,
+    lacked: bool,
+) -> u8
+    ensures { Complains (complained halt.entry ++ (when blamed (fault out.now) ++ (when limited (output_limit out.now) ++ (when printing output_fault ++ when lacked no_memory)))) (E.state err.old) (E.state err.new) result }
+{
+    let complaints = [
+        halt,
+        due_when(blamed, Complaint::Fault { name: out }),
+        due_when(limited, Complaint::OutputLimit { name: out }),
+        due_when(printing, Complaint::OutputFault),
+        due_when(lacked, Complaint::NoMemory),
+    ];
+    complain_of(err, &complaints)
+}
+
+/// Makes feeds of these numbers, records them into the file under the name, reads that back, prints on `out` sums of the messages
+/// that were read, and answers how that ended: 0 where all was done, 1 where the file breaks a rule, 3 where the outside failed,
+/// 4 where a limit would be passed, and 5 where memory lacked. Where the writer stopped or the file couldn't be kept nothing is
+/// read back and nothing printed; nor is anything printed where the reading is refused.
+pub fn generate_file<R: AllocGlobal + Threads + Wait + Sync, W: World, O: Sink, E: Sink>(
+    rt: &R,
+    options: &RecordOptions,
+    numbers: Numbers,
+    out_name: &str,
+    world: &mut W,
+    out: &mut O,
+    err: &mut E,
+) -> Generated
+    requires allowed { AreAllowed options.now }
+    requires few { (1 ≤ numbers.feeds) × (numbers.feeds ≤ 64) }
+    ensures { Generates options.now numbers out_name.now
+        (scene (W.state world.old) (O.state out.old) (E.state err.old))
+        (scene (W.state world.new) (O.state out.new) (E.state err.new))
+        result.report result.status }
+{
+    let before = Counts::of(world, out);
+    let written = write_generated(rt, rt.alloc(), options, numbers, out_name, world);
+    let _middle = Counts::of(world, out);
+    let back = read_written(rt.alloc(), out_name, world, &written);
+    print_back(out, numbers.feeds, &back);
+    let now = Counts::of(world, out);
+    let status = answer(
+        err,
+        out_name,
+        back_complaint(out_name, &back),
+        world_rose(&before, &now),
+        has_limit(&written.report),
+        rose(before.printing, now.printing),
+        is_lack(&before, &now, &written.report, &back),
+    );
+    Generated {
+        status,
+        report: written.report,
+    }
+}

@@ -1,0 +1,11 @@
+//! Recording generated feeds into a file, reading it back and printing sums of its messages.
+#![tactic(auto)]
+
+mod back;
+mod generating;
+mod line;
+mod making;
+
+pub use back::{Back, Reading, has_lacked, print_sums, read_back, reading_complaint};
+pub use generating::{Generated, generate_file};
+pub use making::{Numbers, Written, write_generated};
