@@ -4,6 +4,7 @@ use Rattle.std.proofs.Math.ListN.{drop_of_length-le}
 use Rattle.std.proofs.lemmas.List.{append-nil, take-append-le}
 use Rattle.std.proofs.lemmas.Bool.{cases_lt}
 use Rattle.std.proofs.lemmas.Option.{same_Some}
+use Rattle.mcap_crc.specs.Remainder.{IsChecksumOf}
 use Rattle.mcap_io.specs.declared.outside.Short.{Short}
 use Rattle.mcap_io.specs.Outside.{SinkState, RisesOnce, Adds, WritesAll}
 use Rattle.mcap_io.proofs.Calls.{adds-adds, adds-part}
@@ -163,3 +164,30 @@ message_on a b text piece more spelled table shown i m taken p at first gathered
 -- an equal piece
 pub same_piece : (a b : SinkState) (text piece given left : List ℕ) (taken : ℕ) → Printing a b text piece left taken → given ≡ piece → Printing a b text given left taken
 same_piece a b text piece given left taken p is = subst (λ (l : List ℕ). Printing a b text l left taken) (sym is) p
+
+-- ---- what was summed
+
+-- a checksum is that of the lines of the first messages
+pub record Summed (table : List Declared) (shown : List Shown) (i : ℕ) (crc : ℕ) : Type 0 where
+  pub done : List ℕ
+  pub sum : IsChecksumOf crc done
+  pub whole : done ++ lines_of table (drop i shown) ≡ lines_of table shown
+
+pub summed_on : (table : List Declared) (shown : List Shown) (i old new : ℕ) (m : Shown) (spelled piece fresh line : List ℕ) → Summed table shown i old → At shown i m → spelled ≡ spelling table m.channel
+    → fresh ≡ [] → piece ≡ fresh ++ line_of m spelled → line ≡ piece → ((before : List ℕ) → IsChecksumOf old before → IsChecksumOf new (before ++ line)) → Summed table shown (i + 1) new
+summed_on table shown i old new m spelled piece fresh line s at first none is same update =
+    let line_is : line ≡ line_of m (spelling table m.channel) = same ∙ is ∙ ap (λ (l : List ℕ). l ++ line_of m spelled) none ∙ ap (line_of m) first in
+    record {
+      done = s.done ++ line;
+      sum = update s.done s.sum;
+      whole =
+          append_assoc s.done line (lines_of table (drop (i + 1) shown))
+          ∙ ap (λ (l : List ℕ). s.done ++ (l ++ lines_of table (drop (i + 1) shown))) line_is
+          ∙ ap (λ (l : List ℕ). s.done ++ l) (sym (ap (lines_of table) (drop_next shown i m at)))
+          ∙ s.whole;
+    }
+
+-- at the end it is that of all
+pub summed_all : (table : List Declared) (shown : List Shown) (i crc : ℕ) → Summed table shown i crc → length shown ≤ i → IsChecksumOf crc (lines_of table shown)
+summed_all table shown i crc s past =
+    subst (IsChecksumOf crc) (sym (append-nil s.done) ∙ ap (λ (l : List ℕ). s.done ++ l) (sym (none_left table shown i past)) ∙ s.whole) s.sum

@@ -1,5 +1,6 @@
 //! Printing the lines of messages in pieces.
 ghost use Rattle.std.specs.Prelude.{◌≡◌, ◌+◌, ◌≤◌, List, [], IfOk, IfSome, vec_capacity};
+ghost use Rattle.mcap_crc.specs.Remainder.{remainder};
 ghost use Rattle.mcap_io.specs.Outside.{WritesAll};
 ghost use Rattle.mcap_model.specs.Places.{Each};
 ghost use Rattle.time_player.specs.Lines.{Apart, spelling, line_room, lines_of, IsReady};
@@ -11,6 +12,7 @@ use crate::lines::{quote_topics, spelled};
 use crate::messages::Messages;
 use crate::pieces::write_in_pieces;
 use crate::replay::KeptReplay;
+use mcap_crc::Crc;
 use mcap_io::{Short, Sink};
 use mcap_model::{Replayed, Table};
 use mcap_wire::Memory;
@@ -118,6 +120,22 @@ fn write_lines<K: Sink>(
     }
 }
 
+// The CRC-32 of the lines of messages. One line at a time stands in the piece.
+fn sum_lines(messages: &Messages, quoted: &Table, piece: Vec<u8>) -> u32
+    requires { IsReady (messages_in messages.now) quoted.now (vec_capacity piece) }
+    ensures { result ≡ remainder (lines_of quoted.now (messages_in messages.now)) }
+{
+    let mut piece = piece;
+    let mut crc = Crc::new();
+    'messages: for i in 0..messages.len() {
+        let message = messages.get(i);
+        piece.clear();
+        write_line(&mut piece, &message, spelled(quoted, message.channel));
+        crc.update(&piece);
+    }
+    return crc.value();
+}
+
 impl Printer {
     ghost use Rattle.mcap_model.specs.Scan.{Seen};
     ghost use Rattle.mcap_model.specs.Showing.{Shows};
@@ -187,5 +205,17 @@ impl Printer {
         let messages = mem::replace(&mut self.messages, none);
         let piece = mem::replace(&mut self.piece, Vec::new(alloc));
         write_lines(&messages, &self.quoted, piece, sink)
+    }
+
+    /// The CRC-32 of the text, in place of printing it. It takes no memory.
+    pub fn checksum(self) -> u32
+        ensures { result ≡ remainder self }
+    {
+        let Printer {
+            messages,
+            quoted,
+            piece,
+        } = self;
+        sum_lines(&messages, &quoted, piece)
     }
 }

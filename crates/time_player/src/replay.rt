@@ -1,5 +1,5 @@
 //! A replay whose messages are kept.
-ghost use Rattle.std.specs.Prelude.{◌≡◌, IfOk};
+ghost use Rattle.std.specs.Prelude.{◌≡◌, length, IfOk};
 ghost use Rattle.time_player.specs.Keeping.{kept_in};
 
 use crate::kept::Kept;
@@ -34,6 +34,13 @@ impl KeptReplay {
         ensures shown { result.shown.items ≡ kept_in kept }
     {
         KeptReplay { topics, kept }
+    }
+
+    /// How many messages it has.
+    pub fn len(&self) -> usize
+        ensures { result ≡ length self.now.shown.items }
+    {
+        self.kept.len()
     }
 
     /// Its topics and its messages.
