@@ -1,0 +1,6 @@
+mod Digits
+mod Bytes
+mod Fronts
+mod Replays
+mod Taking
+pub mod Steps

@@ -1,0 +1,30 @@
+use Rattle.std.proofs.Common.{List, ℕ, length, subst, Ok, Err}
+use Rattle.watching.specs.Text.{IsFrontLine}
+use Rattle.watching.specs.Putting.{sides, PutsBytes}
+use Rattle.watching.proofs.Replays.{front_piece}
+use Rattle.watching.proofs.Steps.{piece_written, piece_refused}
+use Rattle.watching.proofs.pieces.put_front.Goals as goal
+
+pub returns-in-Ok-put_bytes : goal.returns-in-Ok-put_bytes
+returns-in-Ok-put_bytes g c =
+    let tells = g.X.Extent.tells in
+    let entries = c.args.entries.now in
+    let all = c.in-Ok.all in
+    let line = c.line_of_front-line.result in
+    let old = sides (g.K.Sink.state c.args.sink.now) (g.V.LiveView.failures c.args.view.now) in
+    let new = sides (g.K.Sink.state c.put_bytes.new.sink) (g.V.LiveView.failures c.replay.new.view) in
+    piece_written (IsFrontLine tells c.args.range entries (length entries)) old new line
+    (front_piece tells c.args.range entries all.count c.checksum.result all.text line c.in-Ok.ensures.replays c.checksum.ensures c.line_of_front-line.ensures) c.in-Ok.ensures.cause
+    (subst (λ (l : List ℕ). PutsBytes old.sink new.sink l (Ok tt)) c.as_bytes.ensures c.in-Ok-put_bytes.ensures)
+
+pub returns-in-Err-put_bytes : goal.returns-in-Err-put_bytes
+returns-in-Err-put_bytes g c =
+    let tells = g.X.Extent.tells in
+    let entries = c.args.entries.now in
+    let all = c.in-Ok.all in
+    let line = c.line_of_front-line.result in
+    let old = sides (g.K.Sink.state c.args.sink.now) (g.V.LiveView.failures c.args.view.now) in
+    let new = sides (g.K.Sink.state c.put_bytes.new.sink) (g.V.LiveView.failures c.replay.new.view) in
+    piece_refused tells entries (IsFrontLine tells c.args.range entries (length entries)) old new line c.in-Err-put_bytes.why
+    (front_piece tells c.args.range entries all.count c.checksum.result all.text line c.in-Ok.ensures.replays c.checksum.ensures c.line_of_front-line.ensures) c.in-Ok.ensures.cause
+    (subst (λ (l : List ℕ). PutsBytes old.sink new.sink l (Err c.in-Err-put_bytes.why)) c.as_bytes.ensures c.in-Err-put_bytes.ensures)

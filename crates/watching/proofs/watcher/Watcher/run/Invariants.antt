@@ -1,0 +1,7 @@
+use Rattle.watching.specs.Watching.{WatcherState, WatchedSince}
+use Rattle.watching.proofs.watcher.Watcher.run.Given as goal
+
+abbrev pub invariant-looks : goal.invariant-looks
+invariant-looks g l =
+    (goal.iterator-looks g).can_next l.iterator' × (goal.iterator-looks g).is_finite l.iterator'
+    × ((first : WatcherState g.row.X.Denot) → WatchedSince g.X.Extent.tells first l.initial.self → WatchedSince g.X.Extent.tells first l.self)
