@@ -30,8 +30,8 @@ fn scanned(alloc: Global, front: &[u8], range: Range) -> Result<Vec<u8>, Fail> {
     }
 }
 
-// The lines of these blocks of the file.
-fn played(
+/// The lines of these blocks of the file.
+pub(crate) fn played(
     alloc: Global,
     text: &[u8],
     entries: &[Entry<Untold>],

@@ -1,0 +1,6 @@
+use Rattle.std.proofs.Common.{refl}
+use Rattle.live_entry.proofs.Nothing.{untold_follow}
+use Rattle.live_tests.proofs.watchers.publish_nth.Goals as goal
+
+pub publish-requires-clause-follow : goal.publish-requires-clause-follow
+publish-requires-clause-follow g c = untold_follow _ (λ x. refl) _
