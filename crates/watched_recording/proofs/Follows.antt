@@ -1,0 +1,109 @@
+-- The entries that a tape is to publish follow those that it has published.
+use Rattle.std.proofs.Common.{◌≡◌, ℕ, ◌≤◌, List, [], ◌∷◌, ◌++◌, All, Option, Some, None, Result, refl, sym, ap, subst, ◌∙◌, append-nil, arith}
+use Rattle.std.specs.Prelude.{false}
+use Rattle.std.proofs.lemmas.List.Elements.{All-append}
+use Rattle.std.proofs.lemmas.Option.{none-some}
+use Rattle.mcap_wire.specs.Limits.{file_limit}
+use Rattle.rec_data.specs.declared.owned.Rec.{Rec}
+use Rattle.mcap_io.specs.Outside.{LiveState}
+use Rattle.mcap_model.specs.declared.options.FileOptions.{FileOptions}
+use Rattle.mcap_model.specs.declared.ends.Stop.{Stop}
+use Rattle.mcap_model.specs.Places.{Each}
+use Rattle.mcap_model.specs.Blocks.{cuts, pieces_of, last_piece}
+use Rattle.mcap_model.specs.History.{Follows, Numbered}
+use Rattle.mcap_model.proofs.Places.{at_one, at_read, at_within, at_kept, each_front}
+use Rattle.record_cache.specs.Buffers.{IsKept}
+use Rattle.live_entry.specs.declared.entry.Entry.{Entry}
+use Rattle.live_entry.specs.Entries.{seen_before}
+use Rattle.live_entry.specs.Following.{EntriesFollow}
+use Rattle.live_directory.specs.Published.{entries_of, end_of}
+use Rattle.chunk_writer.specs.declared.phase.Phase.{Phase}
+use Rattle.chunk_writer.specs.declared.phase.Phase.TheVariants as phases
+use Rattle.chunk_writer.specs.declared.scribe.Scribe.{Scribe}
+use Rattle.chunk_writer.specs.declared.tape.Written.{Written}
+use Rattle.chunk_writer.specs.Limits.{Holds}
+use Rattle.chunk_writer.specs.Scribes.{GivesEntries, store_of, phase_of, blocks_of, bytes_of}
+use Rattle.chunk_writer.specs.Tapes.{PutsFirst, IsLeft, TakesOn, EndsOn, takes_on}
+use Rattle.recorder.proofs.EntriesFollow.{entries_follow}
+use Rattle.recorder.proofs.EntriesGathered.{entries_gathered}
+use Rattle.watched_recording.specs.Publishing.{Board, IsKnown, GivesTo, Publishing, IsNew, empty_board, held_in}
+use Rattle.watched_recording.proofs.Ends.{all_stand}
+
+each_of : {X : Type 0} (P : X → Type 0) (xs : List X) → All P xs → Each P xs
+each_of P xs all n x at =
+    let less = at_within xs n x at in
+    subst P (at_one xs n _ x (at_read xs n x less) at) (all n x less)
+
+each_kept : {X : Type 0} (P : X → Type 0) (xs ys : List X) → Each P (xs ++ ys) → Each P xs
+each_kept P xs ys each n x at = each n x (at_kept xs ys n x at)
+
+-- ---- the entries of a scribe
+
+module _ {X : Type 0} (tells : X → Option (List ℕ)) (size : X → ℕ) (store : LiveState) (options : FileOptions) (chunk : ℕ) (some : options.chunk ≡ Some chunk) (small : (1 ≤ chunk) × (chunk ≤ 67108864)) where
+  -- the entries of records of which a scribe put the first
+  first_follow : (records : List Rec) (entries : List (Entry X)) (bytes : ℕ) (phase : Phase) → Numbered records → Each IsKept records → bytes ≤ file_limit → PutsFirst (seen_before tells size store) options [] records entries bytes phase
+      → EntriesFollow tells entries
+  first_follow records entries bytes phase numbered kept within it =
+      let put = it.first in
+      let gathered = entries_gathered tells size in
+      entries_follow tells options chunk put (cuts options.chunk put).pieces entries some small
+      (each_front Follows put it.behind (subst Numbered it.cut numbered)) (each_kept IsKept put it.behind (subst (Each IsKept) it.cut kept)) (record {
+        more = last_piece (cuts options.chunk put).waiting;
+        first = refl;
+        within = omega (arith, within, it.bytes_are);
+      }) (gathered.more options [] put store.held [] entries (gathered.none options) it.entries_are)
+
+module _ {L X : Type 0} (state : L → LiveState) (tells : X → Option (List ℕ)) (size : X → ℕ) (first : Publishing L X) (now later : Scribe L) where
+  -- of a tape that was new, and took these records in several calls
+  pub taken_follow : (taken records : List Rec) (one other : List (Entry X)) → IsNew state first → TakesOn state tells size first.scribe now taken one → TakesOn state tells size now later records other
+      → Holds (blocks_of later) (bytes_of later) → Numbered (taken ++ records) → All IsKept taken → All IsKept records → EntriesFollow tells (one ++ other)
+  taken_follow taken records one other new took takes holds numbered kept more =
+      let all = takes_on state tells size first.scribe now later taken records one other took takes in
+      first_follow tells size (state (store_of first.scribe)) new.options new.size new.chunked new.size_is (taken ++ records) (one ++ other) (bytes_of later) (phase_of later) numbered
+      (each_of IsKept (taken ++ records) (All-append IsKept taken records kept more)) holds.small (all.front new.going new.options [] new.opened [] new.writes)
+
+  -- the scribe goes on, where ending it gave an entry
+  still_going : (last : Entry X) (written : Written) (end : Result Unit Stop) (phase : Phase) → phase_of now ≡ phase → (phase_of now ≡ phases.Ended → ⊥) → EndsOn state tells size now later (Some last) written end
+      → phase_of now ≡ phases.Going
+  still_going last written end phases.Going is unended ended = is
+  still_going last written end (phases.Stopped stop) is unended ended = absurd (none-some last (sym (ended.kept stop is).1))
+  still_going last written end phases.Ended is unended ended = absurd (unended is)
+
+  pub last_follows : (taken : List Rec) (one : List (Entry X)) (last : Entry X) (written : Written) (end : Result Unit Stop) → IsNew state first → TakesOn state tells size first.scribe now taken one
+      → EndsOn state tells size now later (Some last) written end → (phase_of now ≡ phases.Ended → ⊥) → Numbered taken → All IsKept taken → EntriesFollow tells (one ++ last ∷ [])
+  last_follows taken one last written end new took ended unended numbered kept =
+      let options = new.options in
+      let going = still_going last written end (phase_of now) refl unended ended in
+      let it = took.front new.going options [] new.opened [] new.writes in
+      let none : it.behind ≡ [] = subst (λ (p : Phase). IsLeft p it.behind) going it.left in
+      let whole : taken ≡ it.first = it.cut ∙ ap (λ (l : List Rec). it.first ++ l) none ∙ append-nil it.first in
+      let seen = seen_before tells size (state (store_of first.scribe)) in
+      let gathered = entries_gathered tells size in
+      let sure = gathered.more options [] taken seen.held [] one (gathered.none options) (subst (λ (l : List Rec). GivesEntries seen options [] l one) (sym whole) it.entries_are) in
+      let writes = took.grown options [] new.opened [] new.writes in
+      let gives = ended.last_is options [] new.opened taken writes in
+      let file = ended.file options [] new.opened taken writes in
+      let plans = (writes.0.going going).0 in
+      let stand = all_stand options [] new.opened.held (state (store_of later)).held taken (cuts options.chunk taken).waiting (blocks_of now) written.blocks written.bytes end gives.0 plans.blocks ended.counted file.0 in
+      entries_follow tells options new.size taken (pieces_of options.chunk taken) (one ++ last ∷ []) new.chunked new.size_is numbered (each_of IsKept taken kept) (record {
+        more = [];
+        first = sym (append-nil (pieces_of options.chunk taken));
+        within = (let holds = ended.within in omega (arith, stand, holds.small));
+      }) (gathered.last options taken (state (store_of now)).held one last sure gives)
+
+-- ---- the board of a tape that was new
+
+module _ {X : Type 0} (first now : Board X) (given : List (Entry X)) (empty : first ≡ empty_board) (gives : GivesTo first now given) where
+  pub known_since : IsKnown now
+  known_since = gives.known (subst (λ (b : Board X). IsKnown b) (sym empty) (record { short = refl; all = λ is. (refl, refl) }))
+
+  pub unsealed_since : end_of now.directory.shown ≡ None
+  unsealed_since = gives.unsealed (subst (λ (b : Board X). end_of b.directory.shown ≡ None) (sym empty) refl)
+
+  -- where memory didn't lack readers find all that was given
+  pub all_since : now.short ≡ false → entries_of now.directory.shown ≡ given
+  all_since is =
+      let (whole, none) = known_since.all is in
+      let held : held_in now.directory ≡ given = sym (append-nil (held_in now.directory)) ∙ ap (λ (l : List (Entry X)). held_in now.directory ++ l) (sym (gives.whole whole)) ∙ gives.held
+      ∙ ap (λ (b : Board X). held_in b.directory ++ given) empty in
+      sym (append-nil (entries_of now.directory.shown)) ∙ ap (λ (l : List (Entry X)). entries_of now.directory.shown ++ l) (sym none) ∙ held

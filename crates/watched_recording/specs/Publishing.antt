@@ -1,0 +1,142 @@
+-- What a tape that publishes its blocks did.
+use Rattle.std.specs.Prelude.{◌≡◌, ℕ, ◌≤◌, List, [], ◌++◌, Bool, true, false, Option, Some, None, Result}
+use Rattle.std.proofs.Common.{refl, sym, ap, ◌∙◌, append-nil, append_assoc}
+use Rattle.std.proofs.lemmas.Bool.{false≢true}
+use Rattle.mcap_wire.specs.Limits.{chunk_size_limit}
+use Rattle.rec_data.specs.declared.owned.Rec.{Rec}
+use Rattle.mcap_io.specs.Outside.{LiveState}
+use Rattle.mcap_model.specs.declared.options.FileOptions.{FileOptions}
+use Rattle.mcap_model.specs.declared.ends.Stop.{Stop}
+use Rattle.live_entry.specs.declared.entry.Entry.{Entry}
+use Rattle.live_directory.specs.Published.{entries_of, end_of}
+use Rattle.live_directory.specs.Writing.{DirectoryState, empty_directory, at_most_one}
+use Rattle.chunk_writer.specs.declared.phase.Phase.TheVariants as phases
+use Rattle.chunk_writer.specs.declared.scribe.Scribe.{Scribe}
+use Rattle.chunk_writer.specs.declared.tape.Written.{Written}
+use Rattle.chunk_writer.specs.Scribes.{Writes, phase_of}
+use Rattle.chunk_writer.specs.Tapes.{TakesOn, EndsOn, takes_none, takes_on}
+
+-- ---- what was published
+
+-- A directory as the tape that publishes into it has it: whether memory lacked in publishing, and whether entries were given
+-- behind that, which the directory doesn't have.
+pub record Board (X : Type 0) : Type 0 where
+  pub directory : DirectoryState X
+  pub short : Bool
+  pub lost : Bool
+
+abbrev pub empty_board : {X : Type 0} → Board X
+empty_board = record { directory = empty_directory; short = false; lost = false }
+
+-- all entries of a directory, behind those that readers find those that are pending
+abbrev pub held_in : {X : Type 0} → DirectoryState X → List (Entry X)
+held_in d = entries_of d.shown ++ d.pending
+
+-- the tape knows whether memory lacked, and where it didn't readers find all entries that were given
+pub record IsKnown {X : Type 0} (b : Board X) : Type 0 where
+  pub short : b.short ≡ b.directory.short
+  pub all : b.short ≡ false → (b.lost ≡ false) × (b.directory.pending ≡ [])
+
+-- These entries were given, and stand behind the earlier ones, each once and in their order: all of them, unless some were
+-- lost, and those are the last.
+pub record GivesTo {X : Type 0} (before now : Board X) (given : List (Entry X)) : Type 0 where
+  pub missing : List (Entry X)
+  pub held : held_in now.directory ++ missing ≡ held_in before.directory ++ given
+  pub whole : now.lost ≡ false → missing ≡ []
+  pub stays : before.lost ≡ true → (now.directory ≡ before.directory) × (now.lost ≡ true)
+  pub unsealed : end_of before.directory.shown ≡ None → end_of now.directory.shown ≡ None
+  pub known : IsKnown before → IsKnown now
+
+pub gives_none : {X : Type 0} (b : Board X) → GivesTo b b []
+gives_none b = record {
+  missing = [];
+  held = refl;
+  whole = λ is. refl;
+  stays = λ is. (refl, is);
+  unsealed = λ is. is;
+  known = λ is. is;
+}
+
+module _ {X : Type 0} (one two three : Board X) (a b : List (Entry X)) (first : GivesTo one two a) (second : GivesTo two three b) where
+  gives_both : (lost : Bool) → two.lost ≡ lost → (missing : List (Entry X)) × (held_in three.directory ++ missing ≡ held_in one.directory ++ (a ++ b)) × (three.lost ≡ false → missing ≡ [])
+  gives_both false is =
+      let all : held_in two.directory ≡ held_in one.directory ++ a = sym (append-nil (held_in two.directory)) ∙ ap (λ (l : List (Entry X)). held_in two.directory ++ l) (sym (first.whole is)) ∙ first.held in (
+        second.missing,
+        second.held ∙ ap (λ (l : List (Entry X)). l ++ b) all ∙ append_assoc (held_in one.directory) a b,
+        second.whole,
+      )
+  gives_both true is =
+      let (same, lost) = second.stays is in (
+        first.missing ++ b,
+        ap (λ (d : DirectoryState X). held_in d ++ (first.missing ++ b)) same ∙ sym (append_assoc (held_in two.directory) first.missing b)
+            ∙ ap (λ (l : List (Entry X)). l ++ b) first.held ∙ append_assoc (held_in one.directory) a b,
+        λ whole. absurd (false≢true (sym whole ∙ lost)),
+      )
+
+  pub gives_on : GivesTo one three (a ++ b)
+  gives_on =
+      let (missing, held, whole) = gives_both two.lost refl in
+      record {
+        missing = missing;
+        held = held;
+        whole = whole;
+        stays = λ is.
+            let (same, lost) = first.stays is in
+            let (later, still) = second.stays lost in
+            (later ∙ same, still);
+        unsealed = λ is. second.unsealed (first.unsealed is);
+        known = λ is. second.known (first.known is);
+      }
+
+-- ---- a tape that publishes
+
+-- A scribe and the directory into which its entries are published.
+pub record Publishing (L X : Type 0) : Type 0 where
+  pub scribe : Scribe L
+  pub board : Board X
+
+abbrev pub publishing : {L X : Type 0} → Scribe L → DirectoryState X → Bool → Bool → Publishing L X
+publishing scribe directory short lost = record { scribe = scribe; board = record { directory = directory; short = short; lost = lost } }
+
+-- A scribe that has taken nothing yet, of a file in chunks without extras, and a directory without blocks. What is seen of a
+-- store is handed in.
+pub record IsNew {L X : Type 0} (state : L → LiveState) (p : Publishing L X) : Type 0 where
+  pub options : FileOptions
+  pub size : ℕ
+  pub opened : LiveState
+  pub writes : Writes state options [] opened [] p.scribe
+  pub chunked : options.chunk ≡ Some size
+  pub size_is : (1 ≤ size) × (size ≤ chunk_size_limit)
+  pub going : phase_of p.scribe ≡ phases.Going
+  pub empty : p.board ≡ empty_board
+
+-- The scribe took these records, and its entries were published, so that none are handed to the caller.
+pub record PublishesOn {L X : Type 0} (state : L → LiveState) (tells : X → Option (List ℕ)) (size : X → ℕ) (before now : Publishing L X) (records : List Rec) (entries : List (Entry X)) : Type 0 where
+  pub given : List (Entry X)
+  pub took : TakesOn state tells size before.scribe now.scribe records given
+  pub published : GivesTo before.board now.board given
+  pub none : entries ≡ []
+
+-- The scribe ended its file, and its last entry was published.
+pub record PublishesEnd {L X : Type 0} (state : L → LiveState) (tells : X → Option (List ℕ)) (size : X → ℕ) (before now : Publishing L X) (last : Option (Entry X)) (written : Written) (end : Result Unit Stop) : Type 0 where
+  pub given : Option (Entry X)
+  pub ended : EndsOn state tells size before.scribe now.scribe given written end
+  pub published : GivesTo before.board now.board (at_most_one given)
+  pub none : last ≡ None
+
+pub publishes_none : {L X : Type 0} (state : L → LiveState) (tells : X → Option (List ℕ)) (size : X → ℕ) (p : Publishing L X) → PublishesOn state tells size p p [] []
+publishes_none state tells size p = record {
+  given = [];
+  took = takes_none state tells size p.scribe;
+  published = gives_none p.board;
+  none = refl;
+}
+
+pub publishes_on : {L X : Type 0} (state : L → LiveState) (tells : X → Option (List ℕ)) (size : X → ℕ) (one two three : Publishing L X) (a b : List Rec) (es fs : List (Entry X))
+    → PublishesOn state tells size one two a es → PublishesOn state tells size two three b fs → PublishesOn state tells size one three (a ++ b) (es ++ fs)
+publishes_on state tells size one two three a b es fs first second = record {
+  given = first.given ++ second.given;
+  took = takes_on state tells size one.scribe two.scribe three.scribe a b first.given second.given first.took second.took;
+  published = gives_on one.board two.board three.board first.given second.given first.published second.published;
+  none = ap (λ (l : List (Entry _)). l ++ fs) first.none ∙ second.none;
+}
