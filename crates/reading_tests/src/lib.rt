@@ -9,6 +9,8 @@ mod data_records;
 #[cfg(test)]
 mod files;
 #[cfg(test)]
+mod generated;
+#[cfg(test)]
 mod index_records;
 #[cfg(test)]
 mod indexes;
