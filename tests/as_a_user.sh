@@ -278,7 +278,10 @@ mcaprec record --lossless sixty-four.mcap pipe-of-single-*.mcap >"$room/stdout" 
 compare 'the lines of 64 pipes' 64 "$(grep -c 'accepted=1 refused=0 passed=0 end' "$room/stdout")"
 expect_messages_of sixty-four.mcap single-*.mcap
 wait
-rm -f single-*.mcap pipe-of-*
+expect 0 'merged inputs=64 messages=64 records=128' '' mcaprec merge merged.mcap single-*.mcap
+# shellcheck disable=SC2046  # each is a word
+expect 2 '' "$usage" mcaprec merge merged.mcap $(yes "$sample" | head -n 65)
+rm -f single-*.mcap pipe-of-* merged.mcap
 
 # Four pipes that four processes write at once, one of which is killed in the midst of a message.
 for n in 1 2 3 4; do mkfifo "pipe-$n"; done
@@ -344,6 +347,7 @@ expect_size merged.mcap 524
 expect 0 '10 9 1 1 "/a" aa
 10 9 1 1 "/a" aa' '' mcaprec cat --indexed merged.mcap
 expect 0 'merged inputs=2 messages=6 records=10' '' mcaprec merge merged.mcap "$session" "$one"
+[ "$(mcaprec cat merged.mcap | head -n 1)" = '10 9 1 1 "/a" aa' ] || say_wrong 'merged.mcap has its first message not on the first channel'
 expect 0 'ok indexed messages=6 channels=3 schemas=1 chunks=1 attachments=0 metadata=0' '' mcaprec check merged.mcap
 expect 1 '' 'mcaprec: "cut.mcap": grammar at 25' mcaprec merge merged-cut.mcap "$one" cut.mcap
 expect_size merged-cut.mcap 0
