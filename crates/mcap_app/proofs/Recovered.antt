@@ -81,8 +81,9 @@ bytes_of None some = absurd (both_ways false refl some)
 bytes_of (Some bytes) some = (bytes, refl)
 
 -- what was printed, and what stands under the output's name of the bytes under that of the input
-pub record WasMade (chunk : ℕ) (input out : List ℕ) (old new : Scene) (told : Told) : Type 0 where
+pub record WasMade (chunk : ℕ) (input out : List ℕ) (old new : Scene) (told : Told) (recovery : Recovery) : Type 0 where
   pub recovered : Recovered
+  pub is : recovery ≡ recoveries.Made recovered
   pub line : TellsAll old.out new.out (recovered_line recovered)
   pub now : Told
   pub tells : new.world.told ≡ Some now
@@ -90,7 +91,7 @@ pub record WasMade (chunk : ℕ) (input out : List ℕ) (old new : Scene) (told 
   pub there : told.names input ≡ Some bytes
   pub holds : HoldsRecovered chunk bytes recovered true (told.names out) (now.names out)
 
-pub made : (chunk : ℕ) (input out : List ℕ) (old new : Scene) (told : Told) (status : ℕ) → RecoversFile chunk input out old new status → old.world.told ≡ Some told → status ≡ 0 → WasMade chunk input out old new told
+pub made : (chunk : ℕ) (input out : List ℕ) (old new : Scene) (told : Told) (status : ℕ) → (it : RecoversFile chunk input out old new status) → old.world.told ≡ Some told → status ≡ 0 → WasMade chunk input out old new told it.recovery
 made chunk input out old new told status it here zero_is =
     let (none, printed) = it.ran.whole zero_is in
     let (text, ended, taken) = printed in
@@ -102,6 +103,7 @@ made chunk input out old new told status it here zero_is =
     let well = well_kept input out source all.live_kept all.stored.faults (ap failed_names (sym all.kept_are) ∙ none) in
     record {
       recovered = r;
+      is = is;
       line = subst (λ (l : List ℕ). TellsAll old.out new.out l) line taken;
       now = left.0;
       tells = left.1;
@@ -122,6 +124,7 @@ recoveries_are_sound repairs_can_be_written chunk input out old new told size it
     (omega (arith, few, holds.extras_are, few_filtered (λ t. t.op == 9) holds.extras)) (omega (arith, few, holds.extras_are, few_filtered (λ t. t.op == 12) holds.extras)) in
     record {
       recovered = all.recovered;
+      is_made = all.is;
       line = all.line;
       told = all.now;
       tells = all.tells;

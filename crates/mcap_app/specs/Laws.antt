@@ -30,6 +30,8 @@ use Rattle.mcap_recover.specs.Recovering.{recovered_options}
 use Rattle.mcap_app.specs.Record.{AreAllowed, Records}
 use Rattle.file_commands.specs.Cat.{Selection, Cats}
 use Rattle.file_commands.specs.Check.{verdict_line, FileChecks}
+use Rattle.output_commands.specs.declared.recovering.Recovery.{Recovery}
+use Rattle.output_commands.specs.declared.recovering.Recovery.TheVariants as recoveries
 use Rattle.output_commands.specs.Recover.{recovered_line, RecoversFile}
 
 -- all messages are asked for
@@ -84,10 +86,11 @@ RecordingsAreSound = (options : RecordOptions) (out : List ℕ) (feeds : List (L
 abbrev pub IsChunkSize : ℕ → Type 0
 IsChunkSize chunk = (1 ≤ chunk) × (chunk ≤ chunk_size_limit)
 
--- A line was printed of what was recovered, and under the output's name stands a file, which is valid and fully indexed where
--- the line tells fewer than 2^32 Attachments and Metadata: a summary has no more room for their number.
-pub record LeavesSound (out : List ℕ) (old new : Scene) : Type 0 where
+-- A recovery was made, and its line was printed. Under the output's name stands a file, which is valid and fully indexed where
+-- fewer than 2^32 Attachments and Metadata are told: a summary has no more room for their number.
+pub record LeavesSound (out : List ℕ) (old new : Scene) (recovery : Recovery) : Type 0 where
   pub recovered : Recovered
+  pub is_made : recovery ≡ recoveries.Made recovered
   pub line : TellsAll old.out new.out (recovered_line recovered)
   pub told : Told
   pub tells : new.world.told ≡ Some told
@@ -99,7 +102,7 @@ pub record LeavesSound (out : List ℕ) (old new : Scene) : Type 0 where
 -- A recovery with the status 0 in a world that tells leaves such a file, whatever its input was.
 abbrev pub RecoveriesAreSound : Type 0
 RecoveriesAreSound = (chunk : ℕ) (input out : List ℕ) (old new : Scene) (told : Told) → IsChunkSize chunk
-    → RecoversFile chunk input out old new 0 → old.world.told ≡ Some told → LeavesSound out old new
+    → (it : RecoversFile chunk input out old new 0) → old.world.told ≡ Some told → LeavesSound out old new it.recovery
 
 -- ---- a recording of which a first part is left is recovered
 

@@ -125,6 +125,7 @@ output_holds chunk given back live stored (Ok m) files out all now result it tol
   merges = merges_to given files it.profile it.extras it.history told it.is;
   messages = it.messages;
   records = it.records;
+  within = it.within;
   placed = placed_so (file_of (merged_options it.profile chunk) it.extras it.history) all now out result (placed (file_of (merged_options it.profile chunk) it.extras it.history) (it.file [] none));
 }
 output_holds chunk given back live stored (Err (merges.Fault faults)) files out all now result (inl nothing) told none placed = inl (nothing_placed chunk given live stored files out all now result told none placed nothing.0)

@@ -8,10 +8,12 @@ use Rattle.mcap_io.specs.declared.outside.ObjectKind.TheVariants as kinds
 use Rattle.mcap_wire.specs.Limits.{id_limit}
 use Rattle.mcap_model.specs.Places.{At, Each}
 use Rattle.mcap_model.specs.Tops.{Top}
+use Rattle.mcap_model.specs.Blocks.{pieces_of, blocks_in}
 use Rattle.mcap_model.specs.Kept.{reading_limits, Halts, at_end, grammar as breaks, compressed as names, beyond}
 use Rattle.mcap_model.specs.History.{is_message}
 use Rattle.mcap_model.specs.File.{file_of, IsPrefix}
 use Rattle.mcap_model.specs.Merged.{Merged as MergesTo, AreRead, IsUsed, SchemaIsUsed, AtMost, MoreThan}
+use Rattle.chunk_writer.specs.Limits.{Holds}
 use Rattle.mcap_merge.specs.declared.answers.Merged.{Merged}
 use Rattle.mcap_merge.specs.declared.answers.MergeRefused.{MergeRefused}
 use Rattle.mcap_merge.specs.declared.answers.MergeRefused.TheVariants as merges
@@ -39,6 +41,8 @@ pub record HoldsMerged (chunk : ℕ) (files : List (List ℕ)) (m : Merged) (wel
   pub merges : MergesTo files profile extras history
   pub messages : m.messages ≡ length (filter is_message history)
   pub records : m.records ≡ length history
+  -- that file is within the limits of writing
+  pub within : Holds (length (blocks_in (pieces_of (Some chunk) history))) (length (file_of (merged_options profile chunk) extras history))
   pub placed : IsPlaced (file_of (merged_options profile chunk) extras history) well before now
 
 -- a first part of it was put there
