@@ -110,7 +110,8 @@ usage: mcaprec
   check FILE
   cat [--indexed] [--start N] [--end N] [--topic T] FILE
   recover [--chunk N] IN OUT
-  merge [--chunk N] OUT IN...'
+  merge [--chunk N] OUT IN...
+  gen SEED FEEDS MESSAGES OUT'
 
 "$root/mcaprec" info "$one" >/dev/null </dev/null
 compare 'the status of the first run' 0 $?
@@ -355,6 +356,20 @@ expect 3 '' 'mcaprec: "missing.mcap": fault' mcaprec merge merged-none.mcap "$on
 expect_absent merged-none.mcap
 expect 3 '' 'mcaprec: "recovered-link.mcap": fault' mcaprec merge recovered-link.mcap one-recovered.mcap
 expect_records_of one-recovered.mcap "$one"
+
+# ---- feeds that are generated
+
+expect 2 '' "$usage" mcaprec gen 7 8 generated.mcap
+expect 2 '' "$usage" mcaprec gen 7 65 1 generated.mcap
+expect 2 '' "$usage" mcaprec gen 7 8 125001 generated.mcap
+expect_absent generated.mcap
+expect 0 'gen feeds=2 messages=0 data=0 sum=0' '' mcaprec gen 0 2 0 generated.mcap
+expect 0 'gen feeds=1 messages=1 data=63 sum=12840' '' mcaprec gen 0 1 1 generated.mcap
+expect 0 'gen feeds=8 messages=160000 data=5044926 sum=1600698916348' '' mcaprec gen 7 8 20000 generated.mcap
+generated_checked=$(mcaprec check generated.mcap </dev/null)
+compare 'a check of generated feeds' 'ok indexed messages=160000 channels=8 schemas=0' "${generated_checked%% chunks=*}"
+expect 0 'gen feeds=8 messages=160000 data=5044926 sum=1600698916348' '' mcaprec gen 7 8 20000 generated.mcap
+expect 3 '' 'mcaprec: "missing/generated.mcap": fault' mcaprec gen 0 1 1 missing/generated.mcap
 
 # ---- messages, by time
 

@@ -36,7 +36,7 @@ top_built = record (new_shape (codes "mcaprec")) {
 abbrev built_program : App
 built_program = record {
   top = top_built;
-  subs = leaf (codes "record") verb.Record ∷ leaf (codes "info") verb.Info ∷ leaf (codes "check") verb.Check ∷ leaf (codes "cat") verb.Cat ∷ leaf (codes "recover") verb.Recover ∷ leaf (codes "merge") verb.Merge ∷ [];
+  subs = leaf (codes "record") verb.Record ∷ leaf (codes "info") verb.Info ∷ leaf (codes "check") verb.Check ∷ leaf (codes "cat") verb.Cat ∷ leaf (codes "recover") verb.Recover ∷ leaf (codes "merge") verb.Merge ∷ leaf (codes "gen") verb.Generate ∷ [];
 }
 
 program_built : built program ≡ built_program
@@ -69,6 +69,7 @@ name_walk verb.Check = refl
 name_walk verb.Cat = refl
 name_walk verb.Recover = refl
 name_walk verb.Merge = refl
+name_walk verb.Generate = refl
 
 name_turn : (verb : Verb) → turn_fault top_built program_names (walk_from nothing_held) (name_of verb) ≡ []
 name_turn verb.Record = refl
@@ -77,6 +78,7 @@ name_turn verb.Check = refl
 name_turn verb.Cat = refl
 name_turn verb.Recover = refl
 name_turn verb.Merge = refl
+name_turn verb.Generate = refl
 
 whole_walk : (verb : Verb) (rest : List Word) → walk [] program_names nothing_held (name_of verb ∷ rest) ≡ entered_at (name_of verb) rest
 whole_walk verb rest =
@@ -99,6 +101,7 @@ verb_end verb.Check rest = refl
 verb_end verb.Cat rest = refl
 verb_end verb.Recover rest = refl
 verb_end verb.Merge rest = refl
+verb_end verb.Generate rest = refl
 
 -- what is wrong is what the subcommand finds wrong
 pub verb_fault : (verb : Verb) (rest : List Word) → fault_of program (name_of verb ∷ rest) ≡ or_else (leaf_fault (name_of verb) verb rest) []
@@ -113,6 +116,7 @@ its_rows verb.Check rest = refl
 its_rows verb.Cat rest = refl
 its_rows verb.Recover rest = refl
 its_rows verb.Merge rest = refl
+its_rows verb.Generate rest = refl
 
 -- and what is found is what it finds
 pub verb_rows : (verb : Verb) (rest : List Word) → subcommand_of program (name_of verb ∷ rest) ≡ Some (name_of verb, rows_after (rules_of verb) [] rest)
@@ -136,7 +140,10 @@ is_name word = elim (is_text (codes "record") word) [
           | inl is ↦ inl (verb.Recover, sym is)
           | inr no5 ↦ elim (is_text (codes "merge") word) [
             | inl is ↦ inl (verb.Merge, sym is)
-            | inr no6 ↦ inr (rw (no1, no2, no3, no4, no5, no6) refl)
+            | inr no6 ↦ elim (is_text (codes "gen") word) [
+              | inl is ↦ inl (verb.Generate, sym is)
+              | inr no7 ↦ inr (rw (no1, no2, no3, no4, no5, no6, no7) refl)
+            ]
           ]
         ]
       ]

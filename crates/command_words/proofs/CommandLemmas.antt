@@ -1,6 +1,6 @@
 -- From what was found to a command, and from a command's words to what is found.
-use Rattle.std.proofs.Common.{◌≡◌, ◌≢◌, ◌<◌, ◌≤◌, ◌++◌, ℕ, Bool, true, false, List, [], ◌∷◌, Option, Some, None, refl, sym, ap, ap₂, subst, inl, inr, ◌∙◌, codes, arith, length}
-use Rattle.std.specs.Prelude.{⊤, drop, find, option_and_then, option_map, slice_get, take, unwrap_or, if◌then◌else◌}
+use Rattle.std.proofs.Common.{◌≡◌, ◌≢◌, ◌<◌, ◌≤◌, ◌++◌, ℕ, Bool, true, false, List, [], ◌∷◌, Option, Some, None, refl, sym, ap, ap₂, subst, inl, inr, ◌∙◌, codes, arith, length, suc, ◌==◌}
+use Rattle.std.specs.Prelude.{⊤, drop, find, get_or, option_and_then, option_map, slice_get, take, unwrap_or, if◌then◌else◌}
 use Rattle.std.specs.Borrow.{Bor}
 use Rattle.std.specs.List.{All, flat_map}
 use Rattle.std.specs.Option.{option_to_list}
@@ -8,6 +8,7 @@ use Rattle.std.specs.Str.{bytes_eq}
 use Rattle.std.proofs.lemmas.Slice.Eq.{bytes_eq-Decides}
 use Rattle.std.proofs.lemmas.List.{length-map}
 use Rattle.std.proofs.lemmas.Option.{same_Some}
+use Rattle.std.proofs.lemmas.Bool.Decides.{nat_tests}
 use Rattle.std.proofs.lemmas.List.Elements.{All-append, All-cons, All-head, All-map, All-nil, All-tail}
 use Rattle.clap.specs.Words.{Row, first_of, subcommand_name_of, subcommand_rows_of}
 use Rattle.clap.specs.declared.parser.matches.ArgMatches.{ArgMatches}
@@ -15,10 +16,10 @@ use Rattle.clap.specs.declared.parser.matches.ArgMatches.TheViews.{out-ArgMatche
 use Rattle.mcap_model.specs.declared.options.FileOptions.{FileOptions}
 use Rattle.mcap_model.specs.declared.replay.Range.{Range}
 use Rattle.command_words.specs.Items.{Word, Item, flag, joined, apart, plain, IsFlag, IsFree, IsItem, IsOption, given, place_of, texts, words_of}
-use Rattle.command_words.specs.Commands.{AreBad, Behind, Derives, Flags, GivesNumber, IsCat, IsFileOptions, IsMerge, IsNumber, IsOfFile, IsRange, IsRecord, IsRecover, Reads, name_of, verb_of}
+use Rattle.command_words.specs.Commands.{AreAmounts, AreBad, Behind, Derives, Flags, GivesNumber, IsCat, IsFileOptions, IsGenerate, IsMerge, IsNumber, IsOfFile, IsRange, IsRecord, IsRecover, Reads, name_of, verb_of}
 use Rattle.command_words.specs.Matches.{AreFeeds, AreRead, AreUnread, AtPlaces, Fits, HasRoom, IsLoose, IsReading, all_found}
 use Rattle.command_words.specs.declared.command.Command.{Command}
-use Rattle.command_words.specs.declared.command.Command.TheVariants.{Record, Info, Check, Cat, Recover, Merge}
+use Rattle.command_words.specs.declared.command.Command.TheVariants.{Record, Info, Check, Cat, Recover, Merge, Generate}
 use Rattle.command_words.specs.declared.verbs.Verb.{Verb}
 use Rattle.command_words.specs.declared.verbs.Verb.TheVariants as verb
 use Rattle.command_words.proofs.CutLemmas.{loose_cut, one_cut}
@@ -125,6 +126,7 @@ IsOfOne verb.Check = ⊤
 IsOfOne verb.Cat = ⊤
 IsOfOne verb.Recover = ⊥
 IsOfOne verb.Merge = ⊥
+IsOfOne verb.Generate = ⊥
 
 one_few : (v : Verb) (n : ℕ) → IsOfOne v → HasRoom v n → n ≤ 1
 one_few verb.Record n one few = absurd one
@@ -133,6 +135,7 @@ one_few verb.Check n one few = few
 one_few verb.Cat n one few = few
 one_few verb.Recover n one few = absurd one
 one_few verb.Merge n one few = absurd one
+one_few verb.Generate n one few = absurd one
 
 one_placed : (v : Verb) (places : List Word) (Has : Word → List Word → Type 0) → IsOfOne v → AtPlaces v places Has → Has (codes "file") places
 one_placed verb.Record places Has one placed = absurd one
@@ -141,6 +144,7 @@ one_placed verb.Check places Has one placed = placed
 one_placed verb.Cat places Has one placed = placed
 one_placed verb.Recover places Has one placed = absurd one
 one_placed verb.Merge places Has one placed = absurd one
+one_placed verb.Generate places Has one placed = absurd one
 
 one_place : (places : List Word) (a : Word) → slice_get places 0 ≡ Some a → length places ≤ 1 → places ≡ a ∷ []
 one_place [] a first few = cc
@@ -197,7 +201,87 @@ merged_are words rows reading out inputs is = (
   reading.shows.placed.1 ∙ ap (λ (l : List Word). drop 1 l) is,
 )
 
+-- and of a generation
+generated_places : (words : List Word) (rows : List Row) (reading : IsReading verb.Generate words rows) (seed : Word) (rest : List Word) → first_of (codes "seed") rows ≡ Some seed → all_found (codes "rest") rows ≡ rest → places_in reading ≡ seed ∷ rest
+generated_places words rows reading seed rest is is2 =
+    out_first (places_in reading) seed (ap (λ (l : List Word). slice_get l 0) (sym reading.shows.placed.0) ∙ sym (first_all (codes "seed") rows) ∙ is)
+    ∙ ap (λ (l : List Word). seed ∷ l) (sym reading.shows.placed.1 ∙ is2)
+
+generated_are : (words : List Word) (rows : List Row) (reading : IsReading verb.Generate words rows) (seed : Word) (rest : List Word) → places_in reading ≡ seed ∷ rest → (first_of (codes "seed") rows ≡ Some seed) × (all_found (codes "rest") rows ≡ rest)
+generated_are words rows reading seed rest is = (
+  first_all (codes "seed") rows ∙ ap (λ (l : List Word). slice_get l 0) (reading.shows.placed.0 ∙ ap (λ (l : List Word). take 1 l) is),
+  reading.shows.placed.1 ∙ ap (λ (l : List Word). drop 1 l) is,
+)
+
 -- ---- commands
+
+-- three texts are found behind the first
+pub no_words_found : (a b c : Word) (rest : List Word) → [] ≡ a ∷ b ∷ c ∷ rest → ⊥
+no_words_found a b c rest same = cc
+
+three_long : (found : List (Bor Word)) (a b c : Word) → texts found ≡ a ∷ b ∷ c ∷ [] → length found ≡ 3
+three_long found a b c same = sym (length-map found (λ word. word.now)) ∙ ap length same
+
+three_texts : (found : List (Bor Word)) (d : Bor Word) → length found ≡ 3 → texts found ≡ (get_or found 0 d).now ∷ (get_or found 1 d).now ∷ (get_or found 2 d).now ∷ []
+three_texts [] d long = absurd (omega (arith, long))
+three_texts (x ∷ []) d long = absurd (omega (arith, long))
+three_texts (x ∷ y ∷ []) d long = absurd (omega (arith, long))
+three_texts (x ∷ y ∷ z ∷ []) d long = refl
+three_texts (x ∷ y ∷ z ∷ w ∷ more) d long = absurd (omega (arith, long))
+
+three_same : (a b c x y z : Word) → x ∷ y ∷ z ∷ [] ≡ a ∷ b ∷ c ∷ [] → (x ≡ a) × (y ≡ b) × (z ≡ c)
+three_same a b c x y z same =
+    let first : x ≡ a = cc in
+    let second : y ≡ b = cc in
+    let third : z ≡ c = cc in
+    (first, second, third)
+
+-- a text is empty, or not
+full_not_empty : (n : ℕ) → (suc n == 0) ≡ true → ⊥
+full_not_empty n is = let no : (suc n == 0) ≡ false = grind (arith, nat_tests) in let wrong : false ≡ true = sym no ∙ is in cc
+
+empty_text : (w : Word) → (length w == 0) ≡ true → w ≡ []
+empty_text [] is = refl
+empty_text (x ∷ xs) is = absurd (full_not_empty (length xs) is)
+
+full_text : (w : Word) → (length w == 0) ≡ false → w ≢ []
+full_text w is same = let none : (length w == 0) ≡ true = ap (λ (v : Word). length v == 0) same in let wrong : false ≡ true = sym is ∙ none in cc
+
+pub generate_is : (words : List Word) (rows : List Row) (reading : IsReading verb.Generate words rows) (seed_word : Word) (seed feeds messages : ℕ) (found : List (Bor Word)) (d : Bor Word) → first_of (codes "seed") rows ≡ Some seed_word → texts found ≡ all_found (codes "rest") rows → length found ≡ 3
+    → IsNumber 0 18446744073709551615 seed_word seed → AreAmounts (get_or found 0 d).now (get_or found 1 d).now feeds messages → (length (get_or found 2 d).now == 0) ≡ false → IsGenerate words seed feeds messages (get_or found 2 d).now
+generate_is words rows reading seed_word seed feeds messages found d first same long seeded amounts named = record {
+  items = reading.items;
+  seed_word = seed_word;
+  feeds_word = (get_or found 0 d).now;
+  messages_word = (get_or found 1 d).now;
+  reads = subst (Reads verb.Generate words reading.items) (generated_places words rows reading seed_word ((get_or found 0 d).now ∷ (get_or found 1 d).now ∷ (get_or found 2 d).now ∷ []) first (sym same ∙ three_texts found d long))
+      (exact_reading verb.Generate words rows reading (λ name none. absurd none));
+  seeded = seeded;
+  amounts = amounts;
+  out_named = full_text (get_or found 2 d).now named;
+}
+
+-- the words of a generation stand at these places
+module _ (words : List Word) (rows : List Row) (reading : IsReading verb.Generate words rows) (seed feeds messages : ℕ) (out : Word) (is : IsGenerate words seed feeds messages out) where
+  pub generate_places : (first_of (codes "seed") rows ≡ Some is.seed_word) × (all_found (codes "rest") rows ≡ is.feeds_word ∷ is.messages_word ∷ out ∷ [])
+  generate_places = generated_are words rows reading is.seed_word (is.feeds_word ∷ is.messages_word ∷ out ∷ [])
+      (sym (same_reading verb.Generate words rows reading is.items (is.seed_word ∷ is.feeds_word ∷ is.messages_word ∷ out ∷ []) is.reads).1)
+
+  module _ (found : List (Bor Word)) (same : texts found ≡ all_found (codes "rest") rows) where
+    pub generate_long : length found ≡ 3
+    generate_long = three_long found is.feeds_word is.messages_word out (same ∙ generate_places.1)
+
+    -- they are those that were found
+    each_same : (d : Bor Word) → ((get_or found 0 d).now ≡ is.feeds_word) × ((get_or found 1 d).now ≡ is.messages_word) × ((get_or found 2 d).now ≡ out)
+    each_same d = three_same is.feeds_word is.messages_word out (get_or found 0 d).now (get_or found 1 d).now (get_or found 2 d).now (sym (three_texts found d generate_long) ∙ (same ∙ generate_places.1))
+
+    pub generate_amounts : (d : Bor Word) → AreAmounts (get_or found 0 d).now (get_or found 1 d).now feeds messages
+    generate_amounts d =
+        subst (λ (w : Word). AreAmounts w (get_or found 1 d).now feeds messages) (sym (each_same d).0)
+        (subst (λ (w : Word). AreAmounts is.feeds_word w feeds messages) (sym (each_same d).1) is.amounts)
+
+    pub generate_named : (d : Bor Word) → (length (get_or found 2 d).now == 0) ≡ true → ⊥
+    generate_named d empty = is.out_named (sym (each_same d).2 ∙ empty_text (get_or found 2 d).now empty)
 
 pub merge_is : (words : List Word) (rows : List Row) (reading : IsReading verb.Merge words rows) (out : Word) (inputs : List Word) (size : Option ℕ) → first_of (codes "out") rows ≡ Some out → all_found (codes "in") rows ≡ inputs → out ≢ [] → AreFeeds out inputs
     → GivesNumber 1 67108864 (option_to_list (first_of (codes "chunk") rows)) size → IsMerge words out inputs (unwrap_or size 786432)
@@ -373,6 +457,9 @@ fits_merge words out inputs chunk is = record {
   few = tt;
 }
 
+fits_generate : (words : List Word) (seed feeds messages : ℕ) (out : Word) (is : IsGenerate words seed feeds messages out) → Fits verb.Generate is.items (is.seed_word ∷ is.feeds_word ∷ is.messages_word ∷ out ∷ [])
+fits_generate words seed feeds messages out is = record { options = λ name none. absurd none; flags = λ name none. absurd none; few = tt }
+
 -- words that fit no command are bad
 pub unread_bad : (words : List Word) → AreUnread words → AreBad words
 unread_bad words unread (Record out feeds file limit lossless) is =
@@ -393,6 +480,9 @@ unread_bad words unread (Recover input out chunk) is =
 unread_bad words unread (Merge out inputs chunk) is =
     let merge_of : IsMerge is.rest out inputs chunk = is.behind in
     unread verb.Merge is.rest merge_of.items (out ∷ inputs) is.form merge_of.reads (fits_merge is.rest out inputs chunk merge_of)
+unread_bad words unread (Generate seed feeds messages out) is =
+    let one : IsGenerate is.rest seed feeds messages out = is.behind in
+    unread verb.Generate is.rest one.items (one.seed_word ∷ one.feeds_word ∷ one.messages_word ∷ out ∷ []) is.form one.reads (fits_generate is.rest seed feeds messages out one)
 
 -- and so are words of which one is `-`
 item_whole : (v : Verb) (item : Item) → IsItem v item → All NoDash (words_of item)
@@ -420,6 +510,7 @@ name_whole verb.Check same = cc
 name_whole verb.Cat same = cc
 name_whole verb.Recover same = cc
 name_whole verb.Merge same = cc
+name_whole verb.Generate same = cc
 
 behind_whole : (words : List Word) (command : Command) → Behind words command → All NoDash words
 behind_whole words (Record out feeds file limit lossless) is = let one : IsRecord words out feeds file limit lossless = is in reads_whole verb.Record words one.items (out ∷ feeds) one.reads
@@ -428,6 +519,7 @@ behind_whole words (Check file) is = let one : IsOfFile verb.Check words file = 
 behind_whole words (Cat file indexed range topic) is = let one : IsCat words file indexed range topic = is in reads_whole verb.Cat words one.items (file ∷ []) one.reads
 behind_whole words (Recover input out chunk) is = let one : IsRecover words input out chunk = is in reads_whole verb.Recover words one.items (input ∷ out ∷ []) one.reads
 behind_whole words (Merge out inputs chunk) is = let one : IsMerge words out inputs chunk = is in reads_whole verb.Merge words one.items (out ∷ inputs) one.reads
+behind_whole words (Generate seed feeds messages out) is = let one : IsGenerate words seed feeds messages out = is in reads_whole verb.Generate words one.items (one.seed_word ∷ one.feeds_word ∷ one.messages_word ∷ out ∷ []) one.reads
 
 pub derived_whole : (words : List Word) (command : Command) → Derives words command → All (λ word. word ≢ codes "-") words
 derived_whole words command is =
@@ -496,36 +588,49 @@ one_verb verb.Record verb.Check same = cc
 one_verb verb.Record verb.Cat same = cc
 one_verb verb.Record verb.Recover same = cc
 one_verb verb.Record verb.Merge same = cc
+one_verb verb.Record verb.Generate same = cc
 one_verb verb.Info verb.Record same = cc
 one_verb verb.Info verb.Info same = refl
 one_verb verb.Info verb.Check same = cc
 one_verb verb.Info verb.Cat same = cc
 one_verb verb.Info verb.Recover same = cc
 one_verb verb.Info verb.Merge same = cc
+one_verb verb.Info verb.Generate same = cc
 one_verb verb.Check verb.Record same = cc
 one_verb verb.Check verb.Info same = cc
 one_verb verb.Check verb.Check same = refl
 one_verb verb.Check verb.Cat same = cc
 one_verb verb.Check verb.Recover same = cc
 one_verb verb.Check verb.Merge same = cc
+one_verb verb.Check verb.Generate same = cc
 one_verb verb.Cat verb.Record same = cc
 one_verb verb.Cat verb.Info same = cc
 one_verb verb.Cat verb.Check same = cc
 one_verb verb.Cat verb.Cat same = refl
 one_verb verb.Cat verb.Recover same = cc
 one_verb verb.Cat verb.Merge same = cc
+one_verb verb.Cat verb.Generate same = cc
 one_verb verb.Recover verb.Record same = cc
 one_verb verb.Recover verb.Info same = cc
 one_verb verb.Recover verb.Check same = cc
 one_verb verb.Recover verb.Cat same = cc
 one_verb verb.Recover verb.Recover same = refl
 one_verb verb.Recover verb.Merge same = cc
+one_verb verb.Recover verb.Generate same = cc
 one_verb verb.Merge verb.Record same = cc
 one_verb verb.Merge verb.Info same = cc
 one_verb verb.Merge verb.Check same = cc
 one_verb verb.Merge verb.Cat same = cc
 one_verb verb.Merge verb.Recover same = cc
 one_verb verb.Merge verb.Merge same = refl
+one_verb verb.Merge verb.Generate same = cc
+one_verb verb.Generate verb.Record same = cc
+one_verb verb.Generate verb.Info same = cc
+one_verb verb.Generate verb.Check same = cc
+one_verb verb.Generate verb.Cat same = cc
+one_verb verb.Generate verb.Recover same = cc
+one_verb verb.Generate verb.Merge same = cc
+one_verb verb.Generate verb.Generate same = refl
 
 pub one_name : (a b : Verb) → name_of a ≡ name_of b → a ≡ b
 one_name a b same = one_verb a b ((bytes_eq-Decides (name_of a) (name_of b)).1 same)
@@ -545,6 +650,7 @@ only_record words bad (Check file) same is = cc
 only_record words bad (Cat file indexed range topic) same is = cc
 only_record words bad (Recover input out chunk) same is = cc
 only_record words bad (Merge out inputs chunk) same is = cc
+only_record words bad (Generate seed feeds messages out) same is = cc
 
 pub only_info : (words : List Word) → ((file : Word) → IsOfFile verb.Info words file → ⊥) → (command : Command) → verb_of command ≡ verb.Info → Behind words command → ⊥
 only_info words bad (Record out feeds file limit lossless) same is = cc
@@ -553,6 +659,7 @@ only_info words bad (Check file) same is = cc
 only_info words bad (Cat file indexed range topic) same is = cc
 only_info words bad (Recover input out chunk) same is = cc
 only_info words bad (Merge out inputs chunk) same is = cc
+only_info words bad (Generate seed feeds messages out) same is = cc
 
 pub only_check : (words : List Word) → ((file : Word) → IsOfFile verb.Check words file → ⊥) → (command : Command) → verb_of command ≡ verb.Check → Behind words command → ⊥
 only_check words bad (Record out feeds file limit lossless) same is = cc
@@ -561,6 +668,7 @@ only_check words bad (Check file) same is = bad file is
 only_check words bad (Cat file indexed range topic) same is = cc
 only_check words bad (Recover input out chunk) same is = cc
 only_check words bad (Merge out inputs chunk) same is = cc
+only_check words bad (Generate seed feeds messages out) same is = cc
 
 pub only_cat : (words : List Word) → ((file : Word) (indexed : Bool) (range : Range) (topic : Option Word) → IsCat words file indexed range topic → ⊥) → (command : Command) → verb_of command ≡ verb.Cat → Behind words command → ⊥
 only_cat words bad (Record out feeds file limit lossless) same is = cc
@@ -569,6 +677,7 @@ only_cat words bad (Check file) same is = cc
 only_cat words bad (Cat file indexed range topic) same is = bad file indexed range topic is
 only_cat words bad (Recover input out chunk) same is = cc
 only_cat words bad (Merge out inputs chunk) same is = cc
+only_cat words bad (Generate seed feeds messages out) same is = cc
 
 pub only_recover : (words : List Word) → ((input out : Word) (chunk : ℕ) → IsRecover words input out chunk → ⊥) → (command : Command) → verb_of command ≡ verb.Recover → Behind words command → ⊥
 only_recover words bad (Record out feeds file limit lossless) same is = cc
@@ -577,6 +686,7 @@ only_recover words bad (Check file) same is = cc
 only_recover words bad (Cat file indexed range topic) same is = cc
 only_recover words bad (Recover input out chunk) same is = bad input out chunk is
 only_recover words bad (Merge out inputs chunk) same is = cc
+only_recover words bad (Generate seed feeds messages out) same is = cc
 
 pub only_merge : (words : List Word) → ((out : Word) (inputs : List Word) (chunk : ℕ) → IsMerge words out inputs chunk → ⊥) → (command : Command) → verb_of command ≡ verb.Merge → Behind words command → ⊥
 only_merge words bad (Record out feeds file limit lossless) same is = cc
@@ -585,6 +695,16 @@ only_merge words bad (Check file) same is = cc
 only_merge words bad (Cat file indexed range topic) same is = cc
 only_merge words bad (Recover input out chunk) same is = cc
 only_merge words bad (Merge out inputs chunk) same is = bad out inputs chunk is
+only_merge words bad (Generate seed feeds messages out) same is = cc
+
+pub only_generate : (words : List Word) → ((seed feeds messages : ℕ) (out : Word) → IsGenerate words seed feeds messages out → ⊥) → (command : Command) → verb_of command ≡ verb.Generate → Behind words command → ⊥
+only_generate words bad (Record out feeds file limit lossless) same is = cc
+only_generate words bad (Info file) same is = cc
+only_generate words bad (Check file) same is = cc
+only_generate words bad (Cat file indexed range topic) same is = cc
+only_generate words bad (Recover input out chunk) same is = cc
+only_generate words bad (Merge out inputs chunk) same is = cc
+only_generate words bad (Generate seed feeds messages out) same is = bad seed feeds messages out is
 
 pub of_named_file : (v : Verb) (words : List Word) (rows : List Row) (reading : IsReading v words rows) (file : Word) → IsOfOne v → IsOfFile v words file → (file ≢ []) × (first_of (codes "file") rows ≡ Some file)
 of_named_file v words rows reading file one is = (is.named, file_of_file v words rows reading file one is)

@@ -13,7 +13,7 @@ use Rattle.command_words.specs.declared.verbs.Verb.{Verb}
 use Rattle.command_words.specs.declared.verbs.Verb.TheVariants as verb
 use Rattle.command_words.proofs.ItemLemmas.{flag_or_option}
 use Rattle.command_words.proofs.RowLemmas.{Gathered, Holds, Said, find_more, put, put_gathers, put_others, row, other_text, said_of, said_others, same_text, taken}
-use Rattle.command_words.proofs.RuleLemmas.{flag_not_place, has_room, is_text, option_not_place, in_not_out, out_not_feed, place_for, place_is, places_map}
+use Rattle.command_words.proofs.RuleLemmas.{flag_not_place, has_room, is_text, option_not_place, in_not_out, out_not_feed, place_for, place_is, places_map, seed_not_rest}
 
 -- ---- lists
 
@@ -33,6 +33,7 @@ nothing_placed verb.Check = refl
 nothing_placed verb.Cat = refl
 nothing_placed verb.Recover = (refl, refl)
 nothing_placed verb.Merge = (refl, refl)
+nothing_placed verb.Generate = (refl, refl)
 
 no_words : (verb : Verb) → HasRoom verb 0
 no_words verb.Record = tt
@@ -41,6 +42,7 @@ no_words verb.Check = omega arith
 no_words verb.Cat = omega arith
 no_words verb.Recover = tt
 no_words verb.Merge = tt
+no_words verb.Generate = tt
 
 pub holds_nothing : (verb : Verb) → Holds verb [] [] []
 holds_nothing verb = record {
@@ -144,6 +146,14 @@ put_placed verb.Merge (x ∷ xs) rows id word is placed =
     let same : codes "in" ≡ id = cc in
     subst (λ (i : Word). AtPlaces verb.Merge (x ∷ xs ++ word ∷ []) (Gathered (put i word rows))) same
     (put_others (codes "in") word (codes "out") rows in_not_out ∙ placed.0, put_gathers (codes "in") word xs rows placed.1)
+put_placed verb.Generate [] rows id word is placed =
+    let same : codes "seed" ≡ id = cc in
+    subst (λ (i : Word). AtPlaces verb.Generate (word ∷ []) (Gathered (put i word rows))) same
+    (put_gathers (codes "seed") word [] rows placed.0, put_others (codes "seed") word (codes "rest") rows seed_not_rest ∙ placed.1)
+put_placed verb.Generate (x ∷ xs) rows id word is placed =
+    let same : codes "rest" ≡ id = cc in
+    subst (λ (i : Word). AtPlaces verb.Generate (x ∷ xs ++ word ∷ []) (Gathered (put i word rows))) same
+    (put_others (codes "rest") word (codes "seed") rows (λ equal. seed_not_rest (sym equal)) ∙ placed.0, put_gathers (codes "rest") word xs rows placed.1)
 
 pub holds_place : (verb : Verb) (items : List Item) (places : List Word) (rows : List Row) (id word : Word) → place_for verb (length places) ≡ Some id → Holds verb items places rows
     → Holds verb items (places ++ word ∷ []) (put id word rows)

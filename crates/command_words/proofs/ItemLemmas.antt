@@ -32,6 +32,7 @@ flag_bare verb.Check name is = absurd is
 flag_bare verb.Cat name is = subst IsBare (sym is) (bare_is (codes "indexed") refl)
 flag_bare verb.Recover name is = absurd is
 flag_bare verb.Merge name is = absurd is
+flag_bare verb.Generate name is = absurd is
 
 one_of_bare : (first second third name : Word) → IsBare first → IsBare second → IsBare third → (name ≡ first) ⊎ ((name ≡ second) ⊎ (name ≡ third)) → IsBare name
 one_of_bare first second third name a b c is = elim is [
@@ -47,6 +48,7 @@ option_bare verb.Check name is = absurd is
 option_bare verb.Cat name is = one_of_bare (codes "start") (codes "end") (codes "topic") name (bare_is (codes "start") refl) (bare_is (codes "end") refl) (bare_is (codes "topic") refl) is
 option_bare verb.Recover name is = subst IsBare (sym is) (bare_is (codes "chunk") refl)
 option_bare verb.Merge name is = subst IsBare (sym is) (bare_is (codes "chunk") refl)
+option_bare verb.Generate name is = absurd is
 
 -- no name is both
 two_names : (one two name : Word) → bytes_eq one two ≡ false → name ≡ one → name ≡ two → ⊥
@@ -66,6 +68,7 @@ flag_or_option verb.Cat name is (inr (inl other)) = two_names (codes "indexed") 
 flag_or_option verb.Cat name is (inr (inr other)) = two_names (codes "indexed") (codes "topic") name refl is other
 flag_or_option verb.Recover name is other = is
 flag_or_option verb.Merge name is other = is
+flag_or_option verb.Generate name is other = is
 
 -- no name is empty
 pub no_empty_flag : (verb : Verb) → IsFlag verb [] → ⊥
@@ -76,6 +79,7 @@ no_empty_flag verb.Check is = is
 no_empty_flag verb.Cat is = cc
 no_empty_flag verb.Recover is = is
 no_empty_flag verb.Merge is = is
+no_empty_flag verb.Generate is = is
 
 pub no_empty_option : (verb : Verb) → IsOption verb [] → ⊥
 no_empty_option verb.Record (inl is) = cc
@@ -88,6 +92,7 @@ no_empty_option verb.Cat (inr (inl is)) = cc
 no_empty_option verb.Cat (inr (inr is)) = cc
 no_empty_option verb.Recover is = cc
 no_empty_option verb.Merge is = cc
+no_empty_option verb.Generate is = is
 
 tail_is : (c : ℕ) (cs : List ℕ) → IsBare (c ∷ cs) → IsBare cs
 tail_is c cs is = λ i less. is (suc i) (omega (arith, less))

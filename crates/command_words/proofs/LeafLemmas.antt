@@ -83,6 +83,7 @@ all_pass verb.Merge = (
   λ rows. plain_default rows (option_rule (codes "chunk")) refl,
   (λ rows. plain_default rows (place_rule (codes "out") 1) refl, (λ rows. plain_default rows (rest_rule (codes "in") 2) refl, tt)),
 )
+all_pass verb.Generate = (λ rows. plain_default rows (place_rule (codes "seed") 1) refl, (λ rows. plain_default rows (rest_rule (codes "rest") 2) refl, tt))
 
 no_defaults_fault : (verb : Verb) (rows : List Row) → defaults_fault rows (rules_of verb) ≡ []
 no_defaults_fault verb rows = defaults_pass (rules_of verb) rows (all_pass verb)
@@ -94,6 +95,7 @@ no_check_fault name verb.Check rows = refl
 no_check_fault name verb.Cat rows = refl
 no_check_fault name verb.Recover rows = refl
 no_check_fault name verb.Merge rows = refl
+no_check_fault name verb.Generate rows = refl
 
 -- a command takes the words that its walk lets pass
 abbrev pub leaf_fault : Word → Verb → List Word → Kinds
@@ -127,6 +129,7 @@ flags_of verb.Check = []
 flags_of verb.Cat = codes "indexed" ∷ []
 flags_of verb.Recover = []
 flags_of verb.Merge = []
+flags_of verb.Generate = []
 
 abbrev flagged : List Word → List Row → List Row
 flagged names rows = fold with_default rows (map flag_rule names)
@@ -149,6 +152,7 @@ finished_rows verb.Cat rows =
     unlisted_all (option_rule (codes "start") ∷ option_rule (codes "end") ∷ option_rule (codes "topic") ∷ place_rule (codes "file") 1 ∷ []) (flagged (flags_of verb.Cat) rows) (refl, (refl, (refl, (refl, tt))))
 finished_rows verb.Recover rows = unlisted_all (option_rule (codes "chunk") ∷ place_rule (codes "in") 1 ∷ rest_rule (codes "out") 2 ∷ []) rows (refl, (refl, (refl, tt)))
 finished_rows verb.Merge rows = unlisted_all (option_rule (codes "chunk") ∷ place_rule (codes "out") 1 ∷ rest_rule (codes "in") 2 ∷ []) rows (refl, (refl, (refl, tt)))
+finished_rows verb.Generate rows = unlisted_all (place_rule (codes "seed") 1 ∷ rest_rule (codes "rest") 2 ∷ []) rows (refl, (refl, tt))
 
 abbrev default_row : Word → Row
 default_row id = record {
@@ -196,6 +200,7 @@ kept_found verb.Check name rows unlike = refl
 kept_found verb.Cat name rows unlike = found_other rows (codes "indexed") name (unlike (codes "indexed") refl)
 kept_found verb.Recover name rows unlike = refl
 kept_found verb.Merge name rows unlike = refl
+kept_found verb.Generate name rows unlike = refl
 
 plain_not_lossless : codes "plain" ≢ codes "lossless"
 plain_not_lossless same = cc
@@ -217,6 +222,7 @@ flags_shown verb.Cat name rows is_there is said =
     (flag_shown rows (codes "indexed") is_there (subst (λ (n : Word). Said rows n (if is_there then Some (codes "true") else None)) is said))
 flags_shown verb.Recover name rows is_there is said = absurd is
 flags_shown verb.Merge name rows is_there is said = absurd is
+flags_shown verb.Generate name rows is_there is said = absurd is
 
 gathered_found : (rows : List Row) (id : Word) (values : List Word) → Gathered rows id values → all_found id rows ≡ values
 gathered_found rows id [] there = ap (λ (r : Option Row). unwrap_or (option_map (λ (r : Row). r.values) r) []) there

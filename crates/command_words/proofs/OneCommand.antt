@@ -9,9 +9,9 @@ use Rattle.std.proofs.lemmas.Slice.Eq.{bytes_eq-Decides}
 use Rattle.mcap_model.specs.declared.options.FileOptions.{FileOptions}
 use Rattle.mcap_model.specs.declared.replay.Range.{Range}
 use Rattle.command_words.specs.Items.{Word, Item, given}
-use Rattle.command_words.specs.Commands.{Behind, Derives, Flags, GivesNumber, HasChunks, HasProfile, IsCat, IsFileOptions, IsMerge, IsOfFile, IsOnly, IsRange, IsRecord, IsRecover, SizesChunks, name_of, verb_of}
+use Rattle.command_words.specs.Commands.{Behind, Derives, Flags, GivesNumber, HasChunks, HasProfile, IsCat, IsFileOptions, IsGenerate, IsMerge, IsNumber, IsOfFile, IsOnly, IsRange, IsRecord, IsRecover, SizesChunks, name_of, verb_of}
 use Rattle.command_words.specs.declared.command.Command.{Command}
-use Rattle.command_words.specs.declared.command.Command.TheVariants.{Record, Info, Check, Cat, Recover, Merge}
+use Rattle.command_words.specs.declared.command.Command.TheVariants.{Record, Info, Check, Cat, Recover, Merge, Generate}
 use Rattle.command_words.specs.declared.command.WordsRefused.{WordsRefused}
 use Rattle.command_words.specs.declared.verbs.Verb.{Verb}
 use Rattle.command_words.specs.declared.verbs.Verb.TheVariants as verb
@@ -122,6 +122,22 @@ one_merge words out inputs chunk out' inputs' chunk' is other =
     let chunks : chunk' ≡ chunk = other.chunk_is ∙ ap (λ (v : Option ℕ). unwrap_or v 786432) size ∙ sym is.chunk_is in
     cc
 
+number_same : (least most : ℕ) (word word' : Word) (m n : ℕ) → word' ≡ word → IsNumber least most word m → IsNumber least most word' n → n ≡ m
+number_same least most word word' m n same is other = other.value ∙ ap (λ (w : Word). digits_value 10 w) same ∙ sym is.value
+
+one_generate : (words : List Word) (seed feeds messages : ℕ) (out : Word) (seed' feeds' messages' : ℕ) (out' : Word) → IsGenerate words seed feeds messages out → IsGenerate words seed' feeds' messages' out' → Generate seed' feeds' messages' out' ≡ Generate seed feeds messages out
+one_generate words seed feeds messages out seed' feeds' messages' out' is other =
+    let same = one_reading verb.Generate words is.items other.items (is.seed_word ∷ is.feeds_word ∷ is.messages_word ∷ out ∷ []) (other.seed_word ∷ other.feeds_word ∷ other.messages_word ∷ out' ∷ []) is.reads other.reads in
+    let places : other.seed_word ∷ other.feeds_word ∷ other.messages_word ∷ out' ∷ [] ≡ is.seed_word ∷ is.feeds_word ∷ is.messages_word ∷ out ∷ [] = same.1 in
+    let first : other.seed_word ≡ is.seed_word = cc in
+    let second : other.feeds_word ≡ is.feeds_word = cc in
+    let third : other.messages_word ≡ is.messages_word = cc in
+    let last : out' ≡ out = cc in
+    let seeds : seed' ≡ seed = number_same 0 18446744073709551615 is.seed_word other.seed_word seed seed' first is.seeded other.seeded in
+    let counts : feeds' ≡ feeds = number_same 1 64 is.feeds_word other.feeds_word feeds feeds' second is.amounts.feeds_are other.amounts.feeds_are in
+    let each : messages' ≡ messages = number_same 0 1000000 is.messages_word other.messages_word messages messages' third is.amounts.messages_are other.amounts.messages_are in
+    cc
+
 -- the names differ
 two_names : (one two : Word) → bytes_eq one two ≡ false → one ≡ two → ⊥
 two_names one two unlike is = let same : bytes_eq one two ≡ true = (bytes_eq-Decides one two).1 is in let wrong : false ≡ true = sym unlike ∙ same in cc
@@ -133,36 +149,49 @@ one_behind words (Record out feeds file limit lossless) (Check file') names is o
 one_behind words (Record out feeds file limit lossless) (Cat file' indexed' range' topic') names is other = absurd (two_names (codes "record") (codes "cat") refl names)
 one_behind words (Record out feeds file limit lossless) (Recover input' out' chunk') names is other = absurd (two_names (codes "record") (codes "recover") refl names)
 one_behind words (Record out feeds file limit lossless) (Merge out' inputs' chunk') names is other = absurd (two_names (codes "record") (codes "merge") refl names)
+one_behind words (Record out feeds file limit lossless) (Generate seed' feeds' messages' out') names is other = absurd (two_names (codes "record") (codes "gen") refl names)
 one_behind words (Info file) (Record out' feeds' file' limit' lossless') names is other = absurd (two_names (codes "info") (codes "record") refl names)
 one_behind words (Info file) (Info file') names is other = ap (λ (f : Word). Info f) (one_file verb.Info words file file' is other)
 one_behind words (Info file) (Check file') names is other = absurd (two_names (codes "info") (codes "check") refl names)
 one_behind words (Info file) (Cat file' indexed' range' topic') names is other = absurd (two_names (codes "info") (codes "cat") refl names)
 one_behind words (Info file) (Recover input' out' chunk') names is other = absurd (two_names (codes "info") (codes "recover") refl names)
 one_behind words (Info file) (Merge out' inputs' chunk') names is other = absurd (two_names (codes "info") (codes "merge") refl names)
+one_behind words (Info file) (Generate seed' feeds' messages' out') names is other = absurd (two_names (codes "info") (codes "gen") refl names)
 one_behind words (Check file) (Record out' feeds' file' limit' lossless') names is other = absurd (two_names (codes "check") (codes "record") refl names)
 one_behind words (Check file) (Info file') names is other = absurd (two_names (codes "check") (codes "info") refl names)
 one_behind words (Check file) (Check file') names is other = ap (λ (f : Word). Check f) (one_file verb.Check words file file' is other)
 one_behind words (Check file) (Cat file' indexed' range' topic') names is other = absurd (two_names (codes "check") (codes "cat") refl names)
 one_behind words (Check file) (Recover input' out' chunk') names is other = absurd (two_names (codes "check") (codes "recover") refl names)
 one_behind words (Check file) (Merge out' inputs' chunk') names is other = absurd (two_names (codes "check") (codes "merge") refl names)
+one_behind words (Check file) (Generate seed' feeds' messages' out') names is other = absurd (two_names (codes "check") (codes "gen") refl names)
 one_behind words (Cat file indexed range topic) (Record out' feeds' file' limit' lossless') names is other = absurd (two_names (codes "cat") (codes "record") refl names)
 one_behind words (Cat file indexed range topic) (Info file') names is other = absurd (two_names (codes "cat") (codes "info") refl names)
 one_behind words (Cat file indexed range topic) (Check file') names is other = absurd (two_names (codes "cat") (codes "check") refl names)
 one_behind words (Cat file indexed range topic) (Cat file' indexed' range' topic') names is other = one_cat words file indexed range topic file' indexed' range' topic' is other
 one_behind words (Cat file indexed range topic) (Recover input' out' chunk') names is other = absurd (two_names (codes "cat") (codes "recover") refl names)
 one_behind words (Cat file indexed range topic) (Merge out' inputs' chunk') names is other = absurd (two_names (codes "cat") (codes "merge") refl names)
+one_behind words (Cat file indexed range topic) (Generate seed' feeds' messages' out') names is other = absurd (two_names (codes "cat") (codes "gen") refl names)
 one_behind words (Recover input out chunk) (Record out' feeds' file' limit' lossless') names is other = absurd (two_names (codes "recover") (codes "record") refl names)
 one_behind words (Recover input out chunk) (Info file') names is other = absurd (two_names (codes "recover") (codes "info") refl names)
 one_behind words (Recover input out chunk) (Check file') names is other = absurd (two_names (codes "recover") (codes "check") refl names)
 one_behind words (Recover input out chunk) (Cat file' indexed' range' topic') names is other = absurd (two_names (codes "recover") (codes "cat") refl names)
 one_behind words (Recover input out chunk) (Recover input' out' chunk') names is other = one_recover words input out chunk input' out' chunk' is other
 one_behind words (Recover input out chunk) (Merge out' inputs' chunk') names is other = absurd (two_names (codes "recover") (codes "merge") refl names)
+one_behind words (Recover input out chunk) (Generate seed' feeds' messages' out') names is other = absurd (two_names (codes "recover") (codes "gen") refl names)
 one_behind words (Merge out inputs chunk) (Record out' feeds' file' limit' lossless') names is other = absurd (two_names (codes "merge") (codes "record") refl names)
 one_behind words (Merge out inputs chunk) (Info file') names is other = absurd (two_names (codes "merge") (codes "info") refl names)
 one_behind words (Merge out inputs chunk) (Check file') names is other = absurd (two_names (codes "merge") (codes "check") refl names)
 one_behind words (Merge out inputs chunk) (Cat file' indexed' range' topic') names is other = absurd (two_names (codes "merge") (codes "cat") refl names)
 one_behind words (Merge out inputs chunk) (Recover input' out' chunk') names is other = absurd (two_names (codes "merge") (codes "recover") refl names)
 one_behind words (Merge out inputs chunk) (Merge out' inputs' chunk') names is other = one_merge words out inputs chunk out' inputs' chunk' is other
+one_behind words (Merge out inputs chunk) (Generate seed' feeds' messages' out') names is other = absurd (two_names (codes "merge") (codes "gen") refl names)
+one_behind words (Generate seed feeds messages out) (Record out' feeds' file' limit' lossless') names is other = absurd (two_names (codes "gen") (codes "record") refl names)
+one_behind words (Generate seed feeds messages out) (Info file') names is other = absurd (two_names (codes "gen") (codes "info") refl names)
+one_behind words (Generate seed feeds messages out) (Check file') names is other = absurd (two_names (codes "gen") (codes "check") refl names)
+one_behind words (Generate seed feeds messages out) (Cat file' indexed' range' topic') names is other = absurd (two_names (codes "gen") (codes "cat") refl names)
+one_behind words (Generate seed feeds messages out) (Recover input' out' chunk') names is other = absurd (two_names (codes "gen") (codes "recover") refl names)
+one_behind words (Generate seed feeds messages out) (Merge out' inputs' chunk') names is other = absurd (two_names (codes "gen") (codes "merge") refl names)
+one_behind words (Generate seed feeds messages out) (Generate seed' feeds' messages' out') names is other = one_generate words seed feeds messages out seed' feeds' messages' out' is other
 
 pub one_command : (words : List Word) (a : Command) → Derives words a → IsOnly words a
 one_command words a is b other =

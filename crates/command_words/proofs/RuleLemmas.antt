@@ -33,6 +33,7 @@ rules_of verb.Check = place_rule (codes "file") 1 ∷ []
 rules_of verb.Cat = flag_rule (codes "indexed") ∷ option_rule (codes "start") ∷ option_rule (codes "end") ∷ option_rule (codes "topic") ∷ place_rule (codes "file") 1 ∷ []
 rules_of verb.Recover = option_rule (codes "chunk") ∷ place_rule (codes "in") 1 ∷ rest_rule (codes "out") 2 ∷ []
 rules_of verb.Merge = option_rule (codes "chunk") ∷ place_rule (codes "out") 1 ∷ rest_rule (codes "in") 2 ∷ []
+rules_of verb.Generate = place_rule (codes "seed") 1 ∷ rest_rule (codes "rest") 2 ∷ []
 
 pub is_text : (a b : Word) → (a ≡ b) ⊎ (bytes_eq a b ≡ false)
 is_text a b = go (bytes_eq a b) refl
@@ -85,6 +86,7 @@ named verb.Merge name = elim (is_text (codes "chunk") name) [
   | inl is ↦ inr (inl (sym is))
   | inr no1 ↦ inr (inr (rw no1 refl))
 ]
+named verb.Generate name = inr (inr refl)
 
 -- by its name and by its id an argument is found
 abbrev pub Found : Verb → Word → Rule → Type 0
@@ -98,6 +100,7 @@ flag_found verb.Check name is = absurd is
 flag_found verb.Cat name is = subst (λ n. Found verb.Cat n (flag_rule n)) (sym is) (refl, refl)
 flag_found verb.Recover name is = absurd is
 flag_found verb.Merge name is = absurd is
+flag_found verb.Generate name is = absurd is
 
 pub option_found : (verb : Verb) (name : Word) → IsOption verb name → Found verb name (option_rule name)
 option_found verb.Record name (inl is) = subst (λ n. Found verb.Record n (option_rule n)) (sym is) (refl, refl)
@@ -110,6 +113,7 @@ option_found verb.Cat name (inr (inl is)) = subst (λ n. Found verb.Cat n (optio
 option_found verb.Cat name (inr (inr is)) = subst (λ n. Found verb.Cat n (option_rule n)) (sym is) (refl, refl)
 option_found verb.Recover name is = subst (λ n. Found verb.Recover n (option_rule n)) (sym is) (refl, refl)
 option_found verb.Merge name is = subst (λ n. Found verb.Merge n (option_rule n)) (sym is) (refl, refl)
+option_found verb.Generate name is = absurd is
 
 pub no_short : (verb : Verb) (letter : ℕ) → arg_by_short (rules_of verb) letter ≡ None
 no_short verb.Record letter = refl
@@ -118,6 +122,7 @@ no_short verb.Check letter = refl
 no_short verb.Cat letter = refl
 no_short verb.Recover letter = refl
 no_short verb.Merge letter = refl
+no_short verb.Generate letter = refl
 
 past_one : (n : ℕ) → (1 == suc (suc n)) ≡ false
 past_one n = grind (arith, nat_tests)
@@ -131,6 +136,7 @@ IsPlace verb.Check id = id ≡ codes "file"
 IsPlace verb.Cat id = id ≡ codes "file"
 IsPlace verb.Recover id = (id ≡ codes "in") ⊎ (id ≡ codes "out")
 IsPlace verb.Merge id = (id ≡ codes "out") ⊎ (id ≡ codes "in")
+IsPlace verb.Generate id = (id ≡ codes "seed") ⊎ (id ≡ codes "rest")
 
 -- the positional that takes a word behind so many, and where it stands
 abbrev pub place_for : Verb → ℕ → Option Word
@@ -146,6 +152,8 @@ place_for verb.Recover zero = Some (codes "in")
 place_for verb.Recover (suc n) = Some (codes "out")
 place_for verb.Merge zero = Some (codes "out")
 place_for verb.Merge (suc n) = Some (codes "in")
+place_for verb.Generate zero = Some (codes "seed")
+place_for verb.Generate (suc n) = Some (codes "rest")
 
 abbrev pub position_for : Verb → ℕ → ℕ
 position_for verb.Record zero = 1
@@ -157,6 +165,8 @@ position_for verb.Recover zero = 1
 position_for verb.Recover (suc n) = 2
 position_for verb.Merge zero = 1
 position_for verb.Merge (suc n) = 2
+position_for verb.Generate zero = 1
+position_for verb.Generate (suc n) = 2
 
 abbrev pub rule_for : Verb → ℕ → Word → Rule
 rule_for verb.Record zero id = place_rule id 1
@@ -168,6 +178,8 @@ rule_for verb.Recover zero id = place_rule id 1
 rule_for verb.Recover (suc n) id = rest_rule id 2
 rule_for verb.Merge zero id = place_rule id 1
 rule_for verb.Merge (suc n) id = rest_rule id 2
+rule_for verb.Generate zero id = place_rule id 1
+rule_for verb.Generate (suc n) id = rest_rule id 2
 
 pub place_found : (verb : Verb) (n : ℕ) → arg_by_index (rules_of verb) (position_for verb n) ≡ option_map (rule_for verb n) (place_for verb n)
 place_found verb.Record zero = refl
@@ -182,6 +194,8 @@ place_found verb.Recover zero = refl
 place_found verb.Recover (suc n) = refl
 place_found verb.Merge zero = refl
 place_found verb.Merge (suc n) = refl
+place_found verb.Generate zero = refl
+place_found verb.Generate (suc n) = refl
 
 pub place_by_id : (verb : Verb) (n : ℕ) (id : Word) → place_for verb n ≡ Some id → arg_by_id (rules_of verb) id ≡ Some (rule_for verb n id)
 place_by_id verb.Record zero id is = let same : codes "out" ≡ id = cc in subst (λ i. arg_by_id (rules_of verb.Record) i ≡ Some (place_rule i 1)) same refl
@@ -196,6 +210,8 @@ place_by_id verb.Recover zero id is = let same : codes "in" ≡ id = cc in subst
 place_by_id verb.Recover (suc n) id is = let same : codes "out" ≡ id = cc in subst (λ i. arg_by_id (rules_of verb.Recover) i ≡ Some (rest_rule i 2)) same refl
 place_by_id verb.Merge zero id is = let same : codes "out" ≡ id = cc in subst (λ i. arg_by_id (rules_of verb.Merge) i ≡ Some (place_rule i 1)) same refl
 place_by_id verb.Merge (suc n) id is = let same : codes "in" ≡ id = cc in subst (λ i. arg_by_id (rules_of verb.Merge) i ≡ Some (rest_rule i 2)) same refl
+place_by_id verb.Generate zero id is = let same : codes "seed" ≡ id = cc in subst (λ i. arg_by_id (rules_of verb.Generate) i ≡ Some (place_rule i 1)) same refl
+place_by_id verb.Generate (suc n) id is = let same : codes "rest" ≡ id = cc in subst (λ i. arg_by_id (rules_of verb.Generate) i ≡ Some (rest_rule i 2)) same refl
 
 pub place_is : (verb : Verb) (n : ℕ) (id : Word) → place_for verb n ≡ Some id → IsPlace verb id
 place_is verb.Record zero id is = inl (cc)
@@ -210,6 +226,8 @@ place_is verb.Recover zero id is = inl (cc)
 place_is verb.Recover (suc n) id is = inr (cc)
 place_is verb.Merge zero id is = inl (cc)
 place_is verb.Merge (suc n) id is = inr (cc)
+place_is verb.Generate zero id is = inl (cc)
+place_is verb.Generate (suc n) id is = inr (cc)
 
 -- two arguments have two ids
 abbrev NoLong : Verb → Word → Type 0
@@ -225,6 +243,8 @@ place_short verb.Recover id (inl is) = subst (NoLong verb.Recover) (sym is) (pla
 place_short verb.Recover id (inr is) = subst (NoLong verb.Recover) (sym is) (rest_rule (codes "out") 2, refl, refl)
 place_short verb.Merge id (inl is) = subst (NoLong verb.Merge) (sym is) (place_rule (codes "out") 1, refl, refl)
 place_short verb.Merge id (inr is) = subst (NoLong verb.Merge) (sym is) (rest_rule (codes "in") 2, refl, refl)
+place_short verb.Generate id (inl is) = subst (NoLong verb.Generate) (sym is) (place_rule (codes "seed") 1, refl, refl)
+place_short verb.Generate id (inr is) = subst (NoLong verb.Generate) (sym is) (rest_rule (codes "rest") 2, refl, refl)
 
 long_not_place : (verb : Verb) (name id : Word) (a : Rule) → arg_by_id (rules_of verb) name ≡ Some a → a.long ≡ Some name → IsPlace verb id → name ≢ id
 long_not_place verb name id a found long place same =
@@ -243,6 +263,9 @@ flag_not_place verb name id flag place = long_not_place verb name id (flag_rule 
 pub in_not_out : codes "in" ≢ codes "out"
 in_not_out same = cc
 
+pub seed_not_rest : codes "seed" ≢ codes "rest"
+seed_not_rest same = let equal : bytes_eq (codes "seed") (codes "rest") ≡ true = (bytes_eq-Decides (codes "seed") (codes "rest")).1 same in let wrong : false ≡ true = equal in cc
+
 pub out_not_feed : codes "out" ≢ codes "feed"
 out_not_feed same = cc
 
@@ -254,6 +277,7 @@ places_map verb.Check words Has Gets turn has = turn (codes "file") words refl h
 places_map verb.Cat words Has Gets turn has = turn (codes "file") words refl has
 places_map verb.Recover words Has Gets turn has = (turn (codes "in") (take 1 words) (inl refl) has.0, turn (codes "out") (drop 1 words) (inr refl) has.1)
 places_map verb.Merge words Has Gets turn has = (turn (codes "out") (take 1 words) (inl refl) has.0, turn (codes "in") (drop 1 words) (inr refl) has.1)
+places_map verb.Generate words Has Gets turn has = (turn (codes "seed") (take 1 words) (inl refl) has.0, turn (codes "rest") (drop 1 words) (inr refl) has.1)
 
 -- ---- how many
 
@@ -270,6 +294,8 @@ room verb.Recover zero fits = (codes "in", refl)
 room verb.Recover (suc n) fits = (codes "out", refl)
 room verb.Merge zero fits = (codes "out", refl)
 room verb.Merge (suc n) fits = (codes "in", refl)
+room verb.Generate zero fits = (codes "seed", refl)
+room verb.Generate (suc n) fits = (codes "rest", refl)
 
 pub has_room : (verb : Verb) (n : ℕ) (id : Word) → place_for verb n ≡ Some id → HasRoom verb (suc n)
 has_room verb.Record n id is = tt
@@ -281,6 +307,7 @@ has_room verb.Cat zero id is = omega arith
 has_room verb.Cat (suc n) id is = cc
 has_room verb.Recover n id is = tt
 has_room verb.Merge n id is = tt
+has_room verb.Generate n id is = tt
 
 pub room_less : (verb : Verb) (m n : ℕ) → m ≤ n → HasRoom verb n → HasRoom verb m
 room_less verb.Record m n less fits = tt
@@ -289,3 +316,4 @@ room_less verb.Check m n less fits = omega (arith, less, fits)
 room_less verb.Cat m n less fits = omega (arith, less, fits)
 room_less verb.Recover m n less fits = tt
 room_less verb.Merge m n less fits = tt
+room_less verb.Generate m n less fits = tt

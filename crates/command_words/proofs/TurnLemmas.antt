@@ -227,6 +227,7 @@ abbrev pub waiting_for : Verb → ℕ → Waiting
 waiting_for verb.Record (suc n) = positional
 waiting_for verb.Recover (suc n) = positional
 waiting_for verb.Merge (suc n) = positional
+waiting_for verb.Generate (suc n) = positional
 waiting_for _ _ = idle
 
 -- no option waits for a value
@@ -245,6 +246,8 @@ is_calm verb.Recover zero = tt
 is_calm verb.Recover (suc n) = tt
 is_calm verb.Merge zero = tt
 is_calm verb.Merge (suc n) = tt
+is_calm verb.Generate zero = tt
+is_calm verb.Generate (suc n) = tt
 
 -- a word at a place
 abbrev placed_walk : Verb → Word → List Row → Pending → ℕ → Bool → Waiting → Option Rule → Walk
@@ -273,6 +276,10 @@ rule_walk verb.Merge word rows pending zero true waiting id is = rw and_false re
 rule_walk verb.Merge word rows pending zero false waiting id is = rw and_false refl
 rule_walk verb.Merge word rows pending (suc n) true waiting id is = rw and_false refl
 rule_walk verb.Merge word rows pending (suc n) false waiting id is = rw and_false refl
+rule_walk verb.Generate word rows pending zero true waiting id is = rw and_false refl
+rule_walk verb.Generate word rows pending zero false waiting id is = rw and_false refl
+rule_walk verb.Generate word rows pending (suc n) true waiting id is = rw and_false refl
+rule_walk verb.Generate word rows pending (suc n) false waiting id is = rw and_false refl
 
 pub place_walk : (verb : Verb) (word : Word) (rows : List Row) (pending : Pending) (n : ℕ) (is_trailing : Bool) (waiting : Waiting) (id : Word) → place_for verb n ≡ Some id
     → after_step (rules_of verb) word (at rows pending waiting (position_for verb n) is_trailing) (held rows pending) place ≡ at (rows_in verb rows pending) (Some (id, word ∷ [])) (waiting_for verb n) (position_for verb (suc n)) is_trailing
@@ -292,6 +299,8 @@ rule_turn name verb.Recover rows pending zero id = rw and_false refl
 rule_turn name verb.Recover rows pending (suc n) id = rw and_false refl
 rule_turn name verb.Merge rows pending zero id = rw and_false refl
 rule_turn name verb.Merge rows pending (suc n) id = rw and_false refl
+rule_turn name verb.Generate rows pending zero id = rw and_false refl
+rule_turn name verb.Generate rows pending (suc n) id = rw and_false refl
 
 pub place_turn : (name : Word) (verb : Verb) (rows : List Row) (pending : Pending) (n : ℕ) (id : Word) → place_for verb n ≡ Some id
     → step_fault (leaf name verb) (position_for verb n) (held rows pending) place ≡ fault_in verb rows pending

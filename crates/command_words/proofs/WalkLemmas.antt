@@ -38,6 +38,7 @@ place_unsaid verb.Check items rows id is holds = let same : codes "file" ≡ id 
 place_unsaid verb.Cat items rows id is holds = let same : codes "file" ≡ id = cc in subst (λ (i : Word). Said rows i None) same holds.placed
 place_unsaid verb.Recover items rows id is holds = let same : codes "in" ≡ id = cc in subst (λ (i : Word). Said rows i None) same holds.placed.0
 place_unsaid verb.Merge items rows id is holds = let same : codes "out" ≡ id = cc in subst (λ (i : Word). Said rows i None) same holds.placed.0
+place_unsaid verb.Generate items rows id is holds = let same : codes "seed" ≡ id = cc in subst (λ (i : Word). Said rows i None) same holds.placed.0
 
 -- a word of a positional, once it is noted
 used_place : (verb : Verb) (items : List Item) (places : List Word) (rows : List Row) (id word : Word) → place_for verb (length places) ≡ Some id → Holds verb items places rows
@@ -54,6 +55,8 @@ used_place verb.Recover items [] rows id word is holds = first_put id word rows 
 used_place verb.Recover items (x ∷ xs) rows id word is holds = refl
 used_place verb.Merge items [] rows id word is holds = first_put id word rows (place_unsaid verb.Merge items rows id is holds)
 used_place verb.Merge items (x ∷ xs) rows id word is holds = refl
+used_place verb.Generate items [] rows id word is holds = first_put id word rows (place_unsaid verb.Generate items rows id is holds)
+used_place verb.Generate items (x ∷ xs) rows id word is holds = refl
 
 place_rows : (verb : Verb) (items : List Item) (places : List Word) (rows : List Row) (id word : Word) → place_for verb (length places) ≡ Some id → Holds verb items places rows → rows_in verb rows (Some (id, word ∷ [])) ≡ put id word rows
 place_rows verb items places rows id word is holds =
@@ -76,6 +79,8 @@ sound_place verb.Recover items [] rows id word is holds = no_conflict id rows (p
 sound_place verb.Recover items (x ∷ xs) rows id word is holds = refl
 sound_place verb.Merge items [] rows id word is holds = no_conflict id rows (place_unsaid verb.Merge items rows id is holds)
 sound_place verb.Merge items (x ∷ xs) rows id word is holds = refl
+sound_place verb.Generate items [] rows id word is holds = no_conflict id rows (place_unsaid verb.Generate items rows id is holds)
+sound_place verb.Generate items (x ∷ xs) rows id word is holds = refl
 
 place_fault : (verb : Verb) (items : List Item) (places : List Word) (rows : List Row) (id word : Word) → place_for verb (length places) ≡ Some id → Holds verb items places rows → fault_in verb rows (Some (id, word ∷ [])) ≡ []
 place_fault verb items places rows id word is holds = ap (pending_fault (word ∷ []) rows) (place_by_id verb (length places) id is) ∙ sound_place verb items places rows id word is holds
@@ -474,6 +479,7 @@ first_position verb.Check = refl
 first_position verb.Cat = refl
 first_position verb.Recover = refl
 first_position verb.Merge = refl
+first_position verb.Generate = refl
 
 -- a walk that passes has read items
 pub back : (name : Word) (verb : Verb) (words : List Word) → AreFine words → Passes name verb (at [] None idle 1 false) words → Rest verb words [] [] (end_rows verb (at [] None idle 1 false) words)

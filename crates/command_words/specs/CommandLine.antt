@@ -1,4 +1,4 @@
--- The command line as it is given to the parser: a command with six subcommands.
+-- The command line as it is given to the parser: a command with seven subcommands.
 use Rattle.std.specs.Prelude.{◌≡◌, true, false, [], codes, Some}
 use Rattle.clap.specs.Words.{App, Rule, app_of, new_app, new_rule, with_rule, with_subcommand}
 use Rattle.clap.specs.Simple.{new_shape}
@@ -30,6 +30,7 @@ verb_app verb.Check = file_app (codes "check")
 verb_app verb.Cat = with_rule (with_rule (with_rule (with_rule (with_rule (new_app (codes "cat")) (flag_given (codes "indexed"))) (option_given (codes "start"))) (option_given (codes "end"))) (option_given (codes "topic"))) (new_rule (codes "file"))
 verb_app verb.Recover = with_rule (with_rule (with_rule (new_app (codes "recover")) (option_given (codes "chunk"))) (new_rule (codes "in"))) (rest_given (codes "out"))
 verb_app verb.Merge = with_rule (with_rule (with_rule (new_app (codes "merge")) (option_given (codes "chunk"))) (new_rule (codes "out"))) (rest_given (codes "in"))
+verb_app verb.Generate = with_rule (with_rule (new_app (codes "gen")) (new_rule (codes "seed"))) (rest_given (codes "rest"))
 
 abbrev pub bare_top : App
 bare_top = record {
@@ -43,7 +44,7 @@ bare_top = record {
 }
 
 abbrev pub program : App
-program = with_subcommand (with_subcommand (with_subcommand (with_subcommand (with_subcommand (with_subcommand bare_top (verb_app verb.Record).top) (verb_app verb.Info).top) (verb_app verb.Check).top) (verb_app verb.Cat).top) (verb_app verb.Recover).top) (verb_app verb.Merge).top
+program = with_subcommand (with_subcommand (with_subcommand (with_subcommand (with_subcommand (with_subcommand (with_subcommand bare_top (verb_app verb.Record).top) (verb_app verb.Info).top) (verb_app verb.Check).top) (verb_app verb.Cat).top) (verb_app verb.Recover).top) (verb_app verb.Merge).top) (verb_app verb.Generate).top
 
 -- the command is this one, and no argument is shared with what stands below
 pub record IsMade (app : App) (command : Command) : Type 0 where

@@ -8,7 +8,7 @@ use Rattle.mcap_model.specs.declared.options.FileOptions.{FileOptions}
 use Rattle.mcap_model.specs.declared.replay.Range.{Range}
 use Rattle.command_words.specs.Items.{Word, Item, IsCut, given, place_of}
 use Rattle.command_words.specs.declared.command.Command.{Command}
-use Rattle.command_words.specs.declared.command.Command.TheVariants.{Record, Info, Check, Cat, Recover, Merge}
+use Rattle.command_words.specs.declared.command.Command.TheVariants.{Record, Info, Check, Cat, Recover, Merge, Generate}
 use Rattle.command_words.specs.declared.verbs.Verb.{Verb}
 use Rattle.command_words.specs.declared.verbs.Verb.TheVariants as verb
 
@@ -19,6 +19,7 @@ name_of verb.Check = codes "check"
 name_of verb.Cat = codes "cat"
 name_of verb.Recover = codes "recover"
 name_of verb.Merge = codes "merge"
+name_of verb.Generate = codes "gen"
 
 -- the size of chunks where the words say none: 768 KiB
 abbrev pub usual_chunk_size : ℕ
@@ -28,9 +29,17 @@ usual_chunk_size = 768 * 2 ^ 10
 abbrev pub usual_limit : ℕ
 usual_limit = 100 * 2 ^ 20
 
--- how many feeds are recorded, or files merged, at most
+-- how many feeds are recorded or generated, or files merged, at most
 abbrev pub feed_limit : ℕ
 feed_limit = 64
+
+-- how many messages are generated at most, in all feeds
+abbrev pub generated_limit : ℕ
+generated_limit = 1000000
+
+-- the largest number that messages are generated from
+abbrev pub largest_seed : ℕ
+largest_seed = 2 ^ 64 - 1
 
 -- the last nanosecond that can be told
 abbrev pub latest : ℕ
@@ -146,6 +155,23 @@ pub record IsMerge (words : List Word) (out : Word) (inputs : List Word) (chunk 
   pub sized : GivesNumber 1 chunk_size_limit (given (codes "chunk") items) size
   pub chunk_is : chunk ≡ unwrap_or size usual_chunk_size
 
+-- FEEDS and MESSAGES: how many feeds there are, and how many messages each has
+pub record AreAmounts (feeds_word messages_word : Word) (feeds messages : ℕ) : Type 0 where
+  pub feeds_are : IsNumber 1 feed_limit feeds_word feeds
+  pub messages_are : IsNumber 0 generated_limit messages_word messages
+  pub few : feeds * messages ≤ generated_limit
+
+-- gen, SEED, FEEDS, MESSAGES and OUT
+pub record IsGenerate (words : List Word) (seed feeds messages : ℕ) (out : Word) : Type 0 where
+  pub items : List Item
+  pub seed_word : Word
+  pub feeds_word : Word
+  pub messages_word : Word
+  pub reads : Reads verb.Generate words items (seed_word ∷ feeds_word ∷ messages_word ∷ out ∷ [])
+  pub seeded : IsNumber 0 largest_seed seed_word seed
+  pub amounts : AreAmounts feeds_word messages_word feeds messages
+  pub out_named : out ≢ []
+
 -- the words behind the command are those of this one
 abbrev pub Behind : List Word → Command → Type 0
 Behind words (Record out feeds file limit lossless) = IsRecord words out feeds file limit lossless
@@ -154,6 +180,7 @@ Behind words (Check file) = IsOfFile verb.Check words file
 Behind words (Cat file indexed range topic) = IsCat words file indexed range topic
 Behind words (Recover input out chunk) = IsRecover words input out chunk
 Behind words (Merge out inputs chunk) = IsMerge words out inputs chunk
+Behind words (Generate seed feeds messages out) = IsGenerate words seed feeds messages out
 
 abbrev pub verb_of : Command → Verb
 verb_of (Record out feeds file limit lossless) = verb.Record
@@ -162,6 +189,7 @@ verb_of (Check file) = verb.Check
 verb_of (Cat file indexed range topic) = verb.Cat
 verb_of (Recover input out chunk) = verb.Recover
 verb_of (Merge out inputs chunk) = verb.Merge
+verb_of (Generate seed feeds messages out) = verb.Generate
 
 -- the words are those of the command
 pub record Derives (words : List Word) (command : Command) : Type 0 where

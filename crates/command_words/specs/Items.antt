@@ -25,6 +25,7 @@ IsFlag verb.Check name = ⊥
 IsFlag verb.Cat name = name ≡ codes "indexed"
 IsFlag verb.Recover name = ⊥
 IsFlag verb.Merge name = ⊥
+IsFlag verb.Generate name = ⊥
 
 -- the names that take a value
 abbrev pub IsOption : Verb → Word → Type 0
@@ -34,6 +35,7 @@ IsOption verb.Check name = ⊥
 IsOption verb.Cat name = (name ≡ codes "start") ⊎ ((name ≡ codes "end") ⊎ (name ≡ codes "topic"))
 IsOption verb.Recover name = name ≡ codes "chunk"
 IsOption verb.Merge name = name ≡ codes "chunk"
+IsOption verb.Generate name = ⊥
 
 -- no `=` stands in the text
 abbrev pub IsBare : List ℕ → Type 0

@@ -19,6 +19,7 @@ HasRoom verb.Check n = n ≤ 1
 HasRoom verb.Cat n = n ≤ 1
 HasRoom verb.Recover n = ⊤
 HasRoom verb.Merge n = ⊤
+HasRoom verb.Generate n = ⊤
 
 -- each positional of the command has these of the words
 abbrev pub AtPlaces : Verb → List Word → (Word → List Word → Type 0) → Type 0
@@ -28,6 +29,7 @@ AtPlaces verb.Check words Has = Has (codes "file") words
 AtPlaces verb.Cat words Has = Has (codes "file") words
 AtPlaces verb.Recover words Has = Has (codes "in") (take 1 words) × Has (codes "out") (drop 1 words)
 AtPlaces verb.Merge words Has = Has (codes "out") (take 1 words) × Has (codes "in") (drop 1 words)
+AtPlaces verb.Generate words Has = Has (codes "seed") (take 1 words) × Has (codes "rest") (drop 1 words)
 
 -- all that the rows have for a name
 abbrev pub all_found : Word → List Row → List Word

@@ -73,6 +73,13 @@ pub enum Command {
         inputs: Names,
         chunk: u64,
     },
+    /// Record `feeds` feeds of `messages` messages each, which follow from `seed`, to the file `out`, and read that back.
+    Generate {
+        seed: u64,
+        feeds: u64,
+        messages: u32,
+        out: Text,
+    },
 }
 
 /// Why words give no command.

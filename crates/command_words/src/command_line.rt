@@ -100,6 +100,14 @@ fn merge<'a>(alloc: Global) -> Result<Command<'a>, AllocError>
     with_rest(command, alloc, "in")
 }
 
+// `gen`. The positional behind the first takes the three others.
+fn generate<'a>(alloc: Global) -> Result<Command<'a>, AllocError>
+    ensures { IfOk result (IsMade (verb_app verb.Generate)) }
+{
+    let command = with_place(Ok(Command::new(alloc, "gen")), alloc, "seed");
+    with_rest(command, alloc, "rest")
+}
+
 // The program without its commands, and without help or a version.
 fn bare_program<'a>(alloc: Global) -> Command<'a>
     ensures { IsMade bare_top result }
@@ -137,7 +145,7 @@ fn with_verb<'a>(
     }
 }
 
-/// The program with its six commands, without help or a version. That a positional is there is looked at where it is
+/// The program with its seven commands, without help or a version. That a positional is there is looked at where it is
 /// read, as is what stands in it.
 pub fn program_command<'a>(alloc: Global) -> Result<Command<'a>, AllocError>
     ensures { IfOk result (IsMade program) }
@@ -147,5 +155,6 @@ pub fn program_command<'a>(alloc: Global) -> Result<Command<'a>, AllocError>
     let command = with_verb(command, of_file(alloc, "check"));
     let command = with_verb(command, cat(alloc));
     let command = with_verb(command, recover(alloc));
-    with_verb(command, merge(alloc))
+    let command = with_verb(command, merge(alloc));
+    with_verb(command, generate(alloc))
 }

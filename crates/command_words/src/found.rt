@@ -59,8 +59,8 @@ pub fn name_of_file<'a>(found: &ArgMatches<'a>, place: &str) -> Option<&'a str>
     }
 }
 
-// A number in up to 20 digits, without a sign, from `least` to `most`.
-fn parse_number(word: &str, least: u64, most: u64) -> Result<u64, BadValue>
+/// A number in up to 20 digits, without a sign, from `least` to `most`.
+pub fn parse_number(word: &str, least: u64, most: u64) -> Result<u64, BadValue>
     ensures number { IfOk result (λ number. IsNumber least most word.now number) }
     ensures bad { OnErr result ((number : ℕ) → IsNumber least most word.now number → ⊥) }
 {
@@ -94,5 +94,19 @@ pub fn number_of(
             Err(BadValue) => return Err(BadValue),
         },
         None => return Ok(None),
+    }
+}
+
+/// The number of a positional, from `least` to `most`.
+pub fn number_at(found: &ArgMatches, place: &str, least: u64, most: u64) -> Result<u64, BadValue>
+    ensures number { IfOk result (λ number. (word : Word) × (value_in found.now place.now ≡ Some word) × IsNumber least most word number) }
+    ensures bad { OnErr result ((word : Word) (number : ℕ) → value_in found.now place.now ≡ Some word → IsNumber least most word number → ⊥) }
+{
+    match value_of(found, place) {
+        Some(word) => match parse_number(word, least, most) {
+            Ok(number) => return Ok(number),
+            Err(BadValue) => return Err(BadValue),
+        },
+        None => return Err(BadValue),
     }
 }

@@ -10,4 +10,5 @@ mod read;
 mod verbs;
 
 pub use command::{Command, Names, WordsRefused};
-pub use parse::parse_words;
+pub use options::USUAL_CHUNK;
+pub use parse::{USUAL_LIMIT, parse_words};

@@ -1,16 +1,19 @@
 //! All the words of a command line.
-ghost use Rattle.std.specs.Prelude.{◌≡◌, ◌≢◌, ◌↔◌, ℕ, List, [], ◌∷◌, Some, Bool, Option, IsTrue, MatchOption, codes, IfOk, IfErr, OnErr, option_map};
+ghost use Rattle.std.specs.Prelude.{◌≡◌, ◌≢◌, ◌≤◌, ◌↔◌, ℕ, List, [], ◌∷◌, Some, Bool, Option, IsTrue, MatchOption, codes, IfOk, IfErr, OnErr, option_map};
 ghost use Rattle.std.specs.List.{All};
 ghost use Rattle.clap.specs.Words.{subcommand_rows_of};
 ghost use Rattle.command_words.specs.Items.{Word, texts};
-ghost use Rattle.command_words.specs.Commands.{AreBad, Behind, Derives, IsCat, IsMerge, IsOnly, IsRecord, IsRecover, verb_of};
+ghost use Rattle.command_words.specs.Commands.{AreAmounts, AreBad, Behind, Derives, IsCat, IsGenerate, IsMerge, IsOnly, IsRecord, IsRecover, verb_of};
 ghost use Rattle.command_words.specs.Matches.{AreFeeds, AreRead, IsReading, rows_found, value_in, values_in};
 ghost use Rattle.command_words.specs.declared.command.Command.{Command as Wanted};
 ghost use Rattle.mcap_model.specs.declared.options.FileOptions.{FileOptions as Options};
 ghost use Rattle.mcap_model.specs.declared.replay.Range.{Range as Times};
 
 use crate::command::{Command, Names, WordsRefused};
-use crate::found::{BadValue, has_flag, is_dash, name_of_file, number_of, value_of, values_of};
+use crate::found::{
+    BadValue, has_flag, is_dash, name_of_file, number_at, number_of, parse_number, value_of,
+    values_of,
+};
 use crate::options::{LARGEST_CHUNK, USUAL_CHUNK, copy_of, file_options, range_of};
 use crate::read::{are_whole, plain_words, read_words};
 use crate::verbs::{Verb, named_verb};
@@ -21,10 +24,22 @@ use std::alloc::Global;
 /// The most bytes that may be held in memory, and those where the words don't say it.
 const LARGEST_LIMIT: u64 = 1_073_741_824;
 
-const USUAL_LIMIT: u64 = 104_857_600;
+pub const USUAL_LIMIT: u64 = 104_857_600;
 
 /// The most feeds of a recording, or files of a merge.
 const FEED_LIMIT: usize = 64;
+
+/// The most feeds that are generated, and messages in all of them.
+const MOST_FEEDS: u64 = 64;
+
+const MOST_MESSAGES: u64 = 1_000_000;
+
+/// How many feeds are generated, and how many messages each has.
+#[derive(Clone, Copy)]
+struct Amounts {
+    feeds: u64,
+    messages: u32,
+}
 
 // A copy of a word that may be there.
 fn maybe_copy(alloc: Global, word: Option<&str>) -> Result<Option<Text>, WordsRefused>
@@ -241,6 +256,66 @@ fn merge_of(alloc: Global, found: &ArgMatches) -> Result<Command, WordsRefused>
     }
 }
 
+// The same number in fewer bits.
+fn narrowed(number: u64) -> u32
+    requires { number ≤ 1000000 }
+    ensures { result ≡ number }
+{
+    number as u32
+}
+
+// The numbers of feeds and of the messages of each.
+fn amounts_of(feeds_word: &str, messages_word: &str) -> Result<Amounts, BadValue>
+    ensures amounts { IfOk result (λ amounts. AreAmounts feeds_word.now messages_word.now amounts.feeds amounts.messages) }
+    ensures bad { OnErr result ((feeds messages : ℕ) → AreAmounts feeds_word.now messages_word.now feeds messages → ⊥) }
+{
+    let feeds = match parse_number(feeds_word, 1, MOST_FEEDS) {
+        Ok(feeds) => feeds,
+        Err(BadValue) => return Err(BadValue),
+    };
+    let messages = match parse_number(messages_word, 0, MOST_MESSAGES) {
+        Ok(messages) => messages,
+        Err(BadValue) => return Err(BadValue),
+    };
+    if feeds * messages > MOST_MESSAGES {
+        return Err(BadValue);
+    }
+    return Ok(Amounts {
+        feeds,
+        messages: narrowed(messages),
+    });
+}
+
+// What was found behind `gen`.
+fn generate_of(alloc: Global, found: &ArgMatches) -> Result<Command, WordsRefused>
+    ensures command { (words : List Word) → IsReading Verb.Generate words (rows_found found.now) → IfOk result (λ command. Behind words command × (verb_of command ≡ Verb.Generate)) }
+    ensures bad { (words : List Word) → IsReading Verb.Generate words (rows_found found.now) → IfErr result (λ refused. refused ≡ WordsRefused.BadWords → (seed feeds messages : ℕ) (out : Word) → IsGenerate words seed feeds messages out → ⊥) }
+{
+    let seed = match number_at(found, "seed", 0, u64::MAX) {
+        Ok(seed) => seed,
+        Err(BadValue) => return Err(WordsRefused::BadWords),
+    };
+    let Some(rest) = values_of(found, "rest") else {
+        return Err(WordsRefused::BadWords);
+    };
+    if rest.len() != 3 || rest[2].is_empty() {
+        return Err(WordsRefused::BadWords);
+    }
+    let amounts = match amounts_of(rest[0], rest[1]) {
+        Ok(amounts) => amounts,
+        Err(BadValue) => return Err(WordsRefused::BadWords),
+    };
+    match copy_of(alloc, rest[2]) {
+        Ok(out) => return Ok(Command::Generate {
+            seed,
+            feeds: amounts.feeds,
+            messages: amounts.messages,
+            out,
+        }),
+        Err(refused) => return Err(refused),
+    }
+}
+
 // What was found behind the name of a command.
 fn command_of(alloc: Global, verb: Verb, found: &ArgMatches) -> Result<Command, WordsRefused>
     ensures command { (words : List Word) → IsReading verb words (rows_found found.now) → IfOk result (λ command. Behind words command × (verb_of command ≡ verb)) }
@@ -259,6 +334,7 @@ fn command_of(alloc: Global, verb: Verb, found: &ArgMatches) -> Result<Command, 
         Verb::Cat => return cat_of(alloc, found),
         Verb::Recover => return recover_of(alloc, found),
         Verb::Merge => return merge_of(alloc, found),
+        Verb::Generate => return generate_of(alloc, found),
     }
 }
 
@@ -277,13 +353,14 @@ fn found_command(alloc: Global, found: &ArgMatches) -> Result<Command, WordsRefu
 }
 
 /// Reads the words behind the program's own name: `record [--plain] [--lossless] [--limit N] [--chunk N] [--profile T] OUT
-/// FEED...`, `info FILE`, `check FILE`, `cat [--indexed] [--start N] [--end N] [--topic T] FILE`, `recover [--chunk N] IN OUT`
-/// or `merge [--chunk N] OUT IN...`.
+/// FEED...`, `info FILE`, `check FILE`, `cat [--indexed] [--start N] [--end N] [--topic T] FILE`, `recover [--chunk N] IN OUT`,
+/// `merge [--chunk N] OUT IN...` or `gen SEED FEEDS MESSAGES OUT`.
 ///
 /// Options and positionals stand in any order behind the command, and `--` ends the options. An option has its value
 /// behind `=` in the same word, or in the next word, which then doesn't begin with `-`; each stands at most once. A number
 /// has 1 to 20 decimal digits: N of `--limit` is a number of bytes from 1 to 1,073,741,824 (usually 104,857,600), that of
-/// `--chunk` from 1 to 67,108,864 (usually 786,432), and those of `--start` and `--end` are times below 2^64. A profile has
+/// `--chunk` from 1 to 67,108,864 (usually 786,432), and those of `--start` and `--end` are times below 2^64. SEED is a
+/// number below 2^64, FEEDS one from 1 to 64, and FEEDS times MESSAGES is at most 1,000,000. A profile has
 /// at most 65,535 bytes. OUT, FEED, FILE and IN aren't empty and no word is `-` alone; 1 to 64 FEEDs stand behind OUT, each
 /// other than OUT, two of which may be equal, as 1 to 64 INs do behind that of `merge`, and the one IN of `recover` is other than
 /// OUT; `--plain` and `--chunk` exclude each other.

@@ -12,6 +12,7 @@ pub enum Verb {
     Cat,
     Recover,
     Merge,
+    Generate,
 }
 
 /// The command of this name.
@@ -35,6 +36,9 @@ pub fn named_verb(name: &str) -> Option<Verb>
     }
     if name == "merge" {
         return Some(Verb::Merge);
+    }
+    if name == "gen" {
+        return Some(Verb::Generate);
     }
     None
 }

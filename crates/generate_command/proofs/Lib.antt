@@ -1,4 +1,5 @@
 mod Printed
 mod Reread
+pub mod Statuses
 mod Stores
 mod Told

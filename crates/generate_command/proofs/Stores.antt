@@ -1,6 +1,7 @@
 -- What the opening, the recording and the keeping of the output come to.
 use Rattle.std.proofs.Common.{◌≡◌, ℕ, ◌^◌, ◌<◌, true, false, List, [], ◌∷◌, ◌++◌, Option, Some, None, Result, Ok, Err, refl, sym, subst, inl, inr, ◌∙◌, arith}
 use Rattle.std.specs.Option.{option_map}
+use Rattle.std.specs.List.{All}
 use Rattle.std.proofs.lemmas.List.{append-nil}
 use Rattle.mcap_io.specs.Outside.{RisesOnce, HasCause, Opens, OpenCause, CountsStand, added, Keeping, Told, Names, OthersSame, Opening, opened, with_opening, went_well, LiveState, SourceState, WorldState, TellsNothingYet, KeepsLive, Notes, Placed}
 use Rattle.mcap_io.specs.declared.outside.Failed.{Failed}
@@ -56,6 +57,7 @@ pub record IsGiven (options : RecordOptions) (sources back : List SourceState) (
   pub nothing : TellsNothingYet w0 live
   pub unused : live.faults ≡ 0
   pub unreported : report ≡ None → live_now ≡ live
+  pub quiet : All (λ (s : SourceState). s.faults ≡ 0) back
   pub recorded : (r : Report) → report ≡ Some r → Recorded options (sides sources live) (sides back live_now) r
   pub keeps : KeepsLive w1 w2 out live_now result
   pub inputs : w2.input_faults ≡ w1.input_faults
@@ -97,7 +99,7 @@ written options sources back out w0 w1 w2 live live_now report result a =
           unused = a.unused;
           keeping_is = refl;
           unreported = a.unreported;
-          reported = λ r is. (back, a.recorded r is);
+          reported = λ r is. (back, a.quiet, a.recorded r is);
           empty = λ told here. a.nothing told here;
           placed = λ told now bytes here here_now held.
               let kept_now = a.keeps (with_opening told given) (more told here) in

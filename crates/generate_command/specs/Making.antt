@@ -1,6 +1,6 @@
 -- Recording generated feeds into the file under a name: what became of the name, and what stands there.
 use Rattle.std.specs.Prelude.{◌≡◌, ◌⊎◌, ◌≤◌, ℕ, List, [], ◌∷◌, map, length, Bool, true, false, Option, Some, None}
-use Rattle.std.specs.List.{range_with_len}
+use Rattle.std.specs.List.{All, range_with_len}
 use Rattle.mcap_io.specs.Outside.{SourceState, LiveState, WorldState, Told, Keeping, Opening}
 use Rattle.mcap_io.specs.declared.outside.ObjectKind.TheVariants as kinds
 use Rattle.mcap_wire.specs.Limits.{buffer_limit, chunk_size_limit, profile_limit}
@@ -40,8 +40,8 @@ pub record Stored (options : RecordOptions) (sources : List SourceState) (out : 
   pub unused : live.faults ≡ 0
   pub keeping_is : keeping ≡ record { well = w.kept; faults = live_now.faults; left = None; asked = 0 }
   pub unreported : w.report ≡ None → live_now ≡ live
-  -- what the report describes, and what the store holds of it
-  pub reported : (r : Report) → w.report ≡ Some r → (back : List SourceState) × Recorded options (sides sources live) (sides back live_now) r
+  -- what the report describes, and what the store holds of it; no feed failed
+  pub reported : (r : Report) → w.report ≡ Some r → (back : List SourceState) × All (λ (s : SourceState). s.faults ≡ 0) back × Recorded options (sides sources live) (sides back live_now) r
   -- what the store holds is put under the name
   pub empty : (told : Told) → old.told ≡ Some told → live.held ≡ Some []
   pub placed : (told now : Told) (bytes : List ℕ) → old.told ≡ Some told → new.told ≡ Some now → live_now.held ≡ Some bytes → IsPlaced bytes w.kept (told.names out) (now.names out)

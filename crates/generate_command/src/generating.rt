@@ -1,8 +1,10 @@
 //! The command: recording generated feeds, reading the file back, and telling of both.
-ghost use Rattle.std.specs.Prelude.{◌≡◌, ◌≤◌, ◌<◌, ◌^◌, ◌↔◌, ◌||◌, ◌⊎◌, ◌++◌, List, ℕ, true, IsTrue};
+ghost use Rattle.std.specs.Prelude.{◌≡◌, ◌≤◌, ◌<◌, ◌^◌, ◌↔◌, ◌||◌, ◌⊎◌, ◌++◌, List, ℕ, Some, true, IsTrue};
 ghost use Rattle.std.specs.List.{list_any};
 ghost use Rattle.mcap_io.specs.Outside.{Rose};
 ghost use Rattle.feed_lane.specs.Causes.{is_over, is_memory, is_memory_stop};
+ghost use Rattle.mcap_model.specs.Places.{Each};
+ghost use Rattle.feed_lane.specs.Feeds.{ListsMessages};
 ghost use Rattle.command_base.specs.Texts.{complained, fault, output_limit, output_fault, no_memory};
 ghost use Rattle.command_base.specs.Printing.{Takes};
 ghost use Rattle.command_base.specs.Ran.{scene, AnyRose, when, Complains};
@@ -239,7 +241,8 @@ fn answer<'a, E: Sink>(
 /// Makes feeds of these numbers, records them into the file under the name, reads that back, prints on `out` sums of the messages
 /// that were read, and answers how that ended: 0 where all was done, 1 where the file breaks a rule, 3 where the outside failed,
 /// 4 where a limit would be passed, and 5 where memory lacked. Where the writer stopped or the file couldn't be kept nothing is
-/// read back and nothing printed; nor is anything printed where the reading is refused.
+/// read back and nothing printed; nor is anything printed where the reading is refused. The report lists the messages where `listed`
+/// says so, and else only counts them.
 pub fn generate_file<R: AllocGlobal + Threads + Wait + Sync, W: World, O: Sink, E: Sink>(
     rt: &R,
     options: &RecordOptions,
@@ -248,16 +251,18 @@ pub fn generate_file<R: AllocGlobal + Threads + Wait + Sync, W: World, O: Sink, 
     world: &mut W,
     out: &mut O,
     err: &mut E,
+    listed: bool,
 ) -> Generated
     requires allowed { AreAllowed options.now }
     requires few { (1 ≤ numbers.feeds) × (numbers.feeds ≤ 64) }
-    ensures { Generates options.now numbers out_name.now
+    ensures generates { Generates options.now numbers out_name.now
         (scene (W.state world.old) (O.state out.old) (E.state err.old))
         (scene (W.state world.new) (O.state out.new) (E.state err.new))
         result.report result.status }
+    ensures listed { (r : _) → result.report ≡ Some r → Each (λ f. ListsMessages f listed) r.feeds.items }
 {
     let before = Counts::of(world, out);
-    let written = write_generated(rt, rt.alloc(), options, numbers, out_name, world);
+    let written = write_generated(rt, rt.alloc(), options, numbers, out_name, world, listed);
     let _middle = Counts::of(world, out);
     let back = read_written(rt.alloc(), out_name, world, &written);
     print_back(out, numbers.feeds, &back);

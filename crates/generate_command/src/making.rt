@@ -1,6 +1,8 @@
 //! Recording generated feeds into the file under a name.
-ghost use Rattle.std.specs.Prelude.{◌≡◌, ◌≤◌, ◌<◌, ◌^◌, ◌∷◌, ◌++◌, [], map, vec_len, IfOk, OnOk};
+ghost use Rattle.std.specs.Prelude.{◌≡◌, ◌≤◌, ◌<◌, ◌^◌, ◌∷◌, ◌++◌, [], map, vec_len, Some, IfOk, OnOk};
 ghost use Rattle.mcap_io.specs.Outside.{went_well};
+ghost use Rattle.mcap_model.specs.Places.{Each};
+ghost use Rattle.feed_lane.specs.Feeds.{ListsMessages};
 ghost use Rattle.generate_command.specs.Making.{AreAllowed, source_of, sources_of, NameWritten};
 
 use generated_feed::GeneratedFeed;
@@ -78,13 +80,15 @@ fn write_feeds<R: Threads + Wait + Sync, W: World>(
     feeds: Vec<GeneratedFeed>,
     out: &str,
     world: &mut W,
+    listed: bool,
 ) -> Written
     requires allowed { AreAllowed options.now }
     requires few { (1 ≤ vec_len feeds) × (vec_len feeds ≤ 64) }
     requires world_fits { (W.state world.old).faults < 2 ^ 64 }
     requires inputs_fit { (W.state world.old).input_faults < 2 ^ 64 }
     requires outputs_fit { (W.state world.old).output_faults < 2 ^ 64 }
-    ensures { NameWritten options.now (map (λ f. ⟦<GeneratedFeed as Source>⟧.state f) feeds.items) out.now (W.state world.old) (W.state world.new) result }
+    ensures written { NameWritten options.now (map (λ f. ⟦<GeneratedFeed as Source>⟧.state f) feeds.items) out.now (W.state world.old) (W.state world.new) result }
+    ensures listed { (r : _) → result.report ≡ Some r → Each (λ f. ListsMessages f listed) r.feeds.items }
 {
     let live = match world.live(out) {
         Ok(live) => live,
@@ -105,7 +109,7 @@ fn write_feeds<R: Threads + Wait + Sync, W: World>(
         report,
         feeds: _,
         live,
-    } = record(rt, alloc, options, feeds, live, false);
+    } = record(rt, alloc, options, feeds, live, listed);
     let kept = world.keep_live(out, live);
     Written {
         report,
@@ -114,7 +118,8 @@ fn write_feeds<R: Threads + Wait + Sync, W: World>(
 }
 
 /// Makes the feeds and records them into the file under the name, which is opened as a live store and kept. There is no report
-/// where the name couldn't be opened or memory lacked before anything was written.
+/// where the name couldn't be opened or memory lacked before anything was written. A report lists the messages where `listed` says
+/// so, and else only counts them.
 pub fn write_generated<R: Threads + Wait + Sync, W: World>(
     rt: &R,
     alloc: Global,
@@ -122,16 +127,18 @@ pub fn write_generated<R: Threads + Wait + Sync, W: World>(
     numbers: Numbers,
     out: &str,
     world: &mut W,
+    listed: bool,
 ) -> Written
     requires allowed { AreAllowed options.now }
     requires few { (1 ≤ numbers.feeds) × (numbers.feeds ≤ 64) }
     requires world_fits { (W.state world.old).faults < 2 ^ 64 }
     requires inputs_fit { (W.state world.old).input_faults < 2 ^ 64 }
     requires outputs_fit { (W.state world.old).output_faults < 2 ^ 64 }
-    ensures { NameWritten options.now (sources_of numbers) out.now (W.state world.old) (W.state world.new) result }
+    ensures written { NameWritten options.now (sources_of numbers) out.now (W.state world.old) (W.state world.new) result }
+    ensures listed { (r : _) → result.report ≡ Some r → Each (λ f. ListsMessages f listed) r.feeds.items }
 {
     match make_feeds(alloc, numbers) {
-        Ok(feeds) => return write_feeds(rt, alloc, options, feeds, out, world),
+        Ok(feeds) => return write_feeds(rt, alloc, options, feeds, out, world, listed),
         Err(_) => return Written {
             report: None,
             kept: false,

@@ -13,7 +13,9 @@ use Rattle.file_commands.proofs.Cats.{not_two as cat_not_two}
 use Rattle.file_commands.proofs.Followings.{indexed_not_two}
 use Rattle.output_commands.proofs.Recoveries.{recovers_not_two}
 use Rattle.output_commands.proofs.Merges.{merges_not_two}
-use Rattle.mcap_app.specs.Runs.{IsAllowed, Runs}
+use Rattle.generate_command.proofs.Statuses.{generates_not_two}
+use Rattle.generate_command.specs.Making.{AreAllowed}
+use Rattle.mcap_app.specs.Runs.{IsAllowed, Runs, generate_options}
 
 -- no command has the status of bad words
 pub not_two : (command : Command) (old new : Scene) (report : Option Report) (status : ℕ) → Runs command old new report status → status ≡ 2 → ⊥
@@ -24,6 +26,7 @@ not_two (commands.Cat file true range topic) old new report status runs two = in
 not_two (commands.Cat file false range topic) old new report status runs two = cat_not_two _ _ _ _ _ runs.0 two
 not_two (commands.Recover input out chunk) old new report status runs two = recovers_not_two _ _ _ _ _ _ runs.0 two
 not_two (commands.Merge out inputs chunk) old new report status runs two = merges_not_two _ _ _ _ _ _ runs.0 two
+not_two (commands.Generate seed feeds messages out) old new report status runs two = generates_not_two _ _ _ _ _ _ _ runs two
 
 -- ---- ranges
 
@@ -67,3 +70,13 @@ allowed words (commands.Merge out inputs chunk) derives =
     let is = derives.behind in
     let sizes = in_range 1 67108864 786432 _ is.size is.sized (omega arith) (omega arith) in
     (omega (arith, is.chunk_is, sizes.0), omega (arith, is.chunk_is, sizes.1), (is.some, is.few))
+allowed words (commands.Generate seed feeds messages out) derives = let amounts = derives.behind.amounts.feeds_are in (amounts.above, amounts.below)
+
+-- and so are those of a generation
+pub generate_allowed : AreAllowed generate_options
+generate_allowed = record {
+  some = omega arith;
+  small = omega arith;
+  size = λ n is. let same : 786432 ≡ n = same_Some 786432 n is in (omega (arith, same), omega (arith, same));
+  short = omega arith;
+}

@@ -1,5 +1,5 @@
 -- What the program does, command by command.
-use Rattle.std.specs.Prelude.{◌≡◌, ◌≤◌, ℕ, [], ◌∷◌, true, false, Option, None}
+use Rattle.std.specs.Prelude.{◌≡◌, ◌≤◌, ℕ, [], ◌∷◌, true, false, Option, None, Some}
 use Rattle.command_words.specs.declared.command.Command.{Command}
 use Rattle.command_words.specs.declared.command.Command.TheVariants as commands
 use Rattle.recorder.specs.declared.report.Report.{Report}
@@ -15,6 +15,9 @@ use Rattle.mcap_wire.specs.Limits.{chunk_size_limit}
 use Rattle.output_commands.specs.Recover.{RecoversFile}
 use Rattle.output_commands.specs.SomeOutput.{AreFew as AreFewInputs}
 use Rattle.output_commands.specs.Merge.{MergesFiles}
+use Rattle.command_words.specs.Commands.{feed_limit, usual_chunk_size, usual_limit}
+use Rattle.recorder.specs.declared.options.RecordOptions.{RecordOptions}
+use Rattle.generate_command.specs.Generating.{Generates}
 
 -- the numbers and texts of a command are in their ranges
 abbrev pub IsAllowed : Command → Type 0
@@ -24,8 +27,13 @@ IsAllowed (commands.Check file) = Unit {0}
 IsAllowed (commands.Cat file indexed range topic) = Unit {0}
 IsAllowed (commands.Recover input out chunk) = (1 ≤ chunk) × (chunk ≤ chunk_size_limit)
 IsAllowed (commands.Merge out inputs chunk) = (1 ≤ chunk) × (chunk ≤ chunk_size_limit) × AreFewInputs inputs
+IsAllowed (commands.Generate seed feeds messages out) = (1 ≤ feeds) × (feeds ≤ feed_limit)
 
--- only a recording has a report
+-- generated feeds are recorded without loss, with no profile and the usual sizes
+abbrev pub generate_options : RecordOptions
+generate_options = record { file = record { profile = []; chunk = Some usual_chunk_size }; limit = usual_limit; lossless = true }
+
+-- only a recording has a report, of feeds that are read or generated
 abbrev pub Runs : Command → Scene → Scene → Option Report → ℕ → Type 0
 Runs (commands.Record out feeds file limit lossless) old new report status = Records (record { file = file; limit = limit; lossless = lossless }) out feeds old new report status
 Runs (commands.Info file) old new report status = Describes file old new status × (report ≡ None)
@@ -34,6 +42,7 @@ Runs (commands.Cat file false range topic) old new report status = Cats (selecti
 Runs (commands.Cat file true range topic) old new report status = IndexedCats (selection range topic) file old new status × (report ≡ None)
 Runs (commands.Recover input out chunk) old new report status = RecoversFile chunk input out old new status × (report ≡ None)
 Runs (commands.Merge out inputs chunk) old new report status = MergesFiles chunk inputs out old new status × (report ≡ None)
+Runs (commands.Generate seed feeds messages out) old new report status = Generates generate_options (record { seed = seed; feeds = feeds; messages = messages }) out old new report status
 
 -- memory lacked for reading the words, and nothing else was done
 pub record LacksForWords (old new : Scene) (report : Option Report) (status : ℕ) : Type 0 where

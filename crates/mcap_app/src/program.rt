@@ -7,16 +7,20 @@ ghost use Rattle.mcap_model.specs.Places.{Each};
 ghost use Rattle.feed_lane.specs.Feeds.{ListsMessages};
 ghost use Rattle.command_base.specs.Printing.{Takes};
 ghost use Rattle.command_base.specs.Ran.{scene};
-ghost use Rattle.mcap_app.specs.Runs.{IsAllowed, Runs, LacksForWords};
+ghost use Rattle.generate_command.specs.Generating.{Generates};
+ghost use Rattle.mcap_app.specs.Runs.{IsAllowed, Runs, LacksForWords, generate_options};
 
 use crate::recording::{Ended, record_file};
 use command_base::{refuse_for_memory, refuse_words};
-use command_words::{Command, WordsRefused, parse_words};
+use command_words::{Command, USUAL_CHUNK, USUAL_LIMIT, WordsRefused, parse_words};
 use file_commands::{check_file, describe_file, print_file, print_indexed};
+use generate_command::{Generated, Numbers, generate_file};
 use mcap_io::{Sink, World};
+use mcap_model::FileOptions;
 use mcap_wire::Text;
 use output_commands::{merge_file, recover_file};
 use recorder::RecordOptions;
+use std::alloc::Global;
 use std::sync::Wait;
 use std::thread::Threads;
 
@@ -28,6 +32,45 @@ fn unreported(status: u8) -> Ended
         status,
         report: None,
     }
+}
+
+// How generated feeds are recorded: without loss, with no profile and the usual sizes.
+fn generated_options(alloc: Global) -> RecordOptions
+    ensures { result ≡ generate_options }
+{
+    RecordOptions {
+        file: FileOptions {
+            profile: Text::new(String::new(alloc)),
+            chunk: Some(USUAL_CHUNK),
+        },
+        limit: USUAL_LIMIT,
+        lossless: true,
+    }
+}
+
+// Records generated feeds, and reads the file back.
+#[tactic(auto, using(crate::proofs::Running::generate_allowed))]
+fn run_generate<R: AllocGlobal + Threads + Wait + Sync, W: World, O: Sink, E: Sink>(
+    rt: &R,
+    numbers: Numbers,
+    name: &str,
+    world: &mut W,
+    out: &mut O,
+    err: &mut E,
+    listed: bool,
+) -> Ended
+    requires few { (1 ≤ numbers.feeds) × (numbers.feeds ≤ 64) }
+    ensures runs { Generates generate_options numbers name.now
+        (scene (W.state world.old) (O.state out.old) (E.state err.old))
+        (scene (W.state world.new) (O.state out.new) (E.state err.new))
+        result.report result.status }
+    ensures listed { (r : _) → result.report ≡ Some r → Each (λ f. ListsMessages f listed) r.feeds.items }
+{
+    let options = generated_options(rt.alloc());
+    let Generated { status, report } = generate_file(
+        rt, &options, numbers, name, world, out, err, listed,
+    );
+    Ended { status, report }
 }
 
 // Does what the command says.
@@ -104,6 +147,19 @@ fn run_command<R: AllocGlobal + Threads + Wait + Sync, W: World, O: Sink, E: Sin
         } => {
             let (inputs, name) = (inputs.as_slice(), name.as_str());
             return unreported(merge_file(alloc, chunk, inputs, name, world, out, err));
+        }
+        Command::Generate {
+            seed,
+            feeds,
+            messages,
+            out: name,
+        } => {
+            let numbers = Numbers {
+                seed,
+                feeds,
+                messages,
+            };
+            return run_generate(rt, numbers, name.as_str(), world, out, err, listed);
         }
     }
 }

@@ -91,6 +91,15 @@ fn said(alloc: Global, command: &Command) -> Result<String, AllocError> {
             let (out, inputs) = (out.as_str(), joined(alloc, inputs)?);
             format!(in alloc; "merge {out}{inputs} chunk={chunk}")
         }
+        Command::Generate {
+            seed,
+            feeds,
+            messages,
+            out,
+        } => {
+            let out = out.as_str();
+            format!(in alloc; "gen {seed} {feeds} {messages} {out}")
+        }
     }
 }
 

@@ -1,4 +1,4 @@
--- The program has its six commands.
+-- The program has its seven commands.
 use Rattle.std.proofs.Common.{codes}
 use Rattle.command_words.specs.CommandLine.{bare_top, file_app, verb_app}
 use Rattle.command_words.specs.declared.verbs.Verb.TheVariants as verb
@@ -11,4 +11,5 @@ returns c =
     let check_in = c.with_verb-command-3.ensures _ (file_app (codes "check")) info_in c.of_file-2.ensures in
     let cat_in = c.with_verb-command-4.ensures _ (verb_app verb.Cat) check_in c.cat.ensures in
     let recover_in = c.with_verb-command-5.ensures _ (verb_app verb.Recover) cat_in c.recover.ensures in
-    c.with_verb.ensures _ (verb_app verb.Merge) recover_in c.merge.ensures
+    let merge_in = c.with_verb-command-6.ensures _ (verb_app verb.Merge) recover_in c.merge.ensures in
+    c.with_verb.ensures _ (verb_app verb.Generate) merge_in c.generate.ensures

@@ -12,7 +12,7 @@ use Rattle.command_words.specs.declared.command.WordsRefused.{WordsRefused}
 use Rattle.command_words.specs.declared.command.WordsRefused.TheVariants.{BadWords}
 use Rattle.command_words.specs.declared.verbs.Verb.{Verb}
 use Rattle.command_words.specs.declared.verbs.Verb.TheVariants as verb
-use Rattle.command_words.proofs.CommandLemmas.{of_file_is, of_named_file, only_cat, only_check, only_info, only_merge, only_record, only_recover}
+use Rattle.command_words.proofs.CommandLemmas.{of_file_is, of_named_file, only_cat, only_check, only_generate, only_info, only_merge, only_record, only_recover}
 use Rattle.command_words.proofs.parse.command_of.Goals as goal
 
 -- what is promised of a verb
@@ -71,3 +71,10 @@ returns-in-Merge-clause-command c = subst (Gives (rows_found c.args.found.now) c
 pub returns-in-Merge-clause-bad : goal.returns-in-Merge-clause-bad
 returns-in-Merge-clause-bad c = subst (Refuses (rows_found c.args.found.now) c.merge_of.result) (sym c.in-Merge.is)
     (λ words reading. IfErr-weaker c.merge_of.result _ _ (λ refused bad why. only_merge words (bad why)) (c.merge_of.ensures.bad words reading))
+
+pub returns-in-Generate-clause-command : goal.returns-in-Generate-clause-command
+returns-in-Generate-clause-command c = subst (Gives (rows_found c.args.found.now) c.generate_of.result) (sym c.in-Generate.is) c.generate_of.ensures.command
+
+pub returns-in-Generate-clause-bad : goal.returns-in-Generate-clause-bad
+returns-in-Generate-clause-bad c = subst (Refuses (rows_found c.args.found.now) c.generate_of.result) (sym c.in-Generate.is)
+    (λ words reading. IfErr-weaker c.generate_of.result _ _ (λ refused bad why. only_generate words (bad why)) (c.generate_of.ensures.bad words reading))

@@ -3,8 +3,8 @@ use Rattle.command_base.specs.Ran.{scene}
 use Rattle.generate_command.proofs.Told.{generates}
 use Rattle.generate_command.proofs.generating.generate_file.Goals as goal
 
-pub returns : goal.returns
-returns g c =
+pub returns-clause-generates : goal.returns-clause-generates
+returns-clause-generates g c =
     let world = g.W.World.state in
     let made = c.write_generated-written in
     let old = scene (world c.args.world.now) (g.O.Sink.state c.args.out.now) (g.E.Sink.state c.args.err.now) in
@@ -12,7 +12,7 @@ returns g c =
     generates c.args.options.now c.args.numbers c.args.out_name.now old new (world made.new.world) made.result.report made.result.kept c.read_written-back.result c.of-before.result c.of-now.result _ c.world_rose.result c.has_limit.result c.rose.result c.is_lack.result c.answer-status.result (record {
       before_is = c.of-before.ensures.are;
       now_is = c.of-now.ensures.are;
-      written = made.ensures;
+      written = made.ensures.written;
       reads = c.read_written-back.ensures;
       printed = c.print_back.ensures c.args.out_name.now;
       blame = c.world_rose.ensures;

@@ -13,7 +13,7 @@ write_feeds-requires-clause-few g c κs within =
     let many : vec_len feeds ≡ c.args.numbers.feeds = omega (arith, ap length c.in-Ok.ensures, length-map feeds.items it.ghosts.state, length-map-range_with_len (source_of c.args.numbers) 0 c.args.numbers.feeds, feeds.ok) in
     (omega (arith, many, few.0), omega (arith, many, few.1))
 
-pub returns-in-Err : goal.returns-in-Err
-returns-in-Err g c =
+pub returns-in-Err-clause-written : goal.returns-in-Err-clause-written
+returns-in-Err-clause-written g c =
     let world = g.W.World.state c.args.world.now in
     nothing_written c.args.options.now (sources_of c.args.numbers) c.args.out.now world world refl (record { inputs = refl; outputs = refl; watches = refl }) refl c.requires.world_fits c.requires.inputs_fit c.requires.outputs_fit
