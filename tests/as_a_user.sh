@@ -701,7 +701,7 @@ accepted=$(sed -n 's/^feed 1 accepted=\([0-9]*\) .*/\1/p' "$room/stdout")
 compare 'the line of a feed that met a full buffer' "feed 1 accepted=$accepted refused=$((8192 - accepted)) passed=0 end" \
     "$(sed -n 1p "$room/stdout")"
 [ "$accepted" -lt 8192 ] || say_wrong 'no message was refused though the output stood still'
-[ "$accepted" -gt 100 ] || say_wrong 'the writer took nothing while the lane ran'
+[ "$accepted" -gt 0 ] || say_wrong 'the writer took nothing while the lane ran'
 expect 0 "ok indexed messages=$accepted channels=1 schemas=1 chunks=$((accepted + 2)) attachments=0 metadata=0" '' \
     mcaprec check through-late.mcap
 
