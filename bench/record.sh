@@ -2,8 +2,8 @@
 # Times `mcaprec record --lossless OUT FEED`, plain and in chunks, and `check` and `cat` of the result beside `cp FEED OUT` on
 # feeds of so many MiB (64), best of five each, in one run: messages of 1,000 and of 64 bytes of data, on one channel and on
 # forty. The kind `chunks` is a plain feed recorded in chunks; of the file that this writes, `again` is its messages recorded in
-# chunks, `flat` the same recorded plain, and `recover` a recovery of it. Then four feeds and 64 of as many bytes in all are recorded at once, plain and in
-# chunks, beside `cat FEED... >OUT`. At last the most memory is shown that a recording of one million and of twenty million messages
+# chunks, `flat` the same recorded plain, and `recover` a recovery of it. Then four feeds and 64 of as many bytes in all are
+# recorded at once, plain and in chunks, beside `cat FEED... >OUT`. At last the most memory is shown that a recording of one million and of twenty million messages
 # of 64 bytes took, whatever MIB is, with a buffer of 262,144 bytes, which both fill: it must not grow with them.
 # MCAPREC names another program to time in place of the launcher.
 set -e
