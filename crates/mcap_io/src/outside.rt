@@ -202,9 +202,9 @@ pub trait World {
 
     type Store: Store + Send;
 
-    type Sink: Sink + Send;
+    type Sink: Sink + Send + Drop;
 
-    type Live: LiveStore<Extent: Send + Sync, View: Send> + Send + Drop;
+    type Live: LiveStore<Extent: Send + Sync, View: Send + Drop> + Send + Drop;
 
     /// What it tells of its names and openings, how often an opening or a keeping has failed, and the faults of what was
     /// taken back.
