@@ -1,7 +1,8 @@
 -- Lanes beside a turn: as they are before they run, and once all have ended.
-use Rattle.std.specs.Prelude.{◌≡◌, ℕ, List, [], length, Bool, true, false, Option, Some}
+use Rattle.std.specs.Prelude.{◌≡◌, ℕ, List, [], length, Bool, true, false, Option, Some, None}
 use Rattle.mcap_io.specs.Outside.{SourceState}
 use Rattle.mcap_model.specs.Places.{Each}
+use Rattle.record_cache.specs.Buffers.{Buffer}
 use Rattle.feed_lane.specs.declared.report.FeedReport.{FeedReport}
 use Rattle.feed_lane.specs.Pass.{PassState}
 use Rattle.feed_lane.specs.Lanes.{InStep}
@@ -9,7 +10,9 @@ use Rattle.feed_lane.specs.Feeds.{Reports, ListsMessages}
 use Rattle.buffer_swap.specs.Calls.{reasoned}
 use Rattle.buffer_swap.specs.Plays.{Unclosed}
 use Rattle.buffer_swap.specs.Posts.{Gathered, Post}
+use Rattle.buffer_swap.specs.declared.view.View.{View}
 use Rattle.recorder.specs.Recorded.{FeedRecorded, AreFeeds}
+use Rattle.recorder.specs.Writing.{empty_buffer}
 
 -- A lane ran to its end: the pass that its publisher showed, with the reasons of all refusals, is one of which its report is
 -- true; where it waits for room, no call was answered that the buffer is full. The report lists messages, or only counts them.
@@ -28,6 +31,13 @@ pub record IsFresh (post : Post) (many : ℕ) : Type 0 where
   pub made : post.made ≡ many
   pub known : post.known ≡ []
   pub unclosed : post.closed ≡ false
+
+-- a control, a drain and a second buffer, as they are before there are lanes
+pub record AreReady (control drain : View) (spare : Buffer) : Type 0 where
+  pub fresh : IsFresh control.post 0
+  pub spare_is : spare ≡ empty_buffer drain.pass.limit
+  pub none : drain.post.taken ≡ []
+  pub unstopped : drain.post.stop ≡ None
 
 -- what a control knows of these feeds: their passes in the same order, none of which found a close
 pub record AreKnown (limit : ℕ) (feeds : List FeedRecorded) (known : List Gathered) : Type 0 where

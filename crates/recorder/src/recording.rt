@@ -9,24 +9,26 @@ ghost use Rattle.mcap_model.specs.declared.ends.End.{End as Last};
 ghost use Rattle.mcap_model.specs.declared.ends.End.TheVariants.{Stopped};
 ghost use Rattle.mcap_model.specs.Places.{Each};
 ghost use Rattle.chunk_writer.specs.declared.phase.Phase.TheVariants as phases;
+ghost use Rattle.record_core.specs.Desk.{IsCause};
 ghost use Rattle.feed_lane.specs.Pass.{no_calls};
 ghost use Rattle.feed_lane.specs.Feeds.{ListsMessages};
 ghost use Rattle.buffer_swap.specs.Calls.{first_limit, IsNewTurn, IsOver};
 ghost use Rattle.recorder.specs.Writing.{empty_buffer};
-ghost use Rattle.recorder.specs.Lanes.{IsFresh, LanesRan};
-ghost use Rattle.recorder.specs.Onto.{IsWritten, IsAll, RecordedOnto};
+ghost use Rattle.recorder.specs.Lanes.{IsFresh, AreReady, LanesRan};
+ghost use Rattle.recorder.specs.Onto.{IsWritten, IsAll, IsReported, RecordedOnto};
 ghost use Rattle.recorder.specs.Recorded.{sides, Recorded};
 
 use crate::lanes::{Lane, Lanes};
 use crate::options::RecordOptions;
 use crate::report::Report;
-use crate::unopened::{run_unwritten, stop_unread};
+use crate::unopened::{Unwritten, run_unwritten, stop_unread};
 use crate::writer::{Writer, Written};
 use buffer_swap::laws::places_are_known;
-use buffer_swap::{Turn, meet};
+use buffer_swap::{Drain, Turn, meet};
 use chunk_writer::{Scribe, Tape};
 use feed_lane::FeedReport;
 use mcap_io::{LiveStore, Source};
+use mcap_model::Stop;
 use mcap_wire::Memory;
 use record_cache::Cache;
 use record_core::Desk;
@@ -52,25 +54,33 @@ pub struct Recording<S, L> {
     pub live: L,
 }
 
-// What a recording needs before its first record: the turn, the second buffer, and room for the feeds and for the reports.
+/// What a recording needs before its first record: the turn, the second buffer, and room for the feeds and for the reports.
 #[derive(Drop)]
-struct Room<S> {
-    turn: Turn,
+pub struct Room<S> {
+    pub turn: Turn,
+    pub spare: Cache,
+    pub feeds: Vec<S>,
+    pub reports: Vec<FeedReport>,
+}
+
+/// A recording that has all the room that it will need, and has read nothing.
+#[derive(Drop)]
+pub struct Ready<'t, R: Wait, S> {
+    lanes: Lanes<'t, R, S>,
+    drain: Drain<'t>,
     spare: Cache,
-    feeds: Vec<S>,
-    reports: Vec<FeedReport>,
 }
 
-// A report, with the feeds and the tape.
+/// A report, with the feeds and the tape.
 #[derive(Drop)]
-struct Ran<S, T> {
-    report: Report,
-    feeds: Vec<S>,
-    tape: T,
+pub struct Ran<S, T> {
+    pub report: Report,
+    pub feeds: Vec<S>,
+    pub tape: T,
 }
 
-// Makes the room for a recording of so many feeds.
-fn make_room<S: Drop>(alloc: Global, limit: u64, many: usize) -> Result<Room<S>, Memory>
+/// Makes the room for a recording of so many feeds, over a buffer with that limit.
+pub fn make_room<S: Drop>(alloc: Global, limit: u64, many: usize) -> Result<Room<S>, Memory>
     requires some { 1 ≤ limit }
     requires small { limit ≤ buffer_limit }
     ensures turn { IfOk result (λ room. IsNewTurn room.turn.board.table.shared.table_id room.turn.first × (first_limit room.turn.first ≡ limit)) }
@@ -117,6 +127,46 @@ fn lane_room<'t, R: Wait, S: Drop>(
         Ok(()) => return Ok(lanes),
         Err(_) => return Err(Memory),
     }
+}
+
+/// Makes a recording ready that is to have so many feeds. Its lanes wait for room, or don't.
+pub fn make_ready<'t, R: Wait, S: Drop>(
+    alloc: Global,
+    turn: &'t mut Turn,
+    spare: Cache,
+    feeds: Vec<S>,
+    reports: Vec<FeedReport>,
+    lossless: bool,
+    many: usize,
+) -> Result<Ready<'t, R, S>, Memory>
+    requires new { IsNewTurn turn.old.board.table.shared.table_id turn.old.first }
+    requires spare { spare ≡ empty_buffer (first_limit turn.old.first) }
+    requires feeds { (feeds.items ≡ []) × (many ≤ vec_capacity feeds) }
+    requires reports { (reports.items ≡ []) × (many ≤ vec_capacity reports) }
+    ensures ready { IfOk result (λ it. AreReady it.lanes.control.seat.me.0 it.drain.seat.me.0 it.spare) }
+    ensures same_turn { IfOk result (λ it. it.drain.seat.table_id ≡ it.lanes.control.seat.table_id) }
+    ensures lanes { IfOk result (λ it. (it.lanes.lanes.items ≡ []) × (many ≤ vec_capacity it.lanes.lanes)) }
+    ensures feeds { IfOk result (λ it. (it.lanes.feeds.items ≡ []) × (many ≤ vec_capacity it.lanes.feeds)) }
+    ensures reports { IfOk result (λ it. (it.lanes.reports.items ≡ []) × (many ≤ vec_capacity it.lanes.reports)) }
+    ensures limit { IfOk result (λ it. it.lanes.control.seat.me.0.pass.limit ≡ first_limit turn.old.first) }
+    ensures lossless { IfOk result (λ it. it.lanes.lossless ≡ lossless) }
+{
+    let lanes = match lane_room(alloc, many) {
+        Ok(lanes) => lanes,
+        Err(memory) => return Err(memory),
+    };
+    let (control, drain) = turn.start();
+    return Ok(Ready {
+        lanes: Lanes {
+            control,
+            lossless,
+            lanes,
+            feeds,
+            reports,
+        },
+        drain,
+        spare,
+    });
 }
 
 // A recording for which memory lacked before anything was read or appended.
@@ -218,6 +268,70 @@ fn run_beside<R: Threads + Wait + Sync, S: Source + Drop + Send, T: Tape<X: Send
     }
 }
 
+impl<'t, R: Threads + Wait + Sync, S: Source + Drop + Send> Ready<'t, R, S> {
+    /// Records these feeds onto the tape, which is new, and ends it.
+    pub fn run_onto<T: Tape<X: Send> + Drop + Send>(
+        self,
+        rt: &'t R,
+        alloc: Global,
+        feeds: Vec<S>,
+        tape: T,
+        listed: bool,
+    ) -> Ran<S, T>
+        requires ready { AreReady self.lanes.control.seat.me.0 self.drain.seat.me.0 self.spare }
+        requires same_turn { self.drain.seat.table_id ≡ self.lanes.control.seat.table_id }
+        requires few { vec_len feeds ≤ 64 }
+        requires lanes { (self.lanes.lanes.items ≡ []) × (vec_len feeds ≤ vec_capacity self.lanes.lanes) }
+        requires feeds { (self.lanes.feeds.items ≡ []) × (vec_len feeds ≤ vec_capacity self.lanes.feeds) }
+        requires reports { (self.lanes.reports.items ≡ []) × (vec_len feeds ≤ vec_capacity self.lanes.reports) }
+        requires going { T.phase tape ≡ phases.Going }
+        requires unused { T.is_new tape }
+        ensures stays { AllZip S.stays feeds.items result.feeds.items }
+        ensures recorded { RecordedOnto T.grows T.ends T.phase T.numbers T.failures T.limit_met self.entry.lanes.control.seat.me.0.pass.limit self.entry.lanes.lossless
+            (map S.state feeds.items) (map S.state result.feeds.items) tape result.tape result.report }
+        ensures listed { Each (λ f. ListsMessages f listed) result.report.feeds.items }
+    {
+        let Ready {
+            mut lanes,
+            drain,
+            spare,
+        } = self;
+        lanes.add_all(rt, feeds);
+        run_beside(rt, alloc, lanes, Writer { drain, tape }, spare, listed)
+    }
+
+    /// Reads these feeds where the file couldn't be begun, for that reason: nothing is accepted.
+    pub fn run_unopened(
+        self,
+        rt: &'t R,
+        alloc: Global,
+        feeds: Vec<S>,
+        why: Stop,
+        listed: bool,
+    ) -> Unwritten<S>
+        requires ready { AreReady self.lanes.control.seat.me.0 self.drain.seat.me.0 self.spare }
+        requires same_turn { self.drain.seat.table_id ≡ self.lanes.control.seat.table_id }
+        requires few { vec_len feeds ≤ 64 }
+        requires lanes { (self.lanes.lanes.items ≡ []) × (vec_len feeds ≤ vec_capacity self.lanes.lanes) }
+        requires feeds { (self.lanes.feeds.items ≡ []) × (vec_len feeds ≤ vec_capacity self.lanes.feeds) }
+        requires reports { (self.lanes.reports.items ≡ []) × (vec_len feeds ≤ vec_capacity self.lanes.reports) }
+        requires cause { IsCause why }
+        ensures stays { AllZip S.stays feeds.items result.feeds.items }
+        ensures reported { IsReported self.entry.lanes.control.seat.me.0.pass.limit self.entry.lanes.lossless (map S.state feeds.items) (map S.state result.feeds.items) [] result.report }
+        ensures writer { result.report.writer ≡ record { records = 0; blocks = 0; bytes = 0; end = Stopped why } }
+        ensures listed { Each (λ f. ListsMessages f listed) result.report.feeds.items }
+    {
+        let Ready {
+            mut lanes,
+            mut drain,
+            spare,
+        } = self;
+        stop_unread(rt, &mut lanes.control, &mut drain, spare, why);
+        lanes.add_all(rt, feeds);
+        run_unwritten(rt, alloc, lanes, drain, why, listed)
+    }
+}
+
 /// Records the feeds onto the tape, which is new, and ends it. Each feed has a lane of its own, and the lanes run beside the writer. Of
 /// `options` it uses the limit of the buffer and whether lanes wait: what the tape's file is like is the tape's matter. Where
 /// messages aren't to be listed the report only counts them.
@@ -252,24 +366,23 @@ pub fn record_onto<
         Ok(room) => room,
         Err(_) => return unread(feeds, tape),
     };
-    let (control, drain) = turn.start();
-    let lanes = match lane_room(alloc, feeds.len()) {
-        Ok(lanes) => lanes,
+    let ready = match make_ready(
+        alloc,
+        &mut turn,
+        spare,
+        back,
+        reports,
+        options.lossless,
+        feeds.len(),
+    ) {
+        Ok(ready) => ready,
         Err(_) => return unread(feeds, tape),
     };
-    let mut lanes = Lanes {
-        control,
-        lossless: options.lossless,
-        lanes,
-        feeds: back,
-        reports,
-    };
-    lanes.add_all(rt, feeds);
     let Ran {
         report,
         feeds,
         tape,
-    } = run_beside(rt, alloc, lanes, Writer { drain, tape }, spare, listed);
+    } = ready.run_onto(rt, alloc, feeds, tape, listed);
     Onto {
         report: Some(report),
         feeds,
@@ -311,22 +424,21 @@ pub fn record<
         Ok(room) => room,
         Err(_) => return refused(feeds, live),
     };
-    let (control, mut drain) = turn.start();
-    let lanes = match lane_room(alloc, feeds.len()) {
-        Ok(lanes) => lanes,
-        Err(_) => return refused(feeds, live),
-    };
-    let mut lanes = Lanes {
-        control,
-        lossless: options.lossless,
-        lanes,
-        feeds: back,
+    let ready = match make_ready(
+        alloc,
+        &mut turn,
+        spare,
+        back,
         reports,
+        options.lossless,
+        feeds.len(),
+    ) {
+        Ok(ready) => ready,
+        Err(_) => return refused(feeds, live),
     };
     match Scribe::open(alloc, live, &options.file) {
         Ok(tape) => {
-            lanes.add_all(rt, feeds);
-            let ran = run_beside(rt, alloc, lanes, Writer { drain, tape }, spare, listed);
+            let ran = ready.run_onto(rt, alloc, feeds, tape, listed);
             return Recording {
                 report: Some(ran.report),
                 feeds: ran.feeds,
@@ -334,9 +446,7 @@ pub fn record<
             };
         }
         Err((live, stop)) => {
-            stop_unread(rt, &mut lanes.control, &mut drain, spare, stop);
-            lanes.add_all(rt, feeds);
-            let unwritten = run_unwritten(rt, alloc, lanes, drain, stop, listed);
+            let unwritten = ready.run_unopened(rt, alloc, feeds, stop, listed);
             return Recording {
                 report: Some(unwritten.report),
                 feeds: unwritten.feeds,

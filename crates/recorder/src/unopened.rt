@@ -26,7 +26,7 @@ use std::thread::Threads;
 
 /// A report, with the feeds.
 #[derive(Drop)]
-pub(crate) struct Unwritten<S> {
+pub struct Unwritten<S> {
     pub report: Report,
     pub feeds: Vec<S>,
 }
