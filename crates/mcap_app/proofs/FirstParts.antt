@@ -47,7 +47,7 @@ use Rattle.command_base.specs.Ran.{Scene}
 use Rattle.output_commands.specs.declared.recovering.Recovery.{Recovery}
 use Rattle.output_commands.specs.declared.recovering.Recovery.TheVariants as recoveries
 use Rattle.output_commands.specs.Recover.{HoldsRecovered, Decides, RecoversFile}
-use Rattle.mcap_app.specs.Record.{back_sources}
+use Rattle.record_command.specs.Record.{back_sources}
 use Rattle.mcap_app.specs.Laws.{IsChunkSize, IsFirstPart, IsWithin, first_records, KeepsFirst, RecoversFirst, PassesLimit, RecordingsLeaveFirstParts, RecordingsAreRecovered}
 use Rattle.mcap_app.proofs.Unrepeated.{unrepeated}
 use Rattle.mcap_app.proofs.Sound.{IsExact, found_sound}

@@ -1,13 +1,3 @@
-mod Due
-mod Statuses
-mod Whole
-mod Held
-mod Flags
-mod Parts
-mod Sources
-mod Runs
-mod Lines
-mod Answered
 mod Running
 mod RoundTrip
 mod Sound

@@ -22,14 +22,14 @@ use Rattle.file_commands.specs.declared.cat.Reading.{Reading}
 use Rattle.file_commands.specs.declared.cat.Reading.TheVariants as readings
 use Rattle.command_base.specs.Ran.{Scene, counts_in, AnyRose, world_faults}
 use Rattle.recorder.specs.declared.options.RecordOptions.{RecordOptions}
-use Rattle.mcap_app.specs.Record.{AreAllowed, entry_of, live_entry, back_sources, Records}
+use Rattle.record_command.specs.Record.{AreAllowed, entry_of, live_entry, back_sources, Records}
 use Rattle.mcap_scan.specs.declared.answers.ScanRefused.TheVariants as refusals
 use Rattle.command_base.specs.OneFile.{was_read}
 use Rattle.command_base.specs.Printing.{TellsAll}
 use Rattle.file_commands.specs.Cat.{ComesTo, IsReading, IsPrinted, ending_of}
 use Rattle.mcap_app.specs.Laws.{everything, RecordingsArePrinted}
-use Rattle.mcap_app.proofs.Runs.{world_faults-append}
-use Rattle.mcap_app.proofs.Whole.{calm}
+use Rattle.record_command.proofs.Runs.{world_faults-append}
+use Rattle.record_command.proofs.Whole.{calm}
 
 -- ---- the recording
 

@@ -6,7 +6,7 @@ use Rattle.command_words.specs.declared.command.Command.TheVariants as commands
 use Rattle.command_words.specs.Commands.{GivesNumber, SizesChunks, Derives}
 use Rattle.recorder.specs.declared.report.Report.{Report}
 use Rattle.command_base.specs.Ran.{Scene}
-use Rattle.mcap_app.proofs.Answered.{not_two as record_not_two}
+use Rattle.record_command.proofs.Answered.{not_two as record_not_two}
 use Rattle.file_commands.proofs.Tellings.{not_two as info_not_two}
 use Rattle.file_commands.proofs.Checks.{not_two as check_not_two}
 use Rattle.file_commands.proofs.Cats.{not_two as cat_not_two}

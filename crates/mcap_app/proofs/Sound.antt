@@ -36,7 +36,7 @@ use Rattle.file_commands.specs.declared.checking.Judgement.{Judgement}
 use Rattle.file_commands.specs.declared.checking.Judgement.TheVariants as judgements
 use Rattle.file_commands.specs.Check.{verdict_status, Decides, FileChecks}
 use Rattle.command_base.specs.Ran.{Scene, counts_in, AnyRose}
-use Rattle.mcap_app.specs.Record.{back_sources}
+use Rattle.record_command.specs.Record.{back_sources}
 use Rattle.mcap_app.specs.Laws.{IsSaid, PrintsSound, RecordingsAreSound}
 use Rattle.mcap_app.proofs.RoundTrip.{closed_left}
 

@@ -27,7 +27,7 @@ use Rattle.recorder.specs.Laws.{IsSound}
 use Rattle.mcap_recover.specs.declared.answers.Recovered.{Recovered}
 use Rattle.mcap_recover.specs.declared.answers.Why.TheVariants as whys
 use Rattle.mcap_recover.specs.Recovering.{recovered_options}
-use Rattle.mcap_app.specs.Record.{AreAllowed, Records}
+use Rattle.record_command.specs.Record.{AreAllowed, Records}
 use Rattle.file_commands.specs.Cat.{Selection, Cats}
 use Rattle.file_commands.specs.Check.{verdict_line, FileChecks}
 use Rattle.output_commands.specs.declared.recovering.Recovery.{Recovery}

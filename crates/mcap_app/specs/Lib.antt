@@ -1,6 +1,2 @@
-pub mod ReportTexts
-pub mod Record
-pub mod Sources
-pub mod Answer
 pub mod Runs
 pub mod Laws

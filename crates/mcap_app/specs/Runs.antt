@@ -6,7 +6,7 @@ use Rattle.recorder.specs.declared.report.Report.{Report}
 use Rattle.command_base.specs.Texts.{no_memory, said}
 use Rattle.command_base.specs.Printing.{Takes}
 use Rattle.command_base.specs.Ran.{Scene}
-use Rattle.mcap_app.specs.Record.{AreAllowed, AreFew, Records}
+use Rattle.record_command.specs.Record.{AreAllowed, AreFew, Records}
 use Rattle.file_commands.specs.Info.{Describes}
 use Rattle.file_commands.specs.Check.{FileChecks}
 use Rattle.file_commands.specs.Cat.{selection, Cats}

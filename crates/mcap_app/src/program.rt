@@ -10,7 +10,7 @@ ghost use Rattle.command_base.specs.Ran.{scene};
 ghost use Rattle.generate_command.specs.Generating.{Generates};
 ghost use Rattle.mcap_app.specs.Runs.{IsAllowed, Runs, LacksForWords, generate_options};
 
-use crate::recording::{Ended, record_file};
+use record_command::{Ended, record_file};
 use command_base::{refuse_for_memory, refuse_words};
 use command_words::{Command, USUAL_CHUNK, USUAL_LIMIT, WordsRefused, parse_words};
 use file_commands::{check_file, describe_file, print_file, print_indexed};

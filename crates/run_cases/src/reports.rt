@@ -1,10 +1,10 @@
 //! What is said of reports that no run brings about.
 use mcap_app::{
-    Cause, End, Failures, FeedEnd, FeedReport, Listing, Refusals, Refused, Report, Stop,
-    WriterReport, answer, print_report,
+    Cause, End, FeedEnd, FeedReport, Listing, Refusals, Refused, Report, Stop, WriterReport,
 };
 use mcap_io::MemorySink;
 use mcap_wire::Text;
+use record_command::{Failures, answer, print_report};
 use std::alloc::{AllocError, Global};
 
 const NO_FAILURE: Failures<'static> = Failures {

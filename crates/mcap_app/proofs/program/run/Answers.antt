@@ -1,7 +1,7 @@
 -- The words derive the one command that ran, whose numbers are in their ranges and whose status isn't that of bad words.
 use Rattle.std.proofs.Common.{sym, ap, subst, inl, Err}
 use Rattle.command_words.specs.declared.command.Command.{Command}
-use Rattle.mcap_app.specs.declared.recording.Ended.{Ended}
+use Rattle.record_command.specs.declared.recording.Ended.{Ended}
 use Rattle.command_base.specs.Ran.{scene}
 use Rattle.mcap_app.specs.Runs.{Runs}
 use Rattle.mcap_app.proofs.Running.{allowed, not_two}

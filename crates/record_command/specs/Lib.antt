@@ -1,0 +1,4 @@
+pub mod Record
+pub mod ReportTexts
+pub mod Sources
+pub mod Answer

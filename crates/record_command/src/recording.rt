@@ -1,0 +1,272 @@
+//! Recording feeds under their names into a file under another.
+ghost use Rattle.std.specs.Prelude.{◌≡◌, ◌+◌, ◌≤◌, ◌<◌, ◌^◌, ◌++◌, ℕ, [], ◌∷◌, length, map, take, vec_len, vec_capacity, Some, true, false, IfOk, IfErr, OnOk, OnErr};
+ghost use Rattle.mcap_io.specs.Outside.{LiveState, WorldState};
+ghost use Rattle.mcap_wire.specs.Layout.{content_limit};
+ghost use Rattle.mcap_wire.specs.Limits.{buffer_limit, chunk_size_limit};
+ghost use Rattle.mcap_model.specs.Places.{Each};
+ghost use Rattle.feed_lane.specs.Feeds.{ListsMessages};
+ghost use Rattle.command_base.specs.Printing.{Takes};
+ghost use Rattle.command_base.specs.Ran.{scene};
+ghost use Rattle.record_command.specs.Sources.{FeedsOpened, FeedRefused, OneKept, FeedsKept, flags_with};
+ghost use Rattle.record_command.specs.Record.{AreAllowed, AreFew, report_text, NamesRecorded, Records};
+
+use crate::answering::{Outcome, answer, failed_parts};
+use crate::print::print_report;
+use command_base::{Counts, has_failed};
+use mcap_io::{LiveStore, OpenRefused, Sink, Source, World};
+use mcap_wire::{Memory, Text};
+use recorder::{RecordOptions, Recording, Report, record};
+use std::alloc::Global;
+use std::sync::Wait;
+use std::thread::Threads;
+
+/// How a command ended: its status, and the report of a recording. The status is 0 where all was done, and of a recovery also where
+/// its reading stopped early; 1 where a feed or the file breaks a rule, is compressed or isn't indexed, 2 for bad words, 3 where the
+/// outside failed, 4 where a limit would be passed and 5 where memory lacked.
+pub struct Ended {
+    pub status: u8,
+    pub report: Option<Report>,
+}
+
+// Room for the sources of feeds, and for which of them failed.
+#[derive(Drop)]
+struct Room<S> {
+    sources: Vec<S>,
+    failed: Vec<bool>,
+}
+
+// Makes room for so many feeds.
+fn make_room<S: Drop>(alloc: Global, many: usize) -> Result<Room<S>, Memory>
+    ensures sources { IfOk result (λ room. (room.sources.items ≡ []) × (many ≤ vec_capacity room.sources)) }
+    ensures failed { IfOk result (λ room. (room.failed.items ≡ []) × (many ≤ vec_capacity room.failed)) }
+{
+    let mut sources = Vec::new(alloc);
+    let mut failed = Vec::new(alloc);
+    match (sources.reserve(many), failed.reserve(many)) {
+        (Ok(()), Ok(())) => return Ok(Room { sources, failed }),
+        _ => return Err(Memory),
+    }
+}
+
+fn unrecorded(feeds_failed: Vec<bool>, out_failed: bool) -> Outcome
+    ensures { result ≡ record { report = None; feeds_failed = feeds_failed; out_failed = out_failed } }
+{
+    Outcome {
+        report: None,
+        feeds_failed,
+        out_failed,
+    }
+}
+
+// Whether an opening was refused since the outside failed.
+fn is_failed(why: OpenRefused) -> bool
+    ensures failed { result ≡ true → why ≡ OpenRefused.Failed }
+    ensures memory { result ≡ false → why ≡ OpenRefused.Memory }
+{
+    match why {
+        OpenRefused::Failed => true,
+        OpenRefused::Memory => false,
+    }
+}
+
+// Opens the feeds in their order, up to one that is refused.
+fn open_feeds<W: World>(
+    world: &mut W,
+    feeds: &[Text],
+    sources: &mut Vec<W::Source>,
+) -> Result<(), OpenRefused>
+    requires none { sources.old.items ≡ [] }
+    requires room { length feeds.now ≤ vec_capacity sources.old }
+    ensures all { OnOk result (FeedsOpened (W.state world.old) (W.state world.new) feeds.now (map W.Source.state sources.new.items)) }
+    ensures many { OnOk result (vec_len sources.new ≡ length feeds.now) }
+    ensures fewer { OnErr result (vec_len sources.new < length feeds.now) }
+    ensures some { IfErr result (FeedRefused (W.state world.old) (W.state world.new) feeds.now (map W.Source.state sources.new.items)) }
+{
+    'feeds: for feed in feeds {
+        match world.source(feed.as_str()) {
+            Ok(source) => sources.push_reserved(source),
+            Err(why) => return Err(why),
+        }
+    }
+    return Ok(());
+}
+
+// Keeps the source of a feed, and says whether it or that failed.
+fn keep_feed<W: World>(world: &mut W, feed: &str, source: W::Source) -> bool
+    ensures { OneKept (W.state world.old) (W.state world.new) feed.now (W.Source.state source) result }
+{
+    let faults = source.faults();
+    let kept = world.keep_source(feed, source);
+    has_failed(faults, kept)
+}
+
+// Keeps the sources of feeds in the reverse order of their opening, since a keeping is noted in the newest opening of its name,
+// and says which of them failed.
+fn keep_feeds<W: World>(
+    world: &mut W,
+    feeds: &[Text],
+    sources: Vec<W::Source>,
+    failed: &mut Vec<bool>,
+)
+    requires many { vec_len sources ≡ length feeds.now }
+    requires none { failed.old.items ≡ [] }
+    requires room { vec_len sources ≤ vec_capacity failed.old }
+    ensures kept { FeedsKept (W.state world.old) (W.state world.new) feeds.now (map W.Source.state sources.items) failed.new.items }
+    ensures count { vec_len failed.new ≡ vec_len sources }
+    ensures room { vec_capacity failed.new ≡ vec_capacity failed.old }
+{
+    let mut sources = sources;
+    'sources: while let Some(source) = sources.pop() {
+        let feed_failed = keep_feed(world, feeds[sources.len()].as_str(), source);
+        failed.push_reserved(feed_failed);
+    }
+    failed.reverse();
+}
+
+// Adds that the feed failed whose opening was refused so.
+fn add_refused(failed: &mut Vec<bool>, why_failed: bool)
+    requires room { vec_len failed.old < vec_capacity failed.old }
+    ensures { failed.new.items ≡ flags_with failed.old.items why_failed }
+{
+    if why_failed {
+        failed.push_reserved(true);
+    }
+}
+
+// Opens the output, records the feeds that were opened into it, and keeps all.
+fn record_opened<R: Threads + Wait + Sync, W: World>(
+    rt: &R,
+    alloc: Global,
+    options: &RecordOptions,
+    out: &str,
+    feeds: &[Text],
+    room: Room<W::Source>,
+    world: &mut W,
+    listed: bool,
+) -> Outcome
+    requires some { 1 ≤ options.now.limit }
+    requires small { options.now.limit ≤ buffer_limit }
+    requires size { (n : ℕ) → options.now.file.chunk ≡ Some n → (1 ≤ n) × (n ≤ chunk_size_limit) }
+    requires profile { length options.now.file.profile ≤ content_limit }
+    requires few { AreFew feeds.now }
+    requires many { vec_len room.sources ≡ length feeds.now }
+    requires none { room.failed.items ≡ [] }
+    requires room { length feeds.now ≤ vec_capacity room.failed }
+    ensures recorded { (before : WorldState) → FeedsOpened before (W.state world.old) feeds.now (map W.Source.state room.sources.items)
+        → before.faults < 2 ^ 64 → before.input_faults < 2 ^ 64 → before.output_faults < 2 ^ 64
+        → NamesRecorded options.now out.now feeds.now before (W.state world.new) result }
+    ensures listed { (r : _) → result.report ≡ Some r → Each (λ f. ListsMessages f listed) r.feeds.items }
+{
+    let Room {
+        sources,
+        mut failed,
+    } = room;
+    let live = match world.live(out) {
+        Ok(live) => live,
+        Err(why) => {
+            keep_feeds(world, feeds, sources, &mut failed);
+            return unrecorded(failed, is_failed(why));
+        }
+    };
+    let Recording {
+        report,
+        feeds: sources,
+        live,
+    } = record(rt, alloc, options, sources, live, listed);
+    let live_faults = live.faults();
+    keep_feeds(world, feeds, sources, &mut failed);
+    let live_kept = world.keep_live(out, live);
+    Outcome {
+        report,
+        feeds_failed: failed,
+        out_failed: has_failed(live_faults, live_kept),
+    }
+}
+
+// Opens all names, records the feeds into the output, and keeps all.
+fn record_names<R: Threads + Wait + Sync, W: World>(
+    rt: &R,
+    alloc: Global,
+    options: &RecordOptions,
+    out: &str,
+    feeds: &[Text],
+    world: &mut W,
+    listed: bool,
+) -> Outcome
+    requires some { 1 ≤ options.now.limit }
+    requires small { options.now.limit ≤ buffer_limit }
+    requires size { (n : ℕ) → options.now.file.chunk ≡ Some n → (1 ≤ n) × (n ≤ chunk_size_limit) }
+    requires profile { length options.now.file.profile ≤ content_limit }
+    requires few { AreFew feeds.now }
+    requires world_fits { (W.state world.old).faults < 2 ^ 64 }
+    requires inputs_fit { (W.state world.old).input_faults < 2 ^ 64 }
+    requires outputs_fit { (W.state world.old).output_faults < 2 ^ 64 }
+    ensures recorded { NamesRecorded options.now out.now feeds.now (W.state world.old) (W.state world.new) result }
+    ensures listed { (r : _) → result.report ≡ Some r → Each (λ f. ListsMessages f listed) r.feeds.items }
+{
+    let Room {
+        mut sources,
+        mut failed,
+    } = match make_room(alloc, feeds.len()) {
+        Ok(room) => room,
+        Err(_) => return unrecorded(Vec::new(alloc), false),
+    };
+    match open_feeds(world, feeds, &mut sources) {
+        Ok(()) => {
+            let room = Room { sources, failed };
+            return record_opened(rt, alloc, options, out, feeds, room, world, listed);
+        }
+        Err(why) => {
+            keep_feeds(world, &feeds[..sources.len()], sources, &mut failed);
+            add_refused(&mut failed, is_failed(why));
+            return unrecorded(failed, false);
+        }
+    }
+}
+
+// Prints the report, if there is one.
+fn print_outcome<O: Sink>(out: &mut O, report: &Option<Report>)
+    ensures { Takes (O.state out.old) (O.state out.new) (report_text report.now) }
+{
+    match report {
+        Some(report) => match print_report(out, report) {
+            Ok(()) => {}
+            Err(_) => {}
+        },
+        None => {}
+    }
+}
+
+/// Records the feeds under their names into the file under another, prints the report on `out`, and answers how that ended:
+/// 0 where all was recorded, 1 where a feed breaks a rule or is compressed, 3 where the outside failed, 4 where a limit
+/// would be passed, and 5 where memory lacked. With 0 a message may have been refused for a full buffer, unless the options
+/// let feeds wait for room. Where messages aren't to be listed the report only counts them, and takes no memory for them.
+pub fn record_file<R: AllocGlobal + Threads + Wait + Sync, W: World, O: Sink, E: Sink>(
+    rt: &R,
+    options: &RecordOptions,
+    out_name: &str,
+    feed_names: &[Text],
+    world: &mut W,
+    out: &mut O,
+    err: &mut E,
+    listed: bool,
+) -> Ended
+    requires allowed { AreAllowed options.now }
+    requires few { AreFew feed_names.now }
+    ensures recorded { Records options.now out_name.now feed_names.now
+        (scene (W.state world.old) (O.state out.old) (E.state err.old))
+        (scene (W.state world.new) (O.state out.new) (E.state err.new))
+        result.report result.status }
+    ensures listed { (r : _) → result.report ≡ Some r → Each (λ f. ListsMessages f listed) r.feeds.items }
+{
+    let before = Counts::of(world, out);
+    let outcome = record_names(rt, rt.alloc(), options, out_name, feed_names, world, listed);
+    print_outcome(out, &outcome.report);
+    let now = Counts::of(world, out);
+    let failed = failed_parts(&before, &now, &outcome);
+    let status = answer(err, out_name, feed_names, &outcome.report, failed);
+    Ended {
+        status,
+        report: outcome.report,
+    }
+}
