@@ -10,7 +10,6 @@ ghost use Rattle.command_base.specs.Ran.{scene};
 ghost use Rattle.generate_command.specs.Generating.{Generates};
 ghost use Rattle.mcap_app.specs.Runs.{IsAllowed, Runs, LacksForWords, generate_options};
 
-use record_command::{Ended, record_file};
 use command_base::{refuse_for_memory, refuse_words};
 use command_words::{Command, USUAL_CHUNK, USUAL_LIMIT, WordsRefused, parse_words};
 use file_commands::{check_file, describe_file, print_file, print_indexed};
@@ -19,6 +18,7 @@ use mcap_io::{Sink, World};
 use mcap_model::FileOptions;
 use mcap_wire::Text;
 use output_commands::{merge_file, recover_file};
+use record_command::{Ended, record_file};
 use recorder::RecordOptions;
 use std::alloc::Global;
 use std::sync::Wait;

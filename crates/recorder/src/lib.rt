@@ -14,6 +14,8 @@ mod writer;
 pub use feed_lane::{Accepted, Cause, DeclaredAt, FeedEnd, FeedReport, Refusals, Refused};
 pub use listing::Listing;
 pub use options::RecordOptions;
-pub use recording::{Onto, Ran, Ready, Recording, Room, make_ready, make_room, record, record_onto};
+pub use recording::{
+    Onto, Ran, Ready, Recording, Room, make_ready, make_room, record, record_onto,
+};
 pub use report::{Report, WriterReport};
 pub use unopened::Unwritten;
