@@ -643,6 +643,15 @@ keyed_of() {
         record(15, 4); number(4, 0); record(2, 20); number(8, 0); number(8, 0); number(4, 0)'
     printf '\211MCAP0\r\n'
 }
+# A feed of a channel whose map has so many keys, not in order, and of so many messages on it.
+mapped_of() {
+    printf '\211MCAP0\r\n\001\010\0\0\0\0\0\0\0' && head -c 8 /dev/zero
+    writing "keys = $1; messages = $2"'
+        record(4, 18 + 16 * keys); number(2, 1); number(2, 0); text("/a"); number(4, 0); number(4, 16 * keys)
+        for (k = 0; k < keys; k++) { text(sprintf("%08d", (k * 7919) % keys)); text("") }
+        for (k = 0; k < messages; k++) { message(1, k) }
+        record(15, 4); number(4, 0)'
+}
 # Runs a command with so many KiB of memory and at most a minute of the processor.
 within() {
     # shellcheck disable=SC2016  # the inner shell is to expand them
@@ -661,6 +670,10 @@ feed_of 1 65535 100000 >wide.mcap
 expect 0 'feed 1 accepted=165535 refused=0 passed=0 end
 file records=231071 blocks=231071 bytes=N closed' '' within 800000 mcaprec record --chunk 1 wide-out.mcap wide.mcap
 filter='cat'
+# A channel that is too long for a declaration is measured once, not at each of its messages.
+mapped_of 100000 20000 >wide.mcap
+expect 4 'feed 1 accepted=0 refused=20000 passed=0 end
+file records=0 blocks=0 bytes=165 closed' 'mcaprec: "wide-out.mcap": limit' within 800000 mcaprec record wide-out.mcap wide.mcap
 rm -f wide.mcap wide-out.mcap
 
 indexed_of 20000 1 >led.mcap

@@ -163,6 +163,7 @@ new_ids records handled ids lists source before found content d stands is has = 
     ]
   ];
   kept = stands.ids_stand.kept;
+  wide = stands.ids_stand.wide;
   known = λ other id at some. elim (at_set ids.given source other id d.channel at) [
     | inl here ↦ subst (λ (n : ℕ). HasId records (lists.declared ++ d ∷ []) other n) (sym here.1) (subst (λ (n : ℕ). HasId records (lists.declared ++ d ∷ []) n d.channel) (sym here.0) has)
     | inr there ↦ has_id_listed records lists.declared (d ∷ []) other id (stands.ids_stand.known other id there.1 some)

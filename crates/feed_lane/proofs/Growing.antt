@@ -23,7 +23,8 @@ use Rattle.feed_lane.specs.declared.lane.Lane.{Lane}
 use Rattle.feed_lane.specs.Pass.{PassState}
 use Rattle.feed_lane.specs.Lanes.{Lists, messages, IsOn, SchemaShown, Describes, Declares, Accepts, IsLong, IsChannelOf, IsWide, LacksId, CauseFits, IsUndeclared, IsTried, lacks_of, IsNamed, IsLacking, InStep, ListsFit}
 use Rattle.feed_lane.specs.Kept.{LaneIds, KeptStands, with_kept}
-use Rattle.feed_lane.specs.Steps.{lists_of, HasId, IdsStand, ListsStand, ChannelFound}
+use Rattle.feed_lane.specs.Sizes.{IsLength}
+use Rattle.feed_lane.specs.Steps.{lists_of, HasId, IdsStand, ListsStand, LaneStands, ChannelFound}
 use Rattle.feed_lane.proofs.Members.{in_step_on}
 
 -- ---- what the records show
@@ -92,6 +93,13 @@ describes_more records more channel d was = record {
   encoding = was.encoding;
   metadata = was.metadata;
   schema = schema_more records more was.shown.schema d.schema was.schema;
+}
+
+length_more : (records more : List Top) (channel len : ℕ) → IsLength records channel len → IsLength (records ++ more) channel len
+length_more records more channel len was = record {
+  content = was.content;
+  describes = describes_more records more channel was.content was.describes;
+  size = was.size;
 }
 
 declares_more : (records more : List Top) (pass : PassState) (d : DeclaredAt) → Declares records pass d → Declares (records ++ more) pass d
@@ -242,6 +250,7 @@ stands_more records more handled bound ids lists pass was = record {
     fresh = λ source d at has on. was.ids_stand.fresh source d at has (declared_less records more pass d source (was.fits.declares has.0 d has.1) on);
     known = λ source id at some. has_id_more records more lists.declared source id (was.ids_stand.known source id at some);
     kept = schema_more records more ids.kept.id ids.kept.schema was.ids_stand.kept;
+    wide = λ source len at over. length_more records more source len (was.ids_stand.wide source len at over);
   };
   going = was.going;
   firsts = was.firsts;
@@ -294,12 +303,25 @@ may_declare records handled ids lists pass stands =
 
 -- ---- what is kept
 
+-- a lane that keeps something else of its channels stands too
+pub standing : (lane now : Lane) (records : List Top) (handled : ℕ) (pass : PassState) → now ≡ record lane { ids = now.ids } → ((declared : List DeclaredAt) → IdsStand records declared lane.ids → IdsStand records declared now.ids)
+    → LaneStands lane records handled pass → LaneStands now records handled pass
+standing lane now records handled pass is stood stands = subst (λ (it : Lane). LaneStands it records handled pass) (sym is) (record {
+  fits = stands.fits;
+  ids_stand = stood lane.declared.items stands.ids_stand;
+  going = stands.going;
+  firsts = stands.firsts;
+  tos = stands.tos;
+  is_open = stands.is_open;
+  tried = stands.tried;
+})
+
 -- the same with another schema of the feed
 pub keeping : (records : List Top) (handled bound : ℕ) (ids : LaneIds) (lists : Lists) (pass : PassState) (kept : KeptSchema) → KeptStands records kept → ListsStand records handled bound ids lists pass
     → ListsStand records handled bound (with_kept ids kept) lists pass
 keeping records handled bound ids lists pass kept stood stands = record {
   fits = stands.fits;
-  ids_stand = record { fresh = stands.ids_stand.fresh; known = stands.ids_stand.known; kept = stood };
+  ids_stand = record { fresh = stands.ids_stand.fresh; known = stands.ids_stand.known; kept = stood; wide = stands.ids_stand.wide };
   going = stands.going;
   firsts = stands.firsts;
   tos = stands.tos;

@@ -4,13 +4,15 @@ use Rattle.mcap_model.specs.Tops.{Top}
 use Rattle.feed_lane.specs.declared.ids.KeptSchema.{KeptSchema}
 use Rattle.feed_lane.specs.Lanes.{SchemaShown}
 
--- For each id that a channel of a feed may have, the id that its declaration got, or 0; and a schema of the feed.
+-- For each id that a channel of a feed may have, the id that its declaration got, or 0; a schema of the feed; and for the first
+-- of these ids how many bytes the channel's records have, or 0.
 pub record LaneIds : Type 0 where
   pub given : List ℕ
   pub kept : KeptSchema
+  pub wide : List ℕ
 
-abbrev pub lane_ids : List ℕ → KeptSchema → LaneIds
-lane_ids given kept = record { given = given; kept = kept }
+abbrev pub lane_ids : List ℕ → KeptSchema → List ℕ → LaneIds
+lane_ids given kept wide = record { given = given; kept = kept; wide = wide }
 
 abbrev pub no_schema : KeptSchema
 no_schema = record { id = 0; schema = None }

@@ -1,6 +1,7 @@
 -- A lane between its steps: for which records it stands, what a call on its pass leaves to be listed, what becomes of the
 -- message at hand, and what it takes of a feed, record by record.
 use Rattle.std.specs.Prelude.{◌≡◌, ℕ, ◌+◌, ◌^◌, ◌<◌, ◌≤◌, List, ◌++◌, length, filter, Bool, true, false, vec_len, vec_capacity, Option, Some, None, Result, Ok, Err, OnOk}
+use Rattle.mcap_wire.specs.Limits.{declaration_limit}
 use Rattle.rec_data.specs.declared.owned.Rec.{Rec}
 use Rattle.rec_data.specs.declared.channel.ChannelDef.{ChannelDef}
 use Rattle.mcap_model.specs.Places.{At, Has, Each}
@@ -29,6 +30,7 @@ use Rattle.feed_lane.specs.declared.lane.Over.{Over}
 use Rattle.feed_lane.specs.declared.lane.Over.TheVariants as overs
 use Rattle.feed_lane.specs.Pass.{FullAt, PassState, FoundAtLeast}
 use Rattle.feed_lane.specs.Kept.{LaneIds, KeptStands}
+use Rattle.feed_lane.specs.Sizes.{IsLength}
 use Rattle.feed_lane.specs.Lanes.{Lists, messages, IsOn, CauseFits, IsTried, full_in, lack_in, reason_in, IsLacking, InStep, ListsFit, LaneFits}
 
 -- ---- what a pass shows, call by call
@@ -71,11 +73,13 @@ pub record HasId (records : List Top) (declared : List DeclaredAt) (source id : 
   pub on : IsOn records by.index source
   pub is : by.channel ≡ id
 
--- for each id that a channel of a feed may have, the id that it got, or 0; and the schema that is kept is the feed's
+-- for each id that a channel of a feed may have, the id that it got, or 0; the schema that is kept is the feed's, and so are the
+-- lengths that are too large for a declaration
 pub record IdsStand (records : List Top) (declared : List DeclaredAt) (ids : LaneIds) : Type 0 where
   pub fresh : (source : ℕ) (d : DeclaredAt) → At ids.given source 0 → Has declared d → IsOn records d.index source → ⊥
   pub known : (source id : ℕ) → At ids.given source id → (id ≡ 0 → ⊥) → HasId records declared source id
   pub kept : KeptStands records ids.kept
+  pub wide : (source len : ℕ) → At ids.wide source len → declaration_limit < len → IsLength records source len
 
 abbrev pub lists_of : Lane → Lists
 lists_of lane = record { accepted = lane.accepted.items; declared = lane.declared.items; refused = lane.refused.items }

@@ -1,12 +1,15 @@
 //! A lane at a message: its channel is declared where it wasn't, the message is published, and what became of both is listed.
-ghost use Rattle.std.specs.Prelude.{◌≡◌, ◌+◌, ◌∷◌, ◌++◌, [], ℕ, List, length, vec_len, vec_capacity, ◌≤◌, IfOk, OnOk};
+ghost use Rattle.std.specs.Prelude.{◌≡◌, ◌+◌, ◌<◌, ◌∷◌, ◌++◌, [], ℕ, List, length, vec_len, vec_capacity, ◌≤◌, IfOk, IfSome, OnOk};
+ghost use Rattle.mcap_wire.specs.Limits.{declaration_limit};
 ghost use Rattle.mcap_model.specs.Places.{At};
 ghost use Rattle.mcap_model.specs.Tops.{Top};
 ghost use Rattle.mcap_model.specs.Fields.{IsMessage};
+ghost use Rattle.mcap_model.specs.Declarations.{TablesOf};
 ghost use Rattle.feed_lane.specs.Pass.{PassState, no_calls};
 ghost use Rattle.feed_lane.specs.Lanes.{messages, IsOn, Describes};
 ghost use Rattle.record_core.specs.Sights.{DefFits};
-ghost use Rattle.feed_lane.specs.Steps.{lists_of, LaneStands, ListsStand, Roomy, KeepsLists, KeepsAs, AreKnown, AtHand, IsDue, HasId, ThenShows, ChannelFound, MessageTaken, goes_on as goes_on_behind, publish_cause as cause_of_publishing, declare_cause as cause_of_declaring, full_cause as cause_of_full, fields_of};
+ghost use Rattle.feed_lane.specs.Sizes.{IsLength};
+ghost use Rattle.feed_lane.specs.Steps.{lists_of, IdsStand, LaneStands, ListsStand, Roomy, KeepsLists, KeepsAs, AreKnown, AtHand, IsDue, HasId, ThenShows, ChannelFound, MessageTaken, goes_on as goes_on_behind, publish_cause as cause_of_publishing, declare_cause as cause_of_declaring, full_cause as cause_of_full, fields_of};
 
 use crate::describing::{definition_over, excess};
 use crate::ids::Ids;
@@ -201,6 +204,28 @@ impl Lane {
         }
     }
 
+    // How many bytes the records of the channel have, where they are too many. They are measured once, where there is memory to
+    // keep that.
+    fn excess_of(&mut self, tables: &Tables, source: u16) -> Option<u64>
+        ensures stands { (records : List Top) (declared : List DeclaredAt) → IdsStand records declared self.old.ids → TablesOf records tables.now → IdsStand records declared self.new.ids }
+        ensures given { self.new.ids.given ≡ self.old.ids.given }
+        ensures rest { self.new ≡ record self.old { ids = self.new.ids } }
+        ensures size { IfSome result (λ len. (records : List Top) (declared : List DeclaredAt) → IdsStand records declared self.old.ids → TablesOf records tables.now → IsLength records source len) }
+        ensures over { IfSome result (λ len. declaration_limit < len) }
+    {
+        match self.ids.wide(source) {
+            Some(len) => return Some(len),
+            None => {}
+        }
+        match excess(tables, source) {
+            Some(len) => {
+                self.ids.keep_wide(source, len);
+                return Some(len);
+            }
+            None => return None,
+        }
+    }
+
     // Declares the feed's channel of that id for the message at hand, and says which id it got.
     fn declare<P: Pass>(
         &mut self,
@@ -217,7 +242,7 @@ impl Lane {
         ensures accepted { self.new.accepted ≡ self.old.accepted }
         ensures refused { self.new.refused ≡ self.old.refused }
     {
-        match excess(tables, source) {
+        match self.excess_of(tables, source) {
             Some(len) => return Err(Cause::TooLarge { len }),
             None => {}
         }

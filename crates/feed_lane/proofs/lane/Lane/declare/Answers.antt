@@ -1,4 +1,4 @@
-use Rattle.std.proofs.Common.{◌+◌, refl, sym, subst, Err}
+use Rattle.std.proofs.Common.{◌+◌, ℕ, List, refl, sym, subst, Err}
 use Rattle.mcap_model.proofs.Places.{at_within}
 use Rattle.mcap_model.specs.Places.{At}
 use Rattle.record_core.specs.declared.answers.DeclareRefused.TheVariants as declaring
@@ -6,8 +6,8 @@ use Rattle.feed_lane.specs.declared.report.Cause.TheVariants as causes
 use Rattle.feed_lane.specs.Pass.{for_size, with_reason}
 use Rattle.feed_lane.specs.Lanes.{messages, IsChannelOf}
 use Rattle.feed_lane.specs.Kept.{LaneIds, KeptStands, no_schema}
-use Rattle.feed_lane.specs.Steps.{lists_of, ListsStand, ChannelFound}
-use Rattle.feed_lane.proofs.Growing.{may_declare, undeclared_yet, keeping, found_keeping}
+use Rattle.feed_lane.specs.Steps.{lists_of, LaneStands, ListsStand, ChannelFound}
+use Rattle.feed_lane.proofs.Growing.{may_declare, undeclared_yet, standing, keeping, found_keeping}
 use Rattle.feed_lane.proofs.Calls.{unchanged, memory_tried, declare_refused, declare_tried}
 use Rattle.feed_lane.proofs.lane.Lane.declare.Goals as goal
 
@@ -17,8 +17,10 @@ returns-in-Err-clause-found g c = λ begun before since. (
   before,
   since,
   refl,
-  λ records handled stands known on none.
-      let l = c.args.self.now in
+  λ records handled was known on unnamed.
+      let l = c.excess_of.new.self in
+      let stands : LaneStands l records handled before = standing c.args.self.now l records handled before c.excess_of.ensures.rest (λ declared ids. c.excess_of.ensures.stands records declared ids known.tables_are) was in
+      let none = subst (λ (given : List ℕ). At given c.args.source 0) (sym c.excess_of.ensures.given) unnamed in
       subst (λ (ids : LaneIds). ChannelFound (record l { ids = ids }) records handled c.args.source before (Err causes.Memory)) (sym c.take_schema-kept.ensures.rest) (record {
         before = before;
         stands = keeping records handled (handled + 1) l.ids (lists_of l) before no_schema refl (may_declare records handled l.ids (lists_of l) before stands);
@@ -30,14 +32,16 @@ returns-in-Err-clause-found g c = λ begun before since. (
 
 pub returns-in-Ok-clause-found : goal.returns-in-Ok-clause-found
 returns-in-Ok-clause-found g c = λ begun before since.
-    let l = c.args.self.now in
+    let l = c.excess_of.new.self in
     let call = c.declare_as-found in
     let same = sym c.take_schema-kept.ensures.rest in
     let shown = call.ensures.found begun before since in (
       shown.0,
       shown.1,
       shown.2,
-      λ records handled stands known on none.
+      λ records handled was known on unnamed.
+          let stands : LaneStands l records handled before = standing c.args.self.now l records handled before c.excess_of.ensures.rest (λ declared ids. c.excess_of.ensures.stands records declared ids known.tables_are) was in
+          let none = subst (λ (given : List ℕ). At given c.args.source 0) (sym c.excess_of.ensures.given) unnamed in
           let kept : KeptStands records c.take_schema-kept.result = subst (KeptStands records) (sym c.take_schema-kept.ensures.kept) stands.ids_stand.kept in
           let next : KeptStands records c.into_schema.result = subst (KeptStands records) (sym c.into_schema.ensures) (c.in-Ok.ensures.shows records known.tables_are kept) in
           let now = shown.3 records handled
@@ -51,13 +55,15 @@ returns-in-Ok-clause-found g c = λ begun before since.
 -- the records of the channel are too long, and no call was made
 pub returns-in-Some-clause-found : goal.returns-in-Some-clause-found
 returns-in-Some-clause-found g c = λ begun before since.
-    let l = c.args.self.now in
+    let l = c.excess_of.new.self in
     let after = with_reason before (for_size c.in-Some.len) in (
       after,
       g.met.P.Pass.refuses_size begun c.args.pass.now before c.in-Some.len c.in-Some.ensures.over since,
       refl,
-      λ records handled stands known on none.
-          let long = c.in-Some.ensures.size records known.tables_are in
+      λ records handled was known on unnamed.
+          let stands : LaneStands l records handled before = standing c.args.self.now l records handled before c.excess_of.ensures.rest (λ declared ids. c.excess_of.ensures.stands records declared ids known.tables_are) was in
+          let none = subst (λ (given : List ℕ). At given c.args.source 0) (sym c.excess_of.ensures.given) unnamed in
+          let long = c.in-Some.ensures.size records c.args.self.now.declared.items was.ids_stand known.tables_are in
           let is : IsChannelOf records handled long.content = record { source = c.args.source; on = on; describes = long.describes } in
           record {
             before = before;
