@@ -1,7 +1,7 @@
 //! The world of files.
 use crate::outside::{Stretch, gives};
 use crate::same::holds_at;
-use mcap_io::{Failed, FileWorld, LiveStore, OpenRefused, Source, Store, World};
+use mcap_io::{Extent, Failed, FileWorld, LiveStore, LiveView, OpenRefused, Source, Store, World};
 use std::alloc::Global;
 use std::fs;
 use std::rt::Files;
@@ -164,5 +164,71 @@ fn a_file_gives_back_what_was_kept_at_any_place(rt: HostRuntime) -> Result<(), F
     let bytes = content(rt.alloc())?;
     holds_at(&rt, goes_here(&rt, &bytes), &"a world");
     fs::remove_file(&rt, "record")?;
+    Ok(())
+}
+
+// Whether the view gives the first four bytes of what an append gave, or can't.
+fn shows<X: Extent, V: LiveView<X>>(
+    view: &mut V,
+    extent: &X,
+    bytes: Result<&[u8], Failed>,
+) -> bool {
+    if extent.len() < 4 {
+        return false;
+    }
+    let mut room = [0; 4];
+    match view.read_part(extent, 0, &mut room) {
+        Ok(()) => bytes == Ok(room.as_slice()),
+        Err(Failed) => bytes == Err(Failed),
+    }
+}
+
+// Whether a view reads what is with the system, in any order, while the store goes on; and not what waits.
+fn shows_growth<L: LiveStore>(live: &mut L, view: &mut L::View) -> bool {
+    let Ok(first) = live.append_through(b"abcd") else {
+        return false;
+    };
+    let begun = shows(view, &first, Ok(b"abcd"));
+    let Ok(second) = live.append(b"efgh") else {
+        return false;
+    };
+    let waits = shows(view, &second, Err(Failed));
+    let Ok(third) = live.append_through(b"ijkl") else {
+        return false;
+    };
+    let grown = shows(view, &third, Ok(b"ijkl")) && shows(view, &first, Ok(b"abcd"));
+    begun && waits && grown && shows(view, &second, Ok(b"efgh"))
+}
+
+// The same of a store and its view that a world gives, and takes back with the one fault of the view. The reads of the view
+// don't move the place where the store writes.
+fn grows<W: World>(alloc: Global, world: &mut W) -> bool {
+    let Ok(mut live) = world.live("grown") else {
+        return false;
+    };
+    let shown = match live.view() {
+        Ok(mut view) => {
+            let shown = shows_growth(&mut live, &mut view);
+            world.keep_view(view);
+            shown
+        }
+        Err(Failed) => false,
+    };
+    let kept = world.keep_live("grown", live);
+    let stretches: [Stretch<'_>; 2] = [(12, Ok(()), b"abcdefghijkl", 0), (1, Ok(()), b"", 0)];
+    let whole = gives_back(alloc, world, ("grown", "./grown"), &stretches) == Ok(true);
+    shown && kept == Ok(()) && whole && (world.watch_faults(), world.output_faults()) == (1, 0)
+}
+
+// Whether it does in the world of files.
+fn grows_here(rt: &HostRuntime) -> bool {
+    let mut world = FileWorld::new(rt);
+    grows(rt.alloc(), &mut world)
+}
+
+#[test]
+fn a_view_reads_a_file_while_it_grows(rt: HostRuntime) -> Result<(), Fail> {
+    holds_at(&rt, grows_here(&rt), &"a view");
+    fs::remove_file(&rt, "grown")?;
     Ok(())
 }
