@@ -9,7 +9,7 @@ use Rattle.mcap_model.specs.declared.replay.Range.{Range}
 use Rattle.mcap_model.proofs.Repairs.{zip_join}
 use Rattle.live_entry.specs.declared.entry.Entry.{Entry}
 use Rattle.live_directory.proofs.Beginnings.{prefix_length}
-use Rattle.watching.specs.Text.{Doubles, IsReplayText, IsFrontLine, FrontsText}
+use Rattle.watching.specs.Text.{Doubles, IsReplayText, IsFrontLineOf, FrontsTextOf}
 
 -- ---- at least twice as many
 
@@ -44,7 +44,7 @@ module _ {X : Type 0} where
   take_lift n few more within p = ap (take n) (sym p.1) ∙ take-append-le n few p.0 within
 
   -- what stands behind the first blocks doesn't change their line
-  pub line_lift : (tells : X → Option (List ℕ)) (range : Range) (few more : List (Entry X)) (n : ℕ) (line : List ℕ) → IsPrefix few more → IsFrontLine tells range few n line → IsFrontLine tells range more n line
+  pub line_lift : (tells : X → Option (List ℕ)) (range : Range) (few more : List (Entry X)) (n : ℕ) (line : List ℕ) → IsPrefix few more → IsFrontLineOf tells range few n line → IsFrontLineOf tells range more n line
   line_lift tells range few more n line p f = record {
     within = let longer = prefix_length few more p in let within = f.within in omega (arith, longer, within);
     count = f.count;
@@ -53,13 +53,13 @@ module _ {X : Type 0} where
     line_is = f.line_is;
   }
 
-  lines_lift : (tells : X → Option (List ℕ)) (range : Range) (few more : List (Entry X)) (fronts : List ℕ) (lines : List (List ℕ)) → IsPrefix few more → AllZip (IsFrontLine tells range few) fronts lines → AllZip (IsFrontLine tells range more) fronts lines
+  lines_lift : (tells : X → Option (List ℕ)) (range : Range) (few more : List (Entry X)) (fronts : List ℕ) (lines : List (List ℕ)) → IsPrefix few more → AllZip (IsFrontLineOf tells range few) fronts lines → AllZip (IsFrontLineOf tells range more) fronts lines
   lines_lift tells range few more [] [] p each = each
   lines_lift tells range few more [] (l ∷ ls) p each = each
   lines_lift tells range few more (n ∷ ns) [] p each = each
   lines_lift tells range few more (n ∷ ns) (l ∷ ls) p each = (line_lift tells range few more n l p each.0, lines_lift tells range few more ns ls p each.1)
 
-  pub fronts_lift : (tells : X → Option (List ℕ)) (range : Range) (few more : List (Entry X)) (fronts text : List ℕ) → IsPrefix few more → FrontsText tells range few fronts text → FrontsText tells range more fronts text
+  pub fronts_lift : (tells : X → Option (List ℕ)) (range : Range) (few more : List (Entry X)) (fronts text : List ℕ) → IsPrefix few more → FrontsTextOf tells range few fronts text → FrontsTextOf tells range more fronts text
   fronts_lift tells range few more fronts text p f = record {
     rise = f.rise;
     lines = f.lines;
@@ -67,14 +67,14 @@ module _ {X : Type 0} where
     text_is = f.text_is;
   }
 
-  pub fronts_more : (tells : X → Option (List ℕ)) (range : Range) (entries : List (Entry X)) (fronts text : List ℕ) (n : ℕ) (line : List ℕ) → (Doubles 0 fronts → Doubles 0 (fronts ++ n ∷ [])) → FrontsText tells range entries fronts text
-      → IsFrontLine tells range entries n line → FrontsText tells range entries (fronts ++ n ∷ []) (text ++ line)
+  pub fronts_more : (tells : X → Option (List ℕ)) (range : Range) (entries : List (Entry X)) (fronts text : List ℕ) (n : ℕ) (line : List ℕ) → (Doubles 0 fronts → Doubles 0 (fronts ++ n ∷ [])) → FrontsTextOf tells range entries fronts text
+      → IsFrontLineOf tells range entries n line → FrontsTextOf tells range entries (fronts ++ n ∷ []) (text ++ line)
   fronts_more tells range entries fronts text n line follows f is = record {
     rise = follows f.rise;
     lines = f.lines ++ line ∷ [];
-    each = zip_join (IsFrontLine tells range entries) fronts (n ∷ []) f.lines (line ∷ []) f.each (is, tt);
+    each = zip_join (IsFrontLineOf tells range entries) fronts (n ∷ []) f.lines (line ∷ []) f.each (is, tt);
     text_is = ap (λ (t : List ℕ). t ++ line) f.text_is ∙ sym (concat_more f.lines line);
   }
 
-  pub no_fronts : (tells : X → Option (List ℕ)) (range : Range) (entries : List (Entry X)) → FrontsText tells range entries [] []
+  pub no_fronts : (tells : X → Option (List ℕ)) (range : Range) (entries : List (Entry X)) → FrontsTextOf tells range entries [] []
   no_fronts tells range entries = record { rise = tt; lines = []; each = tt; text_is = refl }

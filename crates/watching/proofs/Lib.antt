@@ -2,5 +2,6 @@ mod Digits
 mod Bytes
 mod Fronts
 mod Replays
-mod Taking
+pub mod Taking
+pub mod Texts
 pub mod Steps

@@ -18,7 +18,7 @@ use Rattle.live_directory.proofs.Beginnings.{prefix_trans, prefix_whole}
 use Rattle.live_directory.proofs.Histories.{entries_of-append}
 use Rattle.watching.specs.declared.report.WatchEnd.{WatchEnd}
 use Rattle.watching.specs.declared.report.WatchEnd.TheVariants as watch_ends
-use Rattle.watching.specs.Text.{Ending, undecided, sealed_by, unsealed, IsFrontLine, FrontsText, IsEndText, WatchText, Begun, none_more, of_front, of_end, WatchPart, unsealed_line}
+use Rattle.watching.specs.Text.{Ending, undecided, sealed_by, unsealed, IsFrontLineOf, FrontsTextOf, IsEndTextOf, WatchTextOf, replays_of, Begun, none_more, of_front, of_end, WatchPartOf, unsealed_line}
 use Rattle.watching.specs.Watching.{Written, WatcherState, IsQuiet, IsUntold, Takes, WritesTo, Watches, Holds, WatchedSince, EndsUnsealed, MayFollow}
 use Rattle.watching.specs.Putting.{Sides, sides, IsPartOf, PutsAll, Puts, PutsBytes}
 use Rattle.watching.proofs.Fronts.{fronts_lift, line_lift, fronts_more, no_fronts}
@@ -26,8 +26,11 @@ use Rattle.watching.proofs.Taking.{takes_more, takes_as, takes_none, takes_bytes
 
 -- ---- pieces
 
-part_begins : {X : Type 0} (tells : X → Option (List ℕ)) (range : Range) (entries : List (Entry X)) (fronts : List ℕ) (ending : Ending) (told part : List ℕ) → FrontsText tells range entries fronts told → Begun tells range entries fronts ending part
-    → WatchPart tells range entries fronts ending (told ++ part)
+abbrev BegunOf : {X : Type 0} → (X → Option (List ℕ)) → Range → List (Entry X) → List ℕ → Ending → List ℕ → Type 0
+BegunOf tells range entries = Begun (replays_of tells range entries) (length entries)
+
+part_begins : {X : Type 0} (tells : X → Option (List ℕ)) (range : Range) (entries : List (Entry X)) (fronts : List ℕ) (ending : Ending) (told part : List ℕ) → FrontsTextOf tells range entries fronts told → BegunOf tells range entries fronts ending part
+    → WatchPartOf tells range entries fronts ending (told ++ part)
 part_begins tells range entries fronts ending told part f b = record { told = told; part = part; fronts_are = f; begun = b; text_is = refl }
 
 module _ {X : Type 0} (tells : X → Option (List ℕ)) (range : Range) where
@@ -35,34 +38,34 @@ module _ {X : Type 0} (tells : X → Option (List ℕ)) (range : Range) where
   quiet_on first old new q sink view = record { sink = sink ∙ q.sink; view = view ∙ q.view }
 
   -- only the fronts so far
-  no_more : (entries : List (Entry X)) (ending : Ending) (fronts : List ℕ) (first old : Option (List ℕ)) → Takes (FrontsText tells range entries fronts) first old → Takes (WatchPart tells range entries fronts ending) first old
+  no_more : (entries : List (Entry X)) (ending : Ending) (fronts : List ℕ) (first old : Option (List ℕ)) → Takes (FrontsTextOf tells range entries fronts) first old → Takes (WatchPartOf tells range entries fronts ending) first old
   no_more entries ending fronts first old took =
-      takes_as (FrontsText tells range entries fronts) (WatchPart tells range entries fronts ending) first old
-      (λ t f. subst (WatchPart tells range entries fronts ending) (append-nil t) (part_begins tells range entries fronts ending t [] f (none_more refl))) took
+      takes_as (FrontsTextOf tells range entries fronts) (WatchPartOf tells range entries fronts ending) first old
+      (λ t f. subst (WatchPartOf tells range entries fronts ending) (append-nil t) (part_begins tells range entries fronts ending t [] f (none_more refl))) took
 
-  left_as : (entries : List (Entry X)) (ending : Ending) (first old new : Written) → Takes (FrontsText tells range entries old.fronts) first.sink.took old.sink.took → new.sink ≡ old.sink → new.fronts ≡ old.fronts
-      → Takes (WatchPart tells range entries new.fronts ending) first.sink.took new.sink.took
+  left_as : (entries : List (Entry X)) (ending : Ending) (first old new : Written) → Takes (FrontsTextOf tells range entries old.fronts) first.sink.took old.sink.took → new.sink ≡ old.sink → new.fronts ≡ old.fronts
+      → Takes (WatchPartOf tells range entries new.fronts ending) first.sink.took new.sink.took
   left_as entries ending first old new took same fronts_are =
-      subst (λ (ns : List ℕ). Takes (WatchPart tells range entries ns ending) first.sink.took new.sink.took) (sym fronts_are)
-      (subst (λ (s : SinkState). Takes (WatchPart tells range entries old.fronts ending) first.sink.took s.took) (sym same) (no_more entries ending old.fronts first.sink.took old.sink.took took))
+      subst (λ (ns : List ℕ). Takes (WatchPartOf tells range entries ns ending) first.sink.took new.sink.took) (sym fronts_are)
+      (subst (λ (s : SinkState). Takes (WatchPartOf tells range entries old.fronts ending) first.sink.took s.took) (sym same) (no_more entries ending old.fronts first.sink.took old.sink.took took))
 
-  begun_as : (entries : List (Entry X)) (ending : Ending) (fronts : List ℕ) (P : List ℕ → Type 0) (told : List ℕ) → ((told part piece : List ℕ) → FrontsText tells range entries fronts told → P piece → IsPrefix part piece → Begun tells range entries fronts ending part)
-      → FrontsText tells range entries fronts told → (t : List ℕ) → IsPartOf P t → Begun tells range entries fronts ending t
+  begun_as : (entries : List (Entry X)) (ending : Ending) (fronts : List ℕ) (P : List ℕ → Type 0) (told : List ℕ) → ((told part piece : List ℕ) → FrontsTextOf tells range entries fronts told → P piece → IsPrefix part piece → BegunOf tells range entries fronts ending part)
+      → FrontsTextOf tells range entries fronts told → (t : List ℕ) → IsPartOf P t → BegunOf tells range entries fronts ending t
   begun_as entries ending fronts P told begins f t (inl none) = none_more none
   begun_as entries ending fronts P told begins f t (inr (piece, p, prefix)) = begins told t piece f p prefix
 
   -- a piece that wasn't written whole
-  stopped : (entries : List (Entry X)) (ending : Ending) (first old new : Written) (P : List ℕ → Type 0) (why : WatchEnd) → ((told part piece : List ℕ) → FrontsText tells range entries old.fronts told → P piece → IsPrefix part piece → Begun tells range entries old.fronts ending part)
-      → IsQuiet first old → Takes (FrontsText tells range entries old.fronts) first.sink.took old.sink.took → Puts tells entries P (sides old.sink old.failures) (sides new.sink new.failures) (Err why) → new.fronts ≡ old.fronts
+  stopped : (entries : List (Entry X)) (ending : Ending) (first old new : Written) (P : List ℕ → Type 0) (why : WatchEnd) → ((told part piece : List ℕ) → FrontsTextOf tells range entries old.fronts told → P piece → IsPrefix part piece → BegunOf tells range entries old.fronts ending part)
+      → IsQuiet first old → Takes (FrontsTextOf tells range entries old.fronts) first.sink.took old.sink.took → Puts tells entries P (sides old.sink old.failures) (sides new.sink new.failures) (Err why) → new.fronts ≡ old.fronts
       → WritesTo tells range entries ending first new (Some why)
   stopped entries ending first old new P why begins quiet took (inl failed) fronts_are =
       let fails = failed.0 in
-      let all : Takes (WatchPart tells range entries old.fronts ending) first.sink.took new.sink.took =
-      takes_more (FrontsText tells range entries old.fronts) (IsPartOf P) (WatchPart tells range entries old.fronts ending) first.sink.took old.sink.took new.sink.took
+      let all : Takes (WatchPartOf tells range entries old.fronts ending) first.sink.took new.sink.took =
+      takes_more (FrontsTextOf tells range entries old.fronts) (IsPartOf P) (WatchPartOf tells range entries old.fronts ending) first.sink.took old.sink.took new.sink.took
       (λ s t f p. part_begins tells range entries old.fronts ending s t f (begun_as entries ending old.fronts P s begins f t p)) took failed.1 in
       subst (λ (w : WatchEnd). WritesTo tells range entries ending first new (Some w)) (sym fails.why_is) (
         inl (subst (λ (n : ℕ). RisesOnce n new.sink.faults) quiet.sink fails.rises, refl, fails.view ∙ quiet.view),
-        subst (λ (ns : List ℕ). Takes (WatchPart tells range entries ns ending) first.sink.took new.sink.took) (sym fronts_are) all,
+        subst (λ (ns : List ℕ). Takes (WatchPartOf tells range entries ns ending) first.sink.took new.sink.took) (sym fronts_are) all,
       )
   stopped entries ending first old new P (watch_ends.Fault faults) begins quiet took (inr lacks) fronts_are =
       let same : new.sink ≡ old.sink = lacks.0 in (
@@ -90,12 +93,12 @@ module _ {X : Type 0} (tells : X → Option (List ℕ)) where
     watches =
         subst (λ (e : Option WatchEnd). WritesTo tells w.range w.reader.entries undecided w.written w.written e) (sym goes) (
           record { sink = refl; view = refl },
-          takes_none (FrontsText tells w.range w.reader.entries w.written.fronts) w.written.sink.took (subst (λ (ns : List ℕ). FrontsText tells w.range w.reader.entries ns []) (sym none) (no_fronts tells w.range w.reader.entries)),
+          takes_none (FrontsTextOf tells w.range w.reader.entries w.written.fronts) w.written.sink.took (subst (λ (ns : List ℕ). FrontsTextOf tells w.range w.reader.entries ns []) (sym none) (no_fronts tells w.range w.reader.entries)),
         );
   }
 
   goes_on : (first now : WatcherState X) → WatchedSince tells first now → now.written.end ≡ None
-      → IsQuiet first.written now.written × Takes (FrontsText tells first.range now.reader.entries now.written.fronts) first.written.sink.took now.written.sink.took
+      → IsQuiet first.written now.written × Takes (FrontsTextOf tells first.range now.reader.entries now.written.fronts) first.written.sink.took now.written.sink.took
   goes_on first now w none = subst (λ (e : Option WatchEnd). WritesTo tells first.range now.reader.entries w.ending first.written now.written e) none w.watches
 
   -- its reader holds more
@@ -110,7 +113,7 @@ module _ {X : Type 0} (tells : X → Option (List ℕ)) where
             subst (λ (wr : Written). Watches tells first.range new.reader.entries undecided first.written wr) (sym written_is)
             (subst (λ (e : Option WatchEnd). WritesTo tells first.range new.reader.entries undecided first.written old.written e) (sym none) (
               g.0,
-              takes_as (FrontsText tells first.range old.reader.entries old.written.fronts) (FrontsText tells first.range new.reader.entries old.written.fronts) first.written.sink.took old.written.sink.took
+              takes_as (FrontsTextOf tells first.range old.reader.entries old.written.fronts) (FrontsTextOf tells first.range new.reader.entries old.written.fronts) first.written.sink.took old.written.sink.took
                   (λ t f. fronts_lift tells first.range old.reader.entries new.reader.entries old.written.fronts t p f) g.1,
             ));
       }
@@ -131,16 +134,16 @@ module _ {X : Type 0} (tells : X → Option (List ℕ)) where
 
   -- the line of a front was written
   pub front_written : (first old new : WatcherState X) (entries : List (Entry X)) (n : ℕ) → WatchedSince tells first old → old.written.end ≡ None → new.reader ≡ old.reader → new.range ≡ old.range → entries ≡ old.reader.entries
-      → MayFollow old.written.fronts n → n ≡ length entries → PutsAll (IsFrontLine tells old.range entries (length entries)) (sides old.written.sink old.written.failures) (sides new.written.sink new.written.failures)
+      → MayFollow old.written.fronts n → n ≡ length entries → PutsAll (IsFrontLineOf tells old.range entries (length entries)) (sides old.written.sink old.written.failures) (sides new.written.sink new.written.failures)
       → new.written.fronts ≡ old.written.fronts ++ n ∷ [] → new.written.end ≡ None → WatchedSince tells first new
   front_written first old new entries n w none reader_is range_is entries_are follows n_is puts fronts_are goes =
       let g = goes_on first old w none in
-      let line : Takes (IsFrontLine tells first.range old.reader.entries n) old.written.sink.took new.written.sink.took =
-      takes_as (IsFrontLine tells old.range entries (length entries)) (IsFrontLine tells first.range old.reader.entries n) old.written.sink.took new.written.sink.took
-      (λ t is. subst (λ (es : List (Entry X)). IsFrontLine tells first.range es n t) entries_are
-      (subst (λ (r : Range). IsFrontLine tells r entries n t) w.range (subst (λ (k : ℕ). IsFrontLine tells old.range entries k t) (sym n_is) is))) puts.takes in
-      let all : Takes (FrontsText tells first.range old.reader.entries (old.written.fronts ++ n ∷ [])) first.written.sink.took new.written.sink.took =
-      takes_more (FrontsText tells first.range old.reader.entries old.written.fronts) (IsFrontLine tells first.range old.reader.entries n) (FrontsText tells first.range old.reader.entries (old.written.fronts ++ n ∷ []))
+      let line : Takes (IsFrontLineOf tells first.range old.reader.entries n) old.written.sink.took new.written.sink.took =
+      takes_as (IsFrontLineOf tells old.range entries (length entries)) (IsFrontLineOf tells first.range old.reader.entries n) old.written.sink.took new.written.sink.took
+      (λ t is. subst (λ (es : List (Entry X)). IsFrontLineOf tells first.range es n t) entries_are
+      (subst (λ (r : Range). IsFrontLineOf tells r entries n t) w.range (subst (λ (k : ℕ). IsFrontLineOf tells old.range entries k t) (sym n_is) is))) puts.takes in
+      let all : Takes (FrontsTextOf tells first.range old.reader.entries (old.written.fronts ++ n ∷ [])) first.written.sink.took new.written.sink.took =
+      takes_more (FrontsTextOf tells first.range old.reader.entries old.written.fronts) (IsFrontLineOf tells first.range old.reader.entries n) (FrontsTextOf tells first.range old.reader.entries (old.written.fronts ++ n ∷ []))
       first.written.sink.took old.written.sink.took new.written.sink.took
       (λ s t f is. fronts_more tells first.range old.reader.entries old.written.fronts s n t follows f is) g.1 line in
       record {
@@ -150,24 +153,24 @@ module _ {X : Type 0} (tells : X → Option (List ℕ)) where
         watches =
             subst (λ (e : Option WatchEnd). WritesTo tells first.range new.reader.entries undecided first.written new.written e) (sym goes) (
               quiet_on tells first.range first.written old.written new.written g.0 puts.sink puts.view,
-              subst (λ (ns : List ℕ). Takes (FrontsText tells first.range new.reader.entries ns) first.written.sink.took new.written.sink.took) (sym fronts_are)
-                  (subst (λ (r : ReaderState X). Takes (FrontsText tells first.range r.entries (old.written.fronts ++ n ∷ [])) first.written.sink.took new.written.sink.took) (sym reader_is) all),
+              subst (λ (ns : List ℕ). Takes (FrontsTextOf tells first.range new.reader.entries ns) first.written.sink.took new.written.sink.took) (sym fronts_are)
+                  (subst (λ (r : ReaderState X). Takes (FrontsTextOf tells first.range r.entries (old.written.fronts ++ n ∷ [])) first.written.sink.took new.written.sink.took) (sym reader_is) all),
             );
       }
 
   -- or wasn't
   pub front_refused : (first old new : WatcherState X) (entries : List (Entry X)) (n : ℕ) (why : WatchEnd) → WatchedSince tells first old → old.written.end ≡ None → new.reader ≡ old.reader → new.range ≡ old.range → entries ≡ old.reader.entries
-      → MayFollow old.written.fronts n → n ≡ length entries → Puts tells entries (IsFrontLine tells old.range entries (length entries)) (sides old.written.sink old.written.failures) (sides new.written.sink new.written.failures) (Err why)
+      → MayFollow old.written.fronts n → n ≡ length entries → Puts tells entries (IsFrontLineOf tells old.range entries (length entries)) (sides old.written.sink old.written.failures) (sides new.written.sink new.written.failures) (Err why)
       → new.written.fronts ≡ old.written.fronts → new.written.end ≡ Some why → WatchedSince tells first new
   front_refused first old new entries n why w none reader_is range_is entries_are follows n_is puts fronts_are ended =
       let g = goes_on first old w none in
-      let here : Puts tells old.reader.entries (IsFrontLine tells old.range old.reader.entries (length old.reader.entries)) (sides old.written.sink old.written.failures) (sides new.written.sink new.written.failures) (Err why) =
-      subst (λ (es : List (Entry X)). Puts tells es (IsFrontLine tells old.range es (length es)) (sides old.written.sink old.written.failures) (sides new.written.sink new.written.failures) (Err why)) entries_are puts in
+      let here : Puts tells old.reader.entries (IsFrontLineOf tells old.range old.reader.entries (length old.reader.entries)) (sides old.written.sink old.written.failures) (sides new.written.sink new.written.failures) (Err why) =
+      subst (λ (es : List (Entry X)). Puts tells es (IsFrontLineOf tells old.range es (length es)) (sides old.written.sink old.written.failures) (sides new.written.sink new.written.failures) (Err why)) entries_are puts in
       let n_here : n ≡ length old.reader.entries = n_is ∙ ap length entries_are in
       let stops : WritesTo tells first.range old.reader.entries undecided first.written new.written (Some why) =
-      stopped tells first.range old.reader.entries undecided first.written old.written new.written (IsFrontLine tells old.range old.reader.entries (length old.reader.entries)) why
+      stopped tells first.range old.reader.entries undecided first.written old.written new.written (IsFrontLineOf tells old.range old.reader.entries (length old.reader.entries)) why
       (λ told part piece f is prefix.
-      of_front n piece (follows f.rise) (subst (λ (r : Range). IsFrontLine tells r old.reader.entries n piece) w.range (subst (λ (k : ℕ). IsFrontLine tells old.range old.reader.entries k piece) (sym n_here) is)) prefix)
+      of_front n piece (follows f.rise) (subst (λ (r : Range). IsFrontLineOf tells r old.reader.entries n piece) w.range (subst (λ (k : ℕ). IsFrontLineOf tells old.range old.reader.entries k piece) (sym n_here) is)) prefix)
       g.0 g.1 here fronts_are in
       record {
         range = range_is ∙ w.range;
@@ -180,15 +183,15 @@ module _ {X : Type 0} (tells : X → Option (List ℕ)) where
 
   -- the end was written
   pub end_written : (first old new : WatcherState X) (entries : List (Entry X)) (end : End) → WatchedSince tells first old → old.written.end ≡ None → new.reader ≡ old.reader → new.range ≡ old.range → entries ≡ old.reader.entries
-      → Holds old.reader (sealed_by end) → PutsAll (IsEndText tells old.range entries (sealed_by end)) (sides old.written.sink old.written.failures) (sides new.written.sink new.written.failures)
+      → Holds old.reader (sealed_by end) → PutsAll (IsEndTextOf tells old.range entries (sealed_by end)) (sides old.written.sink old.written.failures) (sides new.written.sink new.written.failures)
       → new.written.fronts ≡ old.written.fronts → new.written.end ≡ Some watch_ends.Whole → WatchedSince tells first new
   end_written first old new entries end w none reader_is range_is entries_are holds puts fronts_are ended =
       let g = goes_on first old w none in
-      let text : Takes (IsEndText tells first.range old.reader.entries (sealed_by end)) old.written.sink.took new.written.sink.took =
-      subst (λ (es : List (Entry X)). Takes (IsEndText tells first.range es (sealed_by end)) old.written.sink.took new.written.sink.took) entries_are
-      (subst (λ (r : Range). Takes (IsEndText tells r entries (sealed_by end)) old.written.sink.took new.written.sink.took) w.range puts.takes) in
-      let all : Takes (WatchText tells first.range old.reader.entries old.written.fronts (sealed_by end)) first.written.sink.took new.written.sink.took =
-      takes_more (FrontsText tells first.range old.reader.entries old.written.fronts) (IsEndText tells first.range old.reader.entries (sealed_by end)) (WatchText tells first.range old.reader.entries old.written.fronts (sealed_by end))
+      let text : Takes (IsEndTextOf tells first.range old.reader.entries (sealed_by end)) old.written.sink.took new.written.sink.took =
+      subst (λ (es : List (Entry X)). Takes (IsEndTextOf tells first.range es (sealed_by end)) old.written.sink.took new.written.sink.took) entries_are
+      (subst (λ (r : Range). Takes (IsEndTextOf tells r entries (sealed_by end)) old.written.sink.took new.written.sink.took) w.range puts.takes) in
+      let all : Takes (WatchTextOf tells first.range old.reader.entries old.written.fronts (sealed_by end)) first.written.sink.took new.written.sink.took =
+      takes_more (FrontsTextOf tells first.range old.reader.entries old.written.fronts) (IsEndTextOf tells first.range old.reader.entries (sealed_by end)) (WatchTextOf tells first.range old.reader.entries old.written.fronts (sealed_by end))
       first.written.sink.took old.written.sink.took new.written.sink.took
       (λ s t f is. record { told = s; last = t; fronts_are = f; last_is = is; text_is = refl }) g.1 text in
       record {
@@ -199,21 +202,21 @@ module _ {X : Type 0} (tells : X → Option (List ℕ)) where
             subst (λ (e : Option WatchEnd). WritesTo tells first.range new.reader.entries (sealed_by end) first.written new.written e) (sym ended) (
               quiet_on tells first.range first.written old.written new.written g.0 puts.sink puts.view,
               (end, refl),
-              subst (λ (ns : List ℕ). Takes (WatchText tells first.range new.reader.entries ns (sealed_by end)) first.written.sink.took new.written.sink.took) (sym fronts_are)
-                  (subst (λ (r : ReaderState X). Takes (WatchText tells first.range r.entries old.written.fronts (sealed_by end)) first.written.sink.took new.written.sink.took) (sym reader_is) all),
+              subst (λ (ns : List ℕ). Takes (WatchTextOf tells first.range new.reader.entries ns (sealed_by end)) first.written.sink.took new.written.sink.took) (sym fronts_are)
+                  (subst (λ (r : ReaderState X). Takes (WatchTextOf tells first.range r.entries old.written.fronts (sealed_by end)) first.written.sink.took new.written.sink.took) (sym reader_is) all),
             );
       }
 
   pub end_refused : (first old new : WatcherState X) (entries : List (Entry X)) (end : End) (why : WatchEnd) → WatchedSince tells first old → old.written.end ≡ None → new.reader ≡ old.reader → new.range ≡ old.range → entries ≡ old.reader.entries
-      → Holds old.reader (sealed_by end) → Puts tells entries (IsEndText tells old.range entries (sealed_by end)) (sides old.written.sink old.written.failures) (sides new.written.sink new.written.failures) (Err why)
+      → Holds old.reader (sealed_by end) → Puts tells entries (IsEndTextOf tells old.range entries (sealed_by end)) (sides old.written.sink old.written.failures) (sides new.written.sink new.written.failures) (Err why)
       → new.written.fronts ≡ old.written.fronts → new.written.end ≡ Some why → WatchedSince tells first new
   end_refused first old new entries end why w none reader_is range_is entries_are holds puts fronts_are ended =
       let g = goes_on first old w none in
-      let here : Puts tells old.reader.entries (IsEndText tells first.range old.reader.entries (sealed_by end)) (sides old.written.sink old.written.failures) (sides new.written.sink new.written.failures) (Err why) =
-      subst (λ (r : Range). Puts tells old.reader.entries (IsEndText tells r old.reader.entries (sealed_by end)) (sides old.written.sink old.written.failures) (sides new.written.sink new.written.failures) (Err why)) w.range
-      (subst (λ (es : List (Entry X)). Puts tells es (IsEndText tells old.range es (sealed_by end)) (sides old.written.sink old.written.failures) (sides new.written.sink new.written.failures) (Err why)) entries_are puts) in
+      let here : Puts tells old.reader.entries (IsEndTextOf tells first.range old.reader.entries (sealed_by end)) (sides old.written.sink old.written.failures) (sides new.written.sink new.written.failures) (Err why) =
+      subst (λ (r : Range). Puts tells old.reader.entries (IsEndTextOf tells r old.reader.entries (sealed_by end)) (sides old.written.sink old.written.failures) (sides new.written.sink new.written.failures) (Err why)) w.range
+      (subst (λ (es : List (Entry X)). Puts tells es (IsEndTextOf tells old.range es (sealed_by end)) (sides old.written.sink old.written.failures) (sides new.written.sink new.written.failures) (Err why)) entries_are puts) in
       let stops : WritesTo tells first.range old.reader.entries (sealed_by end) first.written new.written (Some why) =
-      stopped tells first.range old.reader.entries (sealed_by end) first.written old.written new.written (IsEndText tells first.range old.reader.entries (sealed_by end)) why
+      stopped tells first.range old.reader.entries (sealed_by end) first.written old.written new.written (IsEndTextOf tells first.range old.reader.entries (sealed_by end)) why
       (λ told part piece f is prefix. of_end piece is prefix) g.0 g.1 here fronts_are in
       record {
         range = range_is ∙ w.range;
@@ -261,12 +264,12 @@ module _ {X : Type 0} (tells : X → Option (List ℕ)) where
       let parts = zip_parts (IsStored tells) few p.0 stored (subst (λ (es : List (Entry X)). AllZip (IsStored tells) es stored) (sym p.1) told) in
       untold parts.0 parts.3
 
-  begun_lift : (range : Range) (few more : List (Entry X)) (fronts : List ℕ) (ending : Ending) (part : List ℕ) → IsPrefix few more → Begun tells range few fronts undecided part → Begun tells range more fronts ending part
+  begun_lift : (range : Range) (few more : List (Entry X)) (fronts : List ℕ) (ending : Ending) (part : List ℕ) → IsPrefix few more → BegunOf tells range few fronts undecided part → BegunOf tells range more fronts ending part
   begun_lift range few more fronts ending part p (none_more none) = none_more none
   begun_lift range few more fronts ending part p (of_front n line rises is prefix) = of_front n line rises (line_lift tells range few more n line p is) prefix
   begun_lift range few more fronts ending part p (of_end line is prefix) = absurd is
 
-  part_lift : (range : Range) (few more : List (Entry X)) (fronts : List ℕ) (ending : Ending) (text : List ℕ) → IsPrefix few more → WatchPart tells range few fronts undecided text → WatchPart tells range more fronts ending text
+  part_lift : (range : Range) (few more : List (Entry X)) (fronts : List ℕ) (ending : Ending) (text : List ℕ) → IsPrefix few more → WatchPartOf tells range few fronts undecided text → WatchPartOf tells range more fronts ending text
   part_lift range few more fronts ending text p w = record {
     told = w.told;
     part = w.part;
@@ -275,14 +278,14 @@ module _ {X : Type 0} (tells : X → Option (List ℕ)) where
     text_is = w.text_is;
   }
 
-  parts_lift : (range : Range) (few more : List (Entry X)) (fronts : List ℕ) (ending : Ending) (old new : Option (List ℕ)) → IsPrefix few more → Takes (WatchPart tells range few fronts undecided) old new → Takes (WatchPart tells range more fronts ending) old new
+  parts_lift : (range : Range) (few more : List (Entry X)) (fronts : List ℕ) (ending : Ending) (old new : Option (List ℕ)) → IsPrefix few more → Takes (WatchPartOf tells range few fronts undecided) old new → Takes (WatchPartOf tells range more fronts ending) old new
   parts_lift range few more fronts ending old new p took =
-      takes_as (WatchPart tells range few fronts undecided) (WatchPart tells range more fronts ending) old new (λ t is. part_lift range few more fronts ending t p is) took
+      takes_as (WatchPartOf tells range few fronts undecided) (WatchPartOf tells range more fronts ending) old new (λ t is. part_lift range few more fronts ending t p is) took
 
   -- as long as nothing is decided, what was written is of any longer list too
   writes_lift : (range : Range) (few more : List (Entry X)) (ending : Ending) (first now : Written) (e : Option WatchEnd) → IsPrefix few more → WritesTo tells range few undecided first now e → WritesTo tells range more ending first now e
   writes_lift range few more ending first now None p w =
-      (w.0, takes_as (FrontsText tells range few now.fronts) (FrontsText tells range more now.fronts) first.sink.took now.sink.took (λ t f. fronts_lift tells range few more now.fronts t p f) w.1)
+      (w.0, takes_as (FrontsTextOf tells range few now.fronts) (FrontsTextOf tells range more now.fronts) first.sink.took now.sink.took (λ t f. fronts_lift tells range few more now.fronts t p f) w.1)
   writes_lift range few more ending first now (Some watch_ends.Whole) p w = absurd (cc (w.1.1))
   writes_lift range few more ending first now (Some watch_ends.Unsealed) p w = absurd (cc (w.1))
   writes_lift range few more ending first now (Some (watch_ends.Fault faults)) p w = (w.0, parts_lift range few more now.fronts ending first.sink.took now.sink.took p w.1)
@@ -332,9 +335,9 @@ module _ {X : Type 0} (tells : X → Option (List ℕ)) where
       → new.end ≡ Some watch_ends.Unsealed → EndsUnsealed tells first old.reader new
   unsealed_written first old new w none puts view fronts_are ended =
       let g = goes_on first old w none in
-      let text : Takes (IsEndText tells first.range old.reader.entries unsealed) old.written.sink.took new.sink.took = takes_bytes (IsEndText tells first.range old.reader.entries unsealed) old.written.sink.took new.sink.took unsealed_line refl puts.1 in
-      let all : Takes (WatchText tells first.range old.reader.entries old.written.fronts unsealed) first.written.sink.took new.sink.took =
-      takes_more (FrontsText tells first.range old.reader.entries old.written.fronts) (IsEndText tells first.range old.reader.entries unsealed) (WatchText tells first.range old.reader.entries old.written.fronts unsealed)
+      let text : Takes (IsEndTextOf tells first.range old.reader.entries unsealed) old.written.sink.took new.sink.took = takes_bytes (IsEndTextOf tells first.range old.reader.entries unsealed) old.written.sink.took new.sink.took unsealed_line refl puts.1 in
+      let all : Takes (WatchTextOf tells first.range old.reader.entries old.written.fronts unsealed) first.written.sink.took new.sink.took =
+      takes_more (FrontsTextOf tells first.range old.reader.entries old.written.fronts) (IsEndTextOf tells first.range old.reader.entries unsealed) (WatchTextOf tells first.range old.reader.entries old.written.fronts unsealed)
       first.written.sink.took old.written.sink.took new.sink.took
       (λ s t f is. record { told = s; last = t; fronts_are = f; last_is = is; text_is = refl }) g.1 text in
       record {
@@ -344,7 +347,7 @@ module _ {X : Type 0} (tells : X → Option (List ℕ)) where
             subst (λ (e : Option WatchEnd). WritesTo tells first.range old.reader.entries unsealed first.written new e) (sym ended) (
               quiet_on tells first.range first.written old.written new g.0 puts.0 view,
               refl,
-              subst (λ (ns : List ℕ). Takes (WatchText tells first.range old.reader.entries ns unsealed) first.written.sink.took new.sink.took) (sym fronts_are) all,
+              subst (λ (ns : List ℕ). Takes (WatchTextOf tells first.range old.reader.entries ns unsealed) first.written.sink.took new.sink.took) (sym fronts_are) all,
             );
       }
 
@@ -352,9 +355,9 @@ module _ {X : Type 0} (tells : X → Option (List ℕ)) where
       → new.fronts ≡ old.written.fronts → new.end ≡ Some why → EndsUnsealed tells first old.reader new
   unsealed_refused first old new why w none puts view fronts_are ended =
       let g = goes_on first old w none in
-      let part = takes_part (IsEndText tells first.range old.reader.entries unsealed) old.written.sink.took new.sink.took unsealed_line refl puts.2 in
+      let part = takes_part (IsEndTextOf tells first.range old.reader.entries unsealed) old.written.sink.took new.sink.took unsealed_line refl puts.2 in
       let stops : WritesTo tells first.range old.reader.entries unsealed first.written new (Some why) =
-      stopped tells first.range old.reader.entries unsealed first.written old.written new (IsEndText tells first.range old.reader.entries unsealed) why
+      stopped tells first.range old.reader.entries unsealed first.written old.written new (IsEndTextOf tells first.range old.reader.entries unsealed) why
       (λ told part piece f is prefix. of_end piece is prefix) g.0 g.1 (inl (record { rises = puts.0; why_is = puts.1; view = view }, part)) fronts_are in
       record {
         ending = unsealed;

@@ -50,14 +50,21 @@ pub record ReplayText (range : Range) (stored : List Stored) (count : ℕ) (text
 abbrev pub IsReplayText : {X : Type 0} → (X → Option (List ℕ)) → Range → List (Entry X) → ℕ → List ℕ → Type 0
 IsReplayText tells range entries count text = (stored : List Stored) → AllZip (IsStored tells) entries stored → ReplayText range stored count text
 
+-- the same of the first n of these blocks
+abbrev pub replays_of : {X : Type 0} → (X → Option (List ℕ)) → Range → List (Entry X) → ℕ → ℕ → List ℕ → Type 0
+replays_of tells range entries n count text = IsReplayText tells range (take n entries) count text
+
 -- ---- fronts
 
+-- The texts are those of a number of blocks: `replays n count text` says that the replay of the first n of them has so many
+-- messages, and these lines.
+
 -- the line of the replay of the first n blocks
-pub record IsFrontLine {X : Type 0} (tells : X → Option (List ℕ)) (range : Range) (entries : List (Entry X)) (n : ℕ) (line : List ℕ) : Type 0 where
-  pub within : n ≤ length entries
+pub record IsFrontLine (replays : ℕ → ℕ → List ℕ → Type 0) (blocks n : ℕ) (line : List ℕ) : Type 0 where
+  pub within : n ≤ blocks
   pub count : ℕ
   pub text : List ℕ
-  pub replay : IsReplayText tells range (take n entries) count text
+  pub replay : replays n count text
   pub line_is : line ≡ front_line n count (remainder text)
 
 -- each number is above 0, and at least twice the one before it
@@ -66,10 +73,10 @@ Doubles last [] = Unit {0}
 Doubles last (n ∷ more) = (1 ≤ n) × (2 * last ≤ n) × Doubles n more
 
 -- a line for each of these fronts
-pub record FrontsText {X : Type 0} (tells : X → Option (List ℕ)) (range : Range) (entries : List (Entry X)) (fronts text : List ℕ) : Type 0 where
+pub record FrontsText (replays : ℕ → ℕ → List ℕ → Type 0) (blocks : ℕ) (fronts text : List ℕ) : Type 0 where
   pub rise : Doubles 0 fronts
   pub lines : List (List ℕ)
-  pub each : AllZip (IsFrontLine tells range entries) fronts lines
+  pub each : AllZip (IsFrontLine replays blocks) fronts lines
   pub text_is : text ≡ concat lines
 
 -- ---- the end
@@ -81,31 +88,48 @@ pub data Ending : Type 0 where
   unsealed : Ending
 
 -- the line of the end with the lines of the replay of all blocks; or that there is none
-abbrev pub IsEndText : {X : Type 0} → (X → Option (List ℕ)) → Range → List (Entry X) → Ending → List ℕ → Type 0
-IsEndText tells range entries undecided text = ⊥
-IsEndText tells range entries (sealed_by end) text = (count : ℕ) × (lines : List ℕ) × IsReplayText tells range entries count lines × (text ≡ end_line end (length entries) count ++ lines)
-IsEndText tells range entries unsealed text = text ≡ unsealed_line
+abbrev pub IsEndText : (ℕ → ℕ → List ℕ → Type 0) → ℕ → Ending → List ℕ → Type 0
+IsEndText replays blocks undecided text = ⊥
+IsEndText replays blocks (sealed_by end) text = (count : ℕ) × (lines : List ℕ) × replays blocks count lines × (text ≡ end_line end blocks count ++ lines)
+IsEndText replays blocks unsealed text = text ≡ unsealed_line
 
 -- ---- the whole
 
 -- the lines of these fronts, and the end
-pub record WatchText {X : Type 0} (tells : X → Option (List ℕ)) (range : Range) (entries : List (Entry X)) (fronts : List ℕ) (ending : Ending) (text : List ℕ) : Type 0 where
+pub record WatchText (replays : ℕ → ℕ → List ℕ → Type 0) (blocks : ℕ) (fronts : List ℕ) (ending : Ending) (text : List ℕ) : Type 0 where
   pub told : List ℕ
   pub last : List ℕ
-  pub fronts_are : FrontsText tells range entries fronts told
-  pub last_is : IsEndText tells range entries ending last
+  pub fronts_are : FrontsText replays blocks fronts told
+  pub last_is : IsEndText replays blocks ending last
   pub text_is : text ≡ told ++ last
 
 -- a first part of the line of one more front, or of the end, or nothing
-pub data Begun {X : Type 0} (tells : X → Option (List ℕ)) (range : Range) (entries : List (Entry X)) (fronts : List ℕ) (ending : Ending) (part : List ℕ) : Type 0 where
-  none_more : part ≡ [] → Begun tells range entries fronts ending part
-  of_front : (n : ℕ) (line : List ℕ) → Doubles 0 (fronts ++ n ∷ []) → IsFrontLine tells range entries n line → IsPrefix part line → Begun tells range entries fronts ending part
-  of_end : (line : List ℕ) → IsEndText tells range entries ending line → IsPrefix part line → Begun tells range entries fronts ending part
+pub data Begun (replays : ℕ → ℕ → List ℕ → Type 0) (blocks : ℕ) (fronts : List ℕ) (ending : Ending) (part : List ℕ) : Type 0 where
+  none_more : part ≡ [] → Begun replays blocks fronts ending part
+  of_front : (n : ℕ) (line : List ℕ) → Doubles 0 (fronts ++ n ∷ []) → IsFrontLine replays blocks n line → IsPrefix part line → Begun replays blocks fronts ending part
+  of_end : (line : List ℕ) → IsEndText replays blocks ending line → IsPrefix part line → Begun replays blocks fronts ending part
 
 -- the lines of these fronts, and a first part of what may stand behind them
-pub record WatchPart {X : Type 0} (tells : X → Option (List ℕ)) (range : Range) (entries : List (Entry X)) (fronts : List ℕ) (ending : Ending) (text : List ℕ) : Type 0 where
+pub record WatchPart (replays : ℕ → ℕ → List ℕ → Type 0) (blocks : ℕ) (fronts : List ℕ) (ending : Ending) (text : List ℕ) : Type 0 where
   pub told : List ℕ
   pub part : List ℕ
-  pub fronts_are : FrontsText tells range entries fronts told
-  pub begun : Begun tells range entries fronts ending part
+  pub fronts_are : FrontsText replays blocks fronts told
+  pub begun : Begun replays blocks fronts ending part
   pub text_is : text ≡ told ++ part
+
+-- ---- the same of the blocks of these entries
+
+abbrev pub IsFrontLineOf : {X : Type 0} → (X → Option (List ℕ)) → Range → List (Entry X) → ℕ → List ℕ → Type 0
+IsFrontLineOf tells range entries = IsFrontLine (replays_of tells range entries) (length entries)
+
+abbrev pub FrontsTextOf : {X : Type 0} → (X → Option (List ℕ)) → Range → List (Entry X) → List ℕ → List ℕ → Type 0
+FrontsTextOf tells range entries = FrontsText (replays_of tells range entries) (length entries)
+
+abbrev pub IsEndTextOf : {X : Type 0} → (X → Option (List ℕ)) → Range → List (Entry X) → Ending → List ℕ → Type 0
+IsEndTextOf tells range entries = IsEndText (replays_of tells range entries) (length entries)
+
+abbrev pub WatchTextOf : {X : Type 0} → (X → Option (List ℕ)) → Range → List (Entry X) → List ℕ → Ending → List ℕ → Type 0
+WatchTextOf tells range entries = WatchText (replays_of tells range entries) (length entries)
+
+abbrev pub WatchPartOf : {X : Type 0} → (X → Option (List ℕ)) → Range → List (Entry X) → List ℕ → Ending → List ℕ → Type 0
+WatchPartOf tells range entries = WatchPart (replays_of tells range entries) (length entries)

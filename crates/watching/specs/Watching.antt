@@ -11,7 +11,7 @@ use Rattle.live_directory.specs.Reading.{ReaderState}
 use Rattle.watching.specs.declared.report.WatchEnd.{WatchEnd}
 use Rattle.watching.specs.declared.report.WatchReport.{WatchReport}
 use Rattle.watching.specs.declared.report.WatchEnd.TheVariants as watch_ends
-use Rattle.watching.specs.Text.{Ending, undecided, sealed_by, unsealed, Doubles, FrontsText, WatchText, WatchPart}
+use Rattle.watching.specs.Text.{Ending, undecided, sealed_by, unsealed, Doubles, FrontsTextOf, WatchTextOf, WatchPartOf}
 
 -- The fronts whose lines were written, why the watcher ended, if it did, and what is seen of its sink and its view.
 pub record Written : Type 0 where
@@ -63,12 +63,12 @@ Takes P old new = (before : List ℕ) → old ≡ Some before → (text : List �
 
 -- Since then, when there were no fronts and no end, this was written of these blocks.
 abbrev pub WritesTo : {X : Type 0} → (X → Option (List ℕ)) → Range → List (Entry X) → Ending → Written → Written → Option WatchEnd → Type 0
-WritesTo tells range entries ending before now None = IsQuiet before now × Takes (FrontsText tells range entries now.fronts) before.sink.took now.sink.took
-WritesTo tells range entries ending before now (Some watch_ends.Whole) = IsQuiet before now × ((end : End) × (ending ≡ sealed_by end)) × Takes (WatchText tells range entries now.fronts ending) before.sink.took now.sink.took
-WritesTo tells range entries ending before now (Some watch_ends.Unsealed) = IsQuiet before now × (ending ≡ unsealed) × Takes (WatchText tells range entries now.fronts ending) before.sink.took now.sink.took
-WritesTo tells range entries ending before now (Some (watch_ends.Fault faults)) = HasFailed before now faults × Takes (WatchPart tells range entries now.fronts ending) before.sink.took now.sink.took
-WritesTo tells range entries ending before now (Some (watch_ends.Flaw rule offset)) = IsQuiet before now × IsUntold tells entries × Takes (WatchPart tells range entries now.fronts ending) before.sink.took now.sink.took
-WritesTo tells range entries ending before now (Some watch_ends.Memory) = IsQuiet before now × Takes (WatchPart tells range entries now.fronts ending) before.sink.took now.sink.took
+WritesTo tells range entries ending before now None = IsQuiet before now × Takes (FrontsTextOf tells range entries now.fronts) before.sink.took now.sink.took
+WritesTo tells range entries ending before now (Some watch_ends.Whole) = IsQuiet before now × ((end : End) × (ending ≡ sealed_by end)) × Takes (WatchTextOf tells range entries now.fronts ending) before.sink.took now.sink.took
+WritesTo tells range entries ending before now (Some watch_ends.Unsealed) = IsQuiet before now × (ending ≡ unsealed) × Takes (WatchTextOf tells range entries now.fronts ending) before.sink.took now.sink.took
+WritesTo tells range entries ending before now (Some (watch_ends.Fault faults)) = HasFailed before now faults × Takes (WatchPartOf tells range entries now.fronts ending) before.sink.took now.sink.took
+WritesTo tells range entries ending before now (Some (watch_ends.Flaw rule offset)) = IsQuiet before now × IsUntold tells entries × Takes (WatchPartOf tells range entries now.fronts ending) before.sink.took now.sink.took
+WritesTo tells range entries ending before now (Some watch_ends.Memory) = IsQuiet before now × Takes (WatchPartOf tells range entries now.fronts ending) before.sink.took now.sink.took
 
 abbrev pub Watches : {X : Type 0} → (X → Option (List ℕ)) → Range → List (Entry X) → Ending → Written → Written → Type 0
 Watches tells range entries ending before now = WritesTo tells range entries ending before now now.end

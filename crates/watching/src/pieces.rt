@@ -1,7 +1,7 @@
 //! The pieces of a watch text: the line of a front, and what stands at the end.
 ghost use Rattle.std.specs.Prelude.{◌≡◌, ◌++◌, length, IfOk, MatchResult};
 ghost use Rattle.live_entry.specs.Following.{EntriesFollow};
-ghost use Rattle.watching.specs.Text.{sealed_by, unsealed, unsealed_line, IsReplayText, IsFrontLine, IsEndText};
+ghost use Rattle.watching.specs.Text.{sealed_by, unsealed, unsealed_line, IsReplayText, IsFrontLineOf, IsEndTextOf};
 ghost use Rattle.watching.specs.Putting.{sides, ended_by, Lacks, Puts, PutsBytes};
 
 use crate::lines::{line_of_end, line_of_front};
@@ -113,7 +113,7 @@ pub(crate) fn put_front<X: Extent, V: LiveView<X>, K: Sink>(
     sink: &mut K,
 ) -> Result<(), WatchEnd>
     requires { EntriesFollow X.tells entries.now }
-    ensures { Puts X.tells entries.now (IsFrontLine X.tells range entries.now (length entries.now)) (sides (K.state sink.old) (V.failures view.old)) (sides (K.state sink.new) (V.failures view.new)) result }
+    ensures { Puts X.tells entries.now (IsFrontLineOf X.tells range entries.now (length entries.now)) (sides (K.state sink.old) (V.failures view.old)) (sides (K.state sink.new) (V.failures view.new)) result }
 {
     let Replayed { count, text } = match replay(alloc, entries, view, range) {
         Ok(all) => all,
@@ -136,7 +136,7 @@ pub(crate) fn put_end<X: Extent, V: LiveView<X>, K: Sink>(
     end: End,
 ) -> Result<(), WatchEnd>
     requires { EntriesFollow X.tells entries.now }
-    ensures { Puts X.tells entries.now (IsEndText X.tells range entries.now (sealed_by end)) (sides (K.state sink.old) (V.failures view.old)) (sides (K.state sink.new) (V.failures view.new)) result }
+    ensures { Puts X.tells entries.now (IsEndTextOf X.tells range entries.now (sealed_by end)) (sides (K.state sink.old) (V.failures view.old)) (sides (K.state sink.new) (V.failures view.new)) result }
 {
     let Replayed { count, mut text } = match replay(alloc, entries, view, range) {
         Ok(all) => all,

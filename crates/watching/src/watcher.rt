@@ -1,8 +1,11 @@
 //! One watcher of a recording.
-ghost use Rattle.std.specs.Prelude.{◌≡◌, ◌∷◌, ◌++◌, [], length, true, false, None, Some};
+ghost use Rattle.std.specs.Prelude.{◌≡◌, ◌⊎◌, ◌∷◌, ◌++◌, [], length, true, false, None, Some};
 ghost use mathlib.Core.List.{IsPrefix};
+ghost use Rattle.mcap_io.specs.Outside.{RisesOnce};
 ghost use Rattle.mcap_model.specs.declared.ends.End.{End as Last};
 ghost use Rattle.live_directory.specs.Published.{entries_of, end_of, front_of, AtLeast};
+ghost use Rattle.watching.specs.declared.report.WatchEnd.{WatchEnd};
+ghost use Rattle.watching.specs.declared.report.WatchEnd.TheVariants as watch_ends;
 ghost use Rattle.watching.specs.Text.{sealed_by, Doubles};
 ghost use Rattle.watching.specs.Watching.{WatcherState, new_watcher, written_by, MayFollow, Holds, Watches, WatchedSince, EndsUnsealed};
 
@@ -159,7 +162,8 @@ impl<X: Extent, J: Naming, V: LiveView<X>, K: Sink> Watcher<X, J, V, K> {
 
     // Looks once at what is published, and says whether the watcher goes on.
     fn look<R: Wait>(&mut self, rt: &R, alloc: Global) -> bool
-        ensures { (first : WatcherState X) → WatchedSince X.tells first self.old → WatchedSince X.tells first self.new }
+        ensures since { (first : WatcherState X) → WatchedSince X.tells first self.old → WatchedSince X.tells first self.new }
+        ensures stays { (why : WatchEnd) → self.old.written.end ≡ Some why → self.new.written ≡ self.old.written }
     {
         if self.end.is_some() {
             return false;
@@ -174,9 +178,10 @@ impl<X: Extent, J: Naming, V: LiveView<X>, K: Sink> Watcher<X, J, V, K> {
     /// Watches what is published beside it: the first front with a block that it sees, and then each that has at least twice as
     /// many as the last one; and once it sees the end, all. It comes back when it has written its end, or was refused, or
     /// `tried`, which the writer raises once it has tried to seal the directory, was raised before it looked and found no end.
-    /// The directory isn't closed before `finish`.
+    /// One that has ended writes nothing more. The directory isn't closed before `finish`.
     pub fn run<R: Wait>(&mut self, rt: &R, alloc: Global, tried: &AtomicBool)
-        ensures { (first : WatcherState X) → WatchedSince X.tells first self.old → WatchedSince X.tells first self.new }
+        ensures since { (first : WatcherState X) → WatchedSince X.tells first self.old → WatchedSince X.tells first self.new }
+        ensures stays { (why : WatchEnd) → self.old.written.end ≡ Some why → self.new.written ≡ self.old.written }
     {
         let parker = Parker::new();
         'looks: for _ in rt.forever() {
@@ -213,6 +218,7 @@ impl<X: Extent, J: Naming, V: LiveView<X>, K: Sink> Watcher<X, J, V, K> {
     // Takes in what the note tells.
     fn learn(&mut self, note: &Note<X, J>)
         ensures since { (first : WatcherState X) → WatchedSince X.tells first self.old → WatchedSince X.tells first self.new }
+        ensures stays { self.new.written ≡ self.old.written }
         ensures learnt { IsPrefix note.now self.new.reader.known }
         ensures rises { AtLeast (front_of note.now) (front_of self.new.reader.known) }
     {
@@ -223,6 +229,7 @@ impl<X: Extent, J: Naming, V: LiveView<X>, K: Sink> Watcher<X, J, V, K> {
     fn conclude<R: Wait>(&mut self, rt: &R, alloc: Global) -> WatchEnd
         requires sealed { (end : Last) × (end_of self.old.reader.known ≡ Some end) }
         ensures since { (first : WatcherState X) → WatchedSince X.tells first self.old → WatchedSince X.tells first self.new }
+        ensures stays { (why : WatchEnd) → self.old.written.end ≡ Some why → self.new.written ≡ self.old.written }
         ensures knows { IsPrefix self.old.reader.known self.new.reader.known }
         ensures rises { AtLeast (front_of self.old.reader.known) (front_of self.new.reader.known) }
         ensures ended { self.new.written.end ≡ Some result }
@@ -243,8 +250,9 @@ impl<X: Extent, J: Naming, V: LiveView<X>, K: Sink> Watcher<X, J, V, K> {
     /// before.
     pub fn finish<R: Wait>(self, rt: &R, alloc: Global, note: &Note<X, J>) -> Watched<V, K>
         requires sealed { (end : Last) × (end_of note.now ≡ Some end) }
-        ensures { (first : WatcherState X) (end : Last) → WatchedSince X.tells first self → end_of note.now ≡ Some end
+        ensures watches { (first : WatcherState X) (end : Last) → WatchedSince X.tells first self → end_of note.now ≡ Some end
             → Watches X.tells first.range (entries_of note.now) (sealed_by end) first.written (written_by (K.state result.sink) (V.failures result.view) result.report) }
+        ensures stays { (why : WatchEnd) → self.written.end ≡ Some why → written_by (K.state result.sink) (V.failures result.view) result.report ≡ self.written }
     {
         let mut watcher = self;
         watcher.learn(note);
@@ -256,6 +264,8 @@ impl<X: Extent, J: Naming, V: LiveView<X>, K: Sink> Watcher<X, J, V, K> {
     // Writes that there is no end, unless the watcher has ended, and says why it has.
     fn conclude_unsealed(&mut self) -> WatchEnd
         ensures since { (first : WatcherState X) → WatchedSince X.tells first self.old → EndsUnsealed X.tells first self.old.reader self.new.written }
+        ensures stays { (why : WatchEnd) → self.old.written.end ≡ Some why → self.new.written ≡ self.old.written }
+        ensures ends { self.old.written.end ≡ None → (result ≡ watch_ends.Unsealed) ⊎ RisesOnce self.old.written.sink.faults self.new.written.sink.faults }
         ensures ended { self.new.written.end ≡ Some result }
     {
         match self.end {
@@ -277,8 +287,10 @@ impl<X: Extent, J: Naming, V: LiveView<X>, K: Sink> Watcher<X, J, V, K> {
     /// Writes that there is no end, unless the watcher has ended, once the threads of the recording were joined, where its
     /// directory wasn't sealed.
     pub fn finish_unsealed(self) -> Watched<V, K>
-        ensures { (first : WatcherState X) → WatchedSince X.tells first self
+        ensures watches { (first : WatcherState X) → WatchedSince X.tells first self
             → EndsUnsealed X.tells first self.reader (written_by (K.state result.sink) (V.failures result.view) result.report) }
+        ensures stays { (why : WatchEnd) → self.written.end ≡ Some why → written_by (K.state result.sink) (V.failures result.view) result.report ≡ self.written }
+        ensures ends { self.written.end ≡ None → (result.report.end ≡ watch_ends.Unsealed) ⊎ RisesOnce self.written.sink.faults (K.state result.sink).faults }
     {
         let mut watcher = self;
         let end = watcher.conclude_unsealed();

@@ -1,5 +1,5 @@
 use Rattle.std.proofs.Common.{List, ℕ, length, subst, Ok, Err}
-use Rattle.watching.specs.Text.{IsFrontLine}
+use Rattle.watching.specs.Text.{IsFrontLineOf}
 use Rattle.watching.specs.Putting.{sides, PutsBytes}
 use Rattle.watching.proofs.Replays.{front_piece}
 use Rattle.watching.proofs.Steps.{piece_written, piece_refused}
@@ -13,7 +13,7 @@ returns-in-Ok-put_bytes g c =
     let line = c.line_of_front-line.result in
     let old = sides (g.K.Sink.state c.args.sink.now) (g.V.LiveView.failures c.args.view.now) in
     let new = sides (g.K.Sink.state c.put_bytes.new.sink) (g.V.LiveView.failures c.replay.new.view) in
-    piece_written (IsFrontLine tells c.args.range entries (length entries)) old new line
+    piece_written (IsFrontLineOf tells c.args.range entries (length entries)) old new line
     (front_piece tells c.args.range entries all.count c.checksum.result all.text line c.in-Ok.ensures.replays c.checksum.ensures c.line_of_front-line.ensures) c.in-Ok.ensures.cause
     (subst (λ (l : List ℕ). PutsBytes old.sink new.sink l (Ok tt)) c.as_bytes.ensures c.in-Ok-put_bytes.ensures)
 
@@ -25,6 +25,6 @@ returns-in-Err-put_bytes g c =
     let line = c.line_of_front-line.result in
     let old = sides (g.K.Sink.state c.args.sink.now) (g.V.LiveView.failures c.args.view.now) in
     let new = sides (g.K.Sink.state c.put_bytes.new.sink) (g.V.LiveView.failures c.replay.new.view) in
-    piece_refused tells entries (IsFrontLine tells c.args.range entries (length entries)) old new line c.in-Err-put_bytes.why
+    piece_refused tells entries (IsFrontLineOf tells c.args.range entries (length entries)) old new line c.in-Err-put_bytes.why
     (front_piece tells c.args.range entries all.count c.checksum.result all.text line c.in-Ok.ensures.replays c.checksum.ensures c.line_of_front-line.ensures) c.in-Ok.ensures.cause
     (subst (λ (l : List ℕ). PutsBytes old.sink new.sink l (Err c.in-Err-put_bytes.why)) c.as_bytes.ensures c.in-Err-put_bytes.ensures)

@@ -1,3 +1,5 @@
+use Rattle.std.proofs.Common.{◌≡◌, Some}
+use Rattle.watching.specs.declared.report.WatchEnd.{WatchEnd}
 use Rattle.watching.specs.Watching.{WatcherState, WatchedSince}
 use Rattle.watching.proofs.watcher.Watcher.run.Given as goal
 
@@ -5,3 +7,4 @@ abbrev pub invariant-looks : goal.invariant-looks
 invariant-looks g l =
     (goal.iterator-looks g).can_next l.iterator' × (goal.iterator-looks g).is_finite l.iterator'
     × ((first : WatcherState g.row.X.Denot) → WatchedSince g.X.Extent.tells first l.initial.self → WatchedSince g.X.Extent.tells first l.self)
+    × ((why : WatchEnd) → l.initial.self.written.end ≡ Some why → l.self.written ≡ l.initial.self.written)

@@ -1,8 +1,14 @@
-use Rattle.std.proofs.Common.{ap, subst}
+use Rattle.std.proofs.Common.{ap, subst, ◌∙◌, Some}
 use mathlib.Core.List.{IsPrefix}
+use Rattle.watching.specs.declared.report.WatchEnd.TheVariants as watch_ends
 use Rattle.watching.specs.Watching.{WatcherState}
-use Rattle.watching.proofs.Steps.{moved, refreshed}
+use Rattle.watching.proofs.Steps.{lacked, moved, refreshed}
 use Rattle.watching.proofs.watcher.Watcher.take_in.Goals as goal
+
+pub returns-in-Err-clause-since : goal.returns-in-Err-clause-since
+returns-in-Err-clause-since g c = λ first w.
+    lacked g.X.Extent.tells first c.args.self.now _ w c.requires.goes_on (ap (λ (s : WatcherState g.row.X.Denot). s.range) c.self.view_is)
+    (ap (λ (s : WatcherState g.row.X.Denot). record s.written { end = Some watch_ends.Memory }) c.self.view_is) (c.in-Err.ensures.1.held ∙ ap (λ (s : WatcherState g.row.X.Denot). s.reader.entries) c.self.view_is)
 
 pub returns-in-Some-clause-since : goal.returns-in-Some-clause-since
 returns-in-Some-clause-since g c = λ first w.
