@@ -1,12 +1,12 @@
 -- From what was found to a command, and from a command's words to what is found.
-use Rattle.std.proofs.Common.{◌≡◌, ◌≢◌, ◌<◌, ◌≤◌, ◌++◌, ℕ, Bool, true, false, List, [], ◌∷◌, Option, Some, None, refl, sym, ap, ap₂, subst, inl, inr, ◌∙◌, codes, arith, length, suc, ◌==◌}
+use Rattle.std.proofs.Common.{◌≡◌, ◌≢◌, ◌<◌, ◌≤◌, ◌+◌, ◌++◌, ℕ, Bool, true, false, List, [], ◌∷◌, Option, Some, None, refl, sym, ap, ap₂, subst, inl, inr, ◌∙◌, codes, arith, length, suc, ◌==◌}
 use Rattle.std.specs.Prelude.{⊤, drop, find, get_or, option_and_then, option_map, slice_get, take, unwrap_or, if◌then◌else◌}
 use Rattle.std.specs.Borrow.{Bor}
 use Rattle.std.specs.List.{All, flat_map}
 use Rattle.std.specs.Option.{option_to_list}
 use Rattle.std.specs.Str.{bytes_eq}
 use Rattle.std.proofs.lemmas.Slice.Eq.{bytes_eq-Decides}
-use Rattle.std.proofs.lemmas.List.{length-map}
+use Rattle.std.proofs.lemmas.List.{length-append, length-map}
 use Rattle.std.proofs.lemmas.Option.{same_Some}
 use Rattle.std.proofs.lemmas.Bool.Decides.{nat_tests}
 use Rattle.std.proofs.lemmas.List.Elements.{All-append, All-cons, All-head, All-map, All-nil, All-tail}
@@ -16,13 +16,14 @@ use Rattle.clap.specs.declared.parser.matches.ArgMatches.TheViews.{out-ArgMatche
 use Rattle.mcap_model.specs.declared.options.FileOptions.{FileOptions}
 use Rattle.mcap_model.specs.declared.replay.Range.{Range}
 use Rattle.command_words.specs.Items.{Word, Item, flag, joined, apart, plain, IsFlag, IsFree, IsItem, IsOption, given, place_of, texts, words_of}
-use Rattle.command_words.specs.Commands.{AreAmounts, AreBad, Behind, Derives, Flags, GivesNumber, IsCat, IsFileOptions, IsGenerate, IsMerge, IsNumber, IsOfFile, IsRange, IsRecord, IsRecover, Reads, name_of, verb_of}
-use Rattle.command_words.specs.Matches.{AreFeeds, AreRead, AreUnread, AtPlaces, Fits, HasRoom, IsLoose, IsReading, all_found}
+use Rattle.command_words.specs.Commands.{AreAmounts, AreBad, Behind, Derives, Flags, GivesNumber, GivesSpan, HasWatchers, IsCat, IsFileOptions, IsGenerate, IsMerge, IsNumber, IsOfFile, IsRange, IsRecord, IsRecover, Reads, name_of, verb_of}
+use Rattle.command_words.specs.Matches.{AreFeeds, AreRead, AreUnread, AreUnwatched, AtPlaces, Fits, HasRoom, IsLoose, IsReading, all_found}
 use Rattle.command_words.specs.declared.command.Command.{Command}
 use Rattle.command_words.specs.declared.command.Command.TheVariants.{Record, Info, Check, Cat, Recover, Merge, Generate}
 use Rattle.command_words.specs.declared.verbs.Verb.{Verb}
 use Rattle.command_words.specs.declared.verbs.Verb.TheVariants as verb
 use Rattle.command_words.proofs.CutLemmas.{loose_cut, one_cut}
+use Rattle.command_words.proofs.OneCommand.{one_watching}
 use Rattle.command_words.proofs.RowLemmas.{same_text}
 
 abbrev NoDash : Word → Type 0
@@ -86,6 +87,19 @@ number_clean least most value (Some n) (word, gives, is) dash =
     let same : codes "-" ∷ [] ≡ word ∷ [] = sym (ap option_to_list dash) ∙ gives in
     let is_dash : word ≡ codes "-" = cc in
     no_number least most n (subst (λ (w : Word). IsNumber least most w n) is_dash is)
+
+dash_parts : (start rest : Word) → 0 < length start → codes "-" ≡ start ++ 58 ∷ rest → ⊥
+dash_parts start rest some same =
+    let lengths : 1 ≡ length start + suc (length rest) = ap length same ∙ length-append start (58 ∷ rest) in
+    omega (arith, lengths, some)
+
+span_clean : (value : Option Word) (span : Option Range) → GivesSpan (option_to_list value) span → value ≢ Some (codes "-")
+span_clean value None gives dash =
+    let wrong : codes "-" ∷ [] ≡ [] = sym (ap option_to_list dash) ∙ gives in cc
+span_clean value (Some span) (word, gives, is) dash =
+    let same : codes "-" ∷ [] ≡ word ∷ [] = sym (ap option_to_list dash) ∙ gives in
+    let is_dash : codes "-" ≡ word = cc in
+    dash_parts is.start_word is.end_word is.started.digits.0 (is_dash ∙ is.form)
 
 -- ---- the reading of words
 
@@ -342,11 +356,11 @@ module _ (words : List Word) (rows : List Row) (reading : IsReading verb.Recover
   pub recover_out : (name : Word) → first_of (codes "in") rows ≡ Some name → name ≢ out
   recover_out name found = subst (λ (n : Word). n ≢ out) (same_Some input name (sym recover_names.0 ∙ found)) is.differ
 
-module _ (words : List Word) (rows : List Row) (reading : IsReading verb.Record words rows) (out : Word) (feeds : List Word) (file : FileOptions) (size : Option ℕ) (lossless : Bool) where
+module _ (words : List Word) (rows : List Row) (reading : IsReading verb.Record words rows) (out : Word) (feeds : List Word) (file : FileOptions) (size : Option ℕ) (lossless : Bool) (range : Range) (watchers : ℕ) where
   pub record_is : first_of (codes "out") rows ≡ Some out → all_found (codes "feed") rows ≡ feeds → out ≢ [] → AreFeeds out feeds → Flags (given (codes "lossless") reading.items) lossless
       → IsFileOptions reading.items file → GivesNumber 1 1073741824 (option_to_list (first_of (codes "limit") rows)) size → first_of (codes "profile") rows ≢ Some (codes "-")
-      → IsRecord words out feeds file (unwrap_or size 104857600) lossless
-  record_is is is2 named feeding flagged options sized clean = record {
+      → AreUnwatched out watchers feeds → HasWatchers reading.items range watchers → IsRecord words out feeds file (unwrap_or size 104857600) lossless range watchers
+  record_is is is2 named feeding flagged options sized clean unwatched watched = record {
     items = reading.items;
     reads = subst (Reads verb.Record words reading.items) (names_places words rows reading out feeds is is2) (exact_reading verb.Record words rows reading all_clean);
     some = feeding.0;
@@ -354,11 +368,13 @@ module _ (words : List Word) (rows : List Row) (reading : IsReading verb.Record 
     out_named = named;
     feeds_named = λ i d less. (feeding.2 i d less).0;
     differ = λ i d less. (feeding.2 i d less).1;
+    unwatched = unwatched;
     flagged = flagged;
     options = options;
     size = size;
     sized = subst (λ (l : List Word). GivesNumber 1 1073741824 l size) (sym (reading.shows.options (codes "limit") (inl refl))) sized;
     limited = refl;
+    watched = watched;
   }
     where
       chunk_clean : first_of (codes "chunk") rows ≢ Some (codes "-")
@@ -368,10 +384,19 @@ module _ (words : List Word) (rows : List Row) (reading : IsReading verb.Record 
       limit_clean : first_of (codes "limit") rows ≢ Some (codes "-")
       limit_clean = number_clean 1 1073741824 (first_of (codes "limit") rows) size sized
 
+      watch_clean : first_of (codes "watch") rows ≢ Some (codes "-")
+      watch_clean = span_clean (first_of (codes "watch") rows) watched.span (subst (λ (l : List Word). GivesSpan l watched.span) (reading.shows.options (codes "watch") (inr (inr (inr (inl refl))))) watched.spanned)
+
+      watchers_clean : first_of (codes "watchers") rows ≢ Some (codes "-")
+      watchers_clean = number_clean 0 16 (first_of (codes "watchers") rows) watched.number
+          (subst (λ (l : List Word). GivesNumber 0 16 l watched.number) (reading.shows.options (codes "watchers") (inr (inr (inr (inr refl))))) watched.numbered)
+
       all_clean : (name : Word) → IsOption verb.Record name → first_of name rows ≢ Some (codes "-")
       all_clean name (inl is) = subst (λ (n : Word). first_of n rows ≢ Some (codes "-")) (sym is) limit_clean
       all_clean name (inr (inl is)) = subst (λ (n : Word). first_of n rows ≢ Some (codes "-")) (sym is) chunk_clean
-      all_clean name (inr (inr is)) = subst (λ (n : Word). first_of n rows ≢ Some (codes "-")) (sym is) clean
+      all_clean name (inr (inr (inl is))) = subst (λ (n : Word). first_of n rows ≢ Some (codes "-")) (sym is) clean
+      all_clean name (inr (inr (inr (inl is)))) = subst (λ (n : Word). first_of n rows ≢ Some (codes "-")) (sym is) watch_clean
+      all_clean name (inr (inr (inr (inr is)))) = subst (λ (n : Word). first_of n rows ≢ Some (codes "-")) (sym is) watchers_clean
 
 pub of_file_is : (v : Verb) (words : List Word) (rows : List Row) (reading : IsReading v words rows) (file : Word) → IsOfOne v → ((name : Word) → IsOption v name → ⊥) → first_of (codes "file") rows ≡ Some file → file ≢ []
     → IsOfFile v words file
@@ -417,16 +442,22 @@ once_number : (least most : ℕ) (values : List Word) (number : Option ℕ) → 
 once_number least most values None gives = (None, gives)
 once_number least most values (Some n) (word, gives, is) = (Some word, gives)
 
+once_span : (values : List Word) (span : Option Range) → GivesSpan values span → (value : Option Word) × (values ≡ option_to_list value)
+once_span values None gives = (None, gives)
+once_span values (Some s) (word, gives, is) = (Some word, gives)
+
 abbrev Once : Verb → List Item → Word → Type 0
 Once v items name = (value : Option Word) × (given name items ≡ option_to_list value)
 
-fits_record : (words : List Word) (out : Word) (feeds : List Word) (file : FileOptions) (limit : ℕ) (lossless : Bool) (is : IsRecord words out feeds file limit lossless) → Fits verb.Record is.items (out ∷ feeds)
-fits_record words out feeds file limit lossless is = record { options = options; flags = flags; few = tt }
+fits_record : (words : List Word) (out : Word) (feeds : List Word) (file : FileOptions) (limit : ℕ) (lossless : Bool) (range : Range) (watchers : ℕ) (is : IsRecord words out feeds file limit lossless range watchers) → Fits verb.Record is.items (out ∷ feeds)
+fits_record words out feeds file limit lossless range watchers is = record { options = options; flags = flags; few = tt }
   where
     options : (name : Word) → IsOption verb.Record name → Once verb.Record is.items name
     options name (inl same) = subst (Once verb.Record is.items) (sym same) (once_number 1 1073741824 (given (codes "limit") is.items) is.size is.sized)
     options name (inr (inl same)) = subst (Once verb.Record is.items) (sym same) (once_number 1 67108864 (given (codes "chunk") is.items) is.options.chunk.size is.options.chunk.sized)
-    options name (inr (inr same)) = subst (Once verb.Record is.items) (sym same) (is.options.profile.value, is.options.profile.once)
+    options name (inr (inr (inl same))) = subst (Once verb.Record is.items) (sym same) (is.options.profile.value, is.options.profile.once)
+    options name (inr (inr (inr (inl same)))) = subst (Once verb.Record is.items) (sym same) (once_span (given (codes "watch") is.items) is.watched.span is.watched.spanned)
+    options name (inr (inr (inr (inr same)))) = subst (Once verb.Record is.items) (sym same) (once_number 0 16 (given (codes "watchers") is.items) is.watched.number is.watched.numbered)
 
     flags : (name : Word) → IsFlag verb.Record name → (is_there : Bool) × Flags (given name is.items) is_there
     flags name (inl same) = subst (λ (n : Word). (is_there : Bool) × Flags (given n is.items) is_there) (sym same) (is.options.chunk.is_plain, is.options.chunk.plain)
@@ -462,9 +493,9 @@ fits_generate words seed feeds messages out is = record { options = λ name none
 
 -- words that fit no command are bad
 pub unread_bad : (words : List Word) → AreUnread words → AreBad words
-unread_bad words unread (Record out feeds file limit lossless) is =
-    let record_of : IsRecord is.rest out feeds file limit lossless = is.behind in
-    unread verb.Record is.rest record_of.items (out ∷ feeds) is.form record_of.reads (fits_record is.rest out feeds file limit lossless record_of)
+unread_bad words unread (Record out feeds file limit lossless range watchers) is =
+    let record_of : IsRecord is.rest out feeds file limit lossless range watchers = is.behind in
+    unread verb.Record is.rest record_of.items (out ∷ feeds) is.form record_of.reads (fits_record is.rest out feeds file limit lossless range watchers record_of)
 unread_bad words unread (Info file) is =
     let info_of : IsOfFile verb.Info is.rest file = is.behind in
     unread verb.Info is.rest info_of.items (file ∷ []) is.form info_of.reads (record { options = λ name none. absurd none; flags = λ name none. absurd none; few = omega arith })
@@ -513,7 +544,7 @@ name_whole verb.Merge same = cc
 name_whole verb.Generate same = cc
 
 behind_whole : (words : List Word) (command : Command) → Behind words command → All NoDash words
-behind_whole words (Record out feeds file limit lossless) is = let one : IsRecord words out feeds file limit lossless = is in reads_whole verb.Record words one.items (out ∷ feeds) one.reads
+behind_whole words (Record out feeds file limit lossless range watchers) is = let one : IsRecord words out feeds file limit lossless range watchers = is in reads_whole verb.Record words one.items (out ∷ feeds) one.reads
 behind_whole words (Info file) is = let one : IsOfFile verb.Info words file = is in reads_whole verb.Info words one.items (file ∷ []) one.reads
 behind_whole words (Check file) is = let one : IsOfFile verb.Check words file = is in reads_whole verb.Check words one.items (file ∷ []) one.reads
 behind_whole words (Cat file indexed range topic) is = let one : IsCat words file indexed range topic = is in reads_whole verb.Cat words one.items (file ∷ []) one.reads
@@ -528,7 +559,7 @@ derived_whole words command is =
 -- ---- for the code that reads what was found
 
 -- the words of a recording have these names
-module _ (words : List Word) (rows : List Row) (reading : IsReading verb.Record words rows) (out : Word) (feeds : List Word) (file : FileOptions) (limit : ℕ) (lossless : Bool) (is : IsRecord words out feeds file limit lossless) where
+module _ (words : List Word) (rows : List Row) (reading : IsReading verb.Record words rows) (out : Word) (feeds : List Word) (file : FileOptions) (limit : ℕ) (lossless : Bool) (range : Range) (watchers : ℕ) (is : IsRecord words out feeds file limit lossless range watchers) where
   pub record_names : (first_of (codes "out") rows ≡ Some out) × (all_found (codes "feed") rows ≡ feeds)
   record_names = names_are words rows reading out feeds (sym (same_reading verb.Record words rows reading is.items (out ∷ feeds) is.reads).1)
 
@@ -539,6 +570,17 @@ module _ (words : List Word) (rows : List Row) (reading : IsReading verb.Record 
   record_fed name found =
       let same : out ≡ name = same_Some out name (sym record_names.0 ∙ found) in
       subst (λ (o : Word). AreFeeds o (all_found (codes "feed") rows)) same (subst (AreFeeds out) (sym record_names.1) record_feeds)
+
+  pub record_watching : HasWatchers reading.items range watchers
+  record_watching = subst (λ (l : List Item). HasWatchers l range watchers) (same_reading verb.Record words rows reading is.items (out ∷ feeds) is.reads).0 is.watched
+
+  -- and so are the feeds that aren't watchers' files, with what is found of watchers
+  pub record_unwatched : (name : Word) (times : Range) (count : ℕ) → first_of (codes "out") rows ≡ Some name → HasWatchers reading.items times count → AreUnwatched name count (all_found (codes "feed") rows)
+  record_unwatched name times count found has =
+      let same : out ≡ name = same_Some out name (sym record_names.0 ∙ found) in
+      let counts : watchers ≡ count = (one_watching reading.items times range count watchers has record_watching).1 in
+      subst (λ (o : Word). AreUnwatched o count (all_found (codes "feed") rows)) same
+      (subst (λ (n : ℕ). AreUnwatched out n (all_found (codes "feed") rows)) counts (subst (AreUnwatched out watchers) (sym record_names.1) is.unwatched))
 
   pub record_options : IsFileOptions reading.items file
   record_options = subst (λ (l : List Item). IsFileOptions l file) (same_reading verb.Record words rows reading is.items (out ∷ feeds) is.reads).0 is.options
@@ -562,16 +604,16 @@ range_of_cat words rows reading file indexed range topic is =
 abbrev MayFeed : Word → Word → Type 0
 MayFeed out feed = (feed ≢ []) × (out ≢ feed)
 
-texts_feed : (out : Word) (feeds : List (Bor Word)) → All (MayFeed out) (texts feeds) → All (λ feed. MayFeed out feed.now) feeds
-texts_feed out [] each = All-nil (λ feed. MayFeed out feed.now)
-texts_feed out (feed ∷ feeds) each =
-    All-cons (λ feed. MayFeed out feed.now) feed feeds (All-head (MayFeed out) feed.now (texts feeds) each) (texts_feed out feeds (All-tail (MayFeed out) feed.now (texts feeds) each))
+-- what holds of each text holds of what each reference shows
+pub texts_each : (P : Word → Type 0) (words : List (Bor Word)) → All P (texts words) → All (λ word. P word.now) words
+texts_each P [] each = All-nil (λ (word : Bor Word). P word.now)
+texts_each P (word ∷ words) each = All-cons (λ (word : Bor Word). P word.now) word words (All-head P word.now (texts words) each) (texts_each P words (All-tail P word.now (texts words) each))
 
 pub feeds_are : (out : Word) (feeds : List (Bor Word)) → 1 ≤ length feeds → length feeds ≤ 64 → All (λ feed. MayFeed out feed.now) feeds → AreFeeds out (texts feeds)
 feeds_are out feeds some few each = (omega (arith, length-map feeds (λ word. word.now), some), omega (arith, length-map feeds (λ word. word.now), few), All-map (MayFeed out) (λ word. word.now) feeds each)
 
 pub feeds_fit : (out : Word) (feeds : List (Bor Word)) → AreFeeds out (texts feeds) → (1 ≤ length feeds) × (length feeds ≤ 64) × All (λ feed. MayFeed out feed.now) feeds
-feeds_fit out feeds are = (omega (arith, length-map feeds (λ word. word.now), are.0), omega (arith, length-map feeds (λ word. word.now), are.1), texts_feed out feeds are.2)
+feeds_fit out feeds are = (omega (arith, length-map feeds (λ word. word.now), are.0), omega (arith, length-map feeds (λ word. word.now), are.1), texts_each (MayFeed out) feeds are.2)
 
 name_first : (found : ArgMatches) → subcommand_name_of found ≡ option_map (λ (p : Word × List Row). p.0) (subcommand_rows_of found)
 name_first found = go (out-ArgMatches found).subcommand refl
@@ -643,8 +685,8 @@ pub entered_rows : (found : ArgMatches) (name : Word) (rows : List Row) (entered
 entered_rows found name rows entered is same = same ∙ ap (option_map (λ (p : Word × List Row). p.1)) is
 
 -- a command is one of its variant
-pub only_record : (words : List Word) → ((out : Word) (feeds : List Word) (file : FileOptions) (limit : ℕ) (lossless : Bool) → IsRecord words out feeds file limit lossless → ⊥) → (command : Command) → verb_of command ≡ verb.Record → Behind words command → ⊥
-only_record words bad (Record out feeds file limit lossless) same is = bad out feeds file limit lossless is
+pub only_record : (words : List Word) → ((out : Word) (feeds : List Word) (file : FileOptions) (limit : ℕ) (lossless : Bool) (range : Range) (watchers : ℕ) → IsRecord words out feeds file limit lossless range watchers → ⊥) → (command : Command) → verb_of command ≡ verb.Record → Behind words command → ⊥
+only_record words bad (Record out feeds file limit lossless range watchers) same is = bad out feeds file limit lossless range watchers is
 only_record words bad (Info file) same is = cc
 only_record words bad (Check file) same is = cc
 only_record words bad (Cat file indexed range topic) same is = cc
@@ -653,7 +695,7 @@ only_record words bad (Merge out inputs chunk) same is = cc
 only_record words bad (Generate seed feeds messages out) same is = cc
 
 pub only_info : (words : List Word) → ((file : Word) → IsOfFile verb.Info words file → ⊥) → (command : Command) → verb_of command ≡ verb.Info → Behind words command → ⊥
-only_info words bad (Record out feeds file limit lossless) same is = cc
+only_info words bad (Record out feeds file limit lossless range watchers) same is = cc
 only_info words bad (Info file) same is = bad file is
 only_info words bad (Check file) same is = cc
 only_info words bad (Cat file indexed range topic) same is = cc
@@ -662,7 +704,7 @@ only_info words bad (Merge out inputs chunk) same is = cc
 only_info words bad (Generate seed feeds messages out) same is = cc
 
 pub only_check : (words : List Word) → ((file : Word) → IsOfFile verb.Check words file → ⊥) → (command : Command) → verb_of command ≡ verb.Check → Behind words command → ⊥
-only_check words bad (Record out feeds file limit lossless) same is = cc
+only_check words bad (Record out feeds file limit lossless range watchers) same is = cc
 only_check words bad (Info file) same is = cc
 only_check words bad (Check file) same is = bad file is
 only_check words bad (Cat file indexed range topic) same is = cc
@@ -671,7 +713,7 @@ only_check words bad (Merge out inputs chunk) same is = cc
 only_check words bad (Generate seed feeds messages out) same is = cc
 
 pub only_cat : (words : List Word) → ((file : Word) (indexed : Bool) (range : Range) (topic : Option Word) → IsCat words file indexed range topic → ⊥) → (command : Command) → verb_of command ≡ verb.Cat → Behind words command → ⊥
-only_cat words bad (Record out feeds file limit lossless) same is = cc
+only_cat words bad (Record out feeds file limit lossless range watchers) same is = cc
 only_cat words bad (Info file) same is = cc
 only_cat words bad (Check file) same is = cc
 only_cat words bad (Cat file indexed range topic) same is = bad file indexed range topic is
@@ -680,7 +722,7 @@ only_cat words bad (Merge out inputs chunk) same is = cc
 only_cat words bad (Generate seed feeds messages out) same is = cc
 
 pub only_recover : (words : List Word) → ((input out : Word) (chunk : ℕ) → IsRecover words input out chunk → ⊥) → (command : Command) → verb_of command ≡ verb.Recover → Behind words command → ⊥
-only_recover words bad (Record out feeds file limit lossless) same is = cc
+only_recover words bad (Record out feeds file limit lossless range watchers) same is = cc
 only_recover words bad (Info file) same is = cc
 only_recover words bad (Check file) same is = cc
 only_recover words bad (Cat file indexed range topic) same is = cc
@@ -689,7 +731,7 @@ only_recover words bad (Merge out inputs chunk) same is = cc
 only_recover words bad (Generate seed feeds messages out) same is = cc
 
 pub only_merge : (words : List Word) → ((out : Word) (inputs : List Word) (chunk : ℕ) → IsMerge words out inputs chunk → ⊥) → (command : Command) → verb_of command ≡ verb.Merge → Behind words command → ⊥
-only_merge words bad (Record out feeds file limit lossless) same is = cc
+only_merge words bad (Record out feeds file limit lossless range watchers) same is = cc
 only_merge words bad (Info file) same is = cc
 only_merge words bad (Check file) same is = cc
 only_merge words bad (Cat file indexed range topic) same is = cc
@@ -698,7 +740,7 @@ only_merge words bad (Merge out inputs chunk) same is = bad out inputs chunk is
 only_merge words bad (Generate seed feeds messages out) same is = cc
 
 pub only_generate : (words : List Word) → ((seed feeds messages : ℕ) (out : Word) → IsGenerate words seed feeds messages out → ⊥) → (command : Command) → verb_of command ≡ verb.Generate → Behind words command → ⊥
-only_generate words bad (Record out feeds file limit lossless) same is = cc
+only_generate words bad (Record out feeds file limit lossless range watchers) same is = cc
 only_generate words bad (Info file) same is = cc
 only_generate words bad (Check file) same is = cc
 only_generate words bad (Cat file indexed range topic) same is = cc

@@ -54,7 +54,13 @@ all_pass verb.Record = (
         λ rows. plain_default rows (option_rule (codes "chunk")) refl,
         (
           λ rows. plain_default rows (option_rule (codes "profile")) refl,
-          (λ rows. plain_default rows (place_rule (codes "out") 1) refl, (λ rows. plain_default rows (rest_rule (codes "feed") 2) refl, tt)),
+          (
+            λ rows. plain_default rows (option_rule (codes "watch")) refl,
+            (
+              λ rows. plain_default rows (option_rule (codes "watchers")) refl,
+              (λ rows. plain_default rows (place_rule (codes "out") 1) refl, (λ rows. plain_default rows (rest_rule (codes "feed") 2) refl, tt)),
+            ),
+          ),
         ),
       ),
     ),
@@ -144,8 +150,10 @@ unlisted_all (a ∷ rest) rows none = ap (λ (l : List Row). fold with_default l
 
 finished_rows : (verb : Verb) (rows : List Row) → fold with_default rows (rules_of verb) ≡ flagged (flags_of verb) rows
 finished_rows verb.Record rows =
-    unlisted_all (option_rule (codes "limit") ∷ option_rule (codes "chunk") ∷ option_rule (codes "profile") ∷ place_rule (codes "out") 1 ∷ rest_rule (codes "feed") 2 ∷ []) (flagged (flags_of verb.Record) rows)
-    (refl, (refl, (refl, (refl, (refl, tt)))))
+    unlisted_all
+    (option_rule (codes "limit") ∷ option_rule (codes "chunk") ∷ option_rule (codes "profile") ∷ option_rule (codes "watch") ∷ option_rule (codes "watchers") ∷ place_rule (codes "out") 1 ∷ rest_rule (codes "feed") 2 ∷ [])
+    (flagged (flags_of verb.Record) rows)
+    (refl, (refl, (refl, (refl, (refl, (refl, (refl, tt)))))))
 finished_rows verb.Info rows = unlisted_all (place_rule (codes "file") 1 ∷ []) rows (refl, tt)
 finished_rows verb.Check rows = unlisted_all (place_rule (codes "file") 1 ∷ []) rows (refl, tt)
 finished_rows verb.Cat rows =

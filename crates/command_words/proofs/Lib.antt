@@ -12,3 +12,4 @@ mod MatchLemmas
 mod CommandLemmas
 mod LineLemmas
 mod OptionLemmas
+pub mod WatchLemmas

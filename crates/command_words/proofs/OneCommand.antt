@@ -1,21 +1,23 @@
 -- Words are those of one command at most.
-use Rattle.std.proofs.Common.{◌≡◌, ℕ, Bool, true, false, List, [], ◌∷◌, Option, Some, None, Ok, Err, codes, refl, sym, ap, subst, ◌∙◌}
+use Rattle.std.proofs.Common.{◌≡◌, ℕ, Bool, true, false, List, [], ◌∷◌, Option, Some, None, Ok, Err, codes, refl, sym, ap, ap₂, subst, ◌∙◌, arith}
 use Rattle.std.specs.Prelude.{IfOk, unwrap_or}
 use Rattle.std.specs.Option.{option_to_list}
 use Rattle.std.specs.Str.{bytes_eq}
-use Rattle.std.specs.Str.Parse.{digits_value}
+use Rattle.std.specs.Str.Parse.{AllDigits, IsNumeral, digits_value}
 use Rattle.std.specs.declared.result.Result.{Result}
 use Rattle.std.proofs.lemmas.Slice.Eq.{bytes_eq-Decides}
+use Rattle.std.proofs.lemmas.Str.Parse.{not_in_digits, numerals_by_value, tells_digits}
 use Rattle.mcap_model.specs.declared.options.FileOptions.{FileOptions}
 use Rattle.mcap_model.specs.declared.replay.Range.{Range}
 use Rattle.command_words.specs.Items.{Word, Item, given}
-use Rattle.command_words.specs.Commands.{Behind, Derives, Flags, GivesNumber, HasChunks, HasProfile, IsCat, IsFileOptions, IsGenerate, IsMerge, IsNumber, IsOfFile, IsOnly, IsRange, IsRecord, IsRecover, SizesChunks, name_of, verb_of}
+use Rattle.command_words.specs.Commands.{Behind, Derives, Flags, GivesNumber, GivesSpan, HasChunks, HasProfile, HasWatchers, IsCat, IsFileOptions, IsGenerate, IsMerge, IsNumber, IsOfFile, IsOnly, IsRange, IsRecord, IsRecover, IsSpan, SizesChunks, name_of, verb_of, watchers_with, whole_time}
 use Rattle.command_words.specs.declared.command.Command.{Command}
 use Rattle.command_words.specs.declared.command.Command.TheVariants.{Record, Info, Check, Cat, Recover, Merge, Generate}
 use Rattle.command_words.specs.declared.command.WordsRefused.{WordsRefused}
 use Rattle.command_words.specs.declared.verbs.Verb.{Verb}
 use Rattle.command_words.specs.declared.verbs.Verb.TheVariants as verb
 use Rattle.command_words.proofs.CutLemmas.{one_reading}
+use Rattle.command_words.proofs.ItemLemmas.{Lacks, marked_once}
 
 -- ---- values
 
@@ -69,7 +71,7 @@ one_options items a b is other =
     let profile = one_profile items a.profile b.profile is.profile other.profile in
     options_same a.profile b.profile a.chunk b.chunk profile chunk
 
-range_same : (s t : ℕ) (e f : Option ℕ) → t ≡ s → f ≡ e → range_with t f ≡ range_with s e
+pub range_same : (s t : ℕ) (e f : Option ℕ) → t ≡ s → f ≡ e → range_with t f ≡ range_with s e
 range_same s t e f start end = cc
 
 one_range : (items : List Item) (a b : Range) → IsRange items a → IsRange items b → b ≡ a
@@ -79,18 +81,50 @@ one_range items a b is other =
     let end = one_number 0 18446744073709551615 (given (codes "end") items) a.end b.end is.ended other.ended in
     range_same a.start b.start a.end b.end from end
 
+-- ---- times and watchers
+
+-- no colon stands in a numeral
+pub no_colon : (word : Word) → IsNumeral 10 word → Lacks 58 word
+no_colon word is = not_in_digits (numerals_by_value (AllDigits 10) tells_digits) word 58 is.1 (λ in_range. omega (arith, in_range.0, in_range.1))
+
+one_span : (word : Word) (a b : Range) → IsSpan word a → IsSpan word b → b ≡ a
+one_span word a b is other =
+    let parts = marked_once 58 other.start_word is.start_word other.end_word is.end_word (no_colon other.start_word other.started.digits) (no_colon is.start_word is.started.digits) (sym other.form ∙ is.form) in
+    let start : b.start ≡ a.start = other.started.value ∙ ap (λ (w : Word). digits_value 10 w) parts.0 ∙ sym is.started.value in
+    let last : other.last ≡ is.last = other.ended.value ∙ ap (λ (w : Word). digits_value 10 w) parts.1 ∙ sym is.ended.value in
+    range_same a.start b.start a.end b.end start (other.bounded ∙ ap (λ (n : ℕ). Some n) last ∙ sym is.bounded)
+
+pub one_given_span : (values : List Word) (a b : Option Range) → GivesSpan values a → GivesSpan values b → b ≡ a
+one_given_span values None None is other = refl
+one_given_span values None (Some s) is (word, other, span) = cc
+one_given_span values (Some r) None (word, is, span) other = cc
+one_given_span values (Some r) (Some s) (word, is, span) (word', other, span') =
+    let same : word' ≡ word = cc in
+    ap (λ (k : Range). Some k) (one_span word r s span (subst (λ (w : Word). IsSpan w s) same span'))
+
+pub one_watching : (items : List Item) (range range' : Range) (count count' : ℕ) → HasWatchers items range count → HasWatchers items range' count' → (range' ≡ range) × (count' ≡ count)
+one_watching items range range' count count' is other =
+    let span = one_given_span (given (codes "watch") items) is.span other.span is.spanned other.spanned in
+    let number = one_number 0 16 (given (codes "watchers") items) is.number other.number is.numbered other.numbered in (
+      other.range_is ∙ ap (λ (s : Option Range). unwrap_or s whole_time) span ∙ sym is.range_is,
+      other.watchers_are ∙ ap₂ (λ (n : Option ℕ) (s : Option Range). watchers_with n s) number span ∙ sym is.watchers_are,
+    )
+
 -- ---- commands
 
-module _ (words : List Word) (out : Word) (feeds : List Word) (file : FileOptions) (limit : ℕ) (lossless : Bool) where
-  one_record : (out' : Word) (feeds' : List Word) (file' : FileOptions) (limit' : ℕ) (lossless' : Bool) → IsRecord words out feeds file limit lossless → IsRecord words out' feeds' file' limit' lossless'
-      → Record out' feeds' file' limit' lossless' ≡ Record out feeds file limit lossless
-  one_record out' feeds' file' limit' lossless' is other =
+module _ (words : List Word) (out : Word) (feeds : List Word) (file : FileOptions) (limit : ℕ) (lossless : Bool) (range : Range) (watchers : ℕ) where
+  one_record : (out' : Word) (feeds' : List Word) (file' : FileOptions) (limit' : ℕ) (lossless' : Bool) (range' : Range) (watchers' : ℕ) → IsRecord words out feeds file limit lossless range watchers
+      → IsRecord words out' feeds' file' limit' lossless' range' watchers' → Record out' feeds' file' limit' lossless' range' watchers' ≡ Record out feeds file limit lossless range watchers
+  one_record out' feeds' file' limit' lossless' range' watchers' is other =
       let same = one_reading verb.Record words is.items other.items (out ∷ feeds) (out' ∷ feeds') is.reads other.reads in
       let places : out' ∷ feeds' ≡ out ∷ feeds = same.1 in
       let flags : lossless' ≡ lossless = one_flag (given (codes "lossless") is.items) lossless lossless' is.flagged (subst (λ (l : List Item). Flags (given (codes "lossless") l) lossless') same.0 other.flagged) in
       let files : file' ≡ file = one_options is.items file file' is.options (subst (λ (l : List Item). IsFileOptions l file') same.0 other.options) in
       let size = one_number 1 1073741824 (given (codes "limit") is.items) is.size other.size is.sized (subst (λ (l : List Item). GivesNumber 1 1073741824 (given (codes "limit") l) other.size) same.0 other.sized) in
       let limits : limit' ≡ limit = other.limited ∙ ap (λ (v : Option ℕ). unwrap_or v 104857600) size ∙ sym is.limited in
+      let watched = one_watching is.items range range' watchers watchers' is.watched (subst (λ (l : List Item). HasWatchers l range' watchers') same.0 other.watched) in
+      let ranges : range' ≡ range = watched.0 in
+      let counts : watchers' ≡ watchers = watched.1 in
       cc
 
 one_file : (v : Verb) (words : List Word) (file file' : Word) → IsOfFile v words file → IsOfFile v words file' → file' ≡ file
@@ -143,49 +177,49 @@ two_names : (one two : Word) → bytes_eq one two ≡ false → one ≡ two → 
 two_names one two unlike is = let same : bytes_eq one two ≡ true = (bytes_eq-Decides one two).1 is in let wrong : false ≡ true = sym unlike ∙ same in cc
 
 one_behind : (words : List Word) (a b : Command) → name_of (verb_of a) ≡ name_of (verb_of b) → Behind words a → Behind words b → b ≡ a
-one_behind words (Record out feeds file limit lossless) (Record out' feeds' file' limit' lossless') names is other = one_record words out feeds file limit lossless out' feeds' file' limit' lossless' is other
-one_behind words (Record out feeds file limit lossless) (Info file') names is other = absurd (two_names (codes "record") (codes "info") refl names)
-one_behind words (Record out feeds file limit lossless) (Check file') names is other = absurd (two_names (codes "record") (codes "check") refl names)
-one_behind words (Record out feeds file limit lossless) (Cat file' indexed' range' topic') names is other = absurd (two_names (codes "record") (codes "cat") refl names)
-one_behind words (Record out feeds file limit lossless) (Recover input' out' chunk') names is other = absurd (two_names (codes "record") (codes "recover") refl names)
-one_behind words (Record out feeds file limit lossless) (Merge out' inputs' chunk') names is other = absurd (two_names (codes "record") (codes "merge") refl names)
-one_behind words (Record out feeds file limit lossless) (Generate seed' feeds' messages' out') names is other = absurd (two_names (codes "record") (codes "gen") refl names)
-one_behind words (Info file) (Record out' feeds' file' limit' lossless') names is other = absurd (two_names (codes "info") (codes "record") refl names)
+one_behind words (Record out feeds file limit lossless range watchers) (Record out' feeds' file' limit' lossless' range' watchers') names is other = one_record words out feeds file limit lossless range watchers out' feeds' file' limit' lossless' range' watchers' is other
+one_behind words (Record out feeds file limit lossless range watchers) (Info file') names is other = absurd (two_names (codes "record") (codes "info") refl names)
+one_behind words (Record out feeds file limit lossless range watchers) (Check file') names is other = absurd (two_names (codes "record") (codes "check") refl names)
+one_behind words (Record out feeds file limit lossless range watchers) (Cat file' indexed' range' topic') names is other = absurd (two_names (codes "record") (codes "cat") refl names)
+one_behind words (Record out feeds file limit lossless range watchers) (Recover input' out' chunk') names is other = absurd (two_names (codes "record") (codes "recover") refl names)
+one_behind words (Record out feeds file limit lossless range watchers) (Merge out' inputs' chunk') names is other = absurd (two_names (codes "record") (codes "merge") refl names)
+one_behind words (Record out feeds file limit lossless range watchers) (Generate seed' feeds' messages' out') names is other = absurd (two_names (codes "record") (codes "gen") refl names)
+one_behind words (Info file) (Record out' feeds' file' limit' lossless' range' watchers') names is other = absurd (two_names (codes "info") (codes "record") refl names)
 one_behind words (Info file) (Info file') names is other = ap (λ (f : Word). Info f) (one_file verb.Info words file file' is other)
 one_behind words (Info file) (Check file') names is other = absurd (two_names (codes "info") (codes "check") refl names)
 one_behind words (Info file) (Cat file' indexed' range' topic') names is other = absurd (two_names (codes "info") (codes "cat") refl names)
 one_behind words (Info file) (Recover input' out' chunk') names is other = absurd (two_names (codes "info") (codes "recover") refl names)
 one_behind words (Info file) (Merge out' inputs' chunk') names is other = absurd (two_names (codes "info") (codes "merge") refl names)
 one_behind words (Info file) (Generate seed' feeds' messages' out') names is other = absurd (two_names (codes "info") (codes "gen") refl names)
-one_behind words (Check file) (Record out' feeds' file' limit' lossless') names is other = absurd (two_names (codes "check") (codes "record") refl names)
+one_behind words (Check file) (Record out' feeds' file' limit' lossless' range' watchers') names is other = absurd (two_names (codes "check") (codes "record") refl names)
 one_behind words (Check file) (Info file') names is other = absurd (two_names (codes "check") (codes "info") refl names)
 one_behind words (Check file) (Check file') names is other = ap (λ (f : Word). Check f) (one_file verb.Check words file file' is other)
 one_behind words (Check file) (Cat file' indexed' range' topic') names is other = absurd (two_names (codes "check") (codes "cat") refl names)
 one_behind words (Check file) (Recover input' out' chunk') names is other = absurd (two_names (codes "check") (codes "recover") refl names)
 one_behind words (Check file) (Merge out' inputs' chunk') names is other = absurd (two_names (codes "check") (codes "merge") refl names)
 one_behind words (Check file) (Generate seed' feeds' messages' out') names is other = absurd (two_names (codes "check") (codes "gen") refl names)
-one_behind words (Cat file indexed range topic) (Record out' feeds' file' limit' lossless') names is other = absurd (two_names (codes "cat") (codes "record") refl names)
+one_behind words (Cat file indexed range topic) (Record out' feeds' file' limit' lossless' range' watchers') names is other = absurd (two_names (codes "cat") (codes "record") refl names)
 one_behind words (Cat file indexed range topic) (Info file') names is other = absurd (two_names (codes "cat") (codes "info") refl names)
 one_behind words (Cat file indexed range topic) (Check file') names is other = absurd (two_names (codes "cat") (codes "check") refl names)
 one_behind words (Cat file indexed range topic) (Cat file' indexed' range' topic') names is other = one_cat words file indexed range topic file' indexed' range' topic' is other
 one_behind words (Cat file indexed range topic) (Recover input' out' chunk') names is other = absurd (two_names (codes "cat") (codes "recover") refl names)
 one_behind words (Cat file indexed range topic) (Merge out' inputs' chunk') names is other = absurd (two_names (codes "cat") (codes "merge") refl names)
 one_behind words (Cat file indexed range topic) (Generate seed' feeds' messages' out') names is other = absurd (two_names (codes "cat") (codes "gen") refl names)
-one_behind words (Recover input out chunk) (Record out' feeds' file' limit' lossless') names is other = absurd (two_names (codes "recover") (codes "record") refl names)
+one_behind words (Recover input out chunk) (Record out' feeds' file' limit' lossless' range' watchers') names is other = absurd (two_names (codes "recover") (codes "record") refl names)
 one_behind words (Recover input out chunk) (Info file') names is other = absurd (two_names (codes "recover") (codes "info") refl names)
 one_behind words (Recover input out chunk) (Check file') names is other = absurd (two_names (codes "recover") (codes "check") refl names)
 one_behind words (Recover input out chunk) (Cat file' indexed' range' topic') names is other = absurd (two_names (codes "recover") (codes "cat") refl names)
 one_behind words (Recover input out chunk) (Recover input' out' chunk') names is other = one_recover words input out chunk input' out' chunk' is other
 one_behind words (Recover input out chunk) (Merge out' inputs' chunk') names is other = absurd (two_names (codes "recover") (codes "merge") refl names)
 one_behind words (Recover input out chunk) (Generate seed' feeds' messages' out') names is other = absurd (two_names (codes "recover") (codes "gen") refl names)
-one_behind words (Merge out inputs chunk) (Record out' feeds' file' limit' lossless') names is other = absurd (two_names (codes "merge") (codes "record") refl names)
+one_behind words (Merge out inputs chunk) (Record out' feeds' file' limit' lossless' range' watchers') names is other = absurd (two_names (codes "merge") (codes "record") refl names)
 one_behind words (Merge out inputs chunk) (Info file') names is other = absurd (two_names (codes "merge") (codes "info") refl names)
 one_behind words (Merge out inputs chunk) (Check file') names is other = absurd (two_names (codes "merge") (codes "check") refl names)
 one_behind words (Merge out inputs chunk) (Cat file' indexed' range' topic') names is other = absurd (two_names (codes "merge") (codes "cat") refl names)
 one_behind words (Merge out inputs chunk) (Recover input' out' chunk') names is other = absurd (two_names (codes "merge") (codes "recover") refl names)
 one_behind words (Merge out inputs chunk) (Merge out' inputs' chunk') names is other = one_merge words out inputs chunk out' inputs' chunk' is other
 one_behind words (Merge out inputs chunk) (Generate seed' feeds' messages' out') names is other = absurd (two_names (codes "merge") (codes "gen") refl names)
-one_behind words (Generate seed feeds messages out) (Record out' feeds' file' limit' lossless') names is other = absurd (two_names (codes "gen") (codes "record") refl names)
+one_behind words (Generate seed feeds messages out) (Record out' feeds' file' limit' lossless' range' watchers') names is other = absurd (two_names (codes "gen") (codes "record") refl names)
 one_behind words (Generate seed feeds messages out) (Info file') names is other = absurd (two_names (codes "gen") (codes "info") refl names)
 one_behind words (Generate seed feeds messages out) (Check file') names is other = absurd (two_names (codes "gen") (codes "check") refl names)
 one_behind words (Generate seed feeds messages out) (Cat file' indexed' range' topic') names is other = absurd (two_names (codes "gen") (codes "cat") refl names)

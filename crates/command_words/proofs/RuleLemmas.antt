@@ -27,7 +27,7 @@ rest_rule id index = with_index index (filled (record (new_rule id) { action = S
 
 -- the arguments of a command
 abbrev pub rules_of : Verb → List Rule
-rules_of verb.Record = flag_rule (codes "plain") ∷ flag_rule (codes "lossless") ∷ option_rule (codes "limit") ∷ option_rule (codes "chunk") ∷ option_rule (codes "profile") ∷ place_rule (codes "out") 1 ∷ rest_rule (codes "feed") 2 ∷ []
+rules_of verb.Record = flag_rule (codes "plain") ∷ flag_rule (codes "lossless") ∷ option_rule (codes "limit") ∷ option_rule (codes "chunk") ∷ option_rule (codes "profile") ∷ option_rule (codes "watch") ∷ option_rule (codes "watchers") ∷ place_rule (codes "out") 1 ∷ rest_rule (codes "feed") 2 ∷ []
 rules_of verb.Info = place_rule (codes "file") 1 ∷ []
 rules_of verb.Check = place_rule (codes "file") 1 ∷ []
 rules_of verb.Cat = flag_rule (codes "indexed") ∷ option_rule (codes "start") ∷ option_rule (codes "end") ∷ option_rule (codes "topic") ∷ place_rule (codes "file") 1 ∷ []
@@ -56,8 +56,14 @@ named verb.Record name = elim (is_text (codes "plain") name) [
       | inr no3 ↦ elim (is_text (codes "chunk") name) [
         | inl is ↦ inr (inl (inr (inl (sym is))))
         | inr no4 ↦ elim (is_text (codes "profile") name) [
-          | inl is ↦ inr (inl (inr (inr (sym is))))
-          | inr no5 ↦ inr (inr (rw (no1, no2, no3, no4, no5) refl))
+          | inl is ↦ inr (inl (inr (inr (inl (sym is)))))
+          | inr no5 ↦ elim (is_text (codes "watch") name) [
+            | inl is ↦ inr (inl (inr (inr (inr (inl (sym is))))))
+            | inr no6 ↦ elim (is_text (codes "watchers") name) [
+              | inl is ↦ inr (inl (inr (inr (inr (inr (sym is))))))
+              | inr no7 ↦ inr (inr (rw (no1, no2, no3, no4, no5, no6, no7) refl))
+            ]
+          ]
         ]
       ]
     ]
@@ -105,7 +111,9 @@ flag_found verb.Generate name is = absurd is
 pub option_found : (verb : Verb) (name : Word) → IsOption verb name → Found verb name (option_rule name)
 option_found verb.Record name (inl is) = subst (λ n. Found verb.Record n (option_rule n)) (sym is) (refl, refl)
 option_found verb.Record name (inr (inl is)) = subst (λ n. Found verb.Record n (option_rule n)) (sym is) (refl, refl)
-option_found verb.Record name (inr (inr is)) = subst (λ n. Found verb.Record n (option_rule n)) (sym is) (refl, refl)
+option_found verb.Record name (inr (inr (inl is))) = subst (λ n. Found verb.Record n (option_rule n)) (sym is) (refl, refl)
+option_found verb.Record name (inr (inr (inr (inl is)))) = subst (λ n. Found verb.Record n (option_rule n)) (sym is) (refl, refl)
+option_found verb.Record name (inr (inr (inr (inr is)))) = subst (λ n. Found verb.Record n (option_rule n)) (sym is) (refl, refl)
 option_found verb.Info name is = absurd is
 option_found verb.Check name is = absurd is
 option_found verb.Cat name (inl is) = subst (λ n. Found verb.Cat n (option_rule n)) (sym is) (refl, refl)

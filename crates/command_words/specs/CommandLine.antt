@@ -24,7 +24,7 @@ abbrev pub file_app : Word → App
 file_app name = with_rule (new_app name) (new_rule (codes "file"))
 
 abbrev pub verb_app : Verb → App
-verb_app verb.Record = with_rule (with_rule (with_rule (with_rule (with_rule (with_rule (with_rule (new_app (codes "record")) (flag_given (codes "plain"))) (flag_given (codes "lossless"))) (option_given (codes "limit"))) (option_given (codes "chunk"))) (option_given (codes "profile"))) (new_rule (codes "out"))) (rest_given (codes "feed"))
+verb_app verb.Record = with_rule (with_rule (with_rule (with_rule (with_rule (with_rule (with_rule (with_rule (with_rule (new_app (codes "record")) (flag_given (codes "plain"))) (flag_given (codes "lossless"))) (option_given (codes "limit"))) (option_given (codes "chunk"))) (option_given (codes "profile"))) (option_given (codes "watch"))) (option_given (codes "watchers"))) (new_rule (codes "out"))) (rest_given (codes "feed"))
 verb_app verb.Info = file_app (codes "info")
 verb_app verb.Check = file_app (codes "check")
 verb_app verb.Cat = with_rule (with_rule (with_rule (with_rule (with_rule (new_app (codes "cat")) (flag_given (codes "indexed"))) (option_given (codes "start"))) (option_given (codes "end"))) (option_given (codes "topic"))) (new_rule (codes "file"))

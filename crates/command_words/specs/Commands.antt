@@ -1,6 +1,6 @@
 -- Which command the words of a command line are.
-use Rattle.std.specs.Prelude.{◌≡◌, ◌≢◌, ◌≤◌, ℕ, ◌^◌, ◌*◌, ◌-◌, Bool, true, false, List, [], ◌∷◌, ◌++◌, codes, length, Option, Some, None, unwrap_or, if◌then◌else◌}
-use Rattle.std.specs.List.{All, flat_map}
+use Rattle.std.specs.Prelude.{◌≡◌, ◌≢◌, ◌≤◌, ℕ, ◌^◌, ◌*◌, ◌-◌, ⊤, Bool, true, false, List, [], ◌∷◌, ◌++◌, codes, decimal, length, map, AllPairs, Option, Some, None, unwrap_or, if◌then◌else◌}
+use Rattle.std.specs.List.{All, flat_map, range_with_len}
 use Rattle.std.specs.Option.{option_to_list}
 use Rattle.std.specs.Str.Parse.{IsNumeral, digits_value}
 use Rattle.mcap_wire.specs.Limits.{chunk_size_limit, buffer_limit, profile_limit}
@@ -33,6 +33,10 @@ usual_limit = 100 * 2 ^ 20
 abbrev pub feed_limit : ℕ
 feed_limit = 64
 
+-- how many watchers a recording has at most
+abbrev pub watcher_limit : ℕ
+watcher_limit = 16
+
 -- how many messages are generated at most, in all feeds
 abbrev pub generated_limit : ℕ
 generated_limit = 1000000
@@ -44,6 +48,26 @@ largest_seed = 2 ^ 64 - 1
 -- the last nanosecond that can be told
 abbrev pub latest : ℕ
 latest = 2 ^ 64 - 1
+
+-- all times
+abbrev pub whole_time : Range
+whole_time = record { start = 0; end = None }
+
+-- the name of the file of a watcher, numbered from 1
+abbrev pub watch_name : Word → ℕ → Word
+watch_name out j = out ++ (codes ".watch" ++ decimal j)
+
+-- the names of the files of so many watchers, in order
+abbrev pub watch_names : Word → ℕ → List Word
+watch_names out many = map (watch_name out) (range_with_len 1 many)
+
+-- no two of the names are equal, and none is the output's
+abbrev pub AreApart : Word → List Word → Type 0
+AreApart out names = All (λ name. out ≢ name) names × AllPairs (λ a b. a ≢ b) names
+
+-- the feed isn't the file of one of so many watchers
+abbrev pub IsUnwatched : Word → ℕ → Word → Type 0
+IsUnwatched out watchers feed = (j : ℕ) → 1 ≤ j → j ≤ watchers → feed ≢ watch_name out j
 
 -- the words behind the command: these items, and these positionals from left to right
 pub record Reads (verb : Verb) (words : List Word) (items : List Item) (places : List Word) : Type 0 where
@@ -94,8 +118,46 @@ pub record IsFileOptions (items : List Item) (file : FileOptions) : Type 0 where
   pub chunk : HasChunks items file.chunk
   pub profile : HasProfile items file.profile
 
+-- START:END
+pub record IsSpan (word : Word) (span : Range) : Type 0 where
+  pub start_word : Word
+  pub end_word : Word
+  pub form : word ≡ start_word ++ (codes ":" ++ end_word)
+  pub started : IsNumber 0 latest start_word span.start
+  pub last : ℕ
+  pub ended : IsNumber 0 latest end_word last
+  pub bounded : span.end ≡ Some last
+
+-- the option isn't there, or once with such times
+abbrev pub GivesSpan : List Word → Option Range → Type 0
+GivesSpan values None = values ≡ []
+GivesSpan values (Some span) = (word : Word) × (values ≡ word ∷ []) × IsSpan word span
+
+-- nothing is watched with --plain
+abbrev pub MayWatch : Bool → Option Range → Option ℕ → Type 0
+MayWatch true span number = (span ≡ None) × (number ≡ None)
+MayWatch false span number = ⊤
+
+-- as many watchers as --watchers says, and without it one where --watch stands
+abbrev pub watchers_with : Option ℕ → Option Range → ℕ
+watchers_with (Some number) span = number
+watchers_with None (Some span) = 1
+watchers_with None None = 0
+
+-- --watch and --watchers, beside which --plain doesn't stand
+pub record HasWatchers (items : List Item) (range : Range) (watchers : ℕ) : Type 0 where
+  pub is_plain : Bool
+  pub plain : Flags (given (codes "plain") items) is_plain
+  pub span : Option Range
+  pub spanned : GivesSpan (given (codes "watch") items) span
+  pub number : Option ℕ
+  pub numbered : GivesNumber 0 watcher_limit (given (codes "watchers") items) number
+  pub may : MayWatch is_plain span number
+  pub range_is : range ≡ unwrap_or span whole_time
+  pub watchers_are : watchers ≡ watchers_with number span
+
 -- record, its options, OUT and each FEED
-pub record IsRecord (words : List Word) (out : Word) (feeds : List Word) (file : FileOptions) (limit : ℕ) (lossless : Bool) : Type 0 where
+pub record IsRecord (words : List Word) (out : Word) (feeds : List Word) (file : FileOptions) (limit : ℕ) (lossless : Bool) (range : Range) (watchers : ℕ) : Type 0 where
   pub items : List Item
   pub reads : Reads verb.Record words items (out ∷ feeds)
   pub some : 1 ≤ length feeds
@@ -103,11 +165,13 @@ pub record IsRecord (words : List Word) (out : Word) (feeds : List Word) (file :
   pub out_named : out ≢ []
   pub feeds_named : All (λ feed. feed ≢ []) feeds
   pub differ : All (λ feed. out ≢ feed) feeds
+  pub unwatched : All (IsUnwatched out watchers) feeds
   pub flagged : Flags (given (codes "lossless") items) lossless
   pub options : IsFileOptions items file
   pub size : Option ℕ
   pub sized : GivesNumber 1 buffer_limit (given (codes "limit") items) size
   pub limited : limit ≡ unwrap_or size usual_limit
+  pub watched : HasWatchers items range watchers
 
 -- a command without options, and FILE
 pub record IsOfFile (verb : Verb) (words : List Word) (file : Word) : Type 0 where
@@ -174,7 +238,7 @@ pub record IsGenerate (words : List Word) (seed feeds messages : ℕ) (out : Wor
 
 -- the words behind the command are those of this one
 abbrev pub Behind : List Word → Command → Type 0
-Behind words (Record out feeds file limit lossless) = IsRecord words out feeds file limit lossless
+Behind words (Record out feeds file limit lossless range watchers) = IsRecord words out feeds file limit lossless range watchers
 Behind words (Info file) = IsOfFile verb.Info words file
 Behind words (Check file) = IsOfFile verb.Check words file
 Behind words (Cat file indexed range topic) = IsCat words file indexed range topic
@@ -183,7 +247,7 @@ Behind words (Merge out inputs chunk) = IsMerge words out inputs chunk
 Behind words (Generate seed feeds messages out) = IsGenerate words seed feeds messages out
 
 abbrev pub verb_of : Command → Verb
-verb_of (Record out feeds file limit lossless) = verb.Record
+verb_of (Record out feeds file limit lossless range watchers) = verb.Record
 verb_of (Info file) = verb.Info
 verb_of (Check file) = verb.Check
 verb_of (Cat file indexed range topic) = verb.Cat

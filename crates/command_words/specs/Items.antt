@@ -29,7 +29,7 @@ IsFlag verb.Generate name = ⊥
 
 -- the names that take a value
 abbrev pub IsOption : Verb → Word → Type 0
-IsOption verb.Record name = (name ≡ codes "limit") ⊎ ((name ≡ codes "chunk") ⊎ (name ≡ codes "profile"))
+IsOption verb.Record name = (name ≡ codes "limit") ⊎ ((name ≡ codes "chunk") ⊎ ((name ≡ codes "profile") ⊎ ((name ≡ codes "watch") ⊎ (name ≡ codes "watchers"))))
 IsOption verb.Info name = ⊥
 IsOption verb.Check name = ⊥
 IsOption verb.Cat name = (name ≡ codes "start") ⊎ ((name ≡ codes "end") ⊎ (name ≡ codes "topic"))

@@ -7,7 +7,7 @@ use Rattle.clap.specs.Values.{bool_text}
 use Rattle.clap.specs.Words.{Row, all_of, first_of, found_of, one_of, rows_of}
 use Rattle.clap.specs.declared.parser.matches.ArgMatches.{ArgMatches}
 use Rattle.command_words.specs.Items.{Word, Item, flag, joined, apart, plain, EndsWith, IsFlag, IsFree, IsOption, given, place_of, words_of}
-use Rattle.command_words.specs.Commands.{Flags, Reads, feed_limit, name_of}
+use Rattle.command_words.specs.Commands.{Flags, IsUnwatched, Reads, feed_limit, name_of}
 use Rattle.command_words.specs.declared.verbs.Verb.{Verb}
 use Rattle.command_words.specs.declared.verbs.Verb.TheVariants as verb
 
@@ -99,3 +99,7 @@ values_in found name = all_found name (rows_found found)
 -- they may be the names of the feeds behind OUT
 abbrev pub AreFeeds : Word → List Word → Type 0
 AreFeeds out feeds = (1 ≤ length feeds) × (length feeds ≤ feed_limit) × All (λ feed. (feed ≢ []) × (out ≢ feed)) feeds
+
+-- none of the feeds is the file of one of so many watchers
+abbrev pub AreUnwatched : Word → ℕ → List Word → Type 0
+AreUnwatched out watchers feeds = All (IsUnwatched out watchers) feeds

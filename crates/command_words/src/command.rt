@@ -37,13 +37,16 @@ impl Names {
 #[derive(Drop)]
 pub enum Command {
     /// Record the feeds under the names `feeds` to the file `out`, with a buffer of `limit` bytes. Where `lossless` says so
-    /// a feed waits for a full buffer, in place of losing its message.
+    /// a feed waits for a full buffer, in place of losing its message. So many `watchers` replay the messages in `range`
+    /// meanwhile, at most 16.
     Record {
         out: Text,
         feeds: Names,
         file: FileOptions,
         limit: u64,
         lossless: bool,
+        range: Range,
+        watchers: u32,
     },
     /// Print what the file is.
     Info {

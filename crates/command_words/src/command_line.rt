@@ -60,6 +60,8 @@ fn record<'a>(alloc: Global) -> Result<Command<'a>, AllocError>
     let command = with_option(command, alloc, "limit");
     let command = with_option(command, alloc, "chunk");
     let command = with_option(command, alloc, "profile");
+    let command = with_option(command, alloc, "watch");
+    let command = with_option(command, alloc, "watchers");
     let command = with_place(command, alloc, "out");
     with_rest(command, alloc, "feed")
 }

@@ -8,7 +8,9 @@ mod options;
 mod parse;
 mod read;
 mod verbs;
+mod watches;
 
 pub use command::{Command, Names, WordsRefused};
 pub use options::USUAL_CHUNK;
 pub use parse::{USUAL_LIMIT, parse_words};
+pub use watches::watch_names;

@@ -4,7 +4,7 @@ ghost use Rattle.std.specs.List.{All};
 ghost use Rattle.clap.specs.Words.{subcommand_rows_of};
 ghost use Rattle.command_words.specs.Items.{Word, texts};
 ghost use Rattle.command_words.specs.Commands.{AreAmounts, AreBad, Behind, Derives, IsCat, IsGenerate, IsMerge, IsOnly, IsRecord, IsRecover, verb_of};
-ghost use Rattle.command_words.specs.Matches.{AreFeeds, AreRead, IsReading, rows_found, value_in, values_in};
+ghost use Rattle.command_words.specs.Matches.{AreFeeds, AreRead, AreUnwatched, IsReading, rows_found, value_in, values_in};
 ghost use Rattle.command_words.specs.declared.command.Command.{Command as Wanted};
 ghost use Rattle.mcap_model.specs.declared.options.FileOptions.{FileOptions as Options};
 ghost use Rattle.mcap_model.specs.declared.replay.Range.{Range as Times};
@@ -14,9 +14,10 @@ use crate::found::{
     BadValue, has_flag, is_dash, name_of_file, number_at, number_of, parse_number, value_of,
     values_of,
 };
-use crate::options::{LARGEST_CHUNK, USUAL_CHUNK, copy_of, file_options, range_of};
+use crate::options::{LARGEST_CHUNK, USUAL_CHUNK, copy_of, file_options, range_of, watching_of};
 use crate::read::{are_whole, plain_words, read_words};
 use crate::verbs::{Verb, named_verb};
+use crate::watches::feeds_are_unwatched;
 use clap::ArgMatches;
 use mcap_wire::Text;
 use std::alloc::Global;
@@ -120,6 +121,25 @@ fn feeds_of(
     }
 }
 
+// The names of the feeds of a recording to that output, with so many watchers.
+fn recorded_feeds(
+    alloc: Global,
+    found: &ArgMatches,
+    out: &str,
+    watchers: u32,
+) -> Result<Names, WordsRefused>
+    ensures feeds { IfOk result (λ feeds. (values_in found.now (codes "feed") ≡ feeds) × AreFeeds out.now feeds × AreUnwatched out.now watchers feeds) }
+    ensures bad { IfErr result (λ refused. refused ≡ WordsRefused.BadWords → AreFeeds out.now (values_in found.now (codes "feed")) → AreUnwatched out.now watchers (values_in found.now (codes "feed")) → ⊥) }
+{
+    if !feeds_are_unwatched(found, out, watchers) {
+        return Err(WordsRefused::BadWords);
+    }
+    match feeds_of(alloc, found, "feed", out) {
+        Ok(feeds) => return Ok(feeds),
+        Err(refused) => return Err(refused),
+    }
+}
+
 // The name of the one file of a command.
 fn one_name(alloc: Global, found: &ArgMatches) -> Result<Text, WordsRefused>
     ensures file { IfOk result (λ file. (file ≢ []) × (value_in found.now (codes "file") ≡ Some file)) }
@@ -137,7 +157,7 @@ fn one_name(alloc: Global, found: &ArgMatches) -> Result<Text, WordsRefused>
 // What was found behind `record`.
 fn record_of(alloc: Global, found: &ArgMatches) -> Result<Command, WordsRefused>
     ensures command { (words : List Word) → IsReading Verb.Record words (rows_found found.now) → IfOk result (λ command. Behind words command × (verb_of command ≡ Verb.Record)) }
-    ensures bad { (words : List Word) → IsReading Verb.Record words (rows_found found.now) → IfErr result (λ refused. refused ≡ WordsRefused.BadWords → (out : Word) (feeds : List Word) (file : Options) (limit : ℕ) (lossless : Bool) → IsRecord words out feeds file limit lossless → ⊥) }
+    ensures bad { (words : List Word) → IsReading Verb.Record words (rows_found found.now) → IfErr result (λ refused. refused ≡ WordsRefused.BadWords → (out : Word) (feeds : List Word) (file : Options) (limit : ℕ) (lossless : Bool) (range : Times) (watchers : ℕ) → IsRecord words out feeds file limit lossless range watchers → ⊥) }
 {
     if is_dash(found, "profile") {
         return Err(WordsRefused::BadWords);
@@ -149,7 +169,11 @@ fn record_of(alloc: Global, found: &ArgMatches) -> Result<Command, WordsRefused>
         Ok(limit) => limit,
         Err(BadValue) => return Err(WordsRefused::BadWords),
     };
-    let feeds = match feeds_of(alloc, found, "feed", out) {
+    let watchers = match watching_of(found) {
+        Ok(watchers) => watchers,
+        Err(BadValue) => return Err(WordsRefused::BadWords),
+    };
+    let feeds = match recorded_feeds(alloc, found, out, watchers.count) {
         Ok(feeds) => feeds,
         Err(refused) => return Err(refused),
     };
@@ -164,6 +188,8 @@ fn record_of(alloc: Global, found: &ArgMatches) -> Result<Command, WordsRefused>
             file,
             limit: limit.unwrap_or(USUAL_LIMIT),
             lossless: has_flag(found, "lossless"),
+            range: watchers.range,
+            watchers: watchers.count,
         }),
         Err(refused) => return Err(refused),
     }
@@ -352,9 +378,9 @@ fn found_command(alloc: Global, found: &ArgMatches) -> Result<Command, WordsRefu
     }
 }
 
-/// Reads the words behind the program's own name: `record [--plain] [--lossless] [--limit N] [--chunk N] [--profile T] OUT
-/// FEED...`, `info FILE`, `check FILE`, `cat [--indexed] [--start N] [--end N] [--topic T] FILE`, `recover [--chunk N] IN OUT`,
-/// `merge [--chunk N] OUT IN...` or `gen SEED FEEDS MESSAGES OUT`.
+/// Reads the words behind the program's own name: `record [--plain] [--lossless] [--limit N] [--chunk N] [--profile T]
+/// [--watch START:END] [--watchers N] OUT FEED...`, `info FILE`, `check FILE`, `cat [--indexed] [--start N] [--end N] [--topic
+/// T] FILE`, `recover [--chunk N] IN OUT`, `merge [--chunk N] OUT IN...` or `gen SEED FEEDS MESSAGES OUT`.
 ///
 /// Options and positionals stand in any order behind the command, and `--` ends the options. An option has its value
 /// behind `=` in the same word, or in the next word, which then doesn't begin with `-`; each stands at most once. A number
@@ -364,6 +390,11 @@ fn found_command(alloc: Global, found: &ArgMatches) -> Result<Command, WordsRefu
 /// at most 65,535 bytes. OUT, FEED, FILE and IN aren't empty and no word is `-` alone; 1 to 64 FEEDs stand behind OUT, each
 /// other than OUT, two of which may be equal, as 1 to 64 INs do behind that of `merge`, and the one IN of `recover` is other than
 /// OUT; `--plain` and `--chunk` exclude each other.
+///
+/// N of `--watchers` is a number from 0 to 16, and START:END of `--watch` two times below 2^64 with one colon between them,
+/// from START on and before END. Without `--watch` the times are all; without `--watchers` there is one watcher where
+/// `--watch` stands, and else none. `--plain` excludes both. A watcher's number, from 1 on, stands behind OUT and `.watch` in
+/// the name of its file, which no FEED of that recording has.
 ///
 /// Where the words are no command the answer is BadWords, and where there is no memory for reading them it may be Memory.
 pub fn parse_words(alloc: Global, words: &[Text]) -> Result<Command, WordsRefused>

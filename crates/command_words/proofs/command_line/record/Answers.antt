@@ -12,5 +12,7 @@ returns c =
     let limit = c.with_option-command.ensures _ lossless in
     let chunk = c.with_option-command-2.ensures _ limit in
     let profile = c.with_option-command-3.ensures _ chunk in
-    let out = c.with_place-command.ensures _ profile in
+    let watch = c.with_option-command-4.ensures _ profile in
+    let watchers = c.with_option-command-5.ensures _ watch in
+    let out = c.with_place-command.ensures _ watchers in
     c.with_rest.ensures _ out
