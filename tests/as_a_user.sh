@@ -105,7 +105,7 @@ session_lines='feed 1 accepted=5 refused=0 passed=0 end
 file records=8 blocks=0 bytes=411 closed'
 usage='mcaprec: bad words
 usage: mcaprec
-  record [--plain] [--lossless] [--limit N] [--chunk N] [--profile T] OUT FEED...
+  record [--plain] [--lossless] [--limit N] [--chunk N] [--profile T] [--watch START:END] [--watchers N] OUT FEED...
   info FILE
   check FILE
   cat [--indexed] [--start N] [--end N] [--topic T] FILE

@@ -45,7 +45,7 @@ complained None = []
 complained (Some complaint) = trouble_of complaint ∷ []
 
 abbrev pub usage : List ℕ
-usage = codes "usage: mcaprec\n  record [--plain] [--lossless] [--limit N] [--chunk N] [--profile T] OUT FEED...\n  info FILE\n  check FILE\n  cat [--indexed] [--start N] [--end N] [--topic T] FILE\n  recover [--chunk N] IN OUT\n  merge [--chunk N] OUT IN...\n  gen SEED FEEDS MESSAGES OUT\n"
+usage = codes "usage: mcaprec\n  record [--plain] [--lossless] [--limit N] [--chunk N] [--profile T] [--watch START:END] [--watchers N] OUT FEED...\n  info FILE\n  check FILE\n  cat [--indexed] [--start N] [--end N] [--topic T] FILE\n  recover [--chunk N] IN OUT\n  merge [--chunk N] OUT IN...\n  gen SEED FEEDS MESSAGES OUT\n"
 
 -- the words for what a file lacks
 abbrev pub unindexed_text : Unindexed → List ℕ

@@ -9,7 +9,7 @@ use mcap_io::Sink;
 
 /// What standard error is told of words that are no command, with the usage.
 pub const BAD_WORDS: &str =
-    "mcaprec: bad words\nusage: mcaprec\n  record [--plain] [--lossless] [--limit N] [--chunk N] [--profile T] OUT FEED...\n  info FILE\n  check FILE\n  cat [--indexed] [--start N] [--end N] [--topic T] FILE\n  recover [--chunk N] IN OUT\n  merge [--chunk N] OUT IN...\n  gen SEED FEEDS MESSAGES OUT\n";
+    "mcaprec: bad words\nusage: mcaprec\n  record [--plain] [--lossless] [--limit N] [--chunk N] [--profile T] [--watch START:END] [--watchers N] OUT FEED...\n  info FILE\n  check FILE\n  cat [--indexed] [--start N] [--end N] [--topic T] FILE\n  recover [--chunk N] IN OUT\n  merge [--chunk N] OUT IN...\n  gen SEED FEEDS MESSAGES OUT\n";
 
 /// What standard error is told of a want of memory.
 pub const NO_MEMORY: &str = "mcaprec: no memory\n";
