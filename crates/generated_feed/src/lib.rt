@@ -3,5 +3,7 @@
 
 mod feed;
 mod generator;
+mod laws;
 
 pub use feed::GeneratedFeed;
+pub use laws::generated_feeds_are_read;
