@@ -3,3 +3,9 @@ mod Reread
 pub mod Statuses
 mod Stores
 mod Told
+mod Totals
+mod Silent
+mod Soundness
+mod Recordings
+mod Spots
+mod SumsTold

@@ -16,7 +16,7 @@ use Rattle.command_base.specs.OneFile.{troubles_in}
 use Rattle.generate_command.specs.Generating.{halts_after, limit_passed, troubles_after, Generates}
 
 -- the first that is asked for
-abbrev picked : Bool → Bool → Bool → Bool → Bool → ℕ
+abbrev pub picked : Bool → Bool → Bool → Bool → Bool → ℕ
 picked a b c d e = unwrap_or (cond a (Some 2) (cond b (Some 5) (cond c (Some 3) (cond d (Some 4) (cond e (Some 1) None))))) 0
 
 -- isn't 2, where that isn't

@@ -1,0 +1,197 @@
+-- The sums that are printed are those of all messages that were made.
+use Rattle.std.proofs.Common.{◌≡◌, ℕ, zero, suc, ◌+◌, ◌%◌, ◌^◌, ◌<◌, ◌≤◌, ◌||◌, ◌&&◌, ◌==◌, if◌then◌else◌, Bool, true, false, List, [], ◌∷◌, ◌++◌, length, get_or, map, filter, Option, Some, None, refl, sym, ap, subst, inl, inr, ◌∙◌, arith}
+use Rattle.std.specs.Prelude.{IsUtf8}
+use Rattle.std.specs.List.{All, AllZip, sum_by, flat_map, range_with_len}
+use Rattle.std.proofs.lemmas.Bool.{both_ways, or_left, or_right}
+use Rattle.std.proofs.lemmas.Option.{same_Some}
+use Rattle.mcap_io.specs.Outside.{Rose, added, SourceState, LiveState, WorldState, Told, Keeping, Opening}
+use Rattle.mcap_io.specs.declared.outside.ObjectKind.TheVariants as kinds
+use Rattle.rec_data.specs.declared.owned.Rec.{Rec}
+use Rattle.mcap_model.specs.declared.ends.End.{End}
+use Rattle.mcap_model.specs.declared.ends.End.TheVariants as ends
+use Rattle.mcap_model.specs.declared.ends.Stop.{Stop}
+use Rattle.mcap_model.specs.declared.ends.Stop.TheVariants as stops
+use Rattle.mcap_model.specs.Places.{At, Each}
+use Rattle.mcap_model.specs.Tops.{Top, flat, offset_behind}
+use Rattle.mcap_model.specs.Fields.{MessageFields, IsMessage}
+use Rattle.mcap_model.specs.Kept.{reading_limits, at_end, Halts}
+use Rattle.mcap_model.specs.Scan.{Seen, Scan}
+use Rattle.mcap_model.specs.File.{file_of}
+use Rattle.mcap_model.specs.History.{is_message}
+use Rattle.mcap_model.specs.Laws.{HoldsSeen}
+use Rattle.mcap_model.proofs.Places.{at_none, at_one, at_within, at_read, heads, tails}
+use Rattle.mcap_model.proofs.Flat.{at_mapped}
+use Rattle.mcap_model.proofs.Halting.{readings_halt_once}
+use Rattle.chunk_writer.specs.Stops.{Cause as WriterCause}
+use Rattle.feed_lane.specs.Lanes.{messages}
+use Rattle.recorder.specs.declared.options.RecordOptions.{RecordOptions}
+use Rattle.recorder.specs.declared.report.Report.{Report}
+use Rattle.recorder.specs.Recorded.{FeedRecorded, answer_of, sides, Recorded}
+use Rattle.recorder.specs.Laws.{AreReadable, ReadsAs}
+use Rattle.recorder.proofs.ReadBack.{closed_file, recordings_are_read_back}
+use Rattle.message_sums.specs.declared.sums.Sums.{Sums}
+use Rattle.message_sums.specs.Sums.{value_of, bytes_of, sums_of}
+use Rattle.message_sums.specs.Reading.{fields_of, SumsAll}
+use Rattle.command_base.specs.Printing.{TellsAll, Takes}
+use Rattle.command_base.specs.OneFile.{failing, text_of, troubles_in, is_lack}
+use Rattle.command_base.specs.Ran.{Scene, counts_in, WorldRose, kept, world_faults, output_faults, input_faults}
+use Rattle.generated_feed.specs.Generator.{generated, messages_from, first_state}
+use Rattle.generated_feed.specs.Feeds.{feed_tops, feed_bytes, message_top, end_top, channel_top, header_top}
+use Rattle.generated_feed.specs.Laws.{FeedsAreRead}
+use Rattle.generated_feed.proofs.Reading.{IsSmall, small_from, message_is}
+use Rattle.generate_command.specs.declared.back.Back.{Back}
+use Rattle.generate_command.specs.declared.back.Reading.{Reading}
+use Rattle.generate_command.specs.declared.back.Reading.TheVariants as readings
+use Rattle.generate_command.specs.declared.making.Numbers.{Numbers}
+use Rattle.generate_command.specs.Lines.{sums_line}
+use Rattle.generate_command.specs.Back.{ending_of}
+use Rattle.generate_command.specs.Making.{AreAllowed, source_of, sources_of, IsPlaced as NameIsPlaced}
+use Rattle.generate_command.specs.Generating.{is_closed, is_limit, is_memory_writer, passes_limit, lacks_memory, is_sound, ReadsBack, text_after, halts_after, is_lack_after, Generates}
+use Rattle.generate_command.specs.Laws.{made_for, all_made, AreInRange, GeneratedSumsAreTold}
+use Rattle.generate_command.proofs.Totals.{weight, total_of, seen_total, one_each, counted}
+use Rattle.generate_command.proofs.Silent.{cons_some, quiet}
+use Rattle.generate_command.proofs.Soundness.{reported, neither, IsStored, stored_there, outputs_stay, rose_later, failed_rose, there_back, summed, summed_of, all_taken}
+use Rattle.generate_command.proofs.Recordings.{all_placed}
+use Rattle.generate_command.proofs.Spots.{spots, IsWhole, spots_there, spots_apart, spots_total, once, rise, all}
+
+-- ---- the messages of a feed
+
+flat_messages : (seed feed n : ℕ) → messages (flat (feed_tops seed feed n)) ≡ map message_top (generated seed feed n)
+flat_messages seed feed n = only (generated seed feed n)
+  where
+    only : (ms : List MessageFields) → messages (flat (map message_top ms ++ end_top ∷ [])) ≡ map message_top ms
+    only [] = refl
+    only (m ∷ ms) = ap (λ (l : List Top). message_top m ∷ l) (only ms)
+
+shows : (seed feed n k : ℕ) (m : MessageFields) → n < 2 ^ 32 → At (generated seed feed n) k m → IsMessage (message_top m) 1 m
+shows seed feed n k m few at = message_is m (small_from n 0 (first_state seed feed) (omega (arith, few)) k m at)
+
+-- ---- the feeds, by their numbers
+
+range_at : (from n k x : ℕ) → At (range_with_len from n) k x → x < from + n
+range_at from zero k x at = absurd (at_none k x at)
+range_at from (suc n) zero x at = omega (arith, same_Some from x at)
+range_at from (suc n) (suc k) x at = let more = range_at (from + 1) n k x at in omega (arith, more)
+
+zip_from : {X Y Z : Type 0} (R : X → Y → Type 0) (g : X → Z) (h : Y → Z) (xs : List X) (ys : List Y) → map h ys ≡ map g xs → ((k : ℕ) (x : X) (y : Y) → At xs k x → At ys k y → g x ≡ h y → R x y) → AllZip R xs ys
+zip_from R g h [] [] same each = tt
+zip_from R g h [] (y ∷ ys) same each = absurd (cons_some (h y) (map h ys) same)
+zip_from R g h (x ∷ xs) [] same each = absurd (cons_some (g x) (map g xs) (sym same))
+zip_from {X} {Y} {Z} R g h (x ∷ xs) (y ∷ ys) same each = (
+  each 0 x y refl refl (sym (heads (h y) (g x) (map h ys) (map g xs) same)),
+  zip_from R g h xs ys (tails (h y) (g x) (map h ys) (map g xs) same) (λ k a b at other is. each (suc k) a b at other is),
+)
+
+-- ---- equal sums
+
+same_sums : (ms ns : List MessageFields) → ((f : MessageFields → ℕ) → sum_by f ms ≡ sum_by f ns) → sums_of ms ≡ sums_of ns
+same_sums ms ns same =
+    let k = 2 ^ 64 in
+    let long : length ms ≡ length ns = counted ms ∙ same one_each ∙ sym (counted ns) in
+    ap (λ (n : ℕ). record { messages = n % k; bytes = sum_by bytes_of ms % k; total = sum_by value_of ms % k }) long
+    ∙ ap (λ (n : ℕ). record { messages = length ns % k; bytes = n % k; total = sum_by value_of ms % k }) (same bytes_of)
+    ∙ ap (λ (n : ℕ). record { messages = length ns % k; bytes = sum_by bytes_of ns % k; total = n % k }) (same value_of)
+
+-- ---- the recording
+
+module _ (options : RecordOptions) (numbers : Numbers) (back : List SourceState) (live live_now : LiveState) (r : Report) (it : Recorded options (sides (sources_of numbers) live) (sides back live_now) r)
+    (lossless : options.lossless ≡ true) (closed : r.writer.end ≡ ends.Closed) (enough : lacks_memory r ≡ false) (limited : passes_limit r ≡ false) (still : All (λ (s : SourceState). s.faults ≡ 0) back)
+    (range : AreInRange numbers) (read : FeedsAreRead) where
+  whole_feed : (k : ℕ) (f : FeedRecorded) (g : ℕ) → At it.feeds k f → At (range_with_len 0 numbers.feeds) k g → f.before ≡ source_of numbers g → IsWhole (made_for numbers) it.history f g
+  whole_feed k f g at at_g before =
+      let within = range_at 0 numbers.feeds k g at_g in
+      let few = range.messages in
+      let feeds = range.feeds in
+      let now : At back k f.now = subst (λ (l : List SourceState). At l k f.now) (sym it.are.now_are) (at_mapped (λ (x : FeedRecorded). x.now) it.feeds k f at) in
+      let in_back = at_within back k f.now now in
+      let quiet_now : f.now.faults ≡ 0 = subst (λ (s : SourceState). s.faults ≡ 0) (at_one back k (get_or back k f.now) f.now (at_read back k f.now in_back) now) (still k f.now in_back) in
+      all_placed options (sources_of numbers) back live live_now r it lossless closed enough limited k f at
+      (feed_bytes numbers.seed g numbers.messages) (feed_tops numbers.seed g numbers.messages) (offset_behind (feed_tops numbers.seed g numbers.messages))
+      (read numbers.seed g numbers.messages (omega (arith, within, feeds)) few)
+      (ap (λ (s : SourceState). s.left) before) (ap (λ (s : SourceState). s.faults) before) quiet_now
+      (made_for numbers g) message_top (λ n m there. shows numbers.seed g numbers.messages n m few there) (flat_messages numbers.seed g numbers.messages)
+
+  whole_feeds : AllZip (IsWhole (made_for numbers) it.history) it.feeds (range_with_len 0 numbers.feeds)
+  whole_feeds = zip_from (IsWhole (made_for numbers) it.history) (λ (f : FeedRecorded). f.before) (source_of numbers) it.feeds (range_with_len 0 numbers.feeds) it.are.before_are whole_feed
+
+  history_total : (f : MessageFields → ℕ) → sum_by (weight f) it.history ≡ sum_by f (all_made numbers)
+  history_total f =
+      let gs = range_with_len 0 numbers.feeds in
+      let made = made_for numbers in
+      total_of f it.history (spots made it.feeds gs) (spots_there made it.history it.feeds gs whole_feeds)
+      (spots_apart made it.feeds gs (rise made options.limit it.history r.writer.end it.feeds gs it.assembled whole_feeds) (once made options.limit it.history r.writer.end it.feeds gs it.assembled whole_feeds))
+      (all made options.limit it.history r.writer.end it.feeds gs it.assembled whole_feeds)
+      ∙ spots_total made f it.history it.feeds gs whole_feeds
+
+  -- the messages that were read of its file have the sums of all that were made
+  pub same_read : (seen : List Seen) → AllZip HoldsSeen (filter is_message it.history) seen → sums_of (fields_of seen) ≡ sums_of (all_made numbers)
+  same_read seen zip = same_sums (fields_of seen) (all_made numbers) (λ f. seen_total f it.history seen zip ∙ history_total f)
+
+-- ---- the status 0
+
+-- the writer closed its file
+closed_so : (end : End) (live live_now : LiveState) (old middle new : WorldState) (r : Report) → r.writer.end ≡ end → WriterCause {X = Unit} live.faults live_now.faults (answer_of end) → live.faults ≡ 0 → middle.output_faults ≡ added old.output_faults live_now.faults
+    → new.output_faults ≡ middle.output_faults → (WorldRose old new → ⊥) → passes_limit r ≡ false → lacks_memory r ≡ false → r.writer.end ≡ ends.Closed
+closed_so ends.Closed live live_now old middle new r same cause unused outputs stay none limited enough = same
+closed_so (ends.Stopped (stops.Fault faults)) live live_now old middle new r same cause unused outputs stay none limited enough =
+    let rises = cause.0 in absurd (none (inr (inr (omega (arith, rises.once, unused, outputs, stay)))))
+closed_so (ends.Stopped (stops.Limit blocks bytes)) live live_now old middle new r same cause unused outputs stay none limited enough = absurd (both_ways (passes_limit r) limited (or_left (is_limit r.writer.end) _ (ap is_limit same)))
+closed_so (ends.Stopped stops.Memory) live live_now old middle new r same cause unused outputs stay none limited enough = absurd (both_ways (lacks_memory r) enough (or_left (is_memory_writer r.writer.end) _ (ap is_memory_writer same)))
+
+-- and the keeping went well
+well_so : (well sound : Bool) (out : List ℕ) (old middle new : WorldState) (back : Option Back) → ReadsBack sound out middle new back → middle.faults ≡ added old.faults ((0 + (if well then 0 else 1)) + 0) → (WorldRose old new → ⊥) → well ≡ true
+well_so true sound out old middle new back reads is none = refl
+well_so false sound out old middle new back reads is none = absurd (none (inl (rose_later sound out old middle new back ((0 + 1) + 0) reads is (omega arith))))
+
+both : (a b : Bool) → a ≡ true → b ≡ true → (a && b) ≡ true
+both a b one other = ap (λ (x : Bool). x && b) one ∙ other
+
+told_of : FeedsAreRead → (options : RecordOptions) (numbers : Numbers) (out : List ℕ) (old new : Scene) (r : Report) (status : ℕ) (told : Told) → AreAllowed options → IsUtf8 options.file.profile → AreInRange numbers
+    → options.lossless ≡ true → Generates options numbers out old new (Some r) status → status ≡ 0 → old.world.told ≡ Some told → TellsAll old.out new.out (sums_line numbers.feeds (sums_of (all_made numbers)))
+told_of read options numbers out old new r status told allowed utf8 range lossless it zero_is here =
+    let q = quiet options numbers out old new (Some r) status it zero_is in
+    let middle = it.middle in
+    let written = it.written in
+    let counts = written.counts in
+    let s = stored_there options (sources_of numbers) out old.world middle written.entries r it.kept written.writing written.opened in
+    let stored = s.stored in
+    let live = stored.live in
+    let live_now = stored.live_now in
+    let (back, still, recorded) = stored.reported r refl in
+    let (enough, unlacking) = neither (lacks_memory r) (is_lack_after numbers.feeds out it.back) q.enough in
+    let limited : passes_limit r ≡ false = q.within in
+    let outputs_all : middle.output_faults ≡ added old.world.output_faults (live_now.faults + 0) =
+    counts.outputs ∙ ap (λ (es : List Opening). added old.world.output_faults (output_faults es)) s.entries_are ∙ ap (λ (k : Keeping). added old.world.output_faults (k.faults + 0)) stored.keeping_is in
+    let outputs : middle.output_faults ≡ added old.world.output_faults live_now.faults = omega (arith, outputs_all) in
+    let world_all : middle.faults ≡ added old.world.faults ((0 + (if it.kept then 0 else 1)) + 0) =
+    counts.world ∙ ap (λ (es : List Opening). added old.world.faults (world_faults es)) s.entries_are ∙ ap (λ (k : Keeping). added old.world.faults ((0 + (if k.well then 0 else 1)) + 0)) stored.keeping_is in
+    let sound = is_sound (Some r) it.kept in
+    let closed = closed_so r.writer.end live live_now old.world middle new.world r refl recorded.writer.cause stored.unused outputs (outputs_stay sound out middle new.world it.back it.reads) q.world limited enough in
+    let well = well_so it.kept sound out old.world middle new.world it.back it.reads world_all q.world in
+    let sound_is : sound ≡ true = both (is_closed r.writer.end) it.kept (ap is_closed closed) well in
+    let (b, back_is, name) = there_back sound out middle new.world it.back it.reads sound_is in
+    let unfailed : ending_of numbers.feeds out b.reading ≡ failing → ⊥ = λ fails. q.world (failed_rose out old.world middle new.world (world_faults written.entries) (input_faults written.entries) name.entries b.failed counts.world counts.inputs name.name (name.sure numbers.feeds fails)) in
+    let (sums, sums_is) = summed numbers.feeds out b.reading unfailed (sym (ap (halts_after numbers.feeds out) back_is) ∙ q.halts) (sym (ap (is_lack_after numbers.feeds out) back_is) ∙ unlacking) in
+    let left = written.leaves told here in
+    let file = file_of options.file [] recorded.history in
+    let before_sides = sides (sources_of numbers) live in
+    let now_sides = sides back live_now in
+    let readable : AreReadable options.file = record { profile = utf8; short = omega (arith, allowed.short); size = allowed.size } in
+    let adds = (closed_file options before_sides now_sides r recorded closed).1 in
+    let held : live_now.held ≡ Some file = adds [] (stored.empty told here) in
+    let names : left.0.names out ≡ Some file = subst (λ (x : Bool). NameIsPlaced file x (told.names out) (left.0.names out)) well (stored.placed told left.0 file here left.1 held) in
+    let reads : ReadsAs file recorded.history = (recordings_are_read_back options before_sides now_sides r readable recorded closed).0 in
+    let (before, now, begins, all_sums) = summed_of out file middle left.0 name.entries b.reading sums left.1 names name.reading sums_is in
+    let halts = all_sums.halts in
+    let same : all_sums.tops ≡ reads.tops = (readings_halt_once file all_sums.tops reads.tops (at_end all_sums.end) (at_end reads.end) (halts.halts file begins) reads.halts).0 in
+    let scan : Scan reads.tops all_sums.messages = subst (λ (ts : List Top). Scan ts all_sums.messages) same all_sums.scan in
+    let equal : sums ≡ sums_of (all_made numbers) = all_sums.sums_are ∙ same_read options numbers back live live_now r recorded lossless closed enough limited still range read all_sums.messages (reads.messages_are all_sums.messages scan) in
+    let taken : Takes old.out new.out (sums_line numbers.feeds sums) =
+    subst (λ (x : Reading). Takes old.out new.out (text_of (ending_of numbers.feeds out x))) sums_is (subst (λ (x : Option Back). Takes old.out new.out (text_after numbers.feeds out x)) back_is it.printed) in
+    subst (λ (x : Sums). TellsAll old.out new.out (sums_line numbers.feeds x)) equal (all_taken old.out new.out (sums_line numbers.feeds sums) taken q.printing)
+
+pub generated_sums_are_told : FeedsAreRead → GeneratedSumsAreTold
+generated_sums_are_told read options numbers out old new None status told allowed utf8 range lossless it zero_is here =
+    let none = reported numbers.feeds out old new None it.back (quiet options numbers out old new None status it zero_is) in
+    absurd (let apart = none.1 in cc)
+generated_sums_are_told read options numbers out old new (Some r) status told allowed utf8 range lossless it zero_is here = told_of read options numbers out old new r status told allowed utf8 range lossless it zero_is here
