@@ -53,6 +53,14 @@ module _ {X : Type 0} (tells : X → Option (List ℕ)) (size : X → ℕ) (stor
         within = omega (arith, within, it.bytes_are);
       }) (gathered.more options [] put store.held [] entries (gathered.none options) it.entries_are)
 
+module _ {L X : Type 0} (state : L → LiveState) (tells : X → Option (List ℕ)) (size : X → ℕ) (now later : Scribe L) where
+  -- the scribe goes on, where ending it gave an entry
+  pub still_going : (last : Entry X) (written : Written) (end : Result Unit Stop) (phase : Phase) → phase_of now ≡ phase → (phase_of now ≡ phases.Ended → ⊥) → EndsOn state tells size now later (Some last) written end
+      → phase_of now ≡ phases.Going
+  still_going last written end phases.Going is unended ended = is
+  still_going last written end (phases.Stopped stop) is unended ended = absurd (none-some last (sym (ended.kept stop is).1))
+  still_going last written end phases.Ended is unended ended = absurd (unended is)
+
 module _ {L X : Type 0} (state : L → LiveState) (tells : X → Option (List ℕ)) (size : X → ℕ) (first : Publishing L X) (now later : Scribe L) where
   -- of a tape that was new, and took these records in several calls
   pub taken_follow : (taken records : List Rec) (one other : List (Entry X)) → IsNew state first → TakesOn state tells size first.scribe now taken one → TakesOn state tells size now later records other
@@ -62,18 +70,11 @@ module _ {L X : Type 0} (state : L → LiveState) (tells : X → Option (List �
       first_follow tells size (state (store_of first.scribe)) new.options new.size new.chunked new.size_is (taken ++ records) (one ++ other) (bytes_of later) (phase_of later) numbered
       (each_of IsKept (taken ++ records) (All-append IsKept taken records kept more)) holds.small (all.front new.going new.options [] new.opened [] new.writes)
 
-  -- the scribe goes on, where ending it gave an entry
-  still_going : (last : Entry X) (written : Written) (end : Result Unit Stop) (phase : Phase) → phase_of now ≡ phase → (phase_of now ≡ phases.Ended → ⊥) → EndsOn state tells size now later (Some last) written end
-      → phase_of now ≡ phases.Going
-  still_going last written end phases.Going is unended ended = is
-  still_going last written end (phases.Stopped stop) is unended ended = absurd (none-some last (sym (ended.kept stop is).1))
-  still_going last written end phases.Ended is unended ended = absurd (unended is)
-
   pub last_follows : (taken : List Rec) (one : List (Entry X)) (last : Entry X) (written : Written) (end : Result Unit Stop) → IsNew state first → TakesOn state tells size first.scribe now taken one
       → EndsOn state tells size now later (Some last) written end → (phase_of now ≡ phases.Ended → ⊥) → Numbered taken → All IsKept taken → EntriesFollow tells (one ++ last ∷ [])
   last_follows taken one last written end new took ended unended numbered kept =
       let options = new.options in
-      let going = still_going last written end (phase_of now) refl unended ended in
+      let going = still_going state tells size now later last written end (phase_of now) refl unended ended in
       let it = took.front new.going options [] new.opened [] new.writes in
       let none : it.behind ≡ [] = subst (λ (p : Phase). IsLeft p it.behind) going it.left in
       let whole : taken ≡ it.first = it.cut ∙ ap (λ (l : List Rec). it.first ++ l) none ∙ append-nil it.first in
@@ -100,10 +101,13 @@ module _ {X : Type 0} (first now : Board X) (given : List (Entry X)) (empty : fi
   pub unsealed_since : end_of now.directory.shown ≡ None
   unsealed_since = gives.unsealed (subst (λ (b : Board X). end_of b.directory.shown ≡ None) (sym empty) refl)
 
-  -- where memory didn't lack readers find all that was given
+  -- where none were lost the directory has all that was given
+  pub held_since : now.lost ≡ false → held_in now.directory ≡ given
+  held_since is = sym (append-nil (held_in now.directory)) ∙ ap (λ (l : List (Entry X)). held_in now.directory ++ l) (sym (gives.whole is)) ∙ gives.held
+      ∙ ap (λ (b : Board X). held_in b.directory ++ given) empty
+
+  -- where memory didn't lack readers find it
   pub all_since : now.short ≡ false → entries_of now.directory.shown ≡ given
   all_since is =
       let (whole, none) = known_since.all is in
-      let held : held_in now.directory ≡ given = sym (append-nil (held_in now.directory)) ∙ ap (λ (l : List (Entry X)). held_in now.directory ++ l) (sym (gives.whole whole)) ∙ gives.held
-      ∙ ap (λ (b : Board X). held_in b.directory ++ given) empty in
-      sym (append-nil (entries_of now.directory.shown)) ∙ ap (λ (l : List (Entry X)). entries_of now.directory.shown ++ l) (sym none) ∙ held
+      sym (append-nil (entries_of now.directory.shown)) ∙ ap (λ (l : List (Entry X)). entries_of now.directory.shown ++ l) (sym none) ∙ held_since whole

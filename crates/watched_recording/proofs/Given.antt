@@ -12,7 +12,7 @@ entries_more : {X : Type 0} (history : List (Added X)) (entries : List (Entry X)
 entries_more [] entries = append-nil entries
 entries_more (a ∷ more) entries = ap (λ (l : List (Entry _)). a.entries ++ l) (entries_more more entries) ∙ sym (append_assoc a.entries (entries_of more) entries)
 
-abbrev board : {X : Type 0} → DirectoryState X → Bool → Bool → Board X
+abbrev pub board : {X : Type 0} → DirectoryState X → Bool → Bool → Board X
 board directory short lost = record { directory = directory; short = short; lost = lost }
 
 pub gives_same : {X : Type 0} (before now : Board X) (one other : List (Entry X)) → one ≡ other → GivesTo before now one → GivesTo before now other

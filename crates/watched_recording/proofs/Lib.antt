@@ -1,3 +1,9 @@
 mod Ends
 mod Follows
 mod Given
+mod FirstBlocks
+mod Told
+mod FilesFronts
+mod FilesTold
+mod Seating
+mod Watchers

@@ -1,6 +1,7 @@
 -- What a tape that publishes its blocks did.
-use Rattle.std.specs.Prelude.{◌≡◌, ℕ, ◌≤◌, List, [], ◌++◌, Bool, true, false, Option, Some, None, Result}
-use Rattle.std.proofs.Common.{refl, sym, ap, ◌∙◌, append-nil, append_assoc}
+use Rattle.std.specs.Prelude.{◌≡◌, ℕ, ◌+◌, ◌≤◌, List, [], ◌++◌, length, Bool, true, false, Option, Some, None, Result}
+use Rattle.std.proofs.Common.{refl, sym, ap, ◌∙◌, append-nil, append_assoc, length-append}
+use Rattle.std.proofs.Math.Nat.{add-zero, add_assoc}
 use Rattle.std.proofs.lemmas.Bool.{false≢true}
 use Rattle.mcap_wire.specs.Limits.{chunk_size_limit}
 use Rattle.rec_data.specs.declared.owned.Rec.{Rec}
@@ -13,7 +14,8 @@ use Rattle.live_directory.specs.Writing.{DirectoryState, empty_directory, at_mos
 use Rattle.chunk_writer.specs.declared.phase.Phase.TheVariants as phases
 use Rattle.chunk_writer.specs.declared.scribe.Scribe.{Scribe}
 use Rattle.chunk_writer.specs.declared.tape.Written.{Written}
-use Rattle.chunk_writer.specs.Scribes.{Writes, phase_of}
+use Rattle.chunk_writer.specs.Limits.{Holds}
+use Rattle.chunk_writer.specs.Scribes.{Writes, phase_of, blocks_of, bytes_of}
 use Rattle.chunk_writer.specs.Tapes.{TakesOn, EndsOn, takes_none, takes_on}
 
 -- ---- what was published
@@ -110,11 +112,14 @@ pub record IsNew {L X : Type 0} (state : L → LiveState) (p : Publishing L X) :
   pub going : phase_of p.scribe ≡ phases.Going
   pub empty : p.board ≡ empty_board
 
--- The scribe took these records, and its entries were published, so that none are handed to the caller.
+-- The scribe took these records, and its entries were published, so that none are handed to the caller. They are as many as
+-- the blocks that it appended, and it stays within what a file may hold.
 pub record PublishesOn {L X : Type 0} (state : L → LiveState) (tells : X → Option (List ℕ)) (size : X → ℕ) (before now : Publishing L X) (records : List Rec) (entries : List (Entry X)) : Type 0 where
   pub given : List (Entry X)
   pub took : TakesOn state tells size before.scribe now.scribe records given
   pub published : GivesTo before.board now.board given
+  pub counted : blocks_of now.scribe ≡ blocks_of before.scribe + length given
+  pub within : Holds (blocks_of before.scribe) (bytes_of before.scribe) → Holds (blocks_of now.scribe) (bytes_of now.scribe)
   pub none : entries ≡ []
 
 -- The scribe ended its file, and its last entry was published.
@@ -129,6 +134,8 @@ publishes_none state tells size p = record {
   given = [];
   took = takes_none state tells size p.scribe;
   published = gives_none p.board;
+  counted = sym (add-zero (blocks_of p.scribe));
+  within = λ holds. holds;
   none = refl;
 }
 
@@ -138,5 +145,8 @@ publishes_on state tells size one two three a b es fs first second = record {
   given = first.given ++ second.given;
   took = takes_on state tells size one.scribe two.scribe three.scribe a b first.given second.given first.took second.took;
   published = gives_on one.board two.board three.board first.given second.given first.published second.published;
+  counted = second.counted ∙ ap (λ (n : ℕ). n + length second.given) first.counted ∙ add_assoc (blocks_of one.scribe) (length first.given) (length second.given)
+      ∙ ap (λ (n : ℕ). blocks_of one.scribe + n) (sym (length-append first.given second.given));
+  within = λ holds. second.within (first.within holds);
   none = ap (λ (l : List (Entry _)). l ++ fs) first.none ∙ second.none;
 }

@@ -1,5 +1,5 @@
 //! A tape that publishes the blocks that it writes.
-ghost use Rattle.std.specs.Prelude.{◌≡◌, ◌≤◌, ℕ, List, ◌++◌, length, false, None, Some, [], vec_capacity, IfOk, IfErr};
+ghost use Rattle.std.specs.Prelude.{◌≡◌, ◌≤◌, ℕ, List, ◌++◌, length, true, false, None, Some, [], vec_capacity, IfOk, IfErr, IfSome};
 ghost use Rattle.mcap_wire.specs.Layout.{content_limit};
 ghost use Rattle.mcap_wire.specs.Limits.{chunk_size_limit};
 ghost use Rattle.rec_data.specs.declared.owned.Rec.{Rec};
@@ -10,13 +10,13 @@ ghost use Rattle.live_directory.specs.Writing.{empty_directory};
 ghost use Rattle.chunk_writer.specs.declared.phase.Phase.TheVariants as phases;
 ghost use Rattle.chunk_writer.specs.Stops.{StopsAt, StopCause};
 ghost use Rattle.chunk_writer.specs.Scribes.{Writes, store_of, phase_of};
-ghost use Rattle.watched_recording.specs.Publishing.{IsKnown, GivesTo, IsNew, publishing};
+ghost use Rattle.watched_recording.specs.Publishing.{IsKnown, GivesTo, IsNew, held_in, publishing};
 
 use chunk_writer::{Finished, Phase, Scribe, Taken, Tape, Written};
-use live_directory::{Directory, Naming};
+use live_directory::{Directory, Naming, Note};
 use live_entry::Entry;
 use mcap_io::{Extent, LiveStore};
-use mcap_model::{FileOptions, Stop};
+use mcap_model::{End, FileOptions, Stop};
 use mcap_wire::Memory;
 use record_cache::Cache;
 use std::alloc::Global;
@@ -36,7 +36,7 @@ pub fn last_room<X: Extent>(alloc: Global) -> Result<Vec<Entry<X>>, Memory>
 
 /// A tape over a scribe of a file in chunks, which publishes each block's entry into a directory that is lent to it, once the
 /// store has taken the block; it hands none to its caller. Where memory lacks in publishing, what was to be published is
-/// pending there, and entries that are given later are lost. It doesn't seal the directory.
+/// pending there, and entries that are given later are lost. The directory is sealed by `seal` alone.
 #[derive(Drop)]
 pub struct PublishingTape<'d, L: LiveStore, J: Naming, R: Wait> {
     pub scribe: Scribe<L>,
@@ -49,6 +49,13 @@ pub struct PublishingTape<'d, L: LiveStore, J: Naming, R: Wait> {
     pub short: bool,
     /// Whether entries were given behind that.
     pub lost: bool,
+}
+
+/// The store of a tape that was ended; and the note of the seal, if its directory was sealed.
+#[derive(Drop)]
+pub struct Sealed<L: LiveStore, J: Naming> {
+    pub live: L,
+    pub note: Option<Note<L::Extent, J>>,
 }
 
 impl<'d, L: LiveStore, J: Naming, R: Wait> PublishingTape<'d, L, J, R> {
@@ -87,6 +94,36 @@ impl<'d, L: LiveStore, J: Naming, R: Wait> PublishingTape<'d, L, J, R> {
                 });
             }
             Err(refused) => return Err(refused),
+        }
+    }
+
+    /// Seals the directory with that end, unless entries were lost: then what is told there isn't all, and no end is told. The
+    /// store comes back, with the note of the seal.
+    pub fn seal(self, end: End) -> Sealed<L, J>
+        requires unsealed { end_of self.directory.now.shown ≡ None }
+        ensures store { result.live ≡ store_of self.entry.scribe }
+        ensures told { IfSome result.note (λ note. (entries_of note ≡ held_in self.entry.directory.now) × (end_of note ≡ Some end)) }
+        ensures lost { self.entry.lost ≡ true → result.note ≡ None }
+    {
+        let PublishingTape {
+            scribe,
+            directory,
+            rt,
+            alloc: _,
+            room: _,
+            short: _,
+            lost,
+        } = self;
+        let live = scribe.into_store();
+        if lost {
+            return Sealed { live, note: None };
+        }
+        match directory.seal(rt, end) {
+            Ok(note) => return Sealed {
+                live,
+                note: Some(note),
+            },
+            Err(Memory) => return Sealed { live, note: None },
         }
     }
 
