@@ -1,28 +1,25 @@
 -- From the parts of a recording to what the program promises of it.
-use Rattle.std.proofs.Common.{◌≡◌, ◌⊎◌, ℕ, zero, suc, ◌-◌, ◌^◌, ◌<◌, ◌≤◌, length, Bool, true, false, cond, map, List, [], ◌∷◌, ◌++◌, Option, Some, None, refl, sym, ap, subst, inl, inr, ◌∙◌, arith}
-use Rattle.std.proofs.lemmas.Bool.{false_from_ne_true}
-use Rattle.mcap_io.specs.Outside.{Rose, SinkState}
-use Rattle.mcap_model.specs.Places.{Has, Each}
+use Rattle.std.proofs.Common.{◌≡◌, ℕ, zero, suc, ◌^◌, ◌<◌, ◌≤◌, length, Bool, true, false, cond, map, List, [], ◌∷◌, ◌++◌, Option, Some, None, refl, sym, ap, subst, inl, inr, ◌∙◌, arith}
+use Rattle.mcap_io.specs.Outside.{SinkState}
+use Rattle.mcap_model.specs.Places.{Each}
 use Rattle.mcap_model.proofs.Places.{at_none}
 use Rattle.std.proofs.lemmas.List.{length-map}
 use Rattle.std.proofs.lemmas.Option.{same_Some}
 use Rattle.recorder.specs.declared.report.Report.{Report}
 use Rattle.feed_lane.specs.declared.report.FeedReport.{FeedReport}
-use Rattle.feed_lane.specs.declared.report.FeedEnd.{FeedEnd}
-use Rattle.feed_lane.specs.declared.report.FeedEnd.TheVariants as feed_ends
 use Rattle.recorder.specs.declared.options.RecordOptions.{RecordOptions}
 use Rattle.command_base.specs.declared.faults.Counts.{Counts}
 use Rattle.record_command.specs.declared.answering.Failures.{Failures}
 use Rattle.record_command.specs.declared.answering.Outcome.{Outcome}
 use Rattle.command_base.specs.Printing.{Tells, Takes}
-use Rattle.command_base.specs.Texts.{Trouble, fault, output_fault, output_limit, no_memory, status_of}
+use Rattle.command_base.specs.Texts.{status_of}
 use Rattle.record_command.specs.ReportTexts.{file_line, printed, feed_lines}
 use Rattle.record_command.specs.Answer.{flags_of, PartFailed, LacksMemory, FaultsShow, Answers}
-use Rattle.command_base.specs.Ran.{Scene, counts_in, AnyRose, CountsOn, has_failed, IsCaused, Blames, Failed, blamed_among, blamed_names, named_when, troubles_of}
-use Rattle.record_command.specs.Record.{files_of, failed_of, some_failed, report_text, reports_in, findings_of, end_status, worst, ends_status, passes_limit, lacks_memory, LackIsTold, EndsWith, limit_passed, Causes, AreFew, Records, NamesRecorded}
+use Rattle.command_base.specs.Ran.{Scene, counts_in, AnyRose, has_failed, IsCaused, Blames, Failed, blamed_names, named_when, troubles_of}
+use Rattle.record_command.specs.Record.{files_of, failed_of, some_failed, report_text, reports_in, findings_of, end_status, worst, LackIsTold, EndsWith, limit_passed, Records, NamesRecorded}
 use Rattle.record_command.proofs.Statuses.{any, status_of_due, status_not_two, some_part, no_part, where_lacked, where_enough}
 use Rattle.record_command.proofs.Flags.{flags_long, every_caused, each_blamed, some_blamed, none_behind, Showing, outcomes_show}
-use Rattle.record_command.proofs.Whole.{as_many, decided, whole}
+use Rattle.record_command.proofs.Whole.{read_of, as_many, decided, whole}
 
 -- ---- what is printed
 
@@ -103,7 +100,7 @@ some_reported : (options : RecordOptions) (out : List ℕ) (feeds : List (List �
     → NamesRecorded options out feeds old.world new.world outcome → length (reports_in report) ≤ length feeds
 some_reported options out feeds old new outcome None is inputs_fit outputs_fit made = omega arith
 some_reported options out feeds old new outcome (Some r) is inputs_fit outputs_fit made =
-    omega (arith, as_many options out feeds old.world new.world made.entries r (made.reported r is) made.counts inputs_fit outputs_fit)
+    omega (arith, as_many options feeds old.world new.world r (read_of options out feeds old.world new.world made.entries r (made.reported r is) made.counts) inputs_fit outputs_fit)
 
 ended : (out : List ℕ) (feeds : List (List ℕ)) (before now : Counts) (outcome : Outcome) (report : Option Report) (failed : Failures) (err err_now : SinkState) (answer : ℕ) → 1 ≤ length feeds → length (reports_in report) ≤ length feeds → length (flags_of feeds failed) ≤ length feeds
     → (a : Answers out feeds report failed err err_now answer) → FaultsShow before now feeds outcome failed → EndsWith before now report a.lacked answer

@@ -40,28 +40,28 @@ pub output_faults-append : (xs ys : List Opening) → output_faults (xs ++ ys) �
 output_faults-append [] ys = omega arith
 output_faults-append (x ∷ xs) ys = let more = output_faults-append xs ys in omega (arith, more)
 
-sources_write_nothing : (ks : List FeedKept) → output_faults (map entry_of ks) ≡ 0
+pub sources_write_nothing : (ks : List FeedKept) → output_faults (map entry_of ks) ≡ 0
 sources_write_nothing [] = refl
 sources_write_nothing (k ∷ ks) = let more = sources_write_nothing ks in omega (arith, more)
 
-unused_count_nothing : (ks : List FeedKept) → Each (λ (s : SourceState). s.faults ≡ 0) (back_sources ks) → input_faults (map entry_of ks) ≡ 0
+pub unused_count_nothing : (ks : List FeedKept) → Each (λ (s : SourceState). s.faults ≡ 0) (back_sources ks) → input_faults (map entry_of ks) ≡ 0
 unused_count_nothing [] unused = refl
 unused_count_nothing (k ∷ ks) unused = let more = unused_count_nothing ks (λ n s at. unused (suc n) s at) in let first = unused 0 k.back refl in omega (arith, more, first)
 
-each_both : {X : Type 0} (P : X → Type 0) (xs ys : List X) → Each P xs → Each P ys → Each P (xs ++ ys)
+pub each_both : {X : Type 0} (P : X → Type 0) (xs ys : List X) → Each P xs → Each P ys → Each P (xs ++ ys)
 each_both P xs ys first second n x at = elim (at_either xs ys n x at) [
   | inl within ↦ first n x within
   | inr (k, there, behind) ↦ second k x behind
 ]
 
-each_none : {X : Type 0} (P : X → Type 0) → Each P []
+pub each_none : {X : Type 0} (P : X → Type 0) → Each P []
 each_none P n x at = absurd (at_none n x at)
 
-each_alone : {X : Type 0} (P : X → Type 0) (x : X) → P x → Each P (x ∷ [])
+pub each_alone : {X : Type 0} (P : X → Type 0) (x : X) → P x → Each P (x ∷ [])
 each_alone P x is zero y at = subst P (same_Some x y at) is
 each_alone P x is (suc n) y at = absurd (at_none n y at)
 
-are_sources : (ks : List FeedKept) → Each (λ (entry : Opening). entry.kind ≡ kinds.Source) (map entry_of ks)
+pub are_sources : (ks : List FeedKept) → Each (λ (entry : Opening). entry.kind ≡ kinds.Source) (map entry_of ks)
 are_sources [] n entry at = absurd (at_none n entry at)
 are_sources (k ∷ ks) zero entry at = ap (λ (e : Opening). e.kind) (sym (same_Some (entry_of k) entry at))
 are_sources (k ∷ ks) (suc n) entry at = are_sources ks n entry at
@@ -80,14 +80,14 @@ left_one told k left feed keeping is =
     let name : k.name ≡ feed = ap name_in is in
     ap (λ (x : Keeping). x.left) (sym (same_Some (record { well = k.well; faults = k.back.faults; left = k.back.left; asked = 0 }) keeping keepings)) ∙ left ∙ ap told.names name
 
-left_all : (w : WorldState) (told : Told) (ks : List FeedKept) → w.told ≡ Some told → AllZip (TellsName w) (names_kept ks) (back_sources ks) → Each (IsLeft told) (map entry_of ks)
+pub left_all : (w : WorldState) (told : Told) (ks : List FeedKept) → w.told ≡ Some told → AllZip (TellsName w) (names_kept ks) (back_sources ks) → Each (IsLeft told) (map entry_of ks)
 left_all w told [] here tells n entry at = absurd (at_none n entry at)
 left_all w told (k ∷ ks) here tells zero entry at = subst (IsLeft told) (same_Some (entry_of k) entry at) (left_one told k (tells.0 told here).0)
 left_all w told (k ∷ ks) here tells (suc n) entry at = left_all w told ks here tells.1 n entry at
 
 -- ---- what was opened
 
-opened_all : (ks : List FeedKept) (rest : List Wanted) (behind : List Opening) → AreOpened rest behind → AreOpened (map (λ (name : List ℕ). (kinds.Source, name)) (names_kept ks) ++ rest) (map entry_of ks ++ behind)
+pub opened_all : (ks : List FeedKept) (rest : List Wanted) (behind : List Opening) → AreOpened rest behind → AreOpened (map (λ (name : List ℕ). (kinds.Source, name)) (names_kept ks) ++ rest) (map entry_of ks ++ behind)
 opened_all [] rest behind opens = opens
 opened_all (k ∷ ks) rest behind opens = inr (record { well = k.well; faults = k.back.faults; left = k.back.left; asked = 0 }, refl, opened_all ks rest behind opens)
 
@@ -140,7 +140,7 @@ refused_so kind name old new open_refusals.Memory no_inputs no_outputs opens sta
 abbrev pub unmade : List Bool → Bool → Outcome → Type 0
 unmade flags out_failed outcome = (outcome.report ≡ None) × (outcome.feeds_failed.items ≡ flags) × (outcome.out_failed ≡ out_failed)
 
-none_some : (r : Report) → None ≡ Some r → ⊥
+pub none_some : (r : Report) → None ≡ Some r → ⊥
 none_some r e = cc
 
 -- these feeds were opened, then an opening was refused, and the feeds were kept
@@ -209,7 +209,7 @@ module _ (w0 w1 w2 w3 : WorldState) (fs : List (List ℕ)) (ss : List SourceStat
         failed = names;
       }
 
-map_kept : (ks : List FeedKept) → map has_failed (map entry_of ks) ≡ map (λ (k : FeedKept). has_failed (entry_of k)) ks
+pub map_kept : (ks : List FeedKept) → map has_failed (map entry_of ks) ≡ map (λ (k : FeedKept). has_failed (entry_of k)) ks
 map_kept [] = refl
 map_kept (k ∷ ks) = ap (λ (l : List Bool). has_failed (entry_of k) ∷ l) (map_kept ks)
 
@@ -221,7 +221,7 @@ blamed_kept (k ∷ ks) names flags behind =
     ∙ sym (append_assoc (named_when (has_failed (entry_of k)) k.name) (failed_names (map entry_of ks)) (blamed_among names flags behind))
 
 -- the names of the outcome are those of the entries
-names_same : (out : List ℕ) (feeds more : List (List ℕ)) (ks : List FeedKept) (behind : List Opening) (flags : List Bool) (o : Bool) (all : List Bool) → feeds ≡ names_kept ks ++ more → all ≡ map has_failed (map entry_of ks) ++ flags
+pub names_same : (out : List ℕ) (feeds more : List (List ℕ)) (ks : List FeedKept) (behind : List Opening) (flags : List Bool) (o : Bool) (all : List Bool) → feeds ≡ names_kept ks ++ more → all ≡ map has_failed (map entry_of ks) ++ flags
     → failed_names behind ≡ blamed_among more flags (named_when o out ++ []) → failed_names (map entry_of ks ++ behind) ≡ blamed_names (files_of out feeds) (failed_of all o)
 names_same out feeds more ks behind flags o all feeds_are all_are behind_are =
     flat_map-append (λ (entry : Opening). named_when (has_failed entry) entry.name) (map entry_of ks) behind
@@ -379,7 +379,7 @@ pub record AllGiven (out : List ℕ) (feeds : List (List ℕ)) (w0 w1 w2 w3 w4 :
   pub inputs_fit : w0.input_faults < 2 ^ 64
   pub outputs_fit : w0.output_faults < 2 ^ 64
 
-or_nothing : (a : Bool) → a ≡ (a || false)
+pub or_nothing : (a : Bool) → a ≡ (a || false)
 or_nothing true = refl
 or_nothing false = refl
 
@@ -387,11 +387,11 @@ store_alone : (out : List ℕ) (name : List ℕ) → NoneIsOut kinds.Source name
 store_alone out name zero d within = λ is. let kind = is.kind_is in absurd cc
 store_alone out name (suc n) d within = absurd (omega (arith, within))
 
-none_behind : (name : List ℕ) → NoneIsOut kinds.Live name []
+pub none_behind : (name : List ℕ) → NoneIsOut kinds.Live name []
 none_behind name k d within = absurd (omega (arith, within))
 
 -- a name that is told is there
-has_there : (w : WorldState) (told : Told) (feeds : List (List ℕ)) (ss : List SourceState) (n : ℕ) (feed : List ℕ) (A : Type 0) → w.told ≡ Some told → AllZip (TellsName w) feeds ss → At feeds n feed → told.names feed ≡ None → A
+pub has_there : (w : WorldState) (told : Told) (feeds : List (List ℕ)) (ss : List SourceState) (n : ℕ) (feed : List ℕ) (A : Type 0) → w.told ≡ Some told → AllZip (TellsName w) feeds ss → At feeds n feed → told.names feed ≡ None → A
 has_there w told [] ss n feed A here tells at missing = absurd (at_none n feed at)
 has_there w told (f ∷ fs) [] n feed A here tells at missing = absurd tells
 has_there w told (f ∷ fs) (s ∷ ss) zero feed A here tells at missing = not_missing (told.names f) A (tells.0 told here).1 (ap told.names (same_Some f feed at) ∙ missing)

@@ -36,7 +36,7 @@ zip_push R (a ∷ xs) (b ∷ ys) x y all last = (all.0, zip_push R xs ys x y all
 
 -- ---- openings
 
-abbrev some_told : Told → Option Told
+abbrev pub some_told : Told → Option Told
 some_told t = Some t
 
 pub none_opened : (w : WorldState) → FeedsOpened w w [] []
@@ -77,6 +77,7 @@ none_kept w = record {
   world = λ fits. omega (arith, fits);
   inputs = λ fits. omega (arith, fits);
   outputs = refl;
+  watches = refl;
   failed_are = refl;
 }
 
@@ -103,6 +104,7 @@ one_kept w0 w1 w2 fs ss flags f s failed it one =
       world = λ fits. let first = it.world fits in let second = one.world (omega (arith, first)) in omega (arith, first, second);
       inputs = λ fits. let first = it.inputs fits in omega (arith, first, one.inputs);
       outputs = one.outputs ∙ it.outputs;
+      watches = one.watches ∙ it.watches;
       failed_are = ap (λ (b : Bool). b ∷ flags) one.failed_is ∙ ap (λ (l : List Bool). failed_so one.well s.faults ∷ l) it.failed_are;
     }
 

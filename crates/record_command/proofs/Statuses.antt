@@ -1,8 +1,7 @@
 -- The status of the troubles of a recording.
-use Rattle.std.proofs.Common.{◌≡◌, ◌⊎◌, ℕ, zero, suc, ◌≤◌, Bool, true, false, cond, ◌||◌, ◌==◌, List, [], ◌∷◌, ◌++◌, length, map, drop, Option, Some, None, refl, sym, ap, subst, inl, inr, ◌∙◌, unwrap_or, arith}
+use Rattle.std.proofs.Common.{◌≡◌, ◌⊎◌, ℕ, ◌≤◌, Bool, true, false, cond, ◌||◌, ◌==◌, List, [], ◌∷◌, ◌++◌, length, map, drop, Option, Some, None, refl, sym, ap, inl, inr, ◌∙◌, unwrap_or, arith}
 use Rattle.std.specs.List.{list_any}
 use Rattle.std.proofs.lemmas.List.Folds.{list_any-append}
-use Rattle.std.proofs.lemmas.Bool.{both_ways}
 use Rattle.recorder.specs.declared.report.Report.{Report}
 use Rattle.feed_lane.specs.declared.report.FeedReport.{FeedReport}
 use Rattle.feed_lane.specs.declared.report.FeedEnd.{FeedEnd}
@@ -14,12 +13,12 @@ use Rattle.record_command.specs.Record.{files_of, end_troubles, end_status, ends
 -- ---- what the feeds ask for
 
 -- the ends of the feeds, and their faults
-abbrev halts_ask : ℕ → List (List ℕ) → List FeedReport → Bool
+abbrev pub halts_ask : ℕ → List (List ℕ) → List FeedReport → Bool
 halts_ask s [] reports = false
 halts_ask s (feed ∷ feeds) [] = false
 halts_ask s (feed ∷ feeds) (report ∷ reports) = is_asked (end_troubles feed report.end) s || halts_ask s feeds reports
 
-abbrev faults_ask : ℕ → List (List ℕ) → List Bool → Bool
+abbrev pub faults_ask : ℕ → List (List ℕ) → List Bool → Bool
 faults_ask s [] flags = false
 faults_ask s (feed ∷ feeds) flags = is_asked (when (first_failed flags) (fault feed)) s || faults_ask s feeds (drop 1 flags)
 
@@ -72,7 +71,7 @@ end_two feed (feed_ends.Fault faults) = refl
 end_two feed feed_ends.Memory = refl
 end_two feed feed_ends.Ended = refl
 
-halts_two : (feeds : List (List ℕ)) (reports : List FeedReport) → halts_ask 2 feeds reports ≡ false
+pub halts_two : (feeds : List (List ℕ)) (reports : List FeedReport) → halts_ask 2 feeds reports ≡ false
 halts_two [] reports = refl
 halts_two (feed ∷ feeds) [] = refl
 halts_two (feed ∷ feeds) (report ∷ reports) = ap (λ (b : Bool). b || halts_ask 2 feeds reports) (end_two feed report.end) ∙ halts_two feeds reports
@@ -86,7 +85,7 @@ end_three feed (feed_ends.Fault faults) = refl
 end_three feed feed_ends.Memory = refl
 end_three feed feed_ends.Ended = refl
 
-halts_three : (feeds : List (List ℕ)) (reports : List FeedReport) → halts_ask 3 feeds reports ≡ false
+pub halts_three : (feeds : List (List ℕ)) (reports : List FeedReport) → halts_ask 3 feeds reports ≡ false
 halts_three [] reports = refl
 halts_three (feed ∷ feeds) [] = refl
 halts_three (feed ∷ feeds) (report ∷ reports) = ap (λ (b : Bool). b || halts_ask 3 feeds reports) (end_three feed report.end) ∙ halts_three feeds reports
@@ -100,7 +99,7 @@ end_five feed (feed_ends.Fault faults) = refl
 end_five feed feed_ends.Memory = refl
 end_five feed feed_ends.Ended = refl
 
-halts_five : (feeds : List (List ℕ)) (reports : List FeedReport) → halts_ask 5 feeds reports ≡ false
+pub halts_five : (feeds : List (List ℕ)) (reports : List FeedReport) → halts_ask 5 feeds reports ≡ false
 halts_five [] reports = refl
 halts_five (feed ∷ feeds) [] = refl
 halts_five (feed ∷ feeds) (report ∷ reports) = ap (λ (b : Bool). b || halts_ask 5 feeds reports) (end_five feed report.end) ∙ halts_five feeds reports
@@ -114,7 +113,7 @@ end_four feed (feed_ends.Fault faults) = refl
 end_four feed feed_ends.Memory = refl
 end_four feed feed_ends.Ended = refl
 
-halts_four : (feeds : List (List ℕ)) (reports : List FeedReport) → length reports ≤ length feeds → halts_ask 4 feeds reports ≡ list_any (λ (n : ℕ). n == 4) (map (λ (f : FeedReport). end_status f.end) reports)
+pub halts_four : (feeds : List (List ℕ)) (reports : List FeedReport) → length reports ≤ length feeds → halts_ask 4 feeds reports ≡ list_any (λ (n : ℕ). n == 4) (map (λ (f : FeedReport). end_status f.end) reports)
 halts_four [] [] few = refl
 halts_four [] (report ∷ reports) few = absurd (omega (arith, few))
 halts_four (feed ∷ feeds) [] few = refl
@@ -130,7 +129,7 @@ end_one feed (feed_ends.Fault faults) = refl
 end_one feed feed_ends.Memory = refl
 end_one feed feed_ends.Ended = refl
 
-halts_one : (feeds : List (List ℕ)) (reports : List FeedReport) → length reports ≤ length feeds → halts_ask 1 feeds reports ≡ list_any (λ (n : ℕ). n == 1) (map (λ (f : FeedReport). end_status f.end) reports)
+pub halts_one : (feeds : List (List ℕ)) (reports : List FeedReport) → length reports ≤ length feeds → halts_ask 1 feeds reports ≡ list_any (λ (n : ℕ). n == 1) (map (λ (f : FeedReport). end_status f.end) reports)
 halts_one [] [] few = refl
 halts_one [] (report ∷ reports) few = absurd (omega (arith, few))
 halts_one (feed ∷ feeds) [] few = refl
@@ -141,7 +140,7 @@ fault_two : (feed : List ℕ) (b : Bool) → is_asked (when b (fault feed)) 2 �
 fault_two feed true = refl
 fault_two feed false = refl
 
-faults_two : (feeds : List (List ℕ)) (flags : List Bool) → faults_ask 2 feeds flags ≡ false
+pub faults_two : (feeds : List (List ℕ)) (flags : List Bool) → faults_ask 2 feeds flags ≡ false
 faults_two [] flags = refl
 faults_two (feed ∷ feeds) flags = ap (λ (b : Bool). b || faults_ask 2 feeds (drop 1 flags)) (fault_two feed (first_failed flags)) ∙ faults_two feeds (drop 1 flags)
 
@@ -149,7 +148,7 @@ fault_five : (feed : List ℕ) (b : Bool) → is_asked (when b (fault feed)) 5 �
 fault_five feed true = refl
 fault_five feed false = refl
 
-faults_five : (feeds : List (List ℕ)) (flags : List Bool) → faults_ask 5 feeds flags ≡ false
+pub faults_five : (feeds : List (List ℕ)) (flags : List Bool) → faults_ask 5 feeds flags ≡ false
 faults_five [] flags = refl
 faults_five (feed ∷ feeds) flags = ap (λ (b : Bool). b || faults_ask 5 feeds (drop 1 flags)) (fault_five feed (first_failed flags)) ∙ faults_five feeds (drop 1 flags)
 
@@ -157,7 +156,7 @@ fault_four : (feed : List ℕ) (b : Bool) → is_asked (when b (fault feed)) 4 �
 fault_four feed true = refl
 fault_four feed false = refl
 
-faults_four : (feeds : List (List ℕ)) (flags : List Bool) → faults_ask 4 feeds flags ≡ false
+pub faults_four : (feeds : List (List ℕ)) (flags : List Bool) → faults_ask 4 feeds flags ≡ false
 faults_four [] flags = refl
 faults_four (feed ∷ feeds) flags = ap (λ (b : Bool). b || faults_ask 4 feeds (drop 1 flags)) (fault_four feed (first_failed flags)) ∙ faults_four feeds (drop 1 flags)
 
@@ -165,7 +164,7 @@ fault_one : (feed : List ℕ) (b : Bool) → is_asked (when b (fault feed)) 1 �
 fault_one feed true = refl
 fault_one feed false = refl
 
-faults_one : (feeds : List (List ℕ)) (flags : List Bool) → faults_ask 1 feeds flags ≡ false
+pub faults_one : (feeds : List (List ℕ)) (flags : List Bool) → faults_ask 1 feeds flags ≡ false
 faults_one [] flags = refl
 faults_one (feed ∷ feeds) flags = ap (λ (b : Bool). b || faults_ask 1 feeds (drop 1 flags)) (fault_one feed (first_failed flags)) ∙ faults_one feeds (drop 1 flags)
 
@@ -177,7 +176,7 @@ none_blamed : (feeds : List (List ℕ)) → faults_ask 3 feeds [] ≡ false
 none_blamed [] = refl
 none_blamed (feed ∷ feeds) = none_blamed feeds
 
-faults_three : (feeds : List (List ℕ)) (flags : List Bool) → length flags ≤ length feeds → faults_ask 3 feeds flags ≡ some_failed flags
+pub faults_three : (feeds : List (List ℕ)) (flags : List Bool) → length flags ≤ length feeds → faults_ask 3 feeds flags ≡ some_failed flags
 faults_three [] [] few = refl
 faults_three [] (b ∷ flags) few = absurd (omega (arith, few))
 faults_three (feed ∷ feeds) [] few = none_blamed feeds
@@ -281,7 +280,7 @@ rest_one out false false false false = refl
 -- ---- the status
 
 -- the first of 2, 5, 3, 4 and 1 that is asked for
-abbrev picked : Bool → Bool → Bool → Bool → Bool → ℕ
+abbrev pub picked : Bool → Bool → Bool → Bool → Bool → ℕ
 picked a b c d e = cond a 2 (cond b 5 (cond c 3 (cond d 4 (cond e 1 0))))
 
 picks : (a b c d e : Bool) → unwrap_or (cond a (Some 2) (cond b (Some 5) (cond c (Some 3) (cond d (Some 4) (cond e (Some 1) None))))) 0 ≡ picked a b c d e
@@ -292,7 +291,7 @@ picks false false false true e = refl
 picks false false false false true = refl
 picks false false false false false = refl
 
-status_picks : (due : List Trouble) (a b c d e : Bool) → is_asked due 2 ≡ a → is_asked due 5 ≡ b → is_asked due 3 ≡ c → is_asked due 4 ≡ d → is_asked due 1 ≡ e → status_of due ≡ picked a b c d e
+pub status_picks : (due : List Trouble) (a b c d e : Bool) → is_asked due 2 ≡ a → is_asked due 5 ≡ b → is_asked due 3 ≡ c → is_asked due 4 ≡ d → is_asked due 1 ≡ e → status_of due ≡ picked a b c d e
 status_picks due a b c d e two five three four one =
     picks (is_asked due 2) (is_asked due 5) (is_asked due 3) (is_asked due 4) (is_asked due 1)
     ∙ ap (λ (x : Bool). picked x (is_asked due 5) (is_asked due 3) (is_asked due 4) (is_asked due 1)) two
@@ -302,13 +301,13 @@ status_picks due a b c d e two five three four one =
     ∙ ap (λ (x : Bool). picked a b c d x) one
 
 -- the end of the feeds is asked for behind a limit of the file
-abbrev four_or : Bool → ℕ → ℕ
+abbrev pub four_or : Bool → ℕ → ℕ
 four_or b n = cond b 4 n
 
-abbrev one_or : Bool → ℕ
+abbrev pub one_or : Bool → ℕ
 one_or b = cond b 1 0
 
-limits_first : (h l one : Bool) → four_or (h || l) (one_or one) ≡ four_or l (four_or h (one_or one))
+pub limits_first : (h l one : Bool) → four_or (h || l) (one_or one) ≡ four_or l (four_or h (one_or one))
 limits_first true true one = refl
 limits_first true false one = refl
 limits_first false true one = refl
@@ -317,7 +316,7 @@ limits_first false false one = refl
 abbrev pub any : List Bool → Bool → Bool → Bool
 any flags o p = some_failed flags || (o || p)
 
-or_nothing : (a : Bool) → (a || false) ≡ a
+pub or_nothing : (a : Bool) → (a || false) ≡ a
 or_nothing true = refl
 or_nothing false = refl
 

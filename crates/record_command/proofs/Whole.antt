@@ -1,16 +1,15 @@
 -- What the bytes of the feeds and the status say of their recording.
-use Rattle.std.proofs.Common.{◌≡◌, ◌⊎◌, ℕ, zero, suc, ◌+◌, ◌++◌, ◌==◌, length, map, ◌^◌, ◌<◌, ◌≤◌, subst, Bool, true, false, ◌||◌, if◌then◌else◌, List, [], ◌∷◌, get_or, Option, Some, None, refl, sym, ap, inl, inr, ◌∙◌, arith}
+use Rattle.std.proofs.Common.{◌≡◌, ◌⊎◌, ℕ, zero, suc, ◌==◌, length, map, ◌^◌, ◌<◌, ◌≤◌, subst, Bool, true, false, ◌||◌, if◌then◌else◌, List, [], ◌∷◌, Option, Some, None, refl, sym, ap, inl, inr, ◌∙◌, arith}
 use Rattle.std.specs.List.{list_any, AllZip}
-use Rattle.std.proofs.lemmas.List.Folds.{list_any_at}
-use Rattle.std.proofs.lemmas.Option.{get_or_from_slice_get, slice_get_within, same_Some}
+use Rattle.std.proofs.lemmas.Option.{same_Some}
 use Rattle.std.proofs.lemmas.Bool.{both_ways, false_from_ne_true, or_right}
-use Rattle.mcap_io.specs.Outside.{Rose, added, WorldState, SourceState, Told, Opening, TellsName}
+use Rattle.mcap_io.specs.Outside.{Rose, added, WorldState, SourceState, LiveState, Told, Opening, TellsName}
 use Rattle.mcap_model.specs.declared.ends.End.{End}
 use Rattle.mcap_model.specs.declared.ends.End.TheVariants as ends
 use Rattle.mcap_model.specs.declared.ends.Stop.{Stop}
 use Rattle.mcap_model.specs.declared.ends.Stop.TheVariants as stops
 use Rattle.mcap_model.specs.Places.{At, Each}
-use Rattle.mcap_model.proofs.Places.{at_none, at_one}
+use Rattle.mcap_model.proofs.Places.{at_none}
 use Rattle.mcap_model.specs.Tops.{Top, flat}
 use Rattle.mcap_model.specs.Kept.{Halt, reading_limits, at_end, grammar as breaks, compressed as names, beyond, Halts, SameHalt}
 use Rattle.mcap_model.proofs.Halting.{readings_halt_once}
@@ -21,33 +20,31 @@ use Rattle.feed_lane.specs.declared.report.FeedEnd.TheVariants as feed_ends
 use Rattle.feed_lane.specs.declared.report.Refused.{Refused}
 use Rattle.feed_lane.specs.declared.report.Cause.{Cause}
 use Rattle.feed_lane.specs.declared.report.Cause.TheVariants as causes
-use Rattle.feed_lane.specs.Pass.{PassState}
 use Rattle.feed_lane.specs.Lanes.{EndsWith as IntakeEnds, CauseFits}
 use Rattle.feed_lane.specs.Feeds.{FeedEnds, TakesMessages}
 use Rattle.feed_lane.specs.Steps.{goes_on}
 use Rattle.recorder.specs.declared.options.RecordOptions.{RecordOptions}
 use Rattle.recorder.specs.declared.report.Report.{Report}
 use Rattle.buffer_swap.specs.Shown.{ShownBy}
-use Rattle.recorder.specs.Recorded.{FeedRecorded, lane_of, sides, answer_of}
-use Rattle.recorder.specs.Assembled.{LanePart}
+use Rattle.recorder.specs.Recorded.{FeedRecorded, Recorded, lane_of, sides, answer_of}
 use Rattle.recorder.specs.Laws.{RefusesNoneAsFull}
 use Rattle.command_base.specs.declared.faults.Counts.{Counts}
 use Rattle.command_base.specs.Texts.{halt_status}
 use Rattle.command_base.specs.Ran.{Scene, counts_in, AnyRose, CountsKept, input_faults, output_faults}
 use Rattle.recorder.proofs.Unfull.{lossless_refuses_none_as_full}
 use Rattle.feed_lane.specs.Causes.{is_over, is_memory}
-use Rattle.record_command.specs.Record.{FeedKept, entry_of, live_entry, names_kept, back_sources, Reported, EndsWith, worst, ends_status, IsAllRecorded, RecordsAll, HaltsThere, end_status, is_full, is_limit, is_memory_end, is_memory_writer, passes_limit, lacks_memory, limit_passed, LackIsTold}
+use Rattle.record_command.specs.Record.{FeedKept, entry_of, live_entry, back_sources, Reported, EndsWith, worst, ends_status, IsAllRecorded, RecordsAll, HaltsThere, end_status, is_full, is_limit, is_memory_end, is_memory_writer, passes_limit, lacks_memory, limit_passed, LackIsTold}
 use Rattle.record_command.proofs.Runs.{input_faults-append, output_faults-append}
 use Rattle.record_command.proofs.Sources.{zip_long}
 
 -- ---- places
 
-at_map : {X Y : Type 0} (f : X → Y) (xs : List X) (n : ℕ) (y : Y) → At (map f xs) n y → (x : X) × At xs n x × (y ≡ f x)
+pub at_map : {X Y : Type 0} (f : X → Y) (xs : List X) (n : ℕ) (y : Y) → At (map f xs) n y → (x : X) × At xs n x × (y ≡ f x)
 at_map f [] n y at = absurd (at_none n y at)
 at_map f (x ∷ xs) zero y at = (x, refl, sym (same_Some (f x) y at))
 at_map f (x ∷ xs) (suc n) y at = at_map f xs n y at
 
-map_at : {X Y : Type 0} (f : X → Y) (xs : List X) (n : ℕ) (x : X) → At xs n x → At (map f xs) n (f x)
+pub map_at : {X Y : Type 0} (f : X → Y) (xs : List X) (n : ℕ) (x : X) → At xs n x → At (map f xs) n (f x)
 map_at f [] n x at = absurd (at_none n x at)
 map_at f (y ∷ xs) zero x at = ap (λ z. Some (f z)) (same_Some y x at)
 map_at f (y ∷ xs) (suc n) x at = map_at f xs n x at
@@ -66,7 +63,7 @@ zip_left R (a ∷ xs) [] n y all at = absurd all
 zip_left R (a ∷ xs) (b ∷ ys) zero y all at = (a, refl)
 zip_left R (a ∷ xs) (b ∷ ys) (suc n) y all at = zip_left R xs ys n y all.1 at
 
-map_long : {X Y : Type 0} (f : X → Y) (xs : List X) → length (map f xs) ≡ length xs
+pub map_long : {X Y : Type 0} (f : X → Y) (xs : List X) → length (map f xs) ≡ length xs
 map_long f [] = refl
 map_long f (x ∷ xs) = ap suc (map_long f xs)
 
@@ -82,7 +79,7 @@ or_left : (a b : Bool) → a ≡ true → (a || b) ≡ true
 or_left true b is = refl
 or_left false b is = absurd cc
 
-any_at : {X : Type 0} (p : X → Bool) (xs : List X) (k : ℕ) (x : X) → At xs k x → p x ≡ true → list_any p xs ≡ true
+pub any_at : {X : Type 0} (p : X → Bool) (xs : List X) (k : ℕ) (x : X) → At xs k x → p x ≡ true → list_any p xs ≡ true
 any_at p [] k x at is = absurd (at_none k x at)
 any_at p (y ∷ xs) zero x at is = or_left (p y) (list_any p xs) (ap p (same_Some y x at) ∙ is)
 any_at p (y ∷ xs) (suc k) x at is = or_right (p y) (list_any p xs) (any_at p xs k x at is)
@@ -140,7 +137,7 @@ fault_counts [] n s at some = absurd (at_none n s at)
 fault_counts (k ∷ ks) zero s at some = let same = ap (λ (x : SourceState). x.faults) (same_Some k.back s at) in omega (arith, same, some)
 fault_counts (k ∷ ks) (suc n) s at some = let more = fault_counts ks n s at some in omega (arith, more)
 
-sources_write_nothing : (ks : List FeedKept) → output_faults (map entry_of ks) ≡ 0
+pub sources_write_nothing : (ks : List FeedKept) → output_faults (map entry_of ks) ≡ 0
 sources_write_nothing [] = refl
 sources_write_nothing (k ∷ ks) = let more = sources_write_nothing ks in omega (arith, more)
 
@@ -148,23 +145,41 @@ sources_write_nothing (k ∷ ks) = let more = sources_write_nothing ks in omega 
 abbrev Hindered : WorldState → WorldState → Report → Type 0
 Hindered old new r = Rose old.input_faults new.input_faults ⊎ (Rose old.output_faults new.output_faults ⊎ ((lacks_memory r ≡ true) ⊎ (passes_limit r ≡ true)))
 
-module _ (options : RecordOptions) (out : List ℕ) (feeds : List (List ℕ)) (old new : WorldState) (entries : List Opening) (r : Report) (is : Reported options out feeds old new entries r) (kept : CountsKept old new entries)
-    (inputs_fit : old.input_faults < 2 ^ 64) (outputs_fit : old.output_faults < 2 ^ 64) where
-  inputs_are : new.input_faults ≡ added old.input_faults (input_faults (map entry_of is.kept_feeds))
-  inputs_are =
+-- The sources of feeds were recorded into a store, and both were taken back.
+pub record Read (options : RecordOptions) (feeds : List (List ℕ)) (old new : WorldState) (r : Report) : Type 0 where
+  pub given : List SourceState
+  pub kept_feeds : List FeedKept
+  pub live : LiveState
+  pub live_now : LiveState
+  pub recorded : Recorded options (sides given live) (sides (back_sources kept_feeds) live_now) r
+  pub tells : AllZip (TellsName old) feeds given
+  pub unused : Each (λ (s : SourceState). s.faults ≡ 0) given
+  pub inputs : new.input_faults ≡ added old.input_faults (input_faults (map entry_of kept_feeds))
+  pub outputs : new.output_faults ≡ added old.output_faults live_now.faults
+
+pub read_of : (options : RecordOptions) (out : List ℕ) (feeds : List (List ℕ)) (old new : WorldState) (entries : List Opening) (r : Report) → Reported options out feeds old new entries r → CountsKept old new entries → Read options feeds old new r
+read_of options out feeds old new entries r is kept = record {
+  given = is.given;
+  kept_feeds = is.kept_feeds;
+  live = is.live;
+  live_now = is.live_now;
+  recorded = is.recorded;
+  tells = is.tells;
+  unused = is.unused;
+  inputs =
       let all = kept.inputs ∙ ap (λ (es : List Opening). added old.input_faults (input_faults es)) is.kept_are in
-      omega (arith, all, input_faults-append (map entry_of is.kept_feeds) (live_entry out is.live_now is.live_kept ∷ []))
-
-  outputs_are : new.output_faults ≡ added old.output_faults is.live_now.faults
-  outputs_are =
+      omega (arith, all, input_faults-append (map entry_of is.kept_feeds) (live_entry out is.live_now is.live_kept ∷ []));
+  outputs =
       let all = kept.outputs ∙ ap (λ (es : List Opening). added old.output_faults (output_faults es)) is.kept_are in
-      omega (arith, all, output_faults-append (map entry_of is.kept_feeds) (live_entry out is.live_now is.live_kept ∷ []), sources_write_nothing is.kept_feeds)
+      omega (arith, all, output_faults-append (map entry_of is.kept_feeds) (live_entry out is.live_now is.live_kept ∷ []), sources_write_nothing is.kept_feeds);
+}
 
+module _ (options : RecordOptions) (feeds : List (List ℕ)) (old new : WorldState) (r : Report) (is : Read options feeds old new r) (inputs_fit : old.input_faults < 2 ^ 64) (outputs_fit : old.output_faults < 2 ^ 64) where
   -- a writer that stopped had a reason
   stopped_why : (stop : Stop) → r.writer.end ≡ ends.Stopped stop → Hindered old new r
   stopped_why (stops.Fault faults) stopped =
       let why = subst (λ (e : End). WriterCause {X = Unit} is.live.faults is.live_now.faults (answer_of e)) stopped is.recorded.writer.cause in
-      inr (inl (first_rose old.output_faults new.output_faults is.live_now.faults outputs_fit outputs_are (omega (arith, why.0.once, is.live_unused))))
+      inr (inl (first_rose old.output_faults new.output_faults is.live_now.faults outputs_fit is.outputs (omega (arith, why.0.once))))
   stopped_why (stops.Limit blocks bytes) stopped = inr (inr (inr (or_left (is_limit r.writer.end) _ (ap is_limit stopped))))
   stopped_why stops.Memory stopped = inr (inr (inl (or_left (is_memory_writer r.writer.end) _ (ap is_memory_writer stopped))))
 
@@ -219,7 +234,7 @@ module _ (options : RecordOptions) (out : List ℕ) (feeds : List (List ℕ)) (o
     fault_why faults failed =
         let stood = subst (λ (e : FeedEnd). FeedEnds f.before f.now f.reports.tops e) failed f.reports.ends in
         let some : 1 ≤ f.now.faults = omega (arith, stood.rises.once, is.unused n f.before before_at) in
-        inl (first_rose old.input_faults new.input_faults (input_faults (map entry_of is.kept_feeds)) inputs_fit inputs_are (fault_counts is.kept_feeds n f.now now_at some))
+        inl (first_rose old.input_faults new.input_faults (input_faults (map entry_of is.kept_feeds)) inputs_fit is.inputs (fault_counts is.kept_feeds n f.now now_at some))
 
     memory_why : f.feed.end ≡ feed_ends.Memory → Hindered old new r
     memory_why lacked = inr (inr (inl (feed_lacks r n f.feed report_at lacked)))
@@ -297,15 +312,24 @@ module _ (options : RecordOptions) (out : List ℕ) (feeds : List (List ℕ)) (o
 
 -- ---- the status
 
-four_where : (limited : Bool) (number answer : ℕ) → answer ≡ (if limited then 4 else number) → limited ≡ true → answer ≡ 4
-four_where true number answer is yes_it = is
-four_where false number answer is yes_it = absurd cc
+-- nothing stands in the way
+free_of : (old new : WorldState) (r : Report) → (Rose old.input_faults new.input_faults → ⊥) → (Rose old.output_faults new.output_faults → ⊥) → lacks_memory r ≡ false → passes_limit r ≡ false → Hindered old new r → ⊥
+free_of old new r no_inputs no_outputs enough within why = elim why [
+  | inl inputs ↦ no_inputs inputs
+  | inr (inl outputs) ↦ no_outputs outputs
+  | inr (inr (inl lacks)) ↦ both_ways (lacks_memory r) enough lacks
+  | inr (inr (inr passes)) ↦ both_ways (passes_limit r) within passes
+]
 
-unlimited : (limited : Bool) (number answer : ℕ) → answer ≡ (if limited then 4 else number) → limited ≡ false → answer ≡ number
+pub limit_kept : (limited : Bool) (number answer : ℕ) → answer ≡ (if limited then 4 else number) → answer ≡ 0 → limited ≡ false
+limit_kept true number answer is zero_is = absurd (omega (arith, is, zero_is))
+limit_kept false number answer is zero_is = refl
+
+pub unlimited : (limited : Bool) (number answer : ℕ) → answer ≡ (if limited then 4 else number) → limited ≡ false → answer ≡ number
 unlimited true number answer is none = absurd cc
 unlimited false number answer is none = is
 
-unlimited_status : (limited : Bool) (number answer : ℕ) → answer ≡ (if limited then 4 else number) → answer ≡ 0 → number ≡ 0
+pub unlimited_status : (limited : Bool) (number answer : ℕ) → answer ≡ (if limited then 4 else number) → answer ≡ 0 → number ≡ 0
 unlimited_status true number answer is zero_is = absurd (omega (arith, is, zero_is))
 unlimited_status false number answer is zero_is = sym is ∙ zero_is
 
@@ -334,22 +358,24 @@ none_worse reports n f is at =
     let there = map_at (λ (g : FeedReport). end_status g.end) reports n f at in
     no_other f.end (none_at (λ (k : ℕ). k == 4) all n (end_status f.end) none.0 there) (none_at (λ (k : ℕ). k == 1) all n (end_status f.end) none.1 there)
 
--- the bytes decide the status, unless a count rises, memory lacks, or a limit would be passed
+-- the bytes decide the ends of the feeds, unless a count rises, memory lacks, or a limit would be passed
+pub ends_decided : (options : RecordOptions) (feeds : List (List ℕ)) (old new : WorldState) (r : Report) → Read options feeds old new r → old.input_faults < 2 ^ 64 → old.output_faults < 2 ^ 64
+    → (Rose old.input_faults new.input_faults → ⊥) → (Rose old.output_faults new.output_faults → ⊥) → lacks_memory r ≡ false → passes_limit r ≡ false
+    → (told : Told) (halts : List Halt) → old.told ≡ Some told → AllZip (HaltsThere told) feeds halts → map (λ (g : FeedReport). end_status g.end) r.feeds.items ≡ map halt_status halts
+ends_decided options feeds old new r is inputs_fit outputs_fit no_inputs no_outputs enough within told halts here all =
+    decided_all options feeds old new r is inputs_fit outputs_fit (free_of old new r no_inputs no_outputs enough within) told halts here all
+
+-- so they decide the status
 pub decided : (options : RecordOptions) (out : List ℕ) (feeds : List (List ℕ)) (old new : Scene) (report : Option Report) (lacked : Bool) (entries : List Opening) (answer : ℕ) → old.world.input_faults < 2 ^ 64 → old.world.output_faults < 2 ^ 64 → CountsKept old.world new.world entries
     → ((r : Report) → report ≡ Some r → Reported options out feeds old.world new.world entries r) → LackIsTold (counts_in old) (counts_in new) report lacked → EndsWith (counts_in old) (counts_in new) report lacked answer
     → (told : Told) (halts : List Halt) → old.world.told ≡ Some told → AllZip (HaltsThere told) feeds halts
     → (AnyRose (counts_in old) (counts_in new) → ⊥) → lacked ≡ false → limit_passed report ≡ false → answer ≡ worst (map halt_status halts)
 decided options out feeds old new None lacked entries answer inputs_fit outputs_fit kept reported lacking came told halts here all quiet enough within = absurd (both_ways lacked enough (lacking.0 quiet))
 decided options out feeds old new (Some r) lacked entries answer inputs_fit outputs_fit kept reported lacking came told halts here all quiet enough within =
-    let is = reported r refl in
+    let is = read_of options out feeds old.world new.world entries r (reported r refl) kept in
     let status = came.calm enough quiet r refl in
-    let free : Hindered old.world new.world r → ⊥ = λ why. elim why [
-      | inl inputs ↦ quiet (inr (inl inputs))
-      | inr (inl outputs) ↦ quiet (inr (inr (inl outputs)))
-      | inr (inr (inl lacks)) ↦ both_ways lacked enough (lacking ∙ lacks)
-      | inr (inr (inr passes)) ↦ both_ways (passes_limit r) within passes
-    ] in
-    unlimited (passes_limit r) (ends_status r) answer status within ∙ ap worst (decided_all options out feeds old.world new.world entries r is kept inputs_fit outputs_fit free told halts here all)
+    let ends = ends_decided options feeds old.world new.world r is inputs_fit outputs_fit (λ rose. quiet (inr (inl rose))) (λ rose. quiet (inr (inr (inl rose)))) (sym lacking ∙ enough) within told halts here all in
+    unlimited (passes_limit r) (ends_status r) answer status within ∙ ap worst ends
 
 -- with the status 0 memory was enough, and no count rose
 enough_memory : (before now : Counts) (report : Option Report) (lacked : Bool) (answer : ℕ) → EndsWith before now report lacked answer → answer ≡ 0 → lacked ≡ false
@@ -365,7 +391,28 @@ none_there : (xs : List Refused) → ((k : ℕ) (x : Refused) → At xs k x → 
 none_there [] none = refl
 none_there (x ∷ xs) none = absurd (none 0 x refl)
 
--- the status 0 says that all of the feeds was recorded
+-- all of the feeds was recorded where no count rose, memory was enough, no limit would be passed, and no end is a trouble
+pub all_recorded : (options : RecordOptions) (feeds : List (List ℕ)) (old new : WorldState) (r : Report) → Read options feeds old new r → old.input_faults < 2 ^ 64 → old.output_faults < 2 ^ 64
+    → (Rose old.input_faults new.input_faults → ⊥) → (Rose old.output_faults new.output_faults → ⊥) → lacks_memory r ≡ false → passes_limit r ≡ false → ends_status r ≡ 0 → RecordsAll options r
+all_recorded options feeds old new r is inputs_fit outputs_fit no_inputs no_outputs enough within none =
+    let free = free_of old new r no_inputs no_outputs enough within in
+    record {
+      each = λ n g at.
+          let found = report_of options feeds old new r is inputs_fit outputs_fit n g at in
+          let f = found.0 in
+          let ended : end_status f.feed.end ≡ 0 = ap (λ (x : FeedReport). end_status x.end) (sym found.2) ∙ none_worse r.feeds.items n g none at in
+          let full : Each (λ (x : Refused). is_full x.cause ≡ true) f.feed.refused.items = λ k x there. elim (each_refused options feeds old new r is inputs_fit outputs_fit n f found.1 k x there) [ inl yes_it ↦ yes_it | inr why ↦ absurd (free why) ] in
+          let never : options.lossless ≡ true → RefusesNoneAsFull f.feed = λ lossless. subst RefusesNoneAsFull found.2 (lossless_refuses_none_as_full options (sides is.given is.live) (sides (back_sources is.kept_feeds) is.live_now) r is.recorded lossless n g at) in
+          let all : IsAllRecorded options.lossless f.feed = record {
+            end = elim (done_or options feeds old new r is inputs_fit outputs_fit n f found.1 f.feed.end refl ended) [ inl done ↦ done | inr why ↦ absurd (free why) ];
+            only_full = full;
+            none_refused = λ lossless. none_there f.feed.refused.items (λ k x there. let (held, from, to, cause) = full_is x.cause (full k x there) in never lossless k x there held from to cause);
+          } in
+          subst (IsAllRecorded options.lossless) (sym found.2) all;
+      closed = elim (closed_or options feeds old new r is inputs_fit outputs_fit r.writer.end refl) [ inl closed ↦ closed | inr why ↦ absurd (free why) ];
+    }
+
+-- the status 0 says that
 pub whole : (options : RecordOptions) (out : List ℕ) (feeds : List (List ℕ)) (old new : Scene) (report : Option Report) (lacked : Bool) (entries : List Opening) (answer : ℕ) → old.world.input_faults < 2 ^ 64 → old.world.output_faults < 2 ^ 64 → CountsKept old.world new.world entries
     → ((r : Report) → report ≡ Some r → Reported options out feeds old.world new.world entries r) → LackIsTold (counts_in old) (counts_in new) report lacked → EndsWith (counts_in old) (counts_in new) report lacked answer
     → answer ≡ 0 → (r : Report) × (report ≡ Some r) × RecordsAll options r
@@ -373,33 +420,12 @@ whole options out feeds old new None lacked entries answer inputs_fit outputs_fi
     let enough = enough_memory (counts_in old) (counts_in new) None lacked answer came zero_is in
     absurd (both_ways lacked enough (lacking.0 (calm (counts_in old) (counts_in new) None lacked answer came zero_is)))
 whole options out feeds old new (Some r) lacked entries answer inputs_fit outputs_fit kept reported lacking came zero_is =
-    let is = reported r refl in
+    let is = read_of options out feeds old.world new.world entries r (reported r refl) kept in
     let enough = enough_memory (counts_in old) (counts_in new) (Some r) lacked answer came zero_is in
     let quiet = calm (counts_in old) (counts_in new) (Some r) lacked answer came zero_is in
     let status : answer ≡ (if passes_limit r then 4 else ends_status r) = came.calm enough quiet r refl in
-    let free : Hindered old.world new.world r → ⊥ = λ why. elim why [
-      | inl inputs ↦ quiet (inr (inl inputs))
-      | inr (inl outputs) ↦ quiet (inr (inr (inl outputs)))
-      | inr (inr (inl lacks)) ↦ both_ways lacked enough (lacking ∙ lacks)
-      | inr (inr (inr passes)) ↦ let four = four_where (passes_limit r) (ends_status r) answer status passes in omega (arith, four, zero_is)
-    ] in
-    let none = unlimited_status (passes_limit r) (ends_status r) answer status zero_is in
-    let each : Each (IsAllRecorded options.lossless) r.feeds.items = λ n g at.
-    let found = report_of options out feeds old.world new.world entries r is kept inputs_fit outputs_fit n g at in
-    let f = found.0 in
-    let ended : end_status f.feed.end ≡ 0 = ap (λ (x : FeedReport). end_status x.end) (sym found.2) ∙ none_worse r.feeds.items n g none at in
-    let full : Each (λ (x : Refused). is_full x.cause ≡ true) f.feed.refused.items = λ k x there. elim (each_refused options out feeds old.world new.world entries r is kept inputs_fit outputs_fit n f found.1 k x there) [ inl yes_it ↦ yes_it | inr why ↦ absurd (free why) ] in
-    let never : options.lossless ≡ true → RefusesNoneAsFull f.feed = λ lossless. subst RefusesNoneAsFull found.2 (lossless_refuses_none_as_full options (sides is.given is.live) (sides (back_sources is.kept_feeds) is.live_now) r is.recorded lossless n g at) in
-    let all : IsAllRecorded options.lossless f.feed = record {
-      end = elim (done_or options out feeds old.world new.world entries r is kept inputs_fit outputs_fit n f found.1 f.feed.end refl ended) [ inl done ↦ done | inr why ↦ absurd (free why) ];
-      only_full = full;
-      none_refused = λ lossless. none_there f.feed.refused.items (λ k x there. let (held, from, to, cause) = full_is x.cause (full k x there) in never lossless k x there held from to cause);
-    } in
-    subst (IsAllRecorded options.lossless) (sym found.2) all in (
+    let within = limit_kept (passes_limit r) (ends_status r) answer status zero_is in (
       r,
       refl,
-      record {
-        each = each;
-        closed = elim (closed_or options out feeds old.world new.world entries r is kept inputs_fit outputs_fit r.writer.end refl) [ inl closed ↦ closed | inr why ↦ absurd (free why) ];
-      },
+      all_recorded options feeds old.world new.world r is inputs_fit outputs_fit (λ rose. quiet (inr (inl rose))) (λ rose. quiet (inr (inr (inl rose)))) (sym lacking ∙ enough) within (unlimited_status (passes_limit r) (ends_status r) answer status zero_is),
     )

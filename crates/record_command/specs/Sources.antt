@@ -45,6 +45,7 @@ pub record OneKept (old new : WorldState) (feed : List ℕ) (source : SourceStat
   pub world : old.faults < 2 ^ 64 → new.faults ≡ added old.faults (if well then 0 else 1)
   pub inputs : new.input_faults ≡ added old.input_faults source.faults
   pub outputs : new.output_faults ≡ old.output_faults
+  pub watches : new.watch_faults ≡ old.watch_faults
   pub failed_is : failed ≡ failed_so well source.faults
 
 -- no source is out, under whatever name
@@ -62,6 +63,7 @@ pub record FeedsKept (old new : WorldState) (feeds : List (List ℕ)) (sources :
   pub world : old.faults < 2 ^ 64 → new.faults ≡ added old.faults (world_faults (map entry_of kept))
   pub inputs : old.input_faults < 2 ^ 64 → new.input_faults ≡ added old.input_faults (input_faults (map entry_of kept))
   pub outputs : new.output_faults ≡ old.output_faults
+  pub watches : new.watch_faults ≡ old.watch_faults
   pub failed_are : failed ≡ map (λ (k : FeedKept). has_failed (entry_of k)) kept
 
 -- which feeds failed, with the one that was refused

@@ -18,8 +18,9 @@ use mcap_model::{End, Stop};
 use mcap_wire::Text;
 use recorder::{FeedEnd, FeedReport, Report};
 
-/// The most complaints of a recording: two of each of 64 feeds, and four of the output, of standard output and of memory.
-const MOST_COMPLAINTS: usize = 132;
+/// The most complaints of a recording: two of each of 64 feeds and of 16 watchers, and four of the output, of standard output
+/// and of memory.
+pub(crate) const MOST_COMPLAINTS: usize = 164;
 
 /// What a recording came to: its report, and which of its names couldn't be opened or kept. Of the feeds these are the answers
 /// for those that were reached, in their order.
@@ -40,21 +41,21 @@ pub struct Failures<'a> {
 }
 
 // Whether one of the answers is that it failed.
-fn has_some(failed: &[bool]) -> bool
+pub(crate) fn has_some(failed: &[bool]) -> bool
     ensures { result ≡ some_failed failed.now }
 {
     failed.iter().any(|b| *b)
 }
 
 // Whether the one holds and the other doesn't.
-fn holds_alone(one: bool, other: bool) -> bool
+pub(crate) fn holds_alone(one: bool, other: bool) -> bool
     ensures { result ≡ (if one then not other else false) }
 {
     one && !other
 }
 
 // Whether one of three holds.
-fn any_holds(first: bool, second: bool, third: bool) -> bool
+pub(crate) fn any_holds(first: bool, second: bool, third: bool) -> bool
     ensures { result ≡ (first || (second || third)) }
 {
     first || second || third
@@ -129,7 +130,7 @@ fn is_blamed(failed: Failures<'_>, index: usize) -> bool
 }
 
 // The complaints of the feeds, in their order: of each how its reading ended, and then that it failed.
-fn feed_complaints<'a>(
+pub(crate) fn feed_complaints<'a>(
     feeds: &'a [Text],
     reports: &'a [FeedReport],
     failed: Failures<'_>,
@@ -148,7 +149,7 @@ fn feed_complaints<'a>(
 }
 
 // The reports on the feeds, where there are some.
-fn feed_reports(report: &Option<Report>) -> &[FeedReport]
+pub(crate) fn feed_reports(report: &Option<Report>) -> &[FeedReport]
     ensures { result.now ≡ reports_in report.now }
 {
     match report {
@@ -184,7 +185,7 @@ fn have_too_much(feeds: &[FeedReport]) -> bool
 }
 
 // Whether the file or a message would have passed a limit.
-fn has_limit(report: &Option<Report>) -> bool
+pub(crate) fn has_limit(report: &Option<Report>) -> bool
     ensures { result ≡ limit_passed report.now }
 {
     match report {
@@ -245,14 +246,14 @@ fn writer_lacked(end: End) -> bool
 }
 
 // Whether the report names a want of memory.
-fn names_memory(report: &Report) -> bool
+pub(crate) fn names_memory(report: &Report) -> bool
     ensures { result ≡ report_lacks report.now }
 {
     writer_lacked(report.writer.end) || feeds_lacked(&report.feeds)
 }
 
 // Whether some part failed.
-fn has_failed(failed: Failures<'_>) -> bool
+pub(crate) fn has_failed(failed: Failures<'_>) -> bool
     ensures { IsTrue result ↔ PartFailed failed.entry }
 {
     failed.every_feed || has_some(failed.feeds) || failed.out || failed.printing

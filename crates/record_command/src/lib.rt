@@ -4,7 +4,14 @@
 mod answering;
 mod print;
 mod recording;
+mod sinks;
+mod watched_answer;
+mod watched_names;
 
 pub use answering::{Failures, Outcome, answer, failed_parts};
 pub use print::print_report;
 pub use recording::{Ended, record_file};
+pub use watched_answer::{
+    WatchedCounts, WatchedFailures, answer_watched, failed_watched_parts, record_watched_file,
+};
+pub use watched_names::WatchedOutcome;

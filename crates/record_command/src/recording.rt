@@ -28,15 +28,15 @@ pub struct Ended {
     pub report: Option<Report>,
 }
 
-// Room for the sources of feeds, and for which of them failed.
+/// Room for the sources of feeds, and for which of them failed.
 #[derive(Drop)]
-struct Room<S> {
-    sources: Vec<S>,
-    failed: Vec<bool>,
+pub(crate) struct Room<S> {
+    pub sources: Vec<S>,
+    pub failed: Vec<bool>,
 }
 
-// Makes room for so many feeds.
-fn make_room<S: Drop>(alloc: Global, many: usize) -> Result<Room<S>, Memory>
+/// Makes room for so many feeds.
+pub(crate) fn make_room<S: Drop>(alloc: Global, many: usize) -> Result<Room<S>, Memory>
     ensures sources { IfOk result (λ room. (room.sources.items ≡ []) × (many ≤ vec_capacity room.sources)) }
     ensures failed { IfOk result (λ room. (room.failed.items ≡ []) × (many ≤ vec_capacity room.failed)) }
 {
@@ -58,8 +58,8 @@ fn unrecorded(feeds_failed: Vec<bool>, out_failed: bool) -> Outcome
     }
 }
 
-// Whether an opening was refused since the outside failed.
-fn is_failed(why: OpenRefused) -> bool
+/// Whether an opening was refused since the outside failed.
+pub(crate) fn is_failed(why: OpenRefused) -> bool
     ensures failed { result ≡ true → why ≡ OpenRefused.Failed }
     ensures memory { result ≡ false → why ≡ OpenRefused.Memory }
 {
@@ -69,8 +69,8 @@ fn is_failed(why: OpenRefused) -> bool
     }
 }
 
-// Opens the feeds in their order, up to one that is refused.
-fn open_feeds<W: World>(
+/// Opens the feeds in their order, up to one that is refused.
+pub(crate) fn open_feeds<W: World>(
     world: &mut W,
     feeds: &[Text],
     sources: &mut Vec<W::Source>,
@@ -100,9 +100,9 @@ fn keep_feed<W: World>(world: &mut W, feed: &str, source: W::Source) -> bool
     has_failed(faults, kept)
 }
 
-// Keeps the sources of feeds in the reverse order of their opening, since a keeping is noted in the newest opening of its name,
-// and says which of them failed.
-fn keep_feeds<W: World>(
+/// Keeps the sources of feeds in the reverse order of their opening, since a keeping is noted in the newest opening of its name,
+/// and says which of them failed.
+pub(crate) fn keep_feeds<W: World>(
     world: &mut W,
     feeds: &[Text],
     sources: Vec<W::Source>,
@@ -123,8 +123,8 @@ fn keep_feeds<W: World>(
     failed.reverse();
 }
 
-// Adds that the feed failed whose opening was refused so.
-fn add_refused(failed: &mut Vec<bool>, why_failed: bool)
+/// Adds that the feed failed whose opening was refused so.
+pub(crate) fn add_refused(failed: &mut Vec<bool>, why_failed: bool)
     requires room { vec_len failed.old < vec_capacity failed.old }
     ensures { failed.new.items ≡ flags_with failed.old.items why_failed }
 {
@@ -225,7 +225,7 @@ fn record_names<R: Threads + Wait + Sync, W: World>(
 }
 
 // Prints the report, if there is one.
-fn print_outcome<O: Sink>(out: &mut O, report: &Option<Report>)
+pub(crate) fn print_outcome<O: Sink>(out: &mut O, report: &Option<Report>)
     ensures { Takes (O.state out.old) (O.state out.new) (report_text report.now) }
 {
     match report {

@@ -1,0 +1,182 @@
+-- What a recording with watchers does to the names of the feeds, of the output and of the watch files, and what it came to.
+use Rattle.std.specs.Prelude.{◌≡◌, ◌⊎◌, ℕ, zero, suc, ◌+◌, ◌-◌, ◌^◌, ◌<◌, ◌≤◌, ◌||◌, List, [], ◌∷◌, ◌++◌, map, take, length, Bool, true, false, Option, Some, None}
+use Rattle.std.specs.List.{AllZip, list_any, sum, concat}
+use Rattle.mcap_io.specs.Outside.{Rose, RisesOnce, added, WorldState, SourceState, LiveState, Told, Opening, TellsName}
+use Rattle.mcap_io.specs.declared.outside.ObjectKind.TheVariants as kinds
+use Rattle.mcap_model.specs.declared.replay.Range.{Range}
+use Rattle.mcap_model.specs.Places.{Has, Each}
+use Rattle.live_directory.specs.Writing.{at_most_one}
+use Rattle.recorder.specs.declared.options.RecordOptions.{RecordOptions}
+use Rattle.recorder.specs.declared.report.Report.{Report}
+use Rattle.recorder.specs.Recorded.{sides, Recorded}
+use Rattle.recorder.specs.Laws.{AreReadable}
+use Rattle.watching.specs.declared.report.WatchReport.{WatchReport}
+use Rattle.watching.specs.declared.report.WatchEnd.{WatchEnd}
+use Rattle.watching.specs.declared.report.WatchEnd.TheVariants as watch_ends
+use Rattle.watched_recording.specs.Watched.{Watch, AsksViews}
+use Rattle.watched_recording.specs.Files.{IsWatchedFile}
+use Rattle.command_base.specs.Ran.{Files, Wanted, wanted, AreOpened, CountsKept, has_failed, failed_names, blamed_names}
+use Rattle.record_command.specs.declared.watched_names.WatchedOutcome.{WatchedOutcome}
+use Rattle.record_command.specs.Record.{files_of, failed_of, some_failed, FeedKept, entry_of, live_entry, names_kept, back_sources, OutputHolds, Unreported, SparesOutput}
+use Rattle.record_command.specs.Sinks.{SinkKept, sink_entry, sink_names, back_sinks, watch_faults, SinkHolds}
+
+-- ---- names
+
+-- the feeds, then the output, and then the watch files
+abbrev pub wanted_names : List ℕ → List (List ℕ) → List (List ℕ) → List Wanted
+wanted_names out watches feeds = wanted (files_of out feeds) ++ map (λ (name : List ℕ). (kinds.Sink, name)) watches
+
+-- a live store or a sink was given under that name
+pub record IsWrittenBeside (entries : List Opening) (name : List ℕ) : Type 0 where
+  pub entry : Opening
+  pub there : Has entries entry
+  pub written : (entry.kind ≡ kinds.Live) ⊎ (entry.kind ≡ kinds.Sink)
+  pub given : entry.given ≡ true
+  pub named : entry.name ≡ name
+
+-- Where the world tells, it goes on telling: these openings stand behind those before, and a name that isn't written holds
+-- what it held.
+abbrev pub LeavesBeside : WorldState → WorldState → List Opening → Type 0
+LeavesBeside old new entries = (told : Told) → old.told ≡ Some told → (now : Told) × (new.told ≡ Some now) × (now.log ≡ told.log ++ entries)
+    × ((name : List ℕ) → (IsWrittenBeside entries name → ⊥) → now.names name ≡ told.names name)
+
+-- the world counted its own failures, the faults of what it took back, and those of the views that were let go
+pub record CountsBeside (old new : WorldState) (entries : List Opening) (failures : ℕ) : Type 0 where
+  pub kept : CountsKept old new entries
+  pub watches : new.watch_faults ≡ added old.watch_faults (watch_faults entries + failures)
+
+-- ---- why a watcher ended
+
+-- Its sink failed once, or its view did, and that is its count then; or the store gave it no view, since it failed, and that
+-- is the store's.
+abbrev pub FaultCause : LiveState → LiveState → Watch → ℕ → Type 0
+FaultCause before now w faults = (RisesOnce w.before.faults w.now.faults × (faults ≡ w.now.faults) × (w.view ≡ Some 0))
+    ⊎ ((RisesOnce 0 faults × (w.view ≡ Some faults) × (w.now.faults ≡ w.before.faults))
+    ⊎ ((w.view ≡ None) × (w.now ≡ w.before) × Rose before.faults faults × (faults ≤ now.faults)))
+
+-- its sink didn't fail, nor did its view
+abbrev pub IsCalm : Watch → Type 0
+IsCalm w = (w.view ≡ Some 0) × (w.now.faults ≡ w.before.faults)
+
+-- What the end of a watcher's report says of the counts, where the store was asked for the views between these two states: it
+-- ended at a fault exactly where one of them rose. None is told of an unsealed directory where it was sealed.
+abbrev pub EndsSo : LiveState → LiveState → Bool → Watch → WatchEnd → Type 0
+EndsSo before now sealed w (watch_ends.Fault faults) = FaultCause before now w faults
+EndsSo before now sealed w watch_ends.Whole = IsCalm w
+EndsSo before now sealed w watch_ends.Unsealed = IsCalm w × (sealed ≡ false)
+EndsSo before now sealed w (watch_ends.Flaw rule offset) = IsCalm w
+EndsSo before now sealed w watch_ends.Memory = IsCalm w
+
+-- the faults of the views that were given
+abbrev pub view_faults : List Watch → ℕ
+view_faults watches = sum (concat (map (λ (w : Watch). at_most_one w.view) watches))
+
+abbrev pub is_watch_fault : WatchEnd → Bool
+is_watch_fault (watch_ends.Fault faults) = true
+is_watch_fault watch_ends.Whole = false
+is_watch_fault watch_ends.Unsealed = false
+is_watch_fault (watch_ends.Flaw rule offset) = false
+is_watch_fault watch_ends.Memory = false
+
+-- the answers, with one added to that at the place
+abbrev pub or_at : List Bool → ℕ → Bool → List Bool
+or_at [] n failed = []
+or_at (first ∷ more) zero failed = (first || failed) ∷ more
+or_at (first ∷ more) (suc n) failed = first ∷ or_at more n failed
+
+-- which of the answers are that a watch file failed, or that its watcher ended at a fault
+abbrev pub with_ends : List Bool → List WatchReport → List Bool
+with_ends [] reports = []
+with_ends (failed ∷ more) [] = failed ∷ with_ends more []
+with_ends (failed ∷ more) (report ∷ reports) = (failed || is_watch_fault report.end) ∷ with_ends more reports
+
+-- the same of these openings, with the reports on their watchers, as far as there are some
+abbrev pub watch_flags : List Opening → List WatchReport → List Bool
+watch_flags entries reports = with_ends (map has_failed entries) reports
+
+-- ---- with a report
+
+-- The feeds' sources were recorded into the output's store, beside watchers.
+pub record ReportedBeside (options : RecordOptions) (range : Range) (out : List ℕ) (watches feeds : List (List ℕ)) (old new : WorldState) (entries : List Opening) (failures : ℕ) (r : Report) (sealed : Bool) (reports : List WatchReport) : Type 0 where
+  -- as the world gave them and as it took them back, in the order of the words, and whether that went well
+  pub given : List SourceState
+  pub kept_feeds : List FeedKept
+  pub names_are : feeds ≡ names_kept kept_feeds
+  pub live : LiveState
+  -- as it was when it had been asked for the watchers' views
+  pub viewed : LiveState
+  pub live_now : LiveState
+  pub live_kept : Bool
+  -- what was read of the sources, which history their reports and that of the writer describe, and what the store holds of it
+  pub recorded : Recorded options (sides given viewed) (sides (back_sources kept_feeds) live_now) r
+  -- each source told the bytes under its feed's name, which is there, where the world tells
+  pub tells : AllZip (TellsName old) feeds given
+  pub unused : Each (λ (s : SourceState). s.faults ≡ 0) given
+  pub live_unused : live.faults ≡ 0
+  -- the sinks as the world took them back, in the order of their names, and their watchers
+  pub kept_sinks : List SinkKept
+  pub watches_are : watches ≡ sink_names kept_sinks
+  pub seen : List Watch
+  pub asked : AsksViews live seen viewed
+  pub sinks_are : map (λ (w : Watch). w.now) seen ≡ back_sinks kept_sinks
+  pub reports_are : reports ≡ map (λ (w : Watch). w.report) seen
+  pub failures_are : failures ≡ view_faults seen
+  pub sinks_unused : Each (λ (w : Watch). w.before.faults ≡ 0) seen
+  pub sinks_empty : (told : Told) → old.told ≡ Some told → Each (λ (w : Watch). w.before.took ≡ Some []) seen
+  -- each watcher ended with its cause
+  pub ends : Each (λ (w : Watch). EndsSo live viewed sealed w w.report.end) seen
+  pub sealed_ends : sealed ≡ true → Each (λ (w : Watch). w.report.end ≡ watch_ends.Unsealed → ⊥) seen
+  pub fault_cause : Each (λ (w : Watch). is_watch_fault w.report.end ≡ true → Rose old.output_faults new.output_faults ⊎ Rose old.watch_faults new.watch_faults) seen
+  -- and then the output's name holds the file of that history
+  pub file : (told now : Told) → old.told ≡ Some told → new.told ≡ Some now
+      → OutputHolds options.file recorded.history r.writer live_kept (told.names out) (now.names out)
+  -- and the watch files what the watchers' sinks took: where the directory was sealed, the text of that history's blocks
+  pub placed : (told now : Told) → old.told ≡ Some told → new.told ≡ Some now → Each (SinkHolds told.names now.names) kept_sinks
+  pub texts : (told : Told) → old.told ≡ Some told → AreReadable options.file → sealed ≡ true
+      → Each (IsWatchedFile options.file range recorded.history r.writer) seen
+  pub kept_are : entries ≡ map entry_of kept_feeds ++ live_entry out live_now live_kept ∷ map sink_entry kept_sinks
+
+-- ---- without a report
+
+-- Nothing was read from the feeds and nothing written: the watch files hold what they held, or nothing, as the output does.
+pub record UnreportedBeside (out : List ℕ) (watches : List (List ℕ)) (old new : WorldState) (entries : List Opening) (failures : ℕ) : Type 0 where
+  pub same : Unreported out old new entries
+  pub sinks : watch_faults entries ≡ 0
+  pub views : failures ≡ 0
+  pub watch_files : (told now : Told) → old.told ≡ Some told → new.told ≡ Some now
+      → Each (λ (name : List ℕ). (now.names name ≡ told.names name) ⊎ (now.names name ≡ Some [])) watches
+
+-- ---- the whole
+
+-- What the opening, recording and keeping of all names did.
+pub record NamesWatched (options : RecordOptions) (range : Range) (out : List ℕ) (watches feeds : List (List ℕ)) (old new : WorldState) (outcome : WatchedOutcome) : Type 0 where
+  pub entries : List Opening
+  pub opened : AreOpened (wanted_names out watches feeds) entries
+  pub leaves : LeavesBeside old new entries
+  -- the faults of the views that were let go
+  pub failures : ℕ
+  pub counts : CountsBeside old new entries failures
+  pub reported : (r : Report) → outcome.report ≡ Some r
+      → ReportedBeside options range out watches feeds old new entries failures r outcome.sealed outcome.watches.items
+  pub unreported : outcome.report ≡ None → UnreportedBeside out watches old new entries failures
+  pub none : outcome.report ≡ None → outcome.watches.items ≡ []
+  pub spares : SparesOutput out feeds old new
+  -- the entries of the feeds failed so, then that of the output, if it was reached, and then those of the watch files
+  pub inputs : List Opening
+  pub outputs : List Opening
+  pub sinks : List Opening
+  pub few : length inputs ≤ length feeds
+  pub few_sinks : length sinks ≤ length watches
+  pub parts : entries ≡ inputs ++ (outputs ++ sinks)
+  pub sources : Each (λ (entry : Opening). entry.kind ≡ kinds.Source) inputs
+  pub stores : Each (λ (entry : Opening). entry.kind ≡ kinds.Live) outputs
+  pub writers : Each (λ (entry : Opening). entry.kind ≡ kinds.Sink) sinks
+  pub sinks_named : map (λ (entry : Opening). entry.name) sinks ≡ take (length sinks) watches
+  pub feeds_failed : outcome.feeds_failed.items ≡ map has_failed inputs
+  pub out_failed : outcome.out_failed ≡ list_any has_failed outputs
+  pub watches_failed : outcome.watches_failed.items ≡ watch_flags sinks outcome.watches.items
+  pub failed : failed_names (inputs ++ outputs) ≡ blamed_names (files_of out feeds) (failed_of outcome.feeds_failed.items outcome.out_failed)
+  -- a watch file is blamed only with a cause, and one is where its count rose
+  pub watch_cause : some_failed outcome.watches_failed.items ≡ true
+      → Rose old.faults new.faults ⊎ (Rose old.output_faults new.output_faults ⊎ Rose old.watch_faults new.watch_faults)
+  pub watch_told : old.watch_faults < 2 ^ 64 - 1 → Rose old.watch_faults new.watch_faults → some_failed outcome.watches_failed.items ≡ true

@@ -1,0 +1,233 @@
+-- What a recording with watchers promises: how it ends, what standard error is told, and which names are blamed.
+use Rattle.std.specs.Prelude.{◌≡◌, ◌⊎◌, ◌↔◌, ◌≤◌, ◌<◌, ◌-◌, ◌^◌, ◌||◌, not, ℕ, List, [], ◌∷◌, ◌++◌, map, length, Bool, true, false, if◌then◌else◌, Option, Some, None}
+use Rattle.std.specs.List.{list_any, AllZip}
+use Rattle.mcap_io.specs.Outside.{Rose, WorldState, SinkState, Told, Opening}
+use Rattle.mcap_io.specs.declared.outside.ObjectKind.TheVariants as kinds
+use Rattle.mcap_model.specs.declared.replay.Range.{Range}
+use Rattle.mcap_model.specs.Places.{Each}
+use Rattle.mcap_model.specs.Kept.{Halt}
+use Rattle.feed_lane.specs.declared.report.FeedReport.{FeedReport}
+use Rattle.recorder.specs.declared.options.RecordOptions.{RecordOptions}
+use Rattle.recorder.specs.declared.report.Report.{Report}
+use Rattle.watching.specs.declared.report.WatchEnd.{WatchEnd}
+use Rattle.watching.specs.declared.report.WatchEnd.TheVariants as watch_ends
+use Rattle.watching.specs.declared.report.WatchReport.{WatchReport}
+use Rattle.command_base.specs.Printing.{Takes}
+use Rattle.command_base.specs.Texts.{Trouble, fault, output_fault, output_limit, flaw, no_memory, halt_status}
+use Rattle.command_base.specs.Ran.{Scene, counts, AnyRose, CountsOn, AreOpened, has_failed, BlamesOutput, when, told_of, Complains}
+use Rattle.record_command.specs.declared.watched_names.WatchedOutcome.{WatchedOutcome}
+use Rattle.record_command.specs.declared.watched_answer.WatchedCounts.{WatchedCounts}
+use Rattle.record_command.specs.declared.watched_answer.WatchedFailures.{WatchedFailures}
+use Rattle.record_command.specs.Record.{ends_of, reports_in, limit_passed, passes_limit, lacks_memory, some_failed, end_status, worst, report_text, RecordsAll, HaltsThere, SparesOutput}
+use Rattle.record_command.specs.Answer.{flags_of, PartFailed}
+use Rattle.record_command.specs.Watched.{wanted_names, LeavesBeside, CountsBeside, ReportedBeside, UnreportedBeside, watch_flags}
+
+-- ---- counts of faults
+
+-- the counts that every command has, and that of the watchers' sinks and views
+abbrev pub watched_counts : WorldState → SinkState → WatchedCounts
+watched_counts world out = record { seen = counts world out; watches = world.watch_faults }
+
+abbrev pub watched_counts_in : Scene → WatchedCounts
+watched_counts_in s = watched_counts s.world s.out
+
+-- one of the five has risen
+abbrev pub AnyCountRose : WatchedCounts → WatchedCounts → Type 0
+AnyCountRose before now = AnyRose before.seen now.seen ⊎ Rose before.watches now.watches
+
+-- no count of a world stands at the end of its type
+pub record AllCountsOn (w : WorldState) : Type 0 where
+  pub seen : CountsOn w
+  pub watches : w.watch_faults < 2 ^ 64 - 1
+
+-- ---- what watchers tell
+
+-- the trouble that a watcher's end is
+abbrev pub watch_troubles : List ℕ → WatchEnd → List Trouble
+watch_troubles name watch_ends.Whole = []
+watch_troubles name watch_ends.Unsealed = []
+watch_troubles name (watch_ends.Fault faults) = []
+watch_troubles name (watch_ends.Flaw rule n) = flaw name rule n ∷ []
+watch_troubles name watch_ends.Memory = []
+
+abbrev pub is_flaw : WatchEnd → Bool
+is_flaw watch_ends.Whole = false
+is_flaw watch_ends.Unsealed = false
+is_flaw (watch_ends.Fault faults) = false
+is_flaw (watch_ends.Flaw rule n) = true
+is_flaw watch_ends.Memory = false
+
+abbrev pub is_memory_watch : WatchEnd → Bool
+is_memory_watch watch_ends.Whole = false
+is_memory_watch watch_ends.Unsealed = false
+is_memory_watch (watch_ends.Fault faults) = false
+is_memory_watch (watch_ends.Flaw rule n) = false
+is_memory_watch watch_ends.Memory = true
+
+-- that of the watcher of the first report
+abbrev pub first_flaw : List ℕ → List WatchReport → List Trouble
+first_flaw name [] = []
+first_flaw name (w ∷ ws) = watch_troubles name w.end
+
+-- those of all watchers, in their order
+abbrev pub flaws_of : List (List ℕ) → List WatchReport → List (List Trouble)
+flaws_of [] reports = []
+flaws_of (name ∷ names) [] = []
+flaws_of (name ∷ names) (report ∷ reports) = watch_troubles name report.end ∷ flaws_of names reports
+
+-- a flaw was found
+abbrev pub some_flaw : List WatchReport → Bool
+some_flaw reports = list_any (λ (w : WatchReport). is_flaw w.end) reports
+
+-- memory lacked for the recording, for telling the watchers of the end, or for a watcher
+abbrev pub lacks_beside : Report → Bool → List WatchReport → Bool
+lacks_beside r sealed reports = lacks_memory r || (not sealed || list_any (λ (w : WatchReport). is_memory_watch w.end) reports)
+
+-- memory lacked exactly where the reports name that; or there are none though no count rose
+abbrev pub LackIsToldBeside : WatchedCounts → WatchedCounts → Option Report → Bool → List WatchReport → Bool → Type 0
+LackIsToldBeside before now None sealed reports lacked = (AnyCountRose before now → ⊥) ↔ (lacked ≡ true)
+LackIsToldBeside before now (Some r) sealed reports lacked = lacked ≡ lacks_beside r sealed reports
+
+-- ---- which names are blamed
+
+-- of the feeds, in their order, the output, and of the watchers, in theirs
+pub record Blamed : Type 0 where
+  pub feeds : List Bool
+  pub out : Bool
+  pub watches : List Bool
+
+-- As the counts tell: each that is blamed has its cause, and for each count that rose some name is blamed. A watcher that the
+-- store refused a view has the store's count as its cause.
+pub record CausesBeside (before now : WatchedCounts) (b : Blamed) : Type 0 where
+  pub feed_cause : some_failed b.feeds ≡ true → Rose before.seen.world now.seen.world ⊎ Rose before.seen.inputs now.seen.inputs
+  pub out_cause : b.out ≡ true → Rose before.seen.world now.seen.world ⊎ Rose before.seen.outputs now.seen.outputs
+  pub watch_cause : some_failed b.watches ≡ true → Rose before.seen.world now.seen.world ⊎ (Rose before.seen.outputs now.seen.outputs ⊎ Rose before.watches now.watches)
+  pub inputs_told : Rose before.seen.inputs now.seen.inputs → some_failed b.feeds ≡ true
+  pub outputs_told : Rose before.seen.outputs now.seen.outputs → b.out ≡ true
+  pub watches_told : Rose before.watches now.watches → some_failed b.watches ≡ true
+  pub world_told : Rose before.seen.world now.seen.world → (some_failed b.feeds ≡ true) ⊎ ((b.out ≡ true) ⊎ (some_failed b.watches ≡ true))
+
+-- These are the entries of the feeds, of the output and of the watchers that were reached, and exactly those are blamed that
+-- failed, but where a count stands at the end of its type and so can't tell.
+pub record BlamesExactly (old : WorldState) (watches feeds : List (List ℕ)) (entries : List Opening) (reports : List WatchReport) (b : Blamed) : Type 0 where
+  pub inputs : List Opening
+  pub outputs : List Opening
+  pub sinks : List Opening
+  pub parts : entries ≡ inputs ++ (outputs ++ sinks)
+  pub sources : Each (λ (entry : Opening). entry.kind ≡ kinds.Source) inputs
+  pub stores : Each (λ (entry : Opening). entry.kind ≡ kinds.Live) outputs
+  pub writers : Each (λ (entry : Opening). entry.kind ≡ kinds.Sink) sinks
+  pub few_feeds : length b.feeds ≤ length feeds
+  pub few_watches : length b.watches ≤ length watches
+  pub feeds_are : AllCountsOn old → b.feeds ≡ map has_failed inputs
+  pub out_is : AllCountsOn old → b.out ≡ list_any has_failed outputs
+  pub watches_are : AllCountsOn old → b.watches ≡ watch_flags sinks reports
+
+-- which of the watchers are blamed
+abbrev pub watch_flags_of : List (List ℕ) → WatchedFailures → List Bool
+watch_flags_of watches failed = if failed.every_watch then map (λ (name : List ℕ). true) watches else failed.watches.now
+
+abbrev pub blamed_in : List (List ℕ) → List (List ℕ) → WatchedFailures → Blamed
+blamed_in watches feeds failed = record { feeds = flags_of feeds failed.parts; out = failed.parts.out; watches = watch_flags_of watches failed }
+
+-- some part failed
+abbrev pub AnyPartFailed : WatchedFailures → Type 0
+AnyPartFailed failed = PartFailed failed.parts ⊎ ((failed.every_watch ≡ true) ⊎ (some_failed failed.watches.now ≡ true))
+
+-- what a recording told of failures and what the counts tell: which parts failed
+pub record PartsShow (before now : WatchedCounts) (watches feeds : List (List ℕ)) (outcome : WatchedOutcome) (failed : WatchedFailures) : Type 0 where
+  pub causes : CausesBeside before now (blamed_in watches feeds failed)
+  pub printing : (failed.parts.printing ≡ true) ↔ Rose before.seen.printing now.seen.printing
+  pub any : AnyCountRose before now → AnyPartFailed failed
+  pub feeds_told : failed.parts.feeds.now ≡ outcome.feeds_failed.items
+  pub watches_told : failed.watches.now ≡ outcome.watches_failed.items
+  -- nothing else is blamed where each count that rose shows in what the recording told
+  pub feeds_are : (Rose before.seen.inputs now.seen.inputs → some_failed outcome.feeds_failed.items ≡ true) → flags_of feeds failed.parts ≡ outcome.feeds_failed.items
+  pub watches_are : (Rose before.watches now.watches → some_failed outcome.watches_failed.items ≡ true) → watch_flags_of watches failed ≡ outcome.watches_failed.items
+  pub out_is : (Rose before.seen.outputs now.seen.outputs → outcome.out_failed ≡ true)
+      → (Rose before.seen.world now.seen.world → (some_failed outcome.feeds_failed.items ≡ true) ⊎ ((outcome.out_failed ≡ true) ⊎ (some_failed outcome.watches_failed.items ≡ true)))
+      → failed.parts.out ≡ outcome.out_failed
+
+-- ---- standard error
+
+-- all troubles, in their order: those of the feeds, of the output, of the watchers, and the others
+abbrev pub watched_troubles : List ℕ → List (List ℕ) → List (List ℕ) → Option Report → List WatchReport → Bool → Blamed → Bool → List Trouble
+watched_troubles out watches feeds report reports lacked b printing =
+    told_of feeds (ends_of feeds (reports_in report)) b.feeds (when b.out (fault out) ++ (when (limit_passed report) (output_limit out)
+    ++ told_of watches (flaws_of watches reports) b.watches (when printing output_fault ++ when lacked no_memory)))
+
+-- memory lacked exactly where the reports name that, or where there are none though no part failed
+abbrev pub LacksMemoryBeside : Option Report → Bool → List WatchReport → WatchedFailures → Bool → Type 0
+LacksMemoryBeside None sealed reports failed lacked = (AnyPartFailed failed → ⊥) ↔ (lacked ≡ true)
+LacksMemoryBeside (Some r) sealed reports failed lacked = lacked ≡ lacks_beside r sealed reports
+
+-- what standard error is told of a recording with watchers, and the status
+pub record AnswersBeside (out : List ℕ) (watches feeds : List (List ℕ)) (outcome : WatchedOutcome) (failed : WatchedFailures) (before now : SinkState) (status : ℕ) : Type 0 where
+  pub lacked : Bool
+  pub lacks : LacksMemoryBeside outcome.report outcome.sealed outcome.watches.items failed lacked
+  pub told : Complains (watched_troubles out watches feeds outcome.report outcome.watches.items lacked (blamed_in watches feeds failed) failed.parts.printing) before now status
+
+-- ---- the status
+
+abbrev pub watch_status : WatchEnd → ℕ
+watch_status watch_ends.Whole = 0
+watch_status watch_ends.Unsealed = 0
+watch_status (watch_ends.Fault faults) = 0
+watch_status (watch_ends.Flaw rule n) = 1
+watch_status watch_ends.Memory = 0
+
+-- that of the ends of the feeds and of the watchers
+abbrev pub ends_status_beside : List FeedReport → List WatchReport → ℕ
+ends_status_beside feeds reports = worst (map (λ (f : FeedReport). end_status f.end) feeds ++ map (λ (w : WatchReport). watch_status w.end) reports)
+
+-- 5 where memory lacked; else 3 where a count rose; else 4 where a limit would be passed; else that of the ends
+pub record EndsBeside (before now : WatchedCounts) (report : Option Report) (reports : List WatchReport) (lacked : Bool) (status : ℕ) : Type 0 where
+  pub memory : lacked ≡ true → status ≡ 5
+  pub rose : lacked ≡ false → AnyCountRose before now → status ≡ 3
+  pub calm : lacked ≡ false → (AnyCountRose before now → ⊥) → (r : Report) → report ≡ Some r
+      → status ≡ (if passes_limit r then 4 else ends_status_beside r.feeds.items reports)
+
+-- all of the feeds was recorded, the file was closed, the watchers were told of that, and each wrote all that it had to
+pub record RecordsAllBeside (options : RecordOptions) (r : Report) (sealed : Bool) (reports : List WatchReport) : Type 0 where
+  pub all : RecordsAll options r
+  pub sealed_is : sealed ≡ true
+  pub whole : Each (λ (w : WatchReport). w.end ≡ watch_ends.Whole) reports
+
+-- ---- the command
+
+-- what `record` with watchers does
+pub record RecordsWatched (options : RecordOptions) (range : Range) (out : List ℕ) (watches feeds : List (List ℕ)) (old new : Scene) (report : Option Report) (status : ℕ) : Type 0 where
+  -- these names were opened, and nothing else; all failures are counted
+  pub entries : List Opening
+  pub opened : AreOpened (wanted_names out watches feeds) entries
+  pub leaves : LeavesBeside old.world new.world entries
+  pub failures : ℕ
+  pub counts : CountsBeside old.world new.world entries failures
+  -- with a report the feeds were recorded, the output holds the file, and the watchers' names hold what these reported
+  pub sealed : Bool
+  pub reports : List WatchReport
+  pub reported : (r : Report) → report ≡ Some r → ReportedBeside options range out watches feeds old.world new.world entries failures r sealed reports
+  -- without one nothing was read or written
+  pub unreported : report ≡ None → UnreportedBeside out watches old.world new.world entries failures
+  pub none : report ≡ None → reports ≡ []
+  pub spares : SparesOutput out feeds old.world new.world
+  pub lacked : Bool
+  pub lacks : LackIsToldBeside (watched_counts_in old) (watched_counts_in new) report sealed reports lacked
+  -- standard output took the text of the report, or a first part of it where it failed
+  pub printed : Takes old.out new.out (report_text report)
+  -- standard error took the lines of the troubles, which name what failed
+  pub blamed : Blamed
+  pub exact : BlamesExactly old.world watches feeds entries reports blamed
+  pub causes : CausesBeside (watched_counts_in old) (watched_counts_in new) blamed
+  pub printing : Bool
+  pub blames_output : BlamesOutput old.out new.out printing
+  pub said : Complains (watched_troubles out watches feeds report reports lacked blamed printing) old.err new.err status
+  -- the status says what became of it
+  pub ended : EndsBeside (watched_counts_in old) (watched_counts_in new) report reports lacked status
+  -- where the world tells, the bytes under the feeds' names decide the status, unless a count rises, memory lacks, a limit would
+  -- be passed, or a watcher finds a flaw
+  pub decided : (told : Told) (halts : List Halt) → old.world.told ≡ Some told → AllZip (HaltsThere told) feeds halts
+      → (AnyCountRose (watched_counts_in old) (watched_counts_in new) → ⊥) → lacked ≡ false → limit_passed report ≡ false → some_flaw reports ≡ false
+      → status ≡ worst (map halt_status halts)
+  -- the status 0 says that all of the feeds was recorded, and that each watcher wrote all that it had to
+  pub whole : status ≡ 0 → (r : Report) × (report ≡ Some r) × RecordsAllBeside options r sealed reports
