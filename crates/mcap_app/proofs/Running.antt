@@ -1,12 +1,17 @@
 -- What the words of a command make of its run.
-use Rattle.std.proofs.Common.{◌≡◌, ℕ, ◌≤◌, Bool, true, false, List, Option, Some, None, sym, subst, ◌∙◌, arith, unwrap_or}
+use Rattle.std.proofs.Common.{◌≡◌, ◌⊎◌, ℕ, suc, ◌≤◌, Bool, true, false, List, Option, Some, None, inl, inr, sym, ap₂, subst, codes, ◌∙◌, arith, unwrap_or}
 use Rattle.std.proofs.lemmas.Option.{same_Some}
 use Rattle.command_words.specs.declared.command.Command.{Command}
 use Rattle.command_words.specs.declared.command.Command.TheVariants as commands
-use Rattle.command_words.specs.Commands.{GivesNumber, SizesChunks, Derives}
+use Rattle.mcap_model.specs.declared.options.FileOptions.{FileOptions}
+use Rattle.mcap_model.specs.declared.replay.Range.{Range}
+use Rattle.command_words.specs.Items.{Item, given}
+use Rattle.command_words.specs.Commands.{GivesNumber, SizesChunks, Derives, IsFileOptions, HasWatchers, MayWatch, watchers_with}
+use Rattle.command_words.proofs.OneCommand.{one_flag}
 use Rattle.recorder.specs.declared.report.Report.{Report}
 use Rattle.command_base.specs.Ran.{Scene}
 use Rattle.record_command.proofs.Answered.{not_two as record_not_two}
+use Rattle.record_command.proofs.WatchedAnswered.{not_two as watched_not_two}
 use Rattle.file_commands.proofs.Tellings.{not_two as info_not_two}
 use Rattle.file_commands.proofs.Checks.{not_two as check_not_two}
 use Rattle.file_commands.proofs.Cats.{not_two as cat_not_two}
@@ -15,11 +20,12 @@ use Rattle.output_commands.proofs.Recoveries.{recovers_not_two}
 use Rattle.output_commands.proofs.Merges.{merges_not_two}
 use Rattle.generate_command.proofs.Statuses.{generates_not_two}
 use Rattle.generate_command.specs.Making.{AreAllowed}
-use Rattle.mcap_app.specs.Runs.{IsAllowed, Runs, generate_options}
+use Rattle.mcap_app.specs.Runs.{IsAllowed, IsWatchable, LacksForWords, Runs, generate_options}
 
 -- no command has the status of bad words
 pub not_two : (command : Command) (old new : Scene) (report : Option Report) (status : ℕ) → Runs command old new report status → status ≡ 2 → ⊥
-not_two (commands.Record out feeds file limit lossless) old new report status runs two = record_not_two _ _ _ _ _ _ _ runs two
+not_two (commands.Record out feeds file limit lossless range 0) old new report status runs two = record_not_two _ _ _ _ _ _ _ runs two
+not_two (commands.Record out feeds file limit lossless range (suc n)) old new report status runs two = watched_not_two _ _ _ _ _ _ _ _ _ runs two
 not_two (commands.Info file) old new report status runs two = info_not_two _ _ _ _ runs.0 two
 not_two (commands.Check file) old new report status runs two = check_not_two _ _ _ _ runs.0 two
 not_two (commands.Cat file true range topic) old new report status runs two = indexed_not_two _ _ _ _ _ runs.0 two
@@ -27,6 +33,11 @@ not_two (commands.Cat file false range topic) old new report status runs two = c
 not_two (commands.Recover input out chunk) old new report status runs two = recovers_not_two _ _ _ _ _ _ runs.0 two
 not_two (commands.Merge out inputs chunk) old new report status runs two = merges_not_two _ _ _ _ _ _ runs.0 two
 not_two (commands.Generate seed feeds messages out) old new report status runs two = generates_not_two _ _ _ _ _ _ _ runs two
+
+-- nor has a want of memory
+pub ran_not_two : (command : Command) (old new : Scene) (report : Option Report) (status : ℕ) → Runs command old new report status ⊎ LacksForWords old new report status → status ≡ 2 → ⊥
+ran_not_two command old new report status (inl runs) two = not_two command old new report status runs two
+ran_not_two command old new report status (inr lacks) two = absurd (omega (arith, two, lacks.status_is))
 
 -- ---- ranges
 
@@ -46,9 +57,31 @@ chunk_in_range false values size chunk sizes gives n is =
     let same : unwrap_or size 786432 ≡ n = same_Some (unwrap_or size 786432) n (sym sizes ∙ is) in
     (subst (λ (k : ℕ). 1 ≤ k) same usual.0, subst (λ (k : ℕ). k ≤ 67108864) same usual.1)
 
+-- where there are watchers the file has chunks
+chunk_there : (is_plain : Bool) (size chunk : Option ℕ) (span : Option Range) (number : Option ℕ) → SizesChunks is_plain size chunk → MayWatch is_plain span number → 1 ≤ watchers_with number span → (n : ℕ) × (chunk ≡ Some n)
+chunk_there false size chunk span number sizes may some = (unwrap_or size 786432, sizes)
+chunk_there true size chunk span number sizes may some =
+    let none : watchers_with number span ≡ 0 = ap₂ (λ (n : Option ℕ) (s : Option Range). watchers_with n s) may.1 may.0 in
+    absurd (omega (arith, none, some))
+
+-- and as many watchers as are allowed
+few_watchers : (values : List (List ℕ)) (number : Option ℕ) (span : Option Range) → GivesNumber 0 16 values number → watchers_with number span ≤ 16
+few_watchers values None None gives = omega arith
+few_watchers values None (Some s) gives = omega arith
+few_watchers values (Some n) span gives = gives.2.below
+
+watchable : (items : List Item) (file : FileOptions) (range : Range) (watchers : ℕ) → IsFileOptions items file → HasWatchers items range watchers → IsWatchable file watchers
+watchable items file range watchers options watched = (
+  subst (λ (n : ℕ). n ≤ 16) (sym watched.watchers_are) (few_watchers _ watched.number watched.span watched.numbered),
+  λ some.
+      let plain : watched.is_plain ≡ options.chunk.is_plain = one_flag (given (codes "plain") items) options.chunk.is_plain watched.is_plain options.chunk.plain watched.plain in
+      let may = subst (λ (p : Bool). MayWatch p watched.span watched.number) plain watched.may in
+      chunk_there options.chunk.is_plain options.chunk.size file.chunk watched.span watched.number options.chunk.sizes may (subst (λ (n : ℕ). 1 ≤ n) watched.watchers_are some),
+)
+
 -- words give numbers in their ranges
 pub allowed : (words : List (List ℕ)) (command : Command) → Derives words command → IsAllowed command
-allowed words (commands.Record out feeds file limit lossless) derives =
+allowed words (commands.Record out feeds file limit lossless range watchers) derives =
     let is = derives.behind in
     let limits = in_range 1 1073741824 104857600 _ is.size is.sized (omega arith) (omega arith) in (
       record {
@@ -58,6 +91,7 @@ allowed words (commands.Record out feeds file limit lossless) derives =
         short = is.options.profile.short;
       },
       (is.some, is.few),
+      watchable is.items file range watchers is.options is.watched,
     )
 allowed words (commands.Info file) derives = tt
 allowed words (commands.Check file) derives = tt

@@ -1,5 +1,5 @@
 -- What the program does, command by command.
-use Rattle.std.specs.Prelude.{◌≡◌, ◌≤◌, ℕ, [], ◌∷◌, true, false, Option, None, Some}
+use Rattle.std.specs.Prelude.{◌≡◌, ◌≤◌, ℕ, suc, List, [], ◌∷◌, true, false, Option, None, Some}
 use Rattle.command_words.specs.declared.command.Command.{Command}
 use Rattle.command_words.specs.declared.command.Command.TheVariants as commands
 use Rattle.recorder.specs.declared.report.Report.{Report}
@@ -7,6 +7,9 @@ use Rattle.command_base.specs.Texts.{no_memory, said}
 use Rattle.command_base.specs.Printing.{Takes}
 use Rattle.command_base.specs.Ran.{Scene}
 use Rattle.record_command.specs.Record.{AreAllowed, AreFew, Records}
+use Rattle.record_command.specs.WatchedAnswer.{RecordsWatched}
+use Rattle.mcap_model.specs.declared.options.FileOptions.{FileOptions}
+use Rattle.mcap_model.specs.declared.replay.Range.{Range}
 use Rattle.file_commands.specs.Info.{Describes}
 use Rattle.file_commands.specs.Check.{FileChecks}
 use Rattle.file_commands.specs.Cat.{selection, Cats}
@@ -15,13 +18,17 @@ use Rattle.mcap_wire.specs.Limits.{chunk_size_limit}
 use Rattle.output_commands.specs.Recover.{RecoversFile}
 use Rattle.output_commands.specs.SomeOutput.{AreFew as AreFewInputs}
 use Rattle.output_commands.specs.Merge.{MergesFiles}
-use Rattle.command_words.specs.Commands.{feed_limit, usual_chunk_size, usual_limit}
+use Rattle.command_words.specs.Commands.{feed_limit, usual_chunk_size, usual_limit, watch_names, watcher_limit}
 use Rattle.recorder.specs.declared.options.RecordOptions.{RecordOptions}
 use Rattle.generate_command.specs.Generating.{Generates}
 
+-- so many watchers may read a file of this kind: at most 16, and none where it has no chunks
+abbrev pub IsWatchable : FileOptions → ℕ → Type 0
+IsWatchable file watchers = (watchers ≤ watcher_limit) × (1 ≤ watchers → (size : ℕ) × (file.chunk ≡ Some size))
+
 -- the numbers and texts of a command are in their ranges
 abbrev pub IsAllowed : Command → Type 0
-IsAllowed (commands.Record out feeds file limit lossless) = AreAllowed (record { file = file; limit = limit; lossless = lossless }) × AreFew feeds
+IsAllowed (commands.Record out feeds file limit lossless range watchers) = AreAllowed (record { file = file; limit = limit; lossless = lossless }) × AreFew feeds × IsWatchable file watchers
 IsAllowed (commands.Info file) = Unit {0}
 IsAllowed (commands.Check file) = Unit {0}
 IsAllowed (commands.Cat file indexed range topic) = Unit {0}
@@ -33,9 +40,14 @@ IsAllowed (commands.Generate seed feeds messages out) = (1 ≤ feeds) × (feeds 
 abbrev pub generate_options : RecordOptions
 generate_options = record { file = record { profile = []; chunk = Some usual_chunk_size }; limit = usual_limit; lossless = true }
 
+-- a recording without watchers, or beside so many, which write to the files under their names
+abbrev pub RecordsBeside : RecordOptions → Range → ℕ → List ℕ → List (List ℕ) → Scene → Scene → Option Report → ℕ → Type 0
+RecordsBeside options range 0 out feeds old new report status = Records options out feeds old new report status
+RecordsBeside options range (suc n) out feeds old new report status = RecordsWatched options range out (watch_names out (suc n)) feeds old new report status
+
 -- only a recording has a report, of feeds that are read or generated
 abbrev pub Runs : Command → Scene → Scene → Option Report → ℕ → Type 0
-Runs (commands.Record out feeds file limit lossless) old new report status = Records (record { file = file; limit = limit; lossless = lossless }) out feeds old new report status
+Runs (commands.Record out feeds file limit lossless range watchers) old new report status = RecordsBeside (record { file = file; limit = limit; lossless = lossless }) range watchers out feeds old new report status
 Runs (commands.Info file) old new report status = Describes file old new status × (report ≡ None)
 Runs (commands.Check file) old new report status = FileChecks file old new status × (report ≡ None)
 Runs (commands.Cat file false range topic) old new report status = Cats (selection range topic) file old new status × (report ≡ None)
@@ -44,7 +56,7 @@ Runs (commands.Recover input out chunk) old new report status = RecoversFile chu
 Runs (commands.Merge out inputs chunk) old new report status = MergesFiles chunk inputs out old new status × (report ≡ None)
 Runs (commands.Generate seed feeds messages out) old new report status = Generates generate_options (record { seed = seed; feeds = feeds; messages = messages }) out old new report status
 
--- memory lacked for reading the words, and nothing else was done
+-- memory lacked for reading the words or for the names of watchers' files, and nothing else was done
 pub record LacksForWords (old new : Scene) (report : Option Report) (status : ℕ) : Type 0 where
   pub status_is : status ≡ 5
   pub world : new.world ≡ old.world

@@ -8,17 +8,18 @@ ghost use Rattle.feed_lane.specs.Feeds.{ListsMessages};
 ghost use Rattle.command_base.specs.Printing.{Takes};
 ghost use Rattle.command_base.specs.Ran.{scene};
 ghost use Rattle.generate_command.specs.Generating.{Generates};
-ghost use Rattle.mcap_app.specs.Runs.{IsAllowed, Runs, LacksForWords, generate_options};
+ghost use Rattle.record_command.specs.Record.{AreAllowed, AreFew};
+ghost use Rattle.mcap_app.specs.Runs.{IsAllowed, IsWatchable, RecordsBeside, Runs, LacksForWords, generate_options};
 
 use command_base::{refuse_for_memory, refuse_words};
-use command_words::{Command, USUAL_CHUNK, USUAL_LIMIT, WordsRefused, parse_words};
+use command_words::{Command, USUAL_CHUNK, USUAL_LIMIT, WordsRefused, parse_words, watch_names};
 use file_commands::{check_file, describe_file, print_file, print_indexed};
 use generate_command::{Generated, Numbers, generate_file};
 use mcap_io::{Sink, World};
-use mcap_model::FileOptions;
-use mcap_wire::Text;
+use mcap_model::{FileOptions, Range};
+use mcap_wire::{Memory, Text};
 use output_commands::{merge_file, recover_file};
-use record_command::{Ended, record_file};
+use record_command::{Ended, record_file, record_watched_file};
 use recorder::RecordOptions;
 use std::alloc::Global;
 use std::sync::Wait;
@@ -73,7 +74,57 @@ fn run_generate<R: AllocGlobal + Threads + Wait + Sync, W: World, O: Sink, E: Si
     Ended { status, report }
 }
 
-// Does what the command says.
+// How many watchers a recording has, and the times of the messages that they replay.
+#[derive(Clone, Copy)]
+struct Watching {
+    range: Range,
+    watchers: u32,
+}
+
+// Records feeds, beside watchers where there are any. Where memory lacks for the names of their files nothing is opened.
+fn run_record<R: AllocGlobal + Threads + Wait + Sync, W: World, O: Sink, E: Sink>(
+    rt: &R,
+    options: &RecordOptions,
+    watching: Watching,
+    name: &str,
+    feeds: &[Text],
+    world: &mut W,
+    out: &mut O,
+    err: &mut E,
+    listed: bool,
+) -> Ended
+    requires allowed { AreAllowed options.now }
+    requires few { AreFew feeds.now }
+    requires watchable { IsWatchable options.now.file watching.watchers }
+    ensures runs { RecordsBeside options.now watching.range watching.watchers name.now feeds.now
+        (scene (W.state world.old) (O.state out.old) (E.state err.old))
+        (scene (W.state world.new) (O.state out.new) (E.state err.new))
+        result.report result.status
+        ⊎ LacksForWords
+        (scene (W.state world.old) (O.state out.old) (E.state err.old))
+        (scene (W.state world.new) (O.state out.new) (E.state err.new))
+        result.report result.status }
+    ensures listed { (r : _) → result.report ≡ Some r → Each (λ f. ListsMessages f listed) r.feeds.items }
+{
+    let Watching { range, watchers } = watching;
+    if watchers == 0 {
+        return record_file(rt, options, name, feeds, world, out, err, listed);
+    }
+    match watch_names(rt.alloc(), name, watchers) {
+        Ok(names) => {
+            let names = names.as_slice();
+            return record_watched_file(
+                rt, options, range, name, names, feeds, world, out, err, listed,
+            );
+        }
+        Err(Memory) => {
+            refuse_for_memory(err);
+            return unreported(5);
+        }
+    }
+}
+
+// Does what the command says, or nothing where memory lacks for the names of watchers' files.
 fn run_command<R: AllocGlobal + Threads + Wait + Sync, W: World, O: Sink, E: Sink>(
     rt: &R,
     command: Command,
@@ -84,6 +135,10 @@ fn run_command<R: AllocGlobal + Threads + Wait + Sync, W: World, O: Sink, E: Sin
 ) -> Ended
     requires { IsAllowed command }
     ensures runs { Runs command
+        (scene (W.state world.old) (O.state out.old) (E.state err.old))
+        (scene (W.state world.new) (O.state out.new) (E.state err.new))
+        result.report result.status
+        ⊎ LacksForWords
         (scene (W.state world.old) (O.state out.old) (E.state err.old))
         (scene (W.state world.new) (O.state out.new) (E.state err.new))
         result.report result.status }
@@ -97,22 +152,17 @@ fn run_command<R: AllocGlobal + Threads + Wait + Sync, W: World, O: Sink, E: Sin
             file,
             limit,
             lossless,
+            range,
+            watchers,
         } => {
             let options = RecordOptions {
                 file,
                 limit,
                 lossless,
             };
-            return record_file(
-                rt,
-                &options,
-                name.as_str(),
-                feeds.as_slice(),
-                world,
-                out,
-                err,
-                listed,
-            );
+            let watching = Watching { range, watchers };
+            let (name, feeds) = (name.as_str(), feeds.as_slice());
+            return run_record(rt, &options, watching, name, feeds, world, out, err, listed);
         }
         Command::Info { file } => {
             return unreported(describe_file(alloc, file.as_str(), world, out, err));
@@ -185,7 +235,7 @@ pub fn run<R: AllocGlobal + Threads + Wait + Sync, W: World, O: Sink, E: Sink>(
     ensures err { AreBad words.now → ((result.status ≡ 2) × Takes (E.state err.old) (E.state err.new) (said (bad_words ∷ [])))
         ⊎ ((result.status ≡ 5) × Takes (E.state err.old) (E.state err.new) (said (no_memory ∷ []))) }
 
-    // The words of a command do what it does, or memory lacks for reading them.
+    // The words of a command do what it does, or memory lacks for reading them or for the names of watchers' files.
     ensures runs { (command : Wanted) → Derives words.now command
         → Runs command
         (scene (W.state world.old) (O.state out.old) (E.state err.old))
