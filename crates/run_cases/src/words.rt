@@ -42,6 +42,15 @@ fn joined(alloc: Global, feeds: &Names) -> Result<String, AllocError> {
     Ok(names)
 }
 
+// How many watchers there are and what they replay, or nothing where nothing was said of them.
+fn watched(alloc: Global, range: &Range, watchers: u32) -> Result<String, AllocError> {
+    let (start, end) = (range.start, range.end);
+    if watchers == 0 && start == 0 && end.is_none() {
+        return Ok(String::new(alloc));
+    }
+    format!(in alloc; " watchers={watchers} start={start} end={end:?}")
+}
+
 fn said(alloc: Global, command: &Command) -> Result<String, AllocError> {
     match command {
         Command::Record {
@@ -50,13 +59,16 @@ fn said(alloc: Global, command: &Command) -> Result<String, AllocError> {
             file,
             limit,
             lossless,
+            range,
+            watchers,
         } => {
             let (out, profile) = (out.as_str(), file.profile.as_str());
             let feeds = joined(alloc, feeds)?;
             let chunk = file.chunk;
             let waits = if *lossless { " lossless" } else { "" };
+            let watched = watched(alloc, range, *watchers)?;
             format!(in alloc;
-                "record {out}{feeds} profile='{profile}' chunk={chunk:?} limit={limit}{waits}"
+                "record {out}{feeds} profile='{profile}' chunk={chunk:?} limit={limit}{waits}{watched}"
             )
         }
         Command::Info { file } => {
