@@ -2,9 +2,10 @@
 # Times `mcaprec record --lossless OUT FEED`, plain and in chunks, and `check` and `cat` of the result beside `cp FEED OUT` on
 # feeds of so many MiB (64), best of five each, in one run: messages of 1,000 and of 64 bytes of data, on one channel and on
 # forty. The kind `chunks` is a plain feed recorded in chunks; of the file that this writes, `again` is its messages recorded in
-# chunks, `flat` the same recorded plain, and `recover` a recovery of it. Then four feeds and 64 of as many bytes in all are
-# recorded at once, plain and in chunks, beside `cat FEED... >OUT`. At last the most memory is shown that a recording of one million and of twenty million messages
-# of 64 bytes took, whatever MIB is, with a buffer of 262,144 bytes, which both fill: it must not grow with them.
+# chunks, `flat` the same recorded plain, and `recover` a recovery of it; `watch1` and `watch4` are recordings in chunks with so
+# many watchers of a thousand messages. Then four feeds and 64 of as many bytes in all are recorded at once, plain and in chunks,
+# beside `cat FEED... >OUT`. At last the most memory is shown that a recording of one million and of twenty million messages of
+# 64 bytes took, whatever MIB is, with a buffer of 262,144 bytes, which both fill: it must not grow with them.
 # MCAPREC names another program to time in place of the launcher.
 set -e
 export LC_ALL=C
@@ -92,6 +93,8 @@ row() {
         printf "%8d %8d %7s %9d %8.3f s %8.3f s %6.2f %12.0f %9s\n", s, c, g, n, r / 1e6, k / 1e6, k / r, n * 1e6 / r, p }'
 }
 
+# The times of the first thousand messages, which watchers replay.
+part=1700000000000000000:1700000000001000000
 # The first run of the launcher may build the program.
 "$program" record "$out" "$here/../samples/empty.mcap" >/dev/null
 [ -x /usr/bin/time ] || echo "peak memory: skipped, /usr/bin/time is not there (Debian: time)"
@@ -109,6 +112,10 @@ for size in 1000 64; do
         row flat "$all" "$program" record --lossless --plain "$out" "$chunked"
         row recover "recovered messages=$count .* complete" "$program" recover "$chunked" "$out"
         if [ "$channels" -eq 1 ]; then
+            for many in 1 4; do
+                row "watch$many" "$all" "$program" record --lossless --watch "$part" --watchers "$many" "$out" "$feed"
+            done
+            rm -f "$out".watch*
             row check "ok indexed messages=$count .*" "$program" check "$chunked"
             sink=/dev/null
             (. "$here/../.ci/memory" && row cat '' "$program" cat "$chunked")

@@ -113,6 +113,12 @@ usage: mcaprec
   merge [--chunk N] OUT IN...
   gen SEED FEEDS MESSAGES OUT'
 
+compare "the launcher's usage" "$usage" "mcaprec: bad words
+$(sed -n '/^usage: mcaprec$/,/^END$/p' "$root/mcaprec" | sed '$d')"
+for command in record info check cat recover merge gen; do
+    grep -q "^        .*\\b$command\\b.*) build" "$root/mcaprec" || say_wrong "the launcher doesn't build the program for $command"
+done
+
 "$root/mcaprec" info "$one" >/dev/null </dev/null
 compare 'the status of the first run' 0 $?
 
@@ -321,6 +327,97 @@ expect_slow_feed_written() {
 }
 expect_slow_feed_written --chunk 1
 expect_slow_feed_written --plain
+
+# ---- watchers
+
+# The CRC-32 of what comes in, as gzip has it.
+crc_of() {
+    gzip -c | tail -c 8 | od -An -N4 -tx4 | tr -d ' '
+}
+# That a watch file has fronts, each with at least twice as many blocks as the one before, and then this end and these lines.
+expect_watched() {
+    compare "the end of $1" "$2" "$(sed '/^front /d' "$1")"
+    awk '/^front / { if (ended || $2 < 1 || $2 < 2 * last) { exit 1 } last = $2; next } { ended = 1 }' "$1" ||
+        say_wrong "$1 has fronts that aren't doubled, or behind its end"
+}
+# That it has such a front of so many blocks and messages alone, with the CRC of these lines, or none.
+expect_front() {
+    line="front $2 $(printf %s "$3" | crc_of)"
+    got=$(sed -n '/^front /p' "$1")
+    [ -z "$got" ] || compare "the front of $1" "$line" "$got"
+}
+
+one_line='10 9 1 1 "/a" aa'
+expect 0 'feed 1 accepted=1 refused=0 passed=0 end
+file records=2 blocks=1 bytes=476 closed' '' mcaprec record --watchers 1 watched.mcap "$one"
+expect_watched watched.mcap.watch1 "end closed 1 1
+$one_line"
+expect_front watched.mcap.watch1 '1 1' "$one_line
+"
+expect_absent watched.mcap.watch2
+
+# A time that no message has; and one of two of the session's, whose other messages the watcher doesn't count.
+expect 0 'feed 1 accepted=1 refused=0 passed=0 end
+file records=2 blocks=1 bytes=476 closed' '' mcaprec record --watch 11:18446744073709551615 watched.mcap "$one"
+expect_watched watched.mcap.watch1 'end closed 1 0'
+expect_front watched.mcap.watch1 '1 0' ''
+filter='sed s/bytes=[0-9]*/bytes=N/'
+expect 0 'feed 1 accepted=5 refused=0 passed=0 end
+file records=8 blocks=1 bytes=N closed' '' mcaprec record --watch 1005:1020 watched.mcap "$session"
+part=$(mcaprec cat --start 1005 --end 1020 watched.mcap)
+expect_watched watched.mcap.watch1 "end closed 1 2
+$part"
+expect_front watched.mcap.watch1 '1 2' "$part
+"
+
+# Sixteen watchers of four feeds, one of them a pipe that goes on when the first watcher has told a front.
+for n in 1 2 3; do cp -- many.mcap "watched-$n"; done
+{
+    head -c 100000 many.mcap
+    for _ in 1 2 3 4 5 6 7 8 9 10 11 12 13 14 15 16 17 18 19 20; do
+        if grep -q '^front ' watched.mcap.watch1 2>/dev/null; then break; fi
+        sleep 0.5
+    done
+    cp -- watched.mcap.watch1 watched-meanwhile
+    tail -c +100001 many.mcap
+} >pipe &
+expect 0 'feed 1 accepted=8192 refused=0 passed=0 end
+feed 2 accepted=8192 refused=0 passed=0 end
+feed 3 accepted=8192 refused=0 passed=0 end
+feed 4 accepted=8192 refused=0 passed=0 end
+file records=32770 blocks=14 bytes=N closed' '' mcaprec record --lossless --chunk 100000 --watchers 16 watched.mcap pipe watched-1 watched-2 watched-3
+wait
+filter='cat'
+grep -q '^front ' watched-meanwhile || say_wrong 'the first watcher told no front while a feed went on'
+! grep -q '^end ' watched-meanwhile || say_wrong 'the first watcher told an end while a feed went on'
+mcaprec cat watched.mcap >watched-lines
+for n in 1 2 3 4 5 6 7 8 9 10 11 12 13 14 15 16; do
+    sed '1,/^end /d' "watched.mcap.watch$n" | cmp -s -- - watched-lines || say_wrong "watched.mcap.watch$n has other lines than watched.mcap"
+    compare "the end of watched.mcap.watch$n" 'end closed 14 32768' "$(sed -n '/^end /p' "watched.mcap.watch$n")"
+done
+rm -f watched.mcap.watch* watched-*
+
+# A watch file that takes nothing: that watcher ends, and nothing else is lost.
+ln -s /dev/full watched.mcap.watch1
+expect 3 'feed 1 accepted=1 refused=0 passed=0 end
+file records=2 blocks=1 bytes=476 closed' 'mcaprec: "watched.mcap.watch1": fault' mcaprec record --watchers 2 watched.mcap "$one"
+compare 'watched.mcap' "$(digits_of "$one")" "$(digits_of watched.mcap)"
+expect_watched watched.mcap.watch2 "end closed 1 1
+$one_line"
+rm -f watched.mcap.watch*
+# One that can't be made: nothing else is done.
+mkdir watched.mcap.watch2
+rm -f watched.mcap
+expect 3 '' 'mcaprec: "watched.mcap.watch2": fault' mcaprec record --watchers 3 watched.mcap "$one"
+expect_absent watched.mcap.watch3
+rmdir watched.mcap.watch2
+rm -f watched.mcap watched.mcap.watch*
+for words in '--plain --watchers 1' '--watchers 17' '--watch 1' '--watch 1:' '--watch 5:6:7' '--watchers 1 --watchers 1'; do
+    # shellcheck disable=SC2086  # the words are to be split
+    expect 2 '' "$usage" mcaprec record $words watched.mcap "$one"
+done
+expect 2 '' "$usage" mcaprec record --watchers 2 watched.mcap "$one" watched.mcap.watch2
+expect_absent watched.mcap
 
 # ---- what a file holds that is cut
 

@@ -19,6 +19,8 @@ pub(crate) struct Case {
     /// What stands under each name before a run, and what is to stand there behind it, if that is something else.
     pub given: Pieces,
     pub left: Pieces,
+    /// What is to stand under a name behind the lines on fronts.
+    pub watched: Pieces,
     /// What is wanted of a run, by its name in the script.
     pub wanted: Pieces,
     pub failing: Failing,
@@ -49,6 +51,7 @@ impl Failing {
             "keeping" => Ok(self.plan.keepings.push(call)?),
             "read" => Ok(self.plan.reads.push(call)?),
             "append" => fail_write(&mut self.plan.appends, call, taken),
+            "write" => fail_write(&mut self.plan.writes, call, taken),
             "out" => fail_write(&mut self.out, call, taken),
             "err" => fail_write(&mut self.err, call, taken),
             _ => unread("no such call can fail"),
@@ -78,6 +81,7 @@ impl Case {
         Ok(Case {
             given,
             left: Pieces::new(alloc),
+            watched: Pieces::new(alloc),
             wanted,
             failing: Failing::nothing(alloc),
         })
@@ -96,6 +100,7 @@ impl Case {
         match what {
             "given" => put(alloc, &mut self.given, name, bytes),
             "left" => put(alloc, &mut self.left, name, bytes),
+            "watched" => put(alloc, &mut self.watched, name, bytes),
             _ => put(alloc, &mut self.wanted, word, bytes),
         }
     }

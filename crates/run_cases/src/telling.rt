@@ -1,5 +1,6 @@
 //! What a run left beside what is wanted of it.
 use crate::building::Pieces;
+use crate::cases::Case;
 use crate::halt::{Halt, unread};
 use crate::running::Ran;
 use mcap_app::{Accepted, FeedReport, Refused, Report};
@@ -174,6 +175,32 @@ fn are_like(want: &[u8], got: &[u8]) -> bool {
     at == got.len()
 }
 
+// Where the line ends that begins there.
+fn line_end(text: &[u8], from: usize) -> usize {
+    let mut at = from;
+    for byte in text.get(from..).unwrap_or(b"") {
+        at = at.saturating_add(1);
+        if *byte == b'\n' {
+            return at;
+        }
+    }
+    at
+}
+
+// What stands behind the lines on fronts with which a watch file may begin: how far a recording is when a watcher looks isn't
+// fixed.
+fn behind_fronts(text: &[u8]) -> &[u8] {
+    let mut at = 0usize;
+    for _ in text {
+        let rest = text.get(at..).unwrap_or(b"");
+        if !rest.starts_with(b"front ") {
+            return rest;
+        }
+        at = line_end(text, at);
+    }
+    b""
+}
+
 /// What is to be printed.
 #[derive(Drop)]
 pub(crate) struct Telling {
@@ -226,18 +253,20 @@ impl Telling {
         }
     }
 
-    /// Notes each thing that isn't as it is wanted, and each name under which neither stands what is to be left there nor,
-    /// where this isn't said, what was given.
-    pub fn see_all(
-        &mut self,
-        given: &Pieces,
-        left: &Pieces,
-        wanted: &Pieces,
-        ran: &Ran,
-    ) -> Result<(), Halt> {
+    /// Notes each thing that isn't as it is wanted, each name under which neither stands what is to be left there nor, where
+    /// this isn't said, what was given, and each under which something else stands behind fronts than is to be watched.
+    pub fn see_all(&mut self, case: &Case, wanted: &Pieces, ran: &Ran) -> Result<(), Halt> {
         for (what, want) in wanted.iter() {
             self.see(what.as_str(), want, ran)?;
         }
+        for (name, want) in case.watched.iter() {
+            let got = ran.world.bytes(name.as_str()).unwrap_or(b"nothing");
+            self.compare(name.as_str(), want, behind_fronts(got))?;
+        }
+        self.see_names(&case.given, &case.left, ran)
+    }
+
+    fn see_names(&mut self, given: &Pieces, left: &Pieces, ran: &Ran) -> Result<(), Halt> {
         for (name, bytes) in given.iter() {
             let want = left.get(name.as_str()).unwrap_or(bytes);
             let got = ran.world.bytes(name.as_str()).unwrap_or(b"nothing");

@@ -26,8 +26,13 @@ const MESSAGE: &[u8] =
 
 const DATA_END: &[u8] = b"\x0f\x04\0\0\0\0\0\0\0\0\0\0\0";
 
+// Where a feed is held within its last Message.
+pub(crate) fn before_its_end(bytes: &[u8]) -> usize {
+    bytes.len().saturating_sub(DATA_END.len() + 1)
+}
+
 // A feed of so many equal Messages.
-fn feed_of(alloc: Global, many: u32) -> Result<Vec<u8>, Memory> {
+pub(crate) fn feed_of(alloc: Global, many: u32) -> Result<Vec<u8>, Memory> {
     let mut bytes = Vec::from_slice(alloc, BEGIN)?;
     for _ in 0..many {
         bytes.extend_from_slice(MESSAGE)?;
@@ -37,7 +42,7 @@ fn feed_of(alloc: Global, many: u32) -> Result<Vec<u8>, Memory> {
 }
 
 // A buffer of one record, and blocks of one.
-fn options_of(alloc: Global) -> Result<RecordOptions, Memory>
+pub(crate) fn options_of(alloc: Global) -> Result<RecordOptions, Memory>
     ensures { IfOk result (λ options. (options.limit ≡ 1) × (options.file.profile ≡ []) × (options.file.chunk ≡ Some 1)) }
 {
     Ok(RecordOptions {
@@ -51,7 +56,7 @@ fn options_of(alloc: Global) -> Result<RecordOptions, Memory>
 }
 
 // Whether all feeds came to their ends, and the file was closed.
-fn is_done(report: &Report) -> bool {
+pub(crate) fn is_done(report: &Report) -> bool {
     for feed in report.feeds.iter() {
         if !matches!(feed.end, FeedEnd::Done) {
             return false;
@@ -75,7 +80,7 @@ fn is_indexed(alloc: Global, file: Vec<u8>) -> bool {
 }
 
 // Ends the test where this doesn't hold.
-fn holds(rt: &impl Abort, holds: bool)
+pub(crate) fn holds(rt: &impl Abort, holds: bool)
     ensures { holds ≡ true }
 {
     assert!(rt; holds);
@@ -184,7 +189,7 @@ fn a_feed_that_waits_for_the_store(rt: HostRuntime) -> Result<(), Fail> {
     let (given, taken) = (AtomicBool::new(false), AtomicBool::new(false));
     let bytes = feed_of(alloc, 2)?;
     let feed = HeldSource {
-        held_at: bytes.len().saturating_sub(DATA_END.len() + 1),
+        held_at: before_its_end(&bytes),
         bytes,
         next: 0,
         until: &taken,
