@@ -8,10 +8,10 @@ pub returns-in-Some : goal.returns-in-Some
 returns-in-Some g c = λ first since.
     let left = c.finish.result in
     subst (λ (told : Option (List (Added g.row.X.Denot))). WritesAll g.X.Extent.tells told first (written_by (g.K.Sink.state left.sink) (g.V.LiveView.failures left.view) left.report)) (sym c.in-Some.is)
-    (λ end is. c.finish.ensures first end since is)
+    (λ end is. c.finish.ensures.watches first end since is)
 
 pub returns-in-None : goal.returns-in-None
 returns-in-None g c = λ first since.
     let left = c.finish_unsealed.result in
     subst (λ (told : Option (List (Added g.row.X.Denot))). WritesAll g.X.Extent.tells told first (written_by (g.K.Sink.state left.sink) (g.V.LiveView.failures left.view) left.report)) (sym c.in-None.is)
-    (c.args.watcher.reader, c.finish_unsealed.ensures first since)
+    (c.args.watcher.reader, c.finish_unsealed.ensures.watches first since)
