@@ -1,7 +1,7 @@
 -- What a recording without losses takes of feeds that are read to their Data End, where nothing stood in its way.
-use Rattle.std.proofs.Common.{◌≡◌, ◌⊎◌, ℕ, zero, suc, ◌+◌, ◌<◌, ◌≤◌, ◌||◌, ◌==◌, Bool, true, false, List, [], ◌∷◌, ◌++◌, length, map, filter, Option, Some, refl, sym, ap, subst, inl, inr, ◌∙◌, arith}
-use Rattle.std.specs.List.{list_any, All, AllZip, AllPairs}
-use Rattle.std.proofs.lemmas.Bool.{both_ways, false_from_ne_true, or_left, or_right}
+use Rattle.std.proofs.Common.{◌≡◌, ℕ, zero, suc, ◌+◌, ◌<◌, ◌≤◌, ◌||◌, Bool, true, false, List, [], ◌∷◌, length, map, Some, refl, sym, ap, subst, inl, inr, ◌∙◌, arith}
+use Rattle.std.specs.List.{list_any, AllZip}
+use Rattle.std.proofs.lemmas.Bool.{both_ways, or_left, or_right}
 use Rattle.std.proofs.lemmas.Option.{same_Some}
 use Rattle.mcap_io.specs.Outside.{SourceState, LiveState}
 use Rattle.rec_data.specs.declared.owned.Rec.{Rec}
@@ -12,12 +12,11 @@ use Rattle.mcap_model.specs.Places.{At, Has, Each}
 use Rattle.mcap_model.specs.Tops.{Top, flat}
 use Rattle.mcap_model.specs.Fields.{MessageFields, IsMessage}
 use Rattle.mcap_model.specs.History.{message_of}
-use Rattle.mcap_model.specs.Kept.{Halt, reading_limits, at_end, grammar, compressed, beyond, Halts, SameHalt}
-use Rattle.mcap_model.proofs.Places.{at_none, at_one, at_within, at_read}
+use Rattle.mcap_model.specs.Kept.{reading_limits, at_end, grammar, compressed, beyond, Halts}
+use Rattle.mcap_model.proofs.Places.{at_none, at_one}
 use Rattle.mcap_model.proofs.Lists.{pairs_at}
 use Rattle.mcap_model.proofs.Maps.{message_once}
 use Rattle.mcap_model.proofs.Halting.{readings_halt_once}
-use Rattle.mcap_model.proofs.ReadBack.{at_map}
 use Rattle.feed_lane.specs.declared.report.Accepted.{Accepted}
 use Rattle.feed_lane.specs.declared.report.FeedReport.{FeedReport}
 use Rattle.feed_lane.specs.declared.report.FeedEnd.{FeedEnd}
@@ -26,8 +25,7 @@ use Rattle.feed_lane.specs.declared.report.Refused.{Refused}
 use Rattle.feed_lane.specs.declared.report.Cause.{Cause}
 use Rattle.feed_lane.specs.declared.report.Cause.TheVariants as causes
 use Rattle.feed_lane.specs.Causes.{is_over, is_memory}
-use Rattle.feed_lane.specs.Steps.{goes_on}
-use Rattle.feed_lane.specs.Lanes.{messages, EndsWith, CauseFits, IsListed}
+use Rattle.feed_lane.specs.Lanes.{messages, EndsWith, CauseFits}
 use Rattle.feed_lane.specs.Feeds.{FeedEnds, TakesMessages}
 use Rattle.recorder.specs.declared.options.RecordOptions.{RecordOptions}
 use Rattle.recorder.specs.declared.report.Report.{Report}

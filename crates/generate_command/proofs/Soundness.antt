@@ -1,32 +1,23 @@
 -- With the status 0 the file was closed, kept, and read back.
-use Rattle.std.proofs.Common.{◌≡◌, ◌⊎◌, ◌↔◌, ◌||◌, ◌&&◌, ℕ, ◌+◌, ◌≤◌, Bool, true, false, List, [], ◌∷◌, Option, Some, None, refl, sym, ap, subst, inl, inr, ◌∙◌, arith}
-use Rattle.std.specs.List.{All}
-use Rattle.std.proofs.lemmas.Bool.{both_ways, or_left, or_right}
+use Rattle.std.proofs.Common.{◌≡◌, ◌||◌, ℕ, ◌≤◌, Bool, true, false, List, [], ◌∷◌, Option, Some, None, refl, sym, ap, subst, inl, inr, ◌∙◌, arith}
+use Rattle.std.proofs.lemmas.Bool.{both_ways}
 use Rattle.mcap_io.specs.Outside.{Rose, added, SourceState, WorldState, SinkState, Told, Keeping, Opening}
 use Rattle.mcap_io.specs.declared.outside.ObjectKind.TheVariants as kinds
-use Rattle.mcap_model.specs.declared.ends.End.{End}
-use Rattle.mcap_model.specs.declared.ends.End.TheVariants as ends
-use Rattle.mcap_model.specs.declared.ends.Stop.{Stop}
-use Rattle.mcap_model.specs.declared.ends.Stop.TheVariants as stops
 use Rattle.mcap_scan.specs.declared.answers.ScanRefused.TheVariants as refusals
-use Rattle.chunk_writer.specs.Stops.{Cause as WriterCause}
 use Rattle.recorder.specs.declared.options.RecordOptions.{RecordOptions}
 use Rattle.recorder.specs.declared.report.Report.{Report}
-use Rattle.recorder.specs.Recorded.{answer_of, sides, Recorded}
 use Rattle.message_sums.specs.declared.sums.Sums.{Sums}
 use Rattle.message_sums.specs.Reading.{SumsAll}
 use Rattle.command_base.specs.Printing.{TellsAll, Takes}
-use Rattle.command_base.specs.OneFile.{failing, text_of, troubles_in, is_lack, NameRead}
-use Rattle.command_base.specs.Ran.{Scene, counts_in, WorldRose, AnyRose, AreOpened, kept, refused, output_faults, world_faults}
+use Rattle.command_base.specs.OneFile.{failing, troubles_in, is_lack, NameRead}
+use Rattle.command_base.specs.Ran.{Scene, counts_in, WorldRose, AnyRose, AreOpened, kept, refused}
 use Rattle.generate_command.specs.declared.back.Back.{Back}
 use Rattle.generate_command.specs.declared.back.Reading.{Reading}
 use Rattle.generate_command.specs.declared.back.Reading.TheVariants as readings
-use Rattle.generate_command.specs.declared.making.Numbers.{Numbers}
 use Rattle.generate_command.specs.declared.making.Written.{Written}
-use Rattle.generate_command.specs.Lines.{sums_line}
 use Rattle.generate_command.specs.Back.{ComesTo, IsReadBack, ending_of, NameReadBack}
-use Rattle.generate_command.specs.Making.{sources_of, Stored, IsWriting, NameWritten}
-use Rattle.generate_command.specs.Generating.{is_closed, is_limit, is_memory_writer, passes_limit, lacks_memory, limit_passed, is_sound, ReadsBack, text_after, halts_after, is_lack_after, LackIsTold, Generates}
+use Rattle.generate_command.specs.Making.{Stored, IsWriting}
+use Rattle.generate_command.specs.Generating.{ReadsBack}
 use Rattle.generate_command.proofs.Silent.{IsQuiet}
 
 -- ---- the report

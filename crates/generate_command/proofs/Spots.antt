@@ -1,5 +1,5 @@
 -- The places of all messages of a recording whose feeds were recorded whole.
-use Rattle.std.proofs.Common.{◌≡◌, ◌⊎◌, ℕ, zero, suc, ◌+◌, ◌-◌, ◌<◌, ◌≤◌, List, [], ◌∷◌, ◌++◌, length, get_or, map, refl, sym, ap, subst, inl, inr, ◌∙◌, arith}
+use Rattle.std.proofs.Common.{◌≡◌, ℕ, zero, suc, ◌+◌, ◌-◌, ◌<◌, ◌≤◌, List, [], ◌∷◌, ◌++◌, length, get_or, map, refl, sym, ap, subst, inl, inr, ◌∙◌, arith}
 use Rattle.std.specs.List.{AllZip, sum_by, flat_map}
 use Rattle.std.proofs.lemmas.List.Sums.{sum_by-cons, sum_by-append}
 use Rattle.std.proofs.lemmas.Option.{same_Some}
@@ -19,7 +19,7 @@ use Rattle.feed_lane.specs.Pass.{AreAdded}
 use Rattle.feed_lane.specs.Lanes.{IsGiven}
 use Rattle.recorder.specs.Assembled.{LanePart, LanePartStands, Assembled}
 use Rattle.recorder.specs.Recorded.{FeedRecorded, lane_of}
-use Rattle.recorder.proofs.OneHistory.{AddsThere, lane_says}
+use Rattle.recorder.proofs.OneHistory.{lane_says}
 use Rattle.generate_command.proofs.Totals.{Spot, of_spot, IsThere, AreApart, AreAll, apart_joined}
 use Rattle.generate_command.proofs.Recordings.{IsPlaced}
 

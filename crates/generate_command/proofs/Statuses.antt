@@ -1,6 +1,5 @@
 -- The status of a generation isn't that of bad words.
-use Rattle.std.proofs.Common.{◌≡◌, ℕ, Bool, true, false, cond, ◌||◌, ◌==◌, List, [], ◌∷◌, ◌++◌, Option, Some, None, refl, sym, ap, ◌∙◌, unwrap_or, arith}
-use Rattle.std.specs.List.{list_any}
+use Rattle.std.proofs.Common.{◌≡◌, ℕ, Bool, true, false, cond, ◌||◌, ◌==◌, List, ◌++◌, Option, Some, None, refl, sym, ap, ◌∙◌, unwrap_or, arith}
 use Rattle.std.proofs.lemmas.List.Folds.{list_any-append}
 use Rattle.mcap_scan.specs.declared.answers.ScanRefused.TheVariants as refusals
 use Rattle.recorder.specs.declared.options.RecordOptions.{RecordOptions}
@@ -13,7 +12,7 @@ use Rattle.generate_command.specs.declared.back.Reading.TheVariants as readings
 use Rattle.generate_command.specs.declared.making.Numbers.{Numbers}
 use Rattle.generate_command.specs.Back.{ending_of}
 use Rattle.command_base.specs.OneFile.{troubles_in}
-use Rattle.generate_command.specs.Generating.{halts_after, limit_passed, troubles_after, Generates}
+use Rattle.generate_command.specs.Generating.{halts_after, limit_passed, Generates}
 
 -- the first that is asked for
 abbrev pub picked : Bool → Bool → Bool → Bool → Bool → ℕ

@@ -1,20 +1,17 @@
 -- The sums that are printed are those of all messages that were made.
-use Rattle.std.proofs.Common.{◌≡◌, ℕ, zero, suc, ◌+◌, ◌%◌, ◌^◌, ◌<◌, ◌≤◌, ◌||◌, ◌&&◌, ◌==◌, if◌then◌else◌, Bool, true, false, List, [], ◌∷◌, ◌++◌, length, get_or, map, filter, Option, Some, None, refl, sym, ap, subst, inl, inr, ◌∙◌, arith}
+use Rattle.std.proofs.Common.{◌≡◌, ℕ, zero, suc, ◌+◌, ◌%◌, ◌^◌, ◌<◌, ◌&&◌, if◌then◌else◌, Bool, true, false, List, [], ◌∷◌, ◌++◌, length, get_or, map, filter, Option, Some, None, refl, sym, ap, subst, inl, inr, ◌∙◌, arith}
 use Rattle.std.specs.Prelude.{IsUtf8}
-use Rattle.std.specs.List.{All, AllZip, sum_by, flat_map, range_with_len}
-use Rattle.std.proofs.lemmas.Bool.{both_ways, or_left, or_right}
+use Rattle.std.specs.List.{All, AllZip, sum_by, range_with_len}
+use Rattle.std.proofs.lemmas.Bool.{both_ways, or_left}
 use Rattle.std.proofs.lemmas.Option.{same_Some}
-use Rattle.mcap_io.specs.Outside.{Rose, added, SourceState, LiveState, WorldState, Told, Keeping, Opening}
-use Rattle.mcap_io.specs.declared.outside.ObjectKind.TheVariants as kinds
-use Rattle.rec_data.specs.declared.owned.Rec.{Rec}
+use Rattle.mcap_io.specs.Outside.{added, SourceState, LiveState, WorldState, Told, Keeping, Opening}
 use Rattle.mcap_model.specs.declared.ends.End.{End}
 use Rattle.mcap_model.specs.declared.ends.End.TheVariants as ends
-use Rattle.mcap_model.specs.declared.ends.Stop.{Stop}
 use Rattle.mcap_model.specs.declared.ends.Stop.TheVariants as stops
-use Rattle.mcap_model.specs.Places.{At, Each}
+use Rattle.mcap_model.specs.Places.{At}
 use Rattle.mcap_model.specs.Tops.{Top, flat, offset_behind}
 use Rattle.mcap_model.specs.Fields.{MessageFields, IsMessage}
-use Rattle.mcap_model.specs.Kept.{reading_limits, at_end, Halts}
+use Rattle.mcap_model.specs.Kept.{at_end}
 use Rattle.mcap_model.specs.Scan.{Seen, Scan}
 use Rattle.mcap_model.specs.File.{file_of}
 use Rattle.mcap_model.specs.History.{is_message}
@@ -31,25 +28,25 @@ use Rattle.recorder.specs.Laws.{AreReadable, ReadsAs}
 use Rattle.recorder.proofs.ReadBack.{closed_file, recordings_are_read_back}
 use Rattle.message_sums.specs.declared.sums.Sums.{Sums}
 use Rattle.message_sums.specs.Sums.{value_of, bytes_of, sums_of}
-use Rattle.message_sums.specs.Reading.{fields_of, SumsAll}
+use Rattle.message_sums.specs.Reading.{fields_of}
 use Rattle.command_base.specs.Printing.{TellsAll, Takes}
-use Rattle.command_base.specs.OneFile.{failing, text_of, troubles_in, is_lack}
-use Rattle.command_base.specs.Ran.{Scene, counts_in, WorldRose, kept, world_faults, output_faults, input_faults}
-use Rattle.generated_feed.specs.Generator.{generated, messages_from, first_state}
-use Rattle.generated_feed.specs.Feeds.{feed_tops, feed_bytes, message_top, end_top, channel_top, header_top}
+use Rattle.command_base.specs.OneFile.{failing, text_of}
+use Rattle.command_base.specs.Ran.{Scene, WorldRose, world_faults, output_faults, input_faults}
+use Rattle.generated_feed.specs.Generator.{generated, first_state}
+use Rattle.generated_feed.specs.Feeds.{feed_tops, feed_bytes, message_top, end_top}
 use Rattle.generated_feed.specs.Laws.{FeedsAreRead}
-use Rattle.generated_feed.proofs.Reading.{IsSmall, small_from, message_is}
+use Rattle.generated_feed.proofs.Reading.{small_from, message_is}
 use Rattle.generate_command.specs.declared.back.Back.{Back}
 use Rattle.generate_command.specs.declared.back.Reading.{Reading}
 use Rattle.generate_command.specs.declared.back.Reading.TheVariants as readings
 use Rattle.generate_command.specs.declared.making.Numbers.{Numbers}
 use Rattle.generate_command.specs.Lines.{sums_line}
-use Rattle.generate_command.specs.Back.{ending_of}
+use Rattle.generate_command.specs.Back.{ending_of, NameReadBack}
 use Rattle.generate_command.specs.Making.{AreAllowed, source_of, sources_of, IsPlaced as NameIsPlaced}
 use Rattle.generate_command.specs.Generating.{is_closed, is_limit, is_memory_writer, passes_limit, lacks_memory, is_sound, ReadsBack, text_after, halts_after, is_lack_after, Generates}
 use Rattle.generate_command.specs.Laws.{made_for, all_made, AreInRange, GeneratedSumsAreTold}
 use Rattle.generate_command.proofs.Totals.{weight, total_of, seen_total, one_each, counted}
-use Rattle.generate_command.proofs.Silent.{cons_some, quiet}
+use Rattle.generate_command.proofs.Silent.{cons_some, IsQuiet, quiet}
 use Rattle.generate_command.proofs.Soundness.{reported, neither, IsStored, stored_there, outputs_stay, rose_later, failed_rose, there_back, summed, summed_of, all_taken}
 use Rattle.generate_command.proofs.Recordings.{all_placed}
 use Rattle.generate_command.proofs.Spots.{spots, IsWhole, spots_there, spots_apart, spots_total, once, rise, all}
@@ -146,52 +143,82 @@ well_so false sound out old middle new back reads is none = absurd (none (inl (r
 both : (a b : Bool) → a ≡ true → b ≡ true → (a && b) ≡ true
 both a b one other = ap (λ (x : Bool). x && b) one ∙ other
 
-told_of : FeedsAreRead → (options : RecordOptions) (numbers : Numbers) (out : List ℕ) (old new : Scene) (r : Report) (status : ℕ) (told : Told) → AreAllowed options → IsUtf8 options.file.profile → AreInRange numbers
-    → options.lossless ≡ true → Generates options numbers out old new (Some r) status → status ≡ 0 → old.world.told ≡ Some told → TellsAll old.out new.out (sums_line numbers.feeds (sums_of (all_made numbers)))
-told_of read options numbers out old new r status told allowed utf8 range lossless it zero_is here =
-    let q = quiet options numbers out old new (Some r) status it zero_is in
-    let middle = it.middle in
-    let written = it.written in
-    let counts = written.counts in
-    let s = stored_there options (sources_of numbers) out old.world middle written.entries r it.kept written.writing written.opened in
-    let stored = s.stored in
-    let live = stored.live in
-    let live_now = stored.live_now in
-    let (back, still, recorded) = stored.reported r refl in
-    let (enough, unlacking) = neither (lacks_memory r) (is_lack_after numbers.feeds out it.back) q.enough in
-    let limited : passes_limit r ≡ false = q.within in
-    let outputs_all : middle.output_faults ≡ added old.world.output_faults (live_now.faults + 0) =
-    counts.outputs ∙ ap (λ (es : List Opening). added old.world.output_faults (output_faults es)) s.entries_are ∙ ap (λ (k : Keeping). added old.world.output_faults (k.faults + 0)) stored.keeping_is in
-    let outputs : middle.output_faults ≡ added old.world.output_faults live_now.faults = omega (arith, outputs_all) in
-    let world_all : middle.faults ≡ added old.world.faults ((0 + (if it.kept then 0 else 1)) + 0) =
-    counts.world ∙ ap (λ (es : List Opening). added old.world.faults (world_faults es)) s.entries_are ∙ ap (λ (k : Keeping). added old.world.faults ((0 + (if k.well then 0 else 1)) + 0)) stored.keeping_is in
-    let sound = is_sound (Some r) it.kept in
-    let closed = closed_so r.writer.end live live_now old.world middle new.world r refl recorded.writer.cause stored.unused outputs (outputs_stay sound out middle new.world it.back it.reads) q.world limited enough in
-    let well = well_so it.kept sound out old.world middle new.world it.back it.reads world_all q.world in
-    let sound_is : sound ≡ true = both (is_closed r.writer.end) it.kept (ap is_closed closed) well in
-    let (b, back_is, name) = there_back sound out middle new.world it.back it.reads sound_is in
-    let unfailed : ending_of numbers.feeds out b.reading ≡ failing → ⊥ = λ fails. q.world (failed_rose out old.world middle new.world (world_faults written.entries) (input_faults written.entries) name.entries b.failed counts.world counts.inputs name.name (name.sure numbers.feeds fails)) in
-    let (sums, sums_is) = summed numbers.feeds out b.reading unfailed (sym (ap (halts_after numbers.feeds out) back_is) ∙ q.halts) (sym (ap (is_lack_after numbers.feeds out) back_is) ∙ unlacking) in
-    let left = written.leaves told here in
-    let file = file_of options.file [] recorded.history in
-    let before_sides = sides (sources_of numbers) live in
-    let now_sides = sides back live_now in
-    let readable : AreReadable options.file = record { profile = utf8; short = omega (arith, allowed.short); size = allowed.size } in
-    let adds = (closed_file options before_sides now_sides r recorded closed).1 in
-    let held : live_now.held ≡ Some file = adds [] (stored.empty told here) in
-    let names : left.0.names out ≡ Some file = subst (λ (x : Bool). NameIsPlaced file x (told.names out) (left.0.names out)) well (stored.placed told left.0 file here left.1 held) in
-    let reads : ReadsAs file recorded.history = (recordings_are_read_back options before_sides now_sides r readable recorded closed).0 in
-    let (before, now, begins, all_sums) = summed_of out file middle left.0 name.entries b.reading sums left.1 names name.reading sums_is in
-    let halts = all_sums.halts in
-    let same : all_sums.tops ≡ reads.tops = (readings_halt_once file all_sums.tops reads.tops (at_end all_sums.end) (at_end reads.end) (halts.halts file begins) reads.halts).0 in
-    let scan : Scan reads.tops all_sums.messages = subst (λ (ts : List Top). Scan ts all_sums.messages) same all_sums.scan in
-    let equal : sums ≡ sums_of (all_made numbers) = all_sums.sums_are ∙ same_read options numbers back live live_now r recorded lossless closed enough limited still range read all_sums.messages (reads.messages_are all_sums.messages scan) in
-    let taken : Takes old.out new.out (sums_line numbers.feeds sums) =
-    subst (λ (x : Reading). Takes old.out new.out (text_of (ending_of numbers.feeds out x))) sums_is (subst (λ (x : Option Back). Takes old.out new.out (text_after numbers.feeds out x)) back_is it.printed) in
-    subst (λ (x : Sums). TellsAll old.out new.out (sums_line numbers.feeds x)) equal (all_taken old.out new.out (sums_line numbers.feeds sums) taken q.printing)
+-- the writer closed its file, which was kept; memory was enough, and no limit was passed
+record IsSaved (r : Report) (kept : Bool) : Type 0 where
+  closed : r.writer.end ≡ ends.Closed
+  well : kept ≡ true
+  enough : lacks_memory r ≡ false
+  limited : passes_limit r ≡ false
+
+-- the name was read back, and the line of these sums was told
+record TellsSums (feeds : ℕ) (out : List ℕ) (middle : WorldState) (old new : Scene) : Type 0 where
+  back : Back
+  name : NameReadBack out middle new.world back
+  sums : Sums
+  summed : back.reading ≡ readings.Summed sums
+  line : TellsAll old.out new.out (sums_line feeds sums)
+
+module _ (options : RecordOptions) (numbers : Numbers) (out : List ℕ) (old new : Scene) (r : Report) (status : ℕ) (it : Generates options numbers out old new (Some r) status) (q : IsQuiet numbers.feeds out old new (Some r) it.back)
+    (s : IsStored options (sources_of numbers) out old.world it.middle it.written.entries (record { report = Some r; kept = it.kept })) where
+  outputs_are : it.middle.output_faults ≡ added old.world.output_faults s.stored.live_now.faults
+  outputs_are =
+      let all : it.middle.output_faults ≡ added old.world.output_faults (s.stored.live_now.faults + 0) =
+      it.written.counts.outputs ∙ ap (λ (es : List Opening). added old.world.output_faults (output_faults es)) s.entries_are ∙ ap (λ (k : Keeping). added old.world.output_faults (k.faults + 0)) s.stored.keeping_is in
+      omega (arith, all)
+
+  world_is : it.middle.faults ≡ added old.world.faults ((0 + (if it.kept then 0 else 1)) + 0)
+  world_is = it.written.counts.world ∙ ap (λ (es : List Opening). added old.world.faults (world_faults es)) s.entries_are ∙ ap (λ (k : Keeping). added old.world.faults ((0 + (if k.well then 0 else 1)) + 0)) s.stored.keeping_is
+
+  lacks : (lacks_memory r ≡ false) × (is_lack_after numbers.feeds out it.back ≡ false)
+  lacks = neither (lacks_memory r) (is_lack_after numbers.feeds out it.back) q.enough
+
+  saved : IsSaved r it.kept
+  saved =
+      let sound = is_sound (Some r) it.kept in
+      let (back, still, recorded) = s.stored.reported r refl in
+      record {
+        closed = closed_so r.writer.end s.stored.live s.stored.live_now old.world it.middle new.world r refl recorded.writer.cause s.stored.unused outputs_are (outputs_stay sound out it.middle new.world it.back it.reads) q.world q.within lacks.0;
+        well = well_so it.kept sound out old.world it.middle new.world it.back it.reads world_is q.world;
+        enough = lacks.0;
+        limited = q.within;
+      }
+
+  tells_sums : TellsSums numbers.feeds out it.middle old new
+  tells_sums =
+      let sound_is : is_sound (Some r) it.kept ≡ true = both (is_closed r.writer.end) it.kept (ap is_closed saved.closed) saved.well in
+      let (b, back_is, name) = there_back (is_sound (Some r) it.kept) out it.middle new.world it.back it.reads sound_is in
+      let unfailed : ending_of numbers.feeds out b.reading ≡ failing → ⊥ =
+      λ fails. q.world (failed_rose out old.world it.middle new.world (world_faults it.written.entries) (input_faults it.written.entries) name.entries b.failed it.written.counts.world it.written.counts.inputs name.name (name.sure numbers.feeds fails)) in
+      let (sums, sums_are) = summed numbers.feeds out b.reading unfailed (sym (ap (halts_after numbers.feeds out) back_is) ∙ q.halts) (sym (ap (is_lack_after numbers.feeds out) back_is) ∙ lacks.1) in
+      let taken : Takes old.out new.out (sums_line numbers.feeds sums) =
+      subst (λ (x : Reading). Takes old.out new.out (text_of (ending_of numbers.feeds out x))) sums_are (subst (λ (x : Option Back). Takes old.out new.out (text_after numbers.feeds out x)) back_is it.printed) in
+      record { back = b; name = name; sums = sums; summed = sums_are; line = all_taken old.out new.out (sums_line numbers.feeds sums) taken q.printing }
+
+  module _ (told : Told) (allowed : AreAllowed options) (utf8 : IsUtf8 options.file.profile) (range : AreInRange numbers) (lossless : options.lossless ≡ true) (here : old.world.told ≡ Some told) (read : FeedsAreRead) where
+    equal : tells_sums.sums ≡ sums_of (all_made numbers)
+    equal =
+        let live = s.stored.live in
+        let live_now = s.stored.live_now in
+        let (back, still, recorded) = s.stored.reported r refl in
+        let left = it.written.leaves told here in
+        let file = file_of options.file [] recorded.history in
+        let readable : AreReadable options.file = record { profile = utf8; short = omega (arith, allowed.short); size = allowed.size } in
+        let adds = (closed_file options (sides (sources_of numbers) live) (sides back live_now) r recorded saved.closed).1 in
+        let held : live_now.held ≡ Some file = adds [] (s.stored.empty told here) in
+        let names : left.0.names out ≡ Some file = subst (λ (x : Bool). NameIsPlaced file x (told.names out) (left.0.names out)) saved.well (s.stored.placed told left.0 file here left.1 held) in
+        let reads : ReadsAs file recorded.history = (recordings_are_read_back options (sides (sources_of numbers) live) (sides back live_now) r readable recorded saved.closed).0 in
+        let (before, now, begins, all_sums) = summed_of out file it.middle left.0 tells_sums.name.entries tells_sums.back.reading tells_sums.sums left.1 names tells_sums.name.reading tells_sums.summed in
+        let same : all_sums.tops ≡ reads.tops = (readings_halt_once file all_sums.tops reads.tops (at_end all_sums.end) (at_end reads.end) (all_sums.halts.halts file begins) reads.halts).0 in
+        let scan : Scan reads.tops all_sums.messages = subst (λ (ts : List Top). Scan ts all_sums.messages) same all_sums.scan in
+        all_sums.sums_are ∙ same_read options numbers back live live_now r recorded lossless saved.closed saved.enough saved.limited still range read all_sums.messages (reads.messages_are all_sums.messages scan)
+
+    told_of : TellsAll old.out new.out (sums_line numbers.feeds (sums_of (all_made numbers)))
+    told_of = subst (λ (x : Sums). TellsAll old.out new.out (sums_line numbers.feeds x)) equal tells_sums.line
 
 pub generated_sums_are_told : FeedsAreRead → GeneratedSumsAreTold
 generated_sums_are_told read options numbers out old new None status told allowed utf8 range lossless it zero_is here =
     let none = reported numbers.feeds out old new None it.back (quiet options numbers out old new None status it zero_is) in
     absurd (let apart = none.1 in cc)
-generated_sums_are_told read options numbers out old new (Some r) status told allowed utf8 range lossless it zero_is here = told_of read options numbers out old new r status told allowed utf8 range lossless it zero_is here
+generated_sums_are_told read options numbers out old new (Some r) status told allowed utf8 range lossless it zero_is here =
+    told_of options numbers out old new r status it (quiet options numbers out old new (Some r) status it zero_is)
+    (stored_there options (sources_of numbers) out old.world it.middle it.written.entries r it.kept it.written.writing it.written.opened) told allowed utf8 range lossless here read

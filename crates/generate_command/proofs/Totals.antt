@@ -1,7 +1,7 @@
 -- Totals over the messages of a history, of which a list gives each once.
-use Rattle.std.proofs.Common.{◌≡◌, ◌⊎◌, ℕ, zero, suc, ◌+◌, ◌<◌, List, [], ◌∷◌, ◌++◌, length, set, get_or, filter, map, refl, sym, ap, subst, inl, inr, ◌∙◌, arith}
+use Rattle.std.proofs.Common.{◌≡◌, ℕ, zero, suc, ◌+◌, List, [], ◌∷◌, ◌++◌, length, set, get_or, filter, refl, sym, ap, inl, inr, ◌∙◌, arith}
 use Rattle.std.specs.List.{AllZip, sum_by}
-use Rattle.std.proofs.lemmas.List.Sums.{sum_by-cons, sum_by-append, sum_by-set}
+use Rattle.std.proofs.lemmas.List.Sums.{sum_by-cons, sum_by-set}
 use Rattle.rec_data.specs.declared.owned.Rec.{Rec}
 use Rattle.rec_data.specs.declared.owned.Rec.TheVariants.{Schema, Channel, Message}
 use Rattle.mcap_model.specs.Places.{At, Has, Each}
@@ -9,8 +9,8 @@ use Rattle.mcap_model.specs.Fields.{MessageFields}
 use Rattle.mcap_model.specs.Scan.{Seen}
 use Rattle.mcap_model.specs.History.{message_of, is_message}
 use Rattle.mcap_model.specs.Laws.{HoldsSeen}
-use Rattle.mcap_model.proofs.Places.{at_none, at_one, at_within, at_read, at_kept, at_set, at_set_same, at_set_other}
-use Rattle.mcap_model.proofs.Lists.{at_either, at_second}
+use Rattle.mcap_model.proofs.Places.{at_none, at_one, at_within, at_read, at_set, at_set_other}
+use Rattle.mcap_model.proofs.Lists.{at_either}
 use Rattle.std.proofs.lemmas.Option.{same_Some}
 use Rattle.message_sums.specs.Reading.{fields_of}
 

@@ -1,5 +1,5 @@
 -- A generated feed is read as its records.
-use Rattle.std.proofs.Common.{◌≡◌, ℕ, zero, suc, ◌+◌, ◌*◌, ◌%◌, ◌^◌, ◌<◌, ◌≤◌, List, [], ◌∷◌, ◌++◌, length, take, map, codes, decimal, replicate, refl, sym, ap, subst, inl, inr, ◌∙◌, append_assoc, arith}
+use Rattle.std.proofs.Common.{◌≡◌, ℕ, zero, suc, ◌+◌, ◌*◌, ◌%◌, ◌^◌, ◌<◌, ◌≤◌, List, [], ◌∷◌, ◌++◌, length, take, map, codes, decimal, refl, sym, ap, subst, inl, inr, ◌∙◌, arith}
 use Rattle.std.specs.Prelude.{IsUtf8}
 use Rattle.std.proofs.lemmas.Fmt.{IsAscii-decimal, length-decimal-le}
 use Rattle.std.proofs.lemmas.Str.{IsUtf8-from_ascii, IsUtf8-append}
@@ -10,12 +10,11 @@ use Rattle.mcap_wire.specs.Layout.{le, magic}
 use Rattle.mcap_wire.specs.Maps.{IsTextMap}
 use Rattle.mcap_wire.proofs.Numbers.{length-le}
 use Rattle.mcap_wire.proofs.Contents.{row_shown}
-use Rattle.mcap_wire.proofs.Framing.{length-framed}
 use Rattle.rec_data.specs.declared.owned.Rec.TheVariants as recs
 use Rattle.rec_data.specs.Fields.{ChannelFields, MessageFields}
 use Rattle.rec_data.specs.Records.{header_kinds, header_values, header_text, channel_kinds, channel_values, channel_text, message_text, data_end_text}
 use Rattle.rec_data.proofs.Contents.{message_shown, length-message_text, length-header_text, data_end_shown}
-use Rattle.mcap_model.specs.Places.{At, Each}
+use Rattle.mcap_model.specs.Places.{Each}
 use Rattle.mcap_model.specs.Tops.{Top, Tops, top_bytes, spelled, offset_behind, flat}
 use Rattle.mcap_model.specs.Fields.{IsHeader, IsChannel, IsMessage}
 use Rattle.mcap_model.specs.Rules.{HasDataEnd, HasChannel, V7, Agrees}
@@ -28,7 +27,7 @@ use Rattle.mcap_model.proofs.Maps.{shows_once, message_once}
 use Rattle.mcap_model.proofs.ReadBack.{at_map}
 use Rattle.mcap_model.proofs.Readings.{length-top, halts_are_last}
 use Rattle.generated_feed.specs.Generator.{next_state, number_of, message_of, messages_from, generated, first_state}
-use Rattle.generated_feed.specs.Feeds.{header_top, topic_of, channel_of, channel_top, message_top, end_top, feed_tops, feed_bytes}
+use Rattle.generated_feed.specs.Feeds.{header_top, topic_of, channel_of, channel_top, message_top, end_top, feed_bytes}
 use Rattle.generated_feed.specs.Laws.{FeedsAreRead}
 
 -- ---- what the messages are
@@ -276,10 +275,23 @@ feeds_are_read seed feed n fits few =
     let foot : length (data_end_text 0) ≡ 4 = ap length (append-nil (le 4 0)) ∙ length-le 4 0 in
     let joined = ap length (flat_map-append top_bytes (map message_top ms) (end_top ∷ [])) in
     let near : offset_behind tops ≤ 1099511627776 =
-    omega (arith, few, many, long, channel, header, foot, joined,
-    length-append (top_bytes header_top) (spelled (channel_top feed ∷ (map message_top ms ++ end_top ∷ []))), length-top header_top,
-    length-append (top_bytes (channel_top feed)) (spelled (map message_top ms ++ end_top ∷ [])), length-top (channel_top feed),
-    length-append (spelled (map message_top ms)) (spelled (end_top ∷ [])), length-append (top_bytes end_top) [], length-top end_top) in
+    omega (
+      arith,
+      few,
+      many,
+      long,
+      channel,
+      header,
+      foot,
+      joined,
+      length-append (top_bytes header_top) (spelled (channel_top feed ∷ (map message_top ms ++ end_top ∷ []))),
+      length-top header_top,
+      length-append (top_bytes (channel_top feed)) (spelled (map message_top ms ++ end_top ∷ [])),
+      length-top (channel_top feed),
+      length-append (spelled (map message_top ms)) (spelled (end_top ∷ [])),
+      length-append (top_bytes end_top) [],
+      length-top end_top,
+    ) in
     let good = good_with feed ms fits small near in
     let stands : Tops bytes tops [] = record { split = ap (λ (l : List ℕ). magic ++ l) (sym (append-nil (spelled tops))) } in
     let ended : HasDataEnd tops = has_end (header_top ∷ channel_top feed ∷ map message_top ms) in

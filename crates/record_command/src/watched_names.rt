@@ -20,7 +20,8 @@ use recorder::{RecordOptions, Report};
 use std::alloc::Global;
 use std::sync::Wait;
 use std::thread::Threads;
-use watched_recording::{WatchedRecording, record_watched, watch_files_are_told};
+use watched_recording::laws::watch_files_are_told;
+use watched_recording::{WatchedRecording, record_watched};
 use watching::{WatchEnd, WatchReport};
 
 /// What a recording with watchers came to: its report and those of its watchers, whether these were told of the end, and which
