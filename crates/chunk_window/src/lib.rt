@@ -1,0 +1,8 @@
+//! Parts of several inputs that are held in memory, each from the call that loads it to the one that lets it go.
+#![tactic(auto)]
+
+mod answers;
+mod window;
+
+pub use answers::{Loadable, WindowRefused};
+pub use window::Window;
