@@ -29,11 +29,7 @@ pub struct Window {
 }
 
 // Reads a part into a room, which is as long as the part then.
-fn fill_room<T: Store>(
-    store: &mut T,
-    at: Loadable,
-    room: &mut Vec<u8>,
-) -> Result<(), WindowRefused>
+fn fill_room<T: Store>(store: &mut T, at: Loadable, room: &mut Vec<u8>) -> Result<(), WindowRefused>
     requires { at.offset + at.length ≤ (T.state store.old).known }
     ensures { FillsRoom (T.state store.old) (T.state store.new) at room.new.items result }
 {

@@ -1,0 +1,5 @@
+pub mod Extents
+pub mod Facts
+pub mod Noted
+mod Surveyed
+pub mod Telling

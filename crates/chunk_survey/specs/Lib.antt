@@ -1,0 +1,4 @@
+pub mod Times
+pub mod Spans
+pub mod Surveys
+pub mod Laws

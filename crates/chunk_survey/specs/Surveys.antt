@@ -1,0 +1,28 @@
+-- What a survey comes to.
+use Rattle.std.specs.Prelude.{◌≡◌, ℕ, List, Result, Ok, Err}
+use Rattle.mcap_io.specs.Outside.{SourceState}
+use Rattle.mcap_model.specs.Tops.{Top, flat}
+use Rattle.mcap_model.specs.Kept.{reading_limits, Good, at_end}
+use Rattle.mcap_model.specs.Scan.{Seen, Scan}
+use Rattle.mcap_model.specs.Declarations.{TablesOf}
+use Rattle.mcap_scan.specs.declared.answers.ScanRefused.{ScanRefused}
+use Rattle.mcap_scan.specs.Scanning.{HaltsSo, RefusalStands}
+use Rattle.chunk_survey.specs.declared.surveying.Survey.{Survey}
+use Rattle.chunk_survey.specs.Spans.{spans_of}
+
+-- the source was read to its Data End: these are its records, which are good, and their messages; and it is known of them where
+-- they stand, and what is declared
+pub record IsSurveyOf (before now : SourceState) (s : Survey) : Type 0 where
+  pub tops : List Top
+  pub end : ℕ
+  pub messages : List Seen
+  pub halts : HaltsSo before now tops (at_end end)
+  pub good : Good reading_limits tops
+  pub scan : Scan tops messages
+  pub tables_are : TablesOf (flat tops) s.tables
+  pub spans_are : s.spans.items ≡ spans_of tops
+
+-- or the reading was refused behind some records, for that reason
+abbrev pub Surveys : SourceState → SourceState → Result Survey ScanRefused → Type 0
+Surveys before now (Ok s) = IsSurveyOf before now s
+Surveys before now (Err why) = (tops : List Top) × RefusalStands why before now tops
