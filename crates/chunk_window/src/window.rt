@@ -116,6 +116,16 @@ impl Window {
         }
     }
 
+    /// Whether a part is loaded.
+    pub fn is_loaded(&self, input: u32, offset: u64) -> bool
+        ensures { IsTrue result ↔ IsLoaded (loaded_in self.now) input offset }
+    {
+        match place_of(&self.loaded, input, offset) {
+            Some(_) => return true,
+            None => return false,
+        }
+    }
+
     /// The bytes of a part that is loaded.
     pub fn bytes(&self, input: u32, offset: u64) -> &[u8]
         requires { IsLoaded (loaded_in self.now) input offset }
