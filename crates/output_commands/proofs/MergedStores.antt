@@ -123,6 +123,7 @@ output_holds chunk given back live stored (Ok m) files out all now result it tol
   extras = it.extras;
   history = it.history;
   merges = merges_to given files it.profile it.extras it.history told it.is;
+  back = it.is.back;
   messages = it.messages;
   records = it.records;
   within = it.within;

@@ -11,6 +11,7 @@ use Rattle.mcap_model.specs.Tops.{Top}
 use Rattle.mcap_model.specs.Blocks.{pieces_of, blocks_in}
 use Rattle.mcap_model.specs.Kept.{reading_limits, Halts, at_end, grammar as breaks, compressed as names, beyond}
 use Rattle.mcap_model.specs.History.{is_message}
+use Rattle.mcap_model.specs.Laws.{IsReadBack}
 use Rattle.mcap_model.specs.File.{file_of, IsPrefix}
 use Rattle.mcap_model.specs.Merged.{Merged as MergesTo, AreRead, IsUsed, SchemaIsUsed, AtMost, MoreThan}
 use Rattle.chunk_writer.specs.Limits.{Holds}
@@ -33,12 +34,14 @@ use Rattle.output_commands.specs.SomeOutput.{Ending, was_written, halted, limite
 abbrev pub HoldsBytes : Told → List ℕ → List ℕ → Type 0
 HoldsBytes told name bytes = told.names name ≡ Some bytes
 
--- the file that merging makes of these files was put there, and these are the numbers of its records
+-- The file that merging makes of these files was put there, and these are the numbers of its records. Each of them is read back
+-- as itself, so its ids fit their two bytes.
 pub record HoldsMerged (chunk : ℕ) (files : List (List ℕ)) (m : Merged) (well : Bool) (before now : Option (List ℕ)) : Type 0 where
   pub profile : List ℕ
   pub extras : List Top
   pub history : List Rec
   pub merges : MergesTo files profile extras history
+  pub back : Each IsReadBack history
   pub messages : m.messages ≡ length (filter is_message history)
   pub records : m.records ≡ length history
   -- that file is within the limits of writing
