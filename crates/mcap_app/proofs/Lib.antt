@@ -3,4 +3,5 @@ mod RoundTrip
 mod Sound
 mod Unrepeated
 mod Recovered
+mod Merges
 mod FirstParts

@@ -1,4 +1,5 @@
--- Laws of the commands: what is recorded is printed, keeps all rules, and is recovered where only a first part of it is left.
+-- Laws of the commands: what is recorded is printed, keeps all rules, and is recovered where only a first part of it is left; what
+-- is recovered or merged keeps all rules.
 use Rattle.std.specs.Prelude.{◌≡◌, ◌⊎◌, ◌^◌, ◌<◌, ◌≤◌, ℕ, List, [], length, take, filter, refl, true, Option, Some, None, IsUtf8}
 use Rattle.std.specs.List.{AllZip, flat_map}
 use Rattle.mcap_wire.specs.Limits.{chunk_size_limit}
@@ -18,6 +19,7 @@ use Rattle.mcap_model.specs.Valid.{IsValid, IsFullyIndexed}
 use Rattle.mcap_model.specs.Recovery.{piece_records, FrontIsRepaired}
 use Rattle.time_player.specs.Text.{cat_text}
 use Rattle.mcap_model.specs.Laws.{HoldsSeen}
+use Rattle.mcap_model.specs.Merged.{Merged as MergesTo}
 use Rattle.chunk_writer.specs.Limits.{Holds}
 use Rattle.recorder.specs.declared.report.Report.{Report}
 use Rattle.command_base.specs.Printing.{TellsAll}
@@ -27,12 +29,17 @@ use Rattle.recorder.specs.Laws.{IsSound}
 use Rattle.mcap_recover.specs.declared.answers.Recovered.{Recovered}
 use Rattle.mcap_recover.specs.declared.answers.Why.TheVariants as whys
 use Rattle.mcap_recover.specs.Recovering.{recovered_options}
+use Rattle.mcap_merge.specs.declared.answers.Merged.{Merged}
+use Rattle.mcap_merge.specs.Filed.{merged_options}
 use Rattle.record_command.specs.Record.{AreAllowed, Records}
 use Rattle.file_commands.specs.Cat.{Selection, Cats}
 use Rattle.file_commands.specs.Check.{verdict_line, FileChecks}
 use Rattle.output_commands.specs.declared.recovering.Recovery.{Recovery}
 use Rattle.output_commands.specs.declared.recovering.Recovery.TheVariants as recoveries
 use Rattle.output_commands.specs.Recover.{recovered_line, RecoversFile}
+use Rattle.output_commands.specs.declared.merging.Merging.{Merging}
+use Rattle.output_commands.specs.declared.merging.Merging.TheVariants as mergings
+use Rattle.output_commands.specs.Merge.{HoldsBytes, merged_line, MergesFiles}
 
 -- all messages are asked for
 abbrev pub everything : Selection
@@ -103,6 +110,38 @@ pub record LeavesSound (out : List ℕ) (old new : Scene) (recovery : Recovery) 
 abbrev pub RecoveriesAreSound : Type 0
 RecoveriesAreSound = (chunk : ℕ) (input out : List ℕ) (old new : Scene) (told : Told) → IsChunkSize chunk
     → (it : RecoversFile chunk input out old new 0) → old.world.told ≡ Some told → LeavesSound out old new it.recovery
+
+-- ---- what is merged keeps all rules
+
+-- the file that merging makes of files with this profile, these extras and this history
+abbrev pub merged_file : ℕ → List ℕ → List Top → List Rec → List ℕ
+merged_file chunk profile extras history = file_of (merged_options profile chunk) extras history
+
+-- A merge was made, and its line was printed. These were the files under the inputs' names, and under the output's name stands what
+-- merging makes of them, with its numbers: all messages of all files, each once, in order. That file is valid and fully indexed
+-- where the files have fewer than 2^32 Attachments and Metadata: a summary has no more room for their number.
+pub record LeavesMerged (chunk : ℕ) (inputs : List (List ℕ)) (out : List ℕ) (old new : Scene) (before : Told) (merging : Merging) : Type 0 where
+  pub merged : Merged
+  pub is_made : merging ≡ mergings.Made merged
+  pub line : TellsAll old.out new.out (merged_line (length inputs) merged)
+  pub files : List (List ℕ)
+  pub were_there : AllZip (HoldsBytes before) inputs files
+  pub profile : List ℕ
+  pub extras : List Top
+  pub history : List Rec
+  pub merges : MergesTo files profile extras history
+  pub messages : merged.messages ≡ length (filter is_message history)
+  pub records : merged.records ≡ length history
+  pub told : Told
+  pub tells : new.world.told ≡ Some told
+  pub there : told.names out ≡ Some (merged_file chunk profile extras history)
+  pub valid : length extras < 2 ^ 32 → IsValid (merged_file chunk profile extras history)
+  pub indexed : length extras < 2 ^ 32 → IsFullyIndexed (merged_file chunk profile extras history)
+
+-- A merge with the status 0 in a world that tells leaves such a file, whatever its inputs were.
+abbrev pub MergesAreSound : Type 0
+MergesAreSound = (chunk : ℕ) (inputs : List (List ℕ)) (out : List ℕ) (old new : Scene) (told : Told) → IsChunkSize chunk
+    → (it : MergesFiles chunk inputs out old new 0) → old.world.told ≡ Some told → LeavesMerged chunk inputs out old new told it.merging
 
 -- ---- a recording of which a first part is left is recovered
 

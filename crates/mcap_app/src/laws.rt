@@ -1,5 +1,5 @@
 //! Laws of the commands, each as the contract of a function that does nothing.
-ghost use Rattle.mcap_app.specs.Laws.{RecordingsArePrinted, RecordingsAreSound, RecoveriesAreSound, RecordingsLeaveFirstParts, RecordingsAreRecovered};
+ghost use Rattle.mcap_app.specs.Laws.{RecordingsArePrinted, RecordingsAreSound, RecoveriesAreSound, MergesAreSound, RecordingsLeaveFirstParts, RecordingsAreRecovered};
 
 use mcap_laws::{fronts_are_repaired, repairs_can_be_written};
 
@@ -20,6 +20,12 @@ pub fn recoveries_are_sound()
 {
     repairs_can_be_written();
 }
+
+/// What is merged with the status 0 is a valid and fully indexed file of all messages of the inputs, where these have fewer than
+/// 2^32 Attachments and Metadata.
+pub fn merges_are_sound()
+    ensures { MergesAreSound }
+{}
 
 /// A recording that accepted a record and whose output was kept leaves a first part of its file, with the magic.
 pub fn recordings_leave_first_parts()
