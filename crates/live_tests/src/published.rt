@@ -7,7 +7,7 @@ use live_entry::Entry;
 use mcap_io::{Extent, MemoryLive, MemorySource, Piece};
 use mcap_model::{End, FileOptions};
 use mcap_wire::{Memory, Text};
-use recorder::{RecordOptions, record_onto};
+use recorder::{Onto, RecordOptions, record_onto};
 use std::alloc::Global;
 use std::marker::Brand;
 use std::process::Abort;
@@ -50,7 +50,12 @@ fn record_published<J: Naming + Send + Sync, R: Threads + Wait + Sync>(
         Ok(tape) => tape,
         Err(_) => return Err(Fail::from("no tape")),
     };
-    match record_onto(rt, alloc, &options, feeds, tape, true).report {
+    let Onto {
+        report,
+        feeds: _,
+        tape: _,
+    } = record_onto(rt, alloc, &options, feeds, tape, true);
+    match report {
         Some(report) => return Ok(report.writer.end),
         None => return Err(Fail::from("no report")),
     }

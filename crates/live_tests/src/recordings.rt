@@ -1,4 +1,6 @@
 //! Recordings that are watched.
+ghost use Rattle.std.specs.Prelude.{◌≡◌, vec_len, IfOk};
+
 use crate::published::feed_bytes;
 use mcap_io::{FailingWrite, MemoryLive, MemorySink, MemorySource};
 use mcap_model::{End, FileOptions, Range};
@@ -22,7 +24,9 @@ fn sink_of(alloc: Global, failing: Option<u64>) -> Result<MemorySink, Memory> {
 }
 
 // Four sinks, the second of which fails at the write of that number.
-fn sinks_of(alloc: Global, call: u64) -> Result<Vec<MemorySink>, Memory> {
+fn sinks_of(alloc: Global, call: u64) -> Result<Vec<MemorySink>, Memory>
+    ensures { IfOk result (λ sinks. vec_len sinks ≡ 4) }
+{
     let sinks = [
         sink_of(alloc, None)?,
         sink_of(alloc, Some(call))?,

@@ -1,13 +1,13 @@
 -- What the words of a command make of its run.
-use Rattle.std.proofs.Common.{◌≡◌, ◌⊎◌, ℕ, suc, ◌≤◌, Bool, true, false, List, Option, Some, None, inl, inr, sym, ap₂, subst, codes, ◌∙◌, arith, unwrap_or}
+use Rattle.std.proofs.Common.{◌≡◌, ◌⊎◌, ℕ, zero, suc, ◌≤◌, Bool, true, false, List, [], ◌∷◌, Option, Some, None, inl, inr, refl, sym, ap, ap₂, length, subst, codes, ◌∙◌, arith, unwrap_or}
 use Rattle.std.proofs.lemmas.Option.{same_Some}
+use Rattle.std.proofs.lemmas.List.FromFn.{length-map-range_with_len}
 use Rattle.command_words.specs.declared.command.Command.{Command}
 use Rattle.command_words.specs.declared.command.Command.TheVariants as commands
 use Rattle.mcap_model.specs.declared.options.FileOptions.{FileOptions}
 use Rattle.mcap_model.specs.declared.replay.Range.{Range}
 use Rattle.command_words.specs.Items.{Item, given}
-use Rattle.command_words.specs.Commands.{GivesNumber, SizesChunks, Derives, IsFileOptions, HasWatchers, MayWatch, watchers_with}
-use Rattle.command_words.proofs.OneCommand.{one_flag}
+use Rattle.command_words.specs.Commands.{GivesNumber, SizesChunks, Derives, IsFileOptions, Flags, HasWatchers, MayWatch, watch_name, watch_names, watchers_with}
 use Rattle.recorder.specs.declared.report.Report.{Report}
 use Rattle.command_base.specs.Ran.{Scene}
 use Rattle.record_command.proofs.Answered.{not_two as record_not_two}
@@ -20,11 +20,14 @@ use Rattle.output_commands.proofs.Recoveries.{recovers_not_two}
 use Rattle.output_commands.proofs.Merges.{merges_not_two}
 use Rattle.generate_command.proofs.Statuses.{generates_not_two}
 use Rattle.generate_command.specs.Making.{AreAllowed}
-use Rattle.mcap_app.specs.Runs.{IsAllowed, IsWatchable, LacksForWords, Runs, generate_options}
+use Rattle.record_command.specs.Record.{Records}
+use Rattle.record_command.specs.WatchedAnswer.{RecordsWatched}
+use Rattle.recorder.specs.declared.options.RecordOptions.{RecordOptions}
+use Rattle.mcap_app.specs.Runs.{IsAllowed, IsWatchable, LacksForWords, RecordsBeside, Runs, generate_options}
 
 -- no command has the status of bad words
 pub not_two : (command : Command) (old new : Scene) (report : Option Report) (status : ℕ) → Runs command old new report status → status ≡ 2 → ⊥
-not_two (commands.Record out feeds file limit lossless range 0) old new report status runs two = record_not_two _ _ _ _ _ _ _ runs two
+not_two (commands.Record out feeds file limit lossless range zero) old new report status runs two = record_not_two _ _ _ _ _ _ _ runs two
 not_two (commands.Record out feeds file limit lossless range (suc n)) old new report status runs two = watched_not_two _ _ _ _ _ _ _ _ _ runs two
 not_two (commands.Info file) old new report status runs two = info_not_two _ _ _ _ runs.0 two
 not_two (commands.Check file) old new report status runs two = check_not_two _ _ _ _ runs.0 two
@@ -38,6 +41,27 @@ not_two (commands.Generate seed feeds messages out) old new report status runs t
 pub ran_not_two : (command : Command) (old new : Scene) (report : Option Report) (status : ℕ) → Runs command old new report status ⊎ LacksForWords old new report status → status ≡ 2 → ⊥
 ran_not_two command old new report status (inl runs) two = not_two command old new report status runs two
 ran_not_two command old new report status (inr lacks) two = absurd (omega (arith, two, lacks.status_is))
+
+-- ---- a recording beside watchers, or without
+
+pub beside_none : (options : RecordOptions) (range : Range) (watchers : ℕ) (out : List ℕ) (feeds : List (List ℕ)) (old new : Scene) (report : Option Report) (status : ℕ) → watchers ≡ 0 → Records options out feeds old new report status
+    → RecordsBeside options range watchers out feeds old new report status
+beside_none options range watchers out feeds old new report status none records = subst (λ (n : ℕ). RecordsBeside options range n out feeds old new report status) (sym none) records
+
+pub beside_some : (options : RecordOptions) (range : Range) (watchers : ℕ) (out : List ℕ) (names feeds : List (List ℕ)) (old new : Scene) (report : Option Report) (status : ℕ) → (watchers ≡ 0 → ⊥) → names ≡ watch_names out watchers
+    → RecordsWatched options range out names feeds old new report status → RecordsBeside options range watchers out feeds old new report status
+beside_some options range zero out names feeds old new report status some named records = absurd (some refl)
+beside_some options range (suc n) out names feeds old new report status some named records = subst (λ (l : List (List ℕ)). RecordsWatched options range out l feeds old new report status) named records
+
+-- there are as many names as watchers
+not_none : (n : ℕ) → (n ≡ 0 → ⊥) → 1 ≤ n
+not_none zero some = absurd (some refl)
+not_none (suc n) some = omega arith
+
+pub few_names : (out : List ℕ) (watchers : ℕ) (names : List (List ℕ)) → (watchers ≡ 0 → ⊥) → watchers ≤ 16 → names ≡ watch_names out watchers → (1 ≤ length names) × (length names ≤ 16)
+few_names out watchers names some few named =
+    let long : length names ≡ watchers = ap length named ∙ length-map-range_with_len (watch_name out) 1 watchers in
+    (omega (arith, long, not_none watchers some), omega (arith, long, few))
 
 -- ---- ranges
 
@@ -57,6 +81,13 @@ chunk_in_range false values size chunk sizes gives n is =
     let same : unwrap_or size 786432 ≡ n = same_Some (unwrap_or size 786432) n (sym sizes ∙ is) in
     (subst (λ (k : ℕ). 1 ≤ k) same usual.0, subst (λ (k : ℕ). k ≤ 67108864) same usual.1)
 
+-- a flag stands or doesn't
+same_flag : (values : List (List ℕ)) (a b : Bool) → Flags values a → Flags values b → b ≡ a
+same_flag values true true is other = refl
+same_flag values true false is other = let wrong : [] ∷ [] ≡ [] = sym is ∙ other in cc
+same_flag values false true is other = let wrong : [] ≡ [] ∷ [] = sym is ∙ other in cc
+same_flag values false false is other = refl
+
 -- where there are watchers the file has chunks
 chunk_there : (is_plain : Bool) (size chunk : Option ℕ) (span : Option Range) (number : Option ℕ) → SizesChunks is_plain size chunk → MayWatch is_plain span number → 1 ≤ watchers_with number span → (n : ℕ) × (chunk ≡ Some n)
 chunk_there false size chunk span number sizes may some = (unwrap_or size 786432, sizes)
@@ -74,7 +105,7 @@ watchable : (items : List Item) (file : FileOptions) (range : Range) (watchers :
 watchable items file range watchers options watched = (
   subst (λ (n : ℕ). n ≤ 16) (sym watched.watchers_are) (few_watchers _ watched.number watched.span watched.numbered),
   λ some.
-      let plain : watched.is_plain ≡ options.chunk.is_plain = one_flag (given (codes "plain") items) options.chunk.is_plain watched.is_plain options.chunk.plain watched.plain in
+      let plain : watched.is_plain ≡ options.chunk.is_plain = same_flag (given (codes "plain") items) options.chunk.is_plain watched.is_plain options.chunk.plain watched.plain in
       let may = subst (λ (p : Bool). MayWatch p watched.span watched.number) plain watched.may in
       chunk_there options.chunk.is_plain options.chunk.size file.chunk watched.span watched.number options.chunk.sizes may (subst (λ (n : ℕ). 1 ≤ n) watched.watchers_are some),
 )

@@ -1,5 +1,5 @@
 -- What the program does, command by command.
-use Rattle.std.specs.Prelude.{◌≡◌, ◌≤◌, ℕ, suc, List, [], ◌∷◌, true, false, Option, None, Some}
+use Rattle.std.specs.Prelude.{◌≡◌, ◌≤◌, ℕ, zero, suc, List, [], ◌∷◌, true, false, Option, None, Some}
 use Rattle.command_words.specs.declared.command.Command.{Command}
 use Rattle.command_words.specs.declared.command.Command.TheVariants as commands
 use Rattle.recorder.specs.declared.report.Report.{Report}
@@ -42,7 +42,7 @@ generate_options = record { file = record { profile = []; chunk = Some usual_chu
 
 -- a recording without watchers, or beside so many, which write to the files under their names
 abbrev pub RecordsBeside : RecordOptions → Range → ℕ → List ℕ → List (List ℕ) → Scene → Scene → Option Report → ℕ → Type 0
-RecordsBeside options range 0 out feeds old new report status = Records options out feeds old new report status
+RecordsBeside options range zero out feeds old new report status = Records options out feeds old new report status
 RecordsBeside options range (suc n) out feeds old new report status = RecordsWatched options range out (watch_names out (suc n)) feeds old new report status
 
 -- only a recording has a report, of feeds that are read or generated

@@ -42,9 +42,13 @@ fn joined(alloc: Global, feeds: &Names) -> Result<String, AllocError> {
     Ok(names)
 }
 
-// How many watchers there are and what they replay, or nothing where nothing was said of them.
-fn watched(alloc: Global, range: &Range, watchers: u32) -> Result<String, AllocError> {
-    let (start, end) = (range.start, range.end);
+// How many watchers there are, and the times that they replay, or nothing where nothing was said of them.
+fn watched(
+    alloc: Global,
+    watchers: u32,
+    start: u64,
+    end: Option<u64>,
+) -> Result<String, AllocError> {
     if watchers == 0 && start == 0 && end.is_none() {
         return Ok(String::new(alloc));
     }
@@ -66,7 +70,7 @@ fn said(alloc: Global, command: &Command) -> Result<String, AllocError> {
             let feeds = joined(alloc, feeds)?;
             let chunk = file.chunk;
             let waits = if *lossless { " lossless" } else { "" };
-            let watched = watched(alloc, range, *watchers)?;
+            let watched = watched(alloc, *watchers, range.start, range.end)?;
             format!(in alloc;
                 "record {out}{feeds} profile='{profile}' chunk={chunk:?} limit={limit}{waits}{watched}"
             )
