@@ -26,13 +26,8 @@ const MESSAGE: &[u8] =
 
 const DATA_END: &[u8] = b"\x0f\x04\0\0\0\0\0\0\0\0\0\0\0";
 
-// Where a feed is held within its last Message.
-pub(crate) fn before_its_end(bytes: &[u8]) -> usize {
-    bytes.len().saturating_sub(DATA_END.len() + 1)
-}
-
 // A feed of so many equal Messages.
-pub(crate) fn feed_of(alloc: Global, many: u32) -> Result<Vec<u8>, Memory> {
+fn feed_of(alloc: Global, many: u32) -> Result<Vec<u8>, Memory> {
     let mut bytes = Vec::from_slice(alloc, BEGIN)?;
     for _ in 0..many {
         bytes.extend_from_slice(MESSAGE)?;
@@ -42,7 +37,7 @@ pub(crate) fn feed_of(alloc: Global, many: u32) -> Result<Vec<u8>, Memory> {
 }
 
 // A buffer of one record, and blocks of one.
-pub(crate) fn options_of(alloc: Global) -> Result<RecordOptions, Memory>
+fn options_of(alloc: Global) -> Result<RecordOptions, Memory>
     ensures { IfOk result (λ options. (options.limit ≡ 1) × (options.file.profile ≡ []) × (options.file.chunk ≡ Some 1)) }
 {
     Ok(RecordOptions {
@@ -56,7 +51,7 @@ pub(crate) fn options_of(alloc: Global) -> Result<RecordOptions, Memory>
 }
 
 // Whether all feeds came to their ends, and the file was closed.
-pub(crate) fn is_done(report: &Report) -> bool {
+fn is_done(report: &Report) -> bool {
     for feed in report.feeds.iter() {
         if !matches!(feed.end, FeedEnd::Done) {
             return false;
@@ -80,7 +75,7 @@ fn is_indexed(alloc: Global, file: Vec<u8>) -> bool {
 }
 
 // Ends the test where this doesn't hold.
-pub(crate) fn holds(rt: &impl Abort, holds: bool)
+fn holds(rt: &impl Abort, holds: bool)
     ensures { holds ≡ true }
 {
     assert!(rt; holds);
@@ -189,7 +184,7 @@ fn a_feed_that_waits_for_the_store(rt: HostRuntime) -> Result<(), Fail> {
     let (given, taken) = (AtomicBool::new(false), AtomicBool::new(false));
     let bytes = feed_of(alloc, 2)?;
     let feed = HeldSource {
-        held_at: before_its_end(&bytes),
+        held_at: bytes.len().saturating_sub(DATA_END.len() + 1),
         bytes,
         next: 0,
         until: &taken,

@@ -1,5 +1,5 @@
-//! Recordings whose feeds, store and watchers wait for one another, each for a stated number of looks: lanes, writer and watchers
-//! run beside each other, over a buffer that is bounded.
+//! Recordings whose feeds and store wait for one another, each for a stated number of looks: lanes and writer run beside each
+//! other, over a buffer that is bounded.
 #![tactic(auto)]
 
 #[cfg(test)]
@@ -10,7 +10,3 @@ mod held_source;
 mod held_store;
 #[cfg(test)]
 mod looking;
-#[cfg(test)]
-mod telling_sink;
-#[cfg(test)]
-mod watched;
