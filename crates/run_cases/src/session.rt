@@ -117,11 +117,23 @@ impl Session {
     // Compares, and answers whether the status is that of `otherwise`, where what stands there is wanted.
     fn see(&mut self, ran: &Ran, otherwise: u8, wanted: &Pieces) -> Result<bool, Halt> {
         if ran.status == otherwise {
-            self.telling.see_all(&self.case, wanted, ran)?;
+            self.telling.see_all(
+                &self.case.given,
+                &self.case.left,
+                &self.case.watched,
+                wanted,
+                ran,
+            )?;
             return Ok(true);
         }
         let usual = &self.case.wanted;
-        self.telling.see_all(&self.case, usual, ran)?;
+        self.telling.see_all(
+            &self.case.given,
+            &self.case.left,
+            &self.case.watched,
+            usual,
+            ran,
+        )?;
         Ok(false)
     }
 

@@ -1,6 +1,5 @@
 //! What a run left beside what is wanted of it.
 use crate::building::Pieces;
-use crate::cases::Case;
 use crate::halt::{Halt, unread};
 use crate::running::Ran;
 use mcap_app::{Accepted, FeedReport, Refused, Report};
@@ -255,15 +254,22 @@ impl Telling {
 
     /// Notes each thing that isn't as it is wanted, each name under which neither stands what is to be left there nor, where
     /// this isn't said, what was given, and each under which something else stands behind fronts than is to be watched.
-    pub fn see_all(&mut self, case: &Case, wanted: &Pieces, ran: &Ran) -> Result<(), Halt> {
+    pub fn see_all(
+        &mut self,
+        given: &Pieces,
+        left: &Pieces,
+        watched: &Pieces,
+        wanted: &Pieces,
+        ran: &Ran,
+    ) -> Result<(), Halt> {
         for (what, want) in wanted.iter() {
             self.see(what.as_str(), want, ran)?;
         }
-        for (name, want) in case.watched.iter() {
+        for (name, want) in watched.iter() {
             let got = ran.world.bytes(name.as_str()).unwrap_or(b"nothing");
             self.compare(name.as_str(), want, behind_fronts(got))?;
         }
-        self.see_names(&case.given, &case.left, ran)
+        self.see_names(given, left, ran)
     }
 
     fn see_names(&mut self, given: &Pieces, left: &Pieces, ran: &Ran) -> Result<(), Halt> {
