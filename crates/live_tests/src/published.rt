@@ -7,7 +7,7 @@ use live_entry::Entry;
 use mcap_io::{Extent, MemoryLive, MemorySource, Piece};
 use mcap_model::{End, FileOptions};
 use mcap_wire::{Memory, Text};
-use recorder::{RecordOptions, Report, record_onto};
+use recorder::{Onto, RecordOptions, record_onto};
 use std::alloc::Global;
 use std::marker::Brand;
 use std::process::Abort;
@@ -24,14 +24,6 @@ pub(crate) fn feed_bytes() -> &'static [u8] {
     \x05\x17\0\0\0\0\0\0\0\x01\0\x01\0\0\0\x0a\0\0\0\0\0\0\0\x09\0\0\0\0\0\0\0\xaa\
     \x05\x17\0\0\0\0\0\0\0\x01\0\x02\0\0\0\x0b\0\0\0\0\0\0\0\x09\0\0\0\0\0\0\0\xaa\
     \x0f\x04\0\0\0\0\0\0\0\0\0\0\0"
-}
-
-// How the writer ended.
-fn end_in(report: &Option<Report>) -> Result<End, Fail> {
-    match report {
-        Some(report) => Ok(report.writer.end),
-        None => Err(Fail::from("no report")),
-    }
 }
 
 // Records the feed in chunks of 59 bytes, and says how the writer ended.
@@ -58,8 +50,17 @@ fn record_published<J: Naming + Send + Sync, R: Threads + Wait + Sync>(
         Ok(tape) => tape,
         Err(_) => return Err(Fail::from("no tape")),
     };
-    let onto = record_onto(rt, alloc, &options, feeds, tape, true);
-    end_in(&onto.report)
+    let Onto {
+        report,
+        feeds: _,
+        tape,
+    } = record_onto(rt, alloc, &options, feeds, tape, true);
+    let end = match report {
+        Some(report) => report.writer.end,
+        None => return Err(Fail::from("no report")),
+    };
+    tape.seal(end);
+    Ok(end)
 }
 
 // Whether an entry has these numbers.
