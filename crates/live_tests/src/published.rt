@@ -55,12 +55,11 @@ fn record_published<J: Naming + Send + Sync, R: Threads + Wait + Sync>(
         feeds: _,
         tape,
     } = record_onto(rt, alloc, &options, feeds, tape, true);
-    let end = match report {
-        Some(report) => report.writer.end,
-        None => return Err(Fail::from("no report")),
-    };
-    tape.seal(end);
-    Ok(end)
+    drop(tape);
+    match report {
+        Some(report) => Ok(report.writer.end),
+        None => Err(Fail::from("no report")),
+    }
 }
 
 // Whether an entry has these numbers.
