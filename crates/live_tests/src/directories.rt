@@ -136,10 +136,7 @@ fn follow_to_the_end<J: Naming, R: Wait>(rt: &R, watch: &mut Watch<J>) {
     }
 }
 
-const BLOCKS: u64 = 100_000;
-
-/// As many as a recording may have watchers.
-const READERS: u32 = 16;
+const BLOCKS: u64 = 2000;
 
 fn write<J: Naming, R: Wait>(
     rt: &R,
@@ -171,12 +168,7 @@ fn beside<J: Naming + Send + Sync, R: Threads + Wait + Sync>(
 {
     let (_, note) = join(
         rt,
-        || for_each_mut(
-            rt,
-            watches,
-            READERS as usize,
-            &|_, one| follow_to_the_end(rt, one),
-        ),
+        || for_each_mut(rt, watches, 4, &|_, one| follow_to_the_end(rt, one)),
         || -> Option<Note<Untold, J>>
             requires { (end_of directory.now.shown ≡ None) × (directory.now.short ≡ false) }
         { write(rt, alloc, directory) },
@@ -184,14 +176,14 @@ fn beside<J: Naming + Send + Sync, R: Threads + Wait + Sync>(
     note
 }
 
-fn many_readers_as<J: Naming + Send + Sync, R: Threads + Wait + Abort + Sync>(
+fn four_readers_as<J: Naming + Send + Sync, R: Threads + Wait + Abort + Sync>(
     rt: &R,
     alloc: Global,
     opened: Opened<Untold>,
 ) -> Result<(), Fail>
     requires { opened.seen.book ≡ J.book }
 {
-    let (mut directory, readers) = open_directory::<Untold, J, R>(alloc, rt, opened, READERS)?;
+    let (mut directory, readers) = open_directory::<Untold, J, R>(alloc, rt, opened, 4)?;
     let answer = watch_all(rt, alloc, &mut directory, readers);
     directory.close(rt);
     answer
@@ -218,7 +210,7 @@ fn watch_all<J: Naming + Send + Sync, R: Threads + Wait + Abort + Sync>(
     }
     let note = beside(rt, alloc, directory, watches.as_mut_slice());
     assert!(rt; note.is_some());
-    assert_eq!(rt; watches.len(), READERS as usize);
+    assert_eq!(rt; watches.len(), 4);
     for watch in watches.iter() {
         assert!(rt; watch.right);
         assert!(rt; watch.fronts > 0);
@@ -230,7 +222,7 @@ fn watch_all<J: Naming + Send + Sync, R: Threads + Wait + Abort + Sync>(
 
 #[test]
 fn fronts_never_fall_beside_the_writer(rt: HostRuntime) -> Result<(), Fail> {
-    many_readers_as::<Brand, _>(&rt, rt.alloc(), Opened::new())
+    four_readers_as::<Brand, _>(&rt, rt.alloc(), Opened::new())
 }
 
 // Hands in entries, one a call, until memory lacks or there are five, and says how many.
