@@ -27,7 +27,7 @@ pub record AreInRange (numbers : Numbers) : Type 0 where
   pub messages : numbers.messages < 2 ^ 32
 
 -- A lossless generation with the status 0 in a world that tells: standard output took the line of the sums of all messages
--- that the numbers say. So none was lost, changed, or made twice on the way through the file.
+-- that the numbers say. So what was read back has their number, their length of data and their sum.
 abbrev pub GeneratedSumsAreTold : Type 0
 GeneratedSumsAreTold = (options : RecordOptions) (numbers : Numbers) (out : List ℕ) (old new : Scene) (report : Option Report) (status : ℕ) (told : Told) → AreAllowed options → IsUtf8 options.file.profile → AreInRange numbers
     → options.lossless ≡ true → Generates options numbers out old new report status → status ≡ 0 → old.world.told ≡ Some told
