@@ -15,12 +15,13 @@ use Rattle.mcap_io.proofs.Notes.{noted_in}
 use Rattle.mcap_model.specs.Places.{At, Has, Each}
 use Rattle.mcap_model.proofs.Places.{at_none, at_within, at_read, at_one, at_kept}
 use Rattle.mcap_model.proofs.Lists.{pairs_at}
+use Rattle.command_words.specs.Commands.{AreApart}
 use Rattle.command_base.specs.Ran.{Wanted, refused, input_faults, output_faults, world_faults, AreOpened}
 use Rattle.command_base.proofs.Counting.{added_none, kept_adds}
 use Rattle.command_base.proofs.Opened.{tells_more}
 use Rattle.record_command.specs.Record.{FeedKept, entry_of, live_entry, names_kept, back_sources}
 use Rattle.record_command.specs.Sources.{given, with_openings, FeedsKept}
-use Rattle.record_command.specs.Sinks.{SinkKept, sink_entry, sink_names, back_sinks, watch_faults, given_sink, AreApart, AreOnce, SinkHolds, SinksOpened, SinksKept, ViewsLetGo, OutOpened}
+use Rattle.record_command.specs.Sinks.{SinkKept, sink_entry, sink_names, back_sinks, watch_faults, given_sink, AreOnce, SinkHolds, SinksOpened, SinksKept, ViewsLetGo, OutOpened}
 use Rattle.record_command.proofs.Runs.{world_faults-append, input_faults-append, output_faults-append, sources_write_nothing, refusal_of}
 
 -- ---- lists of entries

@@ -27,13 +27,14 @@ use Rattle.watching.specs.declared.report.WatchEnd.{WatchEnd}
 use Rattle.watching.specs.declared.report.WatchEnd.TheVariants as watch_ends
 use Rattle.watched_recording.specs.Watched.{Watch, RecordedWatched, Told as GaveBack}
 use Rattle.watched_recording.specs.Files.{IsWatchedFile, WatchFilesAreTold}
+use Rattle.command_words.specs.Commands.{AreApart}
 use Rattle.command_base.specs.Ran.{Wanted, wanted, kept, refused, has_failed, failed_so, failed_names, named_when, object_faults, input_faults, output_faults, world_faults, AreOpened, IsWritten}
 use Rattle.command_base.proofs.Counting.{not_risen}
 use Rattle.record_command.specs.declared.answering.Outcome.{Outcome}
 use Rattle.record_command.specs.declared.watched_names.WatchedOutcome.{WatchedOutcome}
 use Rattle.record_command.specs.Record.{files_of, failed_of, some_failed, FeedKept, entry_of, live_entry, names_kept, back_sources, IsLeft, Unreported, NamesRecorded}
 use Rattle.record_command.specs.Sources.{flags_with}
-use Rattle.record_command.specs.Sinks.{SinkKept, sink_entry, sink_names, back_sinks, sink_faults, watch_faults, AreApart, SinkHolds}
+use Rattle.record_command.specs.Sinks.{SinkKept, sink_entry, sink_names, back_sinks, sink_faults, watch_faults, SinkHolds}
 use Rattle.record_command.specs.Watched.{wanted_names, IsWrittenBeside, EndsSo, view_faults, is_watch_fault, with_ends, watch_flags, ReportedBeside, UnreportedBeside, NamesWatched}
 use Rattle.record_command.proofs.Held.{Holds, holds, placed_holds, placed_nothing}
 use Rattle.record_command.proofs.Flags.{some_more, AreKind, rest_kind}

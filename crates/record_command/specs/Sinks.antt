@@ -1,6 +1,6 @@
 -- What the openings and the keepings of the watchers' sinks do to a world, and the letting go of their views.
-use Rattle.std.specs.Prelude.{◌≡◌, ◌≢◌, ◌⊎◌, ℕ, ◌+◌, ◌^◌, ◌<◌, List, [], ◌∷◌, ◌++◌, map, take, length, Bool, true, false, if◌then◌else◌, Some, None, Err}
-use Rattle.std.specs.List.{sum, All, AllPairs}
+use Rattle.std.specs.Prelude.{◌≡◌, ◌⊎◌, ℕ, ◌+◌, ◌^◌, ◌<◌, List, [], ◌∷◌, ◌++◌, map, take, length, Bool, true, false, if◌then◌else◌, Some, None, Err}
+use Rattle.std.specs.List.{sum}
 use Rattle.std.specs.Option.{option_map}
 use Rattle.mcap_io.specs.Outside.{WorldState, SourceState, SinkState, LiveState, TellsNothingYet, with_opening, Told, Names, Keeping, Opening, Opens, OpenCause, CountsStand, added, opened, Notes, NoneIsOut, OthersSame}
 use Rattle.mcap_io.specs.declared.outside.ObjectKind.{ObjectKind}
@@ -47,14 +47,6 @@ watch_faults (entry ∷ entries) = sink_faults entry.kind (object_faults entry.k
 -- each of the names stands at one place
 abbrev pub AreOnce : List (List ℕ) → Type 0
 AreOnce names = (m n : ℕ) (name : List ℕ) → At names m name → At names n name → m ≡ n
-
--- no two of the watch names are equal, and none is the output's
-abbrev pub AreApart : List ℕ → List (List ℕ) → Type 0
-AreApart out watches = All (λ name. out ≢ name) watches × AllPairs (λ a b. a ≢ b) watches
-
--- so many watchers a recording may have
-abbrev pub watcher_limit : ℕ
-watcher_limit = 16
 
 -- what was left under the name of a sink that was kept: the bytes that it took, or what stood there, if the keeping failed
 abbrev pub SinkHolds : Names → Names → SinkKept → Type 0

@@ -5,12 +5,11 @@ ghost use Rattle.arrayvec.specs.ArrayVec.{array_vec_len};
 ghost use Rattle.mcap_io.specs.Outside.{Rose};
 ghost use Rattle.mcap_model.specs.Places.{Each};
 ghost use Rattle.feed_lane.specs.Feeds.{ListsMessages};
-ghost use Rattle.command_words.specs.Commands.{feed_limit};
+ghost use Rattle.command_words.specs.Commands.{AreApart, feed_limit, watcher_limit};
 ghost use Rattle.command_base.specs.Texts.{trouble_of, complained};
 ghost use Rattle.command_base.specs.Ran.{scene, first_failed, told_of};
 ghost use Rattle.record_command.specs.Record.{AreAllowed, AreFew, some_failed, report_text};
 ghost use Rattle.record_command.specs.Answer.{flags_of, PartFailed};
-ghost use Rattle.record_command.specs.Sinks.{watcher_limit, AreApart};
 ghost use Rattle.record_command.specs.WatchedAnswer.{watched_counts, watch_troubles, first_flaw, flaws_of, is_memory_watch, lacks_beside, watch_flags_of, AnyPartFailed, PartsShow, LacksMemoryBeside, AnswersBeside, RecordsWatched};
 
 use crate::answering::{

@@ -5,9 +5,10 @@ ghost use Rattle.mcap_wire.specs.Layout.{content_limit};
 ghost use Rattle.mcap_wire.specs.Limits.{buffer_limit, chunk_size_limit};
 ghost use Rattle.mcap_model.specs.Places.{Each};
 ghost use Rattle.feed_lane.specs.Feeds.{ListsMessages};
+ghost use Rattle.command_words.specs.Commands.{AreApart, watcher_limit};
 ghost use Rattle.record_command.specs.Record.{AreFew};
 ghost use Rattle.record_command.specs.Sources.{FeedsOpened};
-ghost use Rattle.record_command.specs.Sinks.{AreApart, watcher_limit, CountsFit, OutOpened, SinksOpened};
+ghost use Rattle.record_command.specs.Sinks.{CountsFit, OutOpened, SinksOpened};
 ghost use Rattle.record_command.specs.Watched.{is_watch_fault, or_at, with_ends, NamesWatched};
 
 use crate::recording::{Room, add_refused, is_failed, keep_feeds, make_room, open_feeds};
