@@ -8,6 +8,7 @@ mod Sources
 mod KeptSinks
 mod Beside
 mod WatchEnds
+mod Alone
 mod WatchedRuns
 pub mod Runs
 mod Lines

@@ -21,12 +21,12 @@ use Rattle.watching.specs.declared.report.WatchReport.{WatchReport}
 use Rattle.watching.specs.declared.report.WatchEnd.{WatchEnd}
 use Rattle.watching.specs.declared.report.WatchEnd.TheVariants as watch_ends
 use Rattle.watching.specs.Text.{Ending, sealed_by, unsealed}
-use Rattle.watching.specs.Watching.{unwritten, written_by, IsQuiet, HasFailed, WritesTo}
+use Rattle.watching.specs.Watching.{unwritten, written_by, IsQuiet, HasFailed, IsUntold, WritesTo}
 use Rattle.watched_recording.specs.Watched.{Watch, WatchTells, AsksView, AsksViews}
 use Rattle.command_base.specs.Ran.{has_failed, object_faults, world_faults}
 use Rattle.record_command.specs.Record.{some_failed}
 use Rattle.record_command.specs.Sinks.{SinkKept, sink_entry, back_sinks, sink_faults, watch_faults}
-use Rattle.record_command.specs.Watched.{FaultCause, IsCalm, EndsSo, view_faults, is_watch_fault, or_at, with_ends}
+use Rattle.record_command.specs.Watched.{FaultCause, IsCalm, EndsSo, view_faults, is_watch_fault, is_flaw, or_at, with_ends}
 use Rattle.record_command.proofs.Flags.{failing, told_object, or_first, or_second, which, some_more, AreKind, rest_kind}
 use Rattle.record_command.proofs.KeptSinks.{take_whole, sum_more}
 
@@ -257,3 +257,22 @@ module _ {X : Type 0} (tells : X → Option (List ℕ)) (range : Range) (live vi
   pub ended : (seal : Option (List (Added X))) (end : End) → ((told : List (Added X)) → seal ≡ Some told → end_of told ≡ Some end) → (seal ≡ None → sealed ≡ false) → AskedFor live viewed w
       → WatchTells tells range seal w.before w.now w.view w.report → EndsSo live viewed sealed w w.report.end
   ended seal end ends unclosed (from, to, first, last, asks) tells_so = ended_of seal end w.view refl ends unclosed from to first last asks tells_so
+
+  -- ---- no flaw where the extents tell
+
+  unflawed_so : (failures : ℕ) (entries : List (Entry X)) (ending : Ending) (e : WatchEnd) → (IsUntold tells entries → ⊥)
+      → WritesTo tells range entries ending (unwritten w.before 0) (written_by w.now failures w.report) (Some e) → is_flaw e ≡ false
+  unflawed_so failures entries ending watch_ends.Whole told wrote = refl
+  unflawed_so failures entries ending watch_ends.Unsealed told wrote = refl
+  unflawed_so failures entries ending (watch_ends.Fault n) told wrote = refl
+  unflawed_so failures entries ending (watch_ends.Flaw rule offset) told wrote = absurd (told wrote.1)
+  unflawed_so failures entries ending watch_ends.Memory told wrote = refl
+
+  unflawed_of : (note : List (Added X)) (end : End) (view : Option ℕ) → end_of note ≡ Some end → (IsUntold tells (entries_of note) → ⊥)
+      → (from to : LiveState) → AsksView from to view w.report → WatchTells tells range (Some note) w.before w.now view w.report → is_flaw w.report.end ≡ false
+  unflawed_of note end None ends told from to asks tells_so = ap is_flaw asks.1.end_is
+  unflawed_of note end (Some failures) ends told from to asks tells_so = unflawed_so failures (entries_of note) (sealed_by end) w.report.end told (tells_so end ends)
+
+  pub unflawed : (note : List (Added X)) (end : End) → end_of note ≡ Some end → (IsUntold tells (entries_of note) → ⊥) → AskedFor live viewed w
+      → WatchTells tells range (Some note) w.before w.now w.view w.report → is_flaw w.report.end ≡ false
+  unflawed note end ends told (from, to, first, last, asks) tells_so = unflawed_of note end w.view ends told from to asks tells_so

@@ -1,11 +1,11 @@
 -- From the parts of a recording with watchers to what the program promises of it.
-use Rattle.std.proofs.Common.{◌≡◌, ◌⊎◌, ℕ, ◌^◌, ◌<◌, ◌≤◌, length, Bool, true, false, cond, ◌||◌, not, map, List, [], ◌∷◌, Option, Some, None, refl, sym, ap, subst, inl, inr, ◌∙◌, arith}
+use Rattle.std.proofs.Common.{◌≡◌, ◌⊎◌, ℕ, ◌^◌, ◌<◌, ◌≤◌, suc, length, Bool, true, false, cond, ◌||◌, not, map, List, [], ◌∷◌, Option, Some, None, refl, sym, ap, subst, inl, inr, ◌∙◌, arith}
 use Rattle.std.specs.List.{list_any, AllZip}
 use Rattle.std.proofs.lemmas.Bool.{both_ways, false_from_ne_true}
 use Rattle.std.proofs.lemmas.List.{length-map}
 use Rattle.mcap_io.specs.Outside.{WorldState, SinkState, Told, Opening, added}
 use Rattle.mcap_model.specs.declared.replay.Range.{Range}
-use Rattle.mcap_model.specs.Places.{At}
+use Rattle.mcap_model.specs.Places.{At, Each}
 use Rattle.mcap_model.specs.Kept.{Halt}
 use Rattle.recorder.specs.declared.options.RecordOptions.{RecordOptions}
 use Rattle.recorder.specs.declared.report.Report.{Report}
@@ -22,8 +22,8 @@ use Rattle.record_command.specs.declared.watched_answer.WatchedFailures.{Watched
 use Rattle.record_command.specs.Record.{entry_of, live_entry, reports_in, some_failed, worst, report_text, limit_passed, passes_limit, lacks_memory, HaltsThere}
 use Rattle.record_command.specs.Answer.{flags_of}
 use Rattle.record_command.specs.Sinks.{SinkKept, sink_entry}
-use Rattle.record_command.specs.Watched.{CountsBeside, ReportedBeside, NamesWatched, is_watch_fault}
-use Rattle.record_command.specs.WatchedAnswer.{watched_counts_in, AnyCountRose, is_flaw, is_memory_watch, some_flaw, lacks_beside, LackIsToldBeside, BlamesExactly, watch_flags_of, blamed_in, AnyPartFailed, PartsShow, LacksMemoryBeside, AnswersBeside, ends_status_beside, EndsBeside, RecordsAllBeside, RecordsWatched}
+use Rattle.record_command.specs.Watched.{CountsBeside, ReportedBeside, NamesWatched, is_watch_fault, is_flaw}
+use Rattle.record_command.specs.WatchedAnswer.{watched_counts_in, AnyCountRose, is_memory_watch, some_flaw, lacks_beside, LackIsToldBeside, BlamesExactly, watch_flags_of, blamed_in, AnyPartFailed, PartsShow, LacksMemoryBeside, AnswersBeside, ends_status_beside, EndsBeside, RecordsAllBeside, RecordsWatched}
 use Rattle.record_command.proofs.Runs.{input_faults-append, output_faults-append}
 use Rattle.record_command.proofs.Flags.{flags_long, every_caused}
 use Rattle.record_command.proofs.Parts.{shown_every, shown_some}
@@ -191,6 +191,11 @@ none_lacks false true true none = absurd cc
 none_lacks false true false none = (refl, (refl, refl))
 none_lacks false false c none = absurd cc
 
+-- no watcher found a flaw
+none_flaws : (ws : List Watch) → Each (λ (w : Watch). is_flaw w.report.end ≡ false) ws → some_flaw (map (λ (w : Watch). w.report) ws) ≡ false
+none_flaws [] none = refl
+none_flaws (w ∷ ws) none = ap (λ (b : Bool). b || some_flaw (map (λ (x : Watch). x.report) ws)) (none 0 w refl) ∙ none_flaws ws (λ n x at. none (suc n) x at)
+
 whole_or : (end : WatchEnd) → (is_watch_fault end ≡ true → ⊥) → (is_flaw end ≡ true → ⊥) → (is_memory_watch end ≡ true → ⊥) → (end ≡ watch_ends.Unsealed → ⊥) → end ≡ watch_ends.Whole
 whole_or watch_ends.Whole no_fault no_flaw no_lack no_other = refl
 whole_or watch_ends.Unsealed no_fault no_flaw no_lack no_other = absurd (no_other refl)
@@ -210,10 +215,12 @@ module _ (options : RecordOptions) (range : Range) (out : List ℕ) (watches fee
 
   module _ (report : Option Report) (here : outcome.report ≡ report) (lacking : LackIsToldBeside before after report outcome.sealed outcome.watches.items lacked) (came : EndsBeside before after report outcome.watches.items lacked answer) where
     decided_in : (r : Report) → report ≡ Some r → (told : Told) (halts : List Halt) → old.world.told ≡ Some told → AllZip (HaltsThere told) feeds halts
-        → (AnyCountRose before after → ⊥) → lacked ≡ false → passes_limit r ≡ false → some_flaw outcome.watches.items ≡ false → answer ≡ worst (map halt_status halts)
-    decided_in r is told halts there all quiet enough within unflawed =
+        → (AnyCountRose before after → ⊥) → lacked ≡ false → passes_limit r ≡ false → answer ≡ worst (map halt_status halts)
+    decided_in r is told halts there all quiet enough within =
         let lacking_here : lacked ≡ lacks_beside r outcome.sealed outcome.watches.items = subst (λ (x : Option Report). LackIsToldBeside before after x outcome.sealed outcome.watches.items lacked) is lacking in
         let none = none_lacks (lacks_memory r) outcome.sealed _ (sym lacking_here ∙ enough) in
+        let it = made.reported r (here ∙ is) in
+        let unflawed : some_flaw outcome.watches.items ≡ false = ap some_flaw it.reports_are ∙ none_flaws it.seen (it.unflawed told there none.1.0) in
         let ends = ends_decided options feeds old.world new.world r (read_in options range out watches feeds old.world new.world outcome made inputs_fit outputs_fit r (here ∙ is)) inputs_fit outputs_fit
         (λ rose. quiet (inl (inr (inl rose)))) (λ rose. quiet (inl (inr (inr (inl rose))))) none.0 within told halts there all in
         unlimited (passes_limit r) (ends_status_beside r.feeds.items outcome.watches.items) answer (came.calm enough quiet r is) within
@@ -253,9 +260,9 @@ module _ (options : RecordOptions) (range : Range) (out : List ℕ) (watches fee
 
   decided : (report : Option Report) → outcome.report ≡ report → LackIsToldBeside before after report outcome.sealed outcome.watches.items lacked → EndsBeside before after report outcome.watches.items lacked answer
       → (told : Told) (halts : List Halt) → old.world.told ≡ Some told → AllZip (HaltsThere told) feeds halts
-      → (AnyCountRose before after → ⊥) → lacked ≡ false → limit_passed report ≡ false → some_flaw outcome.watches.items ≡ false → answer ≡ worst (map halt_status halts)
-  decided None here lacking came told halts there all quiet enough within unflawed = absurd (no_report None here lacking came refl enough quiet)
-  decided (Some r) here lacking came told halts there all quiet enough within unflawed = decided_in (Some r) here lacking came r refl told halts there all quiet enough within unflawed
+      → (AnyCountRose before after → ⊥) → lacked ≡ false → limit_passed report ≡ false → answer ≡ worst (map halt_status halts)
+  decided None here lacking came told halts there all quiet enough within = absurd (no_report None here lacking came refl enough quiet)
+  decided (Some r) here lacking came told halts there all quiet enough within = decided_in (Some r) here lacking came r refl told halts there all quiet enough within
 
   whole : (report : Option Report) → outcome.report ≡ report → LackIsToldBeside before after report outcome.sealed outcome.watches.items lacked → EndsBeside before after report outcome.watches.items lacked answer
       → answer ≡ 0 → (r : Report) × (report ≡ Some r) × RecordsAllBeside options r outcome.sealed outcome.watches.items

@@ -2,7 +2,7 @@
 use Rattle.std.proofs.Common.{◌≡◌, ◌⊎◌, ℕ, zero, suc, ◌+◌, ◌-◌, ◌^◌, ◌<◌, ◌≤◌, Bool, true, false, ◌||◌, List, [], ◌∷◌, ◌++◌, length, map, take, append_assoc, length-append, Option, Some, None, Result, Ok, Err, refl, sym, ap, subst, inl, inr, ◌∙◌, arith}
 use Rattle.std.specs.Prelude.{IsSome}
 use Rattle.std.specs.List.{AllZip, list_any, sum}
-use Rattle.std.proofs.lemmas.Bool.{both_ways}
+use Rattle.std.proofs.lemmas.Bool.{both_ways, false≢true}
 use Rattle.std.proofs.lemmas.List.{append-nil, map-append, length-map}
 use Rattle.std.proofs.lemmas.Option.{same_Some}
 use Rattle.mcap_io.specs.Outside.{Rose, RisesOnce, Opening, Keeping, Told, opened, went_well, SourceState, SinkState, LiveState, WorldState, TellsName, OpenCause, CountsStand, Opens}
@@ -17,6 +17,7 @@ use Rattle.mcap_model.specs.declared.replay.Range.{Range}
 use Rattle.mcap_model.specs.Places.{At, Has, Each}
 use Rattle.mcap_model.proofs.Places.{at_none, at_within, at_kept, at_last}
 use Rattle.mcap_model.proofs.Lists.{at_either, at_second, take_second, each_cons, cut_at}
+use Rattle.live_directory.specs.declared.front.Added.{Added}
 use Rattle.chunk_writer.specs.Stops.{Cause}
 use Rattle.recorder.specs.declared.options.RecordOptions.{RecordOptions}
 use Rattle.recorder.specs.declared.report.Report.{Report}
@@ -25,7 +26,7 @@ use Rattle.recorder.specs.Laws.{AreReadable}
 use Rattle.watching.specs.declared.report.WatchReport.{WatchReport}
 use Rattle.watching.specs.declared.report.WatchEnd.{WatchEnd}
 use Rattle.watching.specs.declared.report.WatchEnd.TheVariants as watch_ends
-use Rattle.watched_recording.specs.Watched.{Watch, RecordedWatched, Told as GaveBack}
+use Rattle.watched_recording.specs.Watched.{Watch, IsWatched, RecordedWatched, Told as GaveBack}
 use Rattle.watched_recording.specs.Files.{IsWatchedFile, WatchFilesAreTold}
 use Rattle.command_words.specs.Commands.{AreApart}
 use Rattle.command_base.specs.Ran.{Wanted, wanted, kept, refused, has_failed, failed_so, failed_names, named_when, object_faults, input_faults, output_faults, world_faults, AreOpened, IsWritten}
@@ -35,12 +36,13 @@ use Rattle.record_command.specs.declared.watched_names.WatchedOutcome.{WatchedOu
 use Rattle.record_command.specs.Record.{files_of, failed_of, some_failed, FeedKept, entry_of, live_entry, names_kept, back_sources, IsLeft, Unreported, NamesRecorded}
 use Rattle.record_command.specs.Sources.{flags_with}
 use Rattle.record_command.specs.Sinks.{SinkKept, sink_entry, sink_names, back_sinks, sink_faults, watch_faults, SinkHolds}
-use Rattle.record_command.specs.Watched.{wanted_names, IsWrittenBeside, EndsSo, view_faults, is_watch_fault, with_ends, watch_flags, ReportedBeside, UnreportedBeside, NamesWatched}
+use Rattle.record_command.specs.Watched.{wanted_names, IsWrittenBeside, EndsSo, view_faults, is_watch_fault, is_flaw, IsWatchedAlone, with_ends, watch_flags, ReportedBeside, UnreportedBeside, NamesWatched}
 use Rattle.record_command.proofs.Held.{Holds, holds, placed_holds, placed_nothing}
 use Rattle.record_command.proofs.Flags.{some_more, AreKind, rest_kind}
 use Rattle.record_command.proofs.Runs.{world_faults-append, input_faults-append, output_faults-append, sources_write_nothing, unused_count_nothing, each_both, each_none, each_alone, are_sources, left_all, opened_all, none_some, map_kept, names_same, or_nothing, has_there, refusal_of}
 use Rattle.record_command.proofs.Beside.{watch_faults-append, sinks_read_nothing, sinks_write_nothing, feeds_watch_nothing, unused_sinks_count, are_sinks, opened_sinks, names_once, out_apart, has_named, AllSeen, NamesHold, seen_feeds, seen_sinks, store, sinks_behind, seen_entries, told_since, names_since, nothing_yet, sinks_yet, world_since, inputs_since, outputs_since, watches_since}
-use Rattle.record_command.proofs.WatchEnds.{ended_so, ends_nothing, ends_why, ends_first, ends_second, some_has_sink, sinks_have, sinks_total, sinks_watched, fault_shows, faults_show, views_told, views_later, views_hold, asked_for, ended}
+use Rattle.record_command.proofs.Alone.{watched_alone}
+use Rattle.record_command.proofs.WatchEnds.{ended_so, ends_nothing, ends_why, ends_first, ends_second, some_has_sink, sinks_have, sinks_total, sinks_watched, fault_shows, faults_show, views_told, views_later, views_hold, asked_for, ended, unflawed}
 
 -- ---- no watch file was reached
 
@@ -447,6 +449,19 @@ module _ (options : RecordOptions) (range : Range) (out : List ℕ) (watches fee
   store_rose : {X : Type 0} (tells : X → Option (List ℕ)) (r : Report) (reports : List WatchReport) (sealed : Bool) (it : Watched tells r reports sealed) → 1 ≤ it.viewed.faults → 1 ≤ b.live_now.faults
   store_rose tells r reports sealed it some = let later = cause_later it.viewed.faults b.live_now.faults _ it.recorded.recorded.writer.cause in omega (arith, some, later)
 
+  -- where it was sealed and the store told what it held, the blocks' extents tell, so that no watcher found a flaw
+  unflawed_by : {X : Type 0} (tells : X → Option (List ℕ)) (r : Report) (reports : List WatchReport) (sealed : Bool) (it : Watched tells r reports sealed) (told : Told) → b.w0.told ≡ Some told
+      → (note : Option (List (Added X))) → it.note ≡ note → (b.ks ≡ []) ⊎ IsSome note → Each (λ (w : Watch). is_flaw w.report.end ≡ false) it.watches
+  unflawed_by tells r reports sealed it told here None is (inl none) n w at = absurd (before_some it.watches n w at (sym it.are.before_are ∙ none))
+  unflawed_by tells r reports sealed it told here None is (inr some) n w at = absurd (false≢true some)
+  unflawed_by {X} tells r reports sealed it told here (Some note) is seal n w at =
+      let (stored, stores) = (it.recorded.blocks_are note is).tell [] (views_hold b.live it.watches it.viewed it.asked ∙ nothing_yet out feeds names b told here) in
+      unflawed tells range b.live it.viewed sealed w note r.writer.end (it.recorded.end_is note is) (λ untold. untold stored stores) (asked_for b.live it.watches it.viewed it.asked n w at)
+      (subst (λ (t : Option (List (Added X))). IsWatched tells range t w) is (it.each n w at))
+
+  alone_by : {X : Type 0} (tells : X → Option (List ℕ)) (r : Report) (reports : List WatchReport) (sealed : Bool) (it : Watched tells r reports sealed) → sealed ≡ false → Each (IsWatchedAlone range) it.watches
+  alone_by {X} tells r reports sealed it apart n w at = watched_alone tells range w (subst (λ (t : Option (List (Added X))). IsWatched tells range t w) (it.unsealed apart).1 (it.each n w at))
+
   seen_reported : {X : Type 0} (tells : X → Option (List ℕ)) (r : Report) (reports : List WatchReport) (sealed : Bool) (it : Watched tells r reports sealed) → more ≡ [] → b.behind ≡ []
       → ((told : Told) → b.w0.told ≡ Some told → AreReadable options.file → sealed ≡ true → Each (IsWatchedFile options.file range it.recorded.recorded.history r.writer) it.watches)
       → ReportedBeside options range out watches feeds b.w0 b.w8 all (sum b.views) r sealed reports
@@ -488,6 +503,8 @@ module _ (options : RecordOptions) (range : Range) (out : List ℕ) (watches fee
             placed_holds options.file told.names now.names out there.history r.writer b.live_now.held b.live_kept h ((names_since out feeds names b told now here here_now).output h.text h.is);
         placed = λ told now here here_now. (names_since out feeds names b told now here here_now).watch_files;
         texts = texts;
+        unflawed = λ told here is. unflawed_by tells r reports sealed it told here it.note refl (it.sealed is);
+        texts_alone = alone_by tells r reports sealed it;
         kept_are = ap (λ (l : List Opening). map entry_of fs ++ file ∷ l) (ap (λ (l : List Opening). map sink_entry sinks ++ l) none ∙ append-nil (map sink_entry sinks));
       }
 

@@ -13,7 +13,7 @@ use Rattle.recorder.specs.Laws.{AreReadable}
 use Rattle.watching.specs.declared.report.WatchReport.{WatchReport}
 use Rattle.watching.specs.declared.report.WatchEnd.{WatchEnd}
 use Rattle.watching.specs.declared.report.WatchEnd.TheVariants as watch_ends
-use Rattle.watched_recording.specs.Watched.{Watch, AsksViews}
+use Rattle.watched_recording.specs.Watched.{Watch, IsWatched, AsksViews}
 use Rattle.watched_recording.specs.Files.{IsWatchedFile}
 use Rattle.command_base.specs.Ran.{Files, Wanted, wanted, AreOpened, CountsKept, has_failed, failed_names, blamed_names}
 use Rattle.record_command.specs.declared.watched_names.WatchedOutcome.{WatchedOutcome}
@@ -67,6 +67,19 @@ EndsSo before now sealed w watch_ends.Unsealed = IsCalm w × (sealed ≡ false)
 EndsSo before now sealed w (watch_ends.Flaw rule offset) = IsCalm w
 EndsSo before now sealed w watch_ends.Memory = IsCalm w
 
+-- ---- what a watcher wrote that wasn't told of the end
+
+-- an extent as it is seen from outside: the bytes that it tells, or that it tells none
+abbrev pub told_bytes : Option (List ℕ) → Option (List ℕ)
+told_bytes extent = extent
+
+-- It wrote what it had to, of blocks that a reader of its own held. Nothing is said of these, so that they need not be those
+-- of the recording.
+abbrev pub IsWatchedAlone : Range → Watch → Type 0
+IsWatchedAlone range w = IsWatched told_bytes range None w
+
+-- ---- which watchers failed
+
 -- the faults of the views that were given
 abbrev pub view_faults : List Watch → ℕ
 view_faults watches = sum (concat (map (λ (w : Watch). at_most_one w.view) watches))
@@ -77,6 +90,13 @@ is_watch_fault watch_ends.Whole = false
 is_watch_fault watch_ends.Unsealed = false
 is_watch_fault (watch_ends.Flaw rule offset) = false
 is_watch_fault watch_ends.Memory = false
+
+abbrev pub is_flaw : WatchEnd → Bool
+is_flaw watch_ends.Whole = false
+is_flaw watch_ends.Unsealed = false
+is_flaw (watch_ends.Fault faults) = false
+is_flaw (watch_ends.Flaw rule offset) = true
+is_flaw watch_ends.Memory = false
 
 -- the answers, with one added to that at the place
 abbrev pub or_at : List Bool → ℕ → Bool → List Bool
@@ -134,6 +154,9 @@ pub record ReportedBeside (options : RecordOptions) (range : Range) (out : List 
   pub placed : (told now : Told) → old.told ≡ Some told → new.told ≡ Some now → Each (SinkHolds told.names now.names) kept_sinks
   pub texts : (told : Told) → old.told ≡ Some told → AreReadable options.file → sealed ≡ true
       → Each (IsWatchedFile options.file range recorded.history r.writer) seen
+  -- there no watcher finds a flaw; and where it wasn't sealed, each wrote the same of blocks of its own
+  pub unflawed : (told : Told) → old.told ≡ Some told → sealed ≡ true → Each (λ (w : Watch). is_flaw w.report.end ≡ false) seen
+  pub texts_alone : sealed ≡ false → Each (IsWatchedAlone range) seen
   pub kept_are : entries ≡ map entry_of kept_feeds ++ live_entry out live_now live_kept ∷ map sink_entry kept_sinks
 
 -- ---- without a report

@@ -20,7 +20,7 @@ use Rattle.record_command.specs.declared.watched_answer.WatchedCounts.{WatchedCo
 use Rattle.record_command.specs.declared.watched_answer.WatchedFailures.{WatchedFailures}
 use Rattle.record_command.specs.Record.{ends_of, reports_in, limit_passed, passes_limit, lacks_memory, some_failed, end_status, worst, report_text, RecordsAll, HaltsThere, SparesOutput}
 use Rattle.record_command.specs.Answer.{flags_of, PartFailed}
-use Rattle.record_command.specs.Watched.{wanted_names, LeavesBeside, CountsBeside, ReportedBeside, UnreportedBeside, watch_flags}
+use Rattle.record_command.specs.Watched.{wanted_names, LeavesBeside, CountsBeside, is_flaw, ReportedBeside, UnreportedBeside, watch_flags}
 
 -- ---- counts of faults
 
@@ -49,13 +49,6 @@ watch_troubles name watch_ends.Unsealed = []
 watch_troubles name (watch_ends.Fault faults) = []
 watch_troubles name (watch_ends.Flaw rule n) = flaw name rule n ∷ []
 watch_troubles name watch_ends.Memory = []
-
-abbrev pub is_flaw : WatchEnd → Bool
-is_flaw watch_ends.Whole = false
-is_flaw watch_ends.Unsealed = false
-is_flaw (watch_ends.Fault faults) = false
-is_flaw (watch_ends.Flaw rule n) = true
-is_flaw watch_ends.Memory = false
 
 abbrev pub is_memory_watch : WatchEnd → Bool
 is_memory_watch watch_ends.Whole = false
@@ -224,10 +217,10 @@ pub record RecordsWatched (options : RecordOptions) (range : Range) (out : List 
   pub said : Complains (watched_troubles out watches feeds report reports lacked blamed printing) old.err new.err status
   -- the status says what became of it
   pub ended : EndsBeside (watched_counts_in old) (watched_counts_in new) report reports lacked status
-  -- where the world tells, the bytes under the feeds' names decide the status, unless a count rises, memory lacks, a limit would
-  -- be passed, or a watcher finds a flaw
+  -- where the world tells, the bytes under the feeds' names decide the status, unless a count rises, memory lacks, or a limit
+  -- would be passed
   pub decided : (told : Told) (halts : List Halt) → old.world.told ≡ Some told → AllZip (HaltsThere told) feeds halts
-      → (AnyCountRose (watched_counts_in old) (watched_counts_in new) → ⊥) → lacked ≡ false → limit_passed report ≡ false → some_flaw reports ≡ false
+      → (AnyCountRose (watched_counts_in old) (watched_counts_in new) → ⊥) → lacked ≡ false → limit_passed report ≡ false
       → status ≡ worst (map halt_status halts)
   -- the status 0 says that all of the feeds was recorded, and that each watcher wrote all that it had to
   pub whole : status ≡ 0 → (r : Report) × (report ≡ Some r) × RecordsAllBeside options r sealed reports
