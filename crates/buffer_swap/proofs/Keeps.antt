@@ -32,7 +32,7 @@ use Rattle.buffer_swap.specs.Weights.{total, one_if, below}
 use Rattle.buffer_swap.specs.Shown.{ChannelStands, IdsLack, HeldThere, FoundThere, ShownTo}
 use Rattle.buffer_swap.specs.Posts.{Gathered, Post, no_post, first_post, drain_post, publisher_post, note_post}
 use Rattle.buffer_swap.specs.Turns.{view, newcomer, nobody, has_turn, is_drain, numbers_in, numbers, weigh, FoundFits, PassFits, IsFront, NoteFits, Fits, World, Wired, Kept}
-use Rattle.buffer_swap.specs.Plays.{Sat, HasDesk, IsIdle, Told, TriesTurn, IsEvent, missing, took, fresh, MayCount, counts, counted, hands_over, handed_over, shuts, closes, closed, stop_in, stops, stopped, frees as frees_view, freed, same_pass, with_full_hand, with_name, with_lacking, NamedAt, LacksAt, starts, drainer, hires, hired, gathered, gathers, noted, reads, settled, met}
+use Rattle.buffer_swap.specs.Plays.{Sat, HasDesk, IsIdle, Told, TriesTurn, IsEvent, missing, took, fresh, MayCount, counts, counted, hands_over, handed_over, shuts, closes, closed, stop_in, stops, stopped, frees as frees_view, freed, frees_counting, freed_counting, same_pass, with_full_hand, with_name, with_lacking, NamedAt, LacksAt, starts, drainer, hires, hired, gathered, gathers, noted, reads, settled, met}
 use Rattle.buffer_swap.specs.declared.view.View.{View}
 use Rattle.buffer_swap.proofs.Sums.{total-append, total-set, term_le, terms_le, total-alone, set_at, one, total-ones, below-ones, below-more}
 use Rattle.buffer_swap.proofs.Growing.{placed_at, placed_more}
@@ -272,63 +272,103 @@ placed_behind history records n same j pair at =
 none_unended : (d : DeskView) → d.end ≡ None → (e : End) → end_of d ≡ Some e → ⊥
 none_unended d unended e is = none-some e (sym (ap first_of unended) ∙ is)
 
--- records are counted
-counts_records : (n id : ℕ) (v : View) (records : List Rec) → v.holds ≡ true → MayCount v.hand records (added v.hand records) → v.post.publishes ≡ true → let d = added v.hand records in
-    Allows Kept n id (v, (0, d) ∷ []) 1 (λ y. (y + 1) % 2 ^ 64) (counted (step n 1 1 0 none) (v, (0, d) ∷ []))
-counts_records n id v records holds may named t k wide me _ = let hand = v.hand in let d = added hand records in let f = k.each id v me in let is : hand ≡ k.d = f.hand holds in
-    let history = k.s.history ++ records in let s : State = accept 0 records k.s in let w : View = counts v d in
+-- What a step says that counts records, whether its seat keeps the turn or frees it: of the desk and the history behind it, of
+-- its own view, of the others, which don't hold the turn, and of the pairs.
+record Counting (t : St) (k : Kept t) (v : View) (records : List Rec) : Type 0 where
+  world : World (accept 0 records k.s) (added v.hand records) k.head k.halt
+  mine : (held : Bool) → Fits (k.s.history ++ records) (added v.hand records) k.halt (view held (added v.hand records) v.missed (counts v (added v.hand records)).pass v.post)
+  others : (u : View) → u.holds ≡ false → Fits k.s.history k.d k.halt u → Fits (k.s.history ++ records) (added v.hand records) k.halt u
+  pairs : (h : ℕ × Rec → ℕ) → weigh h (counts v (added v.hand records)) + total h (placed_from 0 k.s.history) ≡ weigh h v + total h (placed_from 0 (k.s.history ++ records))
+
+counting : (t : St) (k : Kept t) (id : ℕ) (v : View) (records : List Rec) → get_elem? t.views id ≡ some v → v.holds ≡ true → MayCount v.hand records (added v.hand records) → v.post.publishes ≡ true → Counting t k v records
+counting t k id v records me holds may named = let hand = v.hand in let d = added hand records in let f = k.each id v me in let is : hand ≡ k.d = f.hand holds in
+    let history = k.s.history ++ records in
     let stands : DeskStandsFor hand k.s = subst (λ (z : DeskView). DeskStandsFor z k.s) (sym is) k.world.stands in let p = parts hand k.s stands in
     let new : fresh hand d ≡ records = drop-append_seam hand.primary records in
     let spares = may.spares k.s stands in
     let unended = may.unended in
-    let pass : v.post.seated ≡ true → PassFits k.s.history hand v.pass = λ e. subst (λ (z : DeskView). PassFits k.s.history z v.pass) (sym is) (f.pass e) in
     let idle_view : View = view false v.hand v.missed v.pass v.post in
     let was : Fits k.s.history hand k.halt idle_view = subst (λ (z : DeskView). Fits k.s.history z k.halt idle_view) (sym is)
     record { hand = λ e. no e; pass = f.pass; known = f.known; note = f.note; drains = f.drains; idle = f.idle } in
     let g : Fits history d k.halt idle_view = view_grown k.s.history records hand k.halt idle_view unended spares refl was in
-    let more = subst (λ (l : List Rec). Each (λ (pair : ℕ × Rec). At history pair.0 pair.1) (placed_from (accepted hand) l)) (sym new) (placed_behind k.s.history records (accepted hand) p.count) in (
+    let more = subst (λ (l : List Rec). Each (λ (pair : ℕ × Rec). At history pair.0 pair.1) (placed_from (accepted hand) l)) (sym new) (placed_behind k.s.history records (accepted hand) p.count) in record {
+      world = record {
+        stands = may.stands k.s stands;
+        last = λ e at end. absurd (none-some _ (sym unended ∙ end));
+        controls = k.world.controls;
+        unstarted = λ e. (ap (λ (z : DeskView). z.taken) is ∙ (k.world.unstarted e).0, (k.world.unstarted e).1);
+        closed = λ e. absurd (none_unended hand unended Closed e);
+        shut = λ e. ap end_of is ∙ k.world.shut e;
+        halted = λ stop e. absurd (none_unended hand unended (Stopped stop) e);
+        stood = λ stop e. ap end_of is ∙ k.world.stood stop e;
+      };
+      mine = λ held. record {
+        hand = λ _. refl;
+        pass = λ e. let there = g.pass e in record {
+          own = each_joined (λ (pair : ℕ × Rec). At history pair.0 pair.1) v.pass.own (placed_from (accepted hand) (fresh hand d)) there.own more;
+          named = there.named;
+          named_ids = there.named_ids;
+          fulls = there.fulls;
+          lacks = there.lacks;
+          found = there.found;
+          there = there.there;
+          limit = there.limit;
+        };
+        known = g.known;
+        note = g.note;
+        drains = g.drains;
+        idle = λ z. absurd (true≢false (sym named ∙ z));
+      };
+      others = λ u idle h. view_grown k.s.history records hand k.halt u unended spares idle (subst (λ (z : DeskView). Fits k.s.history z k.halt u) (sym is) h);
+      pairs = λ h.
+      let a : total h (v.pass.own ++ placed_from (accepted hand) (fresh hand d)) ≡ total h v.pass.own + total h (placed_from (length k.s.history) records) =
+      total-append h v.pass.own (placed_from (accepted hand) (fresh hand d)) ∙ ap (λ (z : ℕ × List Rec). total h v.pass.own + total h (placed_from z.0 z.1)) (λ i. (p.count i, new i)) in
+      let size : 0 + length k.s.history ≡ length k.s.history = omega arith in
+      let b : total h (placed_from 0 history) ≡ total h (placed_from 0 k.s.history) + total h (placed_from (length k.s.history) records) =
+      ap (total h) (placed_more 0 k.s.history records ∙ ap (λ (z : ℕ). placed_from 0 k.s.history ++ placed_from z records) size) ∙ total-append h (placed_from 0 k.s.history) (placed_from (length k.s.history) records) in
+      omega (arith, a, b);
+    }
+
+-- records are counted
+counts_records : (n id : ℕ) (v : View) (records : List Rec) → v.holds ≡ true → MayCount v.hand records (added v.hand records) → v.post.publishes ≡ true → let d = added v.hand records in
+    Allows Kept n id (v, (0, d) ∷ []) 1 (λ y. (y + 1) % 2 ^ 64) (counted (step n 1 1 0 none) (v, (0, d) ∷ []))
+counts_records n id v records holds may named t k wide me _ = let d = added v.hand records in let w : View = counts v d in let it = counting t k id v records me holds may named in (
       w,
       keeps,
       tt,
-      event t k id v w ((get_or t.words 1 0 + 1) % 2 ^ 64) s d k.head k.halt me holds refl
-          record {
-            stands = may.stands k.s stands;
-            last = λ e at end. absurd (none-some _ (sym unended ∙ end));
-            controls = k.world.controls;
-            unstarted = λ e. (ap (λ (z : DeskView). z.taken) is ∙ (k.world.unstarted e).0, (k.world.unstarted e).1);
-            closed = λ e. absurd (none_unended hand unended Closed e);
-            shut = λ e. ap end_of is ∙ k.world.shut e;
-            halted = λ stop e. absurd (none_unended hand unended (Stopped stop) e);
-            stood = λ stop e. ap end_of is ∙ k.world.stood stop e;
-          }
-          record {
-            hand = λ _. refl;
-            pass = λ e. let there = g.pass e in record {
-              own = each_joined (λ (pair : ℕ × Rec). At history pair.0 pair.1) v.pass.own (placed_from (accepted hand) (fresh hand d)) there.own more;
-              named = there.named;
-              named_ids = there.named_ids;
-              fulls = there.fulls;
-              lacks = there.lacks;
-              found = there.found;
-              there = there.there;
-              limit = there.limit;
-            };
-            known = g.known;
-            note = g.note;
-            drains = g.drains;
-            idle = λ z. absurd (true≢false (sym named ∙ z));
-          }
-          (λ u j _ _ idle h. view_grown k.s.history records hand k.halt u unended spares idle (subst (λ (z : DeskView). Fits k.s.history z k.halt u) (sym is) h))
-          (heads t k id v me) (λ _. refl) (k.controls id v me) (λ h. refl) (omega arith)
-          (λ h.
-          let a : total h (v.pass.own ++ placed_from (accepted hand) (fresh hand d)) ≡ total h v.pass.own + total h (placed_from (length k.s.history) records) =
-          total-append h v.pass.own (placed_from (accepted hand) (fresh hand d)) ∙ ap (λ (z : ℕ × List Rec). total h v.pass.own + total h (placed_from z.0 z.1)) (λ i. (p.count i, new i)) in
-          let size : 0 + length k.s.history ≡ length k.s.history = omega arith in
-          let b : total h (placed_from 0 history) ≡ total h (placed_from 0 k.s.history) + total h (placed_from (length k.s.history) records) =
-          ap (total h) (placed_more 0 k.s.history records ∙ ap (λ (z : ℕ). placed_from 0 k.s.history ++ placed_from z records) size) ∙ total-append h (placed_from 0 k.s.history) (placed_from (length k.s.history) records) in
-          omega (arith, a, b)),
+      event t k id v w ((get_or t.words 1 0 + 1) % 2 ^ 64) (accept 0 records k.s) d k.head k.halt me holds refl it.world (it.mine true) (λ u j _ _ idle h. it.others u idle h)
+          (heads t k id v me) (λ _. refl) (k.controls id v me) (λ h. refl) (omega arith) it.pairs,
       (rises n, refl),
     )
+
+-- records are counted as the turn is freed
+frees_records : (n id : ℕ) (v : View) (records : List Rec) → v.holds ≡ true → MayCount v.hand records (added v.hand records) → v.post.publishes ≡ true → let d = added v.hand records in
+    Allows Kept n id (v, (0, d) ∷ []) 0 (λ _. 0) (λ _. freed_counting (step n 0 0 0 none) (v, (0, d) ∷ []) 0)
+frees_records n id v records holds may named t k wide me _ = let x : ℕ = get_or t.words 0 0 in let long = k.wired.wide in let near = k.wired.homes_one in let most = k.wired.turn in
+    let busy = has v holds in let part = term_le has_turn t.views id v me in let all = k.holders in
+    let d = added v.hand records in let w : View = frees_counting v d in let same = get_or-set_same t.words 0 0 0 (omega arith) in let it = counting t k id v records me holds may named in (
+      w,
+      gives,
+      tt,
+      moved t k id v w (set t.words 0 0) (set t.homes 0 (some d)) (accept 0 records k.s) d k.head k.halt me it.world
+          record {
+            wide = length-set t.words 0 0 ∙ long;
+            homes_one = length-set t.homes 0 (some d) ∙ near;
+            turn = omega arith;
+            free = λ _. set_here t.homes 0 (some d) (omega arith);
+            out = λ e. absurd (omega arith);
+          }
+          (omega arith)
+          (it.mine false)
+          (λ j u apart e. it.others u (by_bool _ u.holds (λ yes_turn. absurd (omega (arith, has u yes_turn, terms_le has_turn t.views id j v u apart me e))) (λ no_turn. no_turn)) (k.each j u e))
+          (heads t k id v me) (λ _. refl) (k.controls id v me) (λ h. refl) (omega arith) it.pairs,
+      (record { word = refl; free = refl; alone = refl; holds = holds }, refl),
+    )
+
+pub frees_as_counted : (n id : ℕ) (m : Sat) (d : DeskView) (records : List Rec) → m.1 ≡ (0, d) ∷ [] → m.0.holds ≡ true → MayCount m.0.hand records d → m.0.post.publishes ≡ true
+    → Allows Kept n id m 0 (λ _. 0) (λ _. freed_counting (step n 0 0 0 none) m 0)
+frees_as_counted n id m d records out holds may named = subst (λ (c : List (ℕ × DeskView)). Allows Kept n id (m.0, c) 0 (λ _. 0) (λ _. freed_counting (step n 0 0 0 none) (m.0, c) 0))
+    (ap (λ (z : DeskView). (0, z) ∷ []) (sym may.is) ∙ sym out) (frees_records n id m.0 records holds (subst (MayCount m.0.hand records) may.is may) named)
 
 pub counts_as : (n id : ℕ) (m : Sat) (d : DeskView) (records : List Rec) (i more : ℕ) → IsEvent (step n i more 0 none) → m.1 ≡ (0, d) ∷ [] → m.0.holds ≡ true → MayCount m.0.hand records d → m.0.post.publishes ≡ true
     → ByEvent n id m counted i more

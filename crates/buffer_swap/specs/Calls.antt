@@ -39,6 +39,13 @@ pass_published v (Ok place) = v.pass
 pass_published v (Err (publishing.Full held)) = with_full_hand v
 pass_published v (Err refusal) = v.pass
 
+-- the seat's view as the turn is freed behind a message, and where it shows nothing of a full buffer
+abbrev pub frees_published : View → DeskView → Result ℕ PublishRefused → View
+frees_published v d result = frees (counts_message v d result) (pass_published (counts_message v d result) result)
+
+abbrev pub frees_behind : View → DeskView → Result ℕ PublishRefused → View
+frees_behind v d result = frees (counts_message v d result) (counts_message v d result).pass
+
 abbrev pub counts_declared : View → DeskView → Result Declared DeclareRefused → View
 counts_declared v d (Ok given) = counts v d
 counts_declared v d (Err refusal) = v
@@ -54,7 +61,7 @@ pass_declared v c (Err refusal) = v.pass
 pub record PublishedInTurn (m : Sat) (message : NewMessage) (result : Result ℕ PublishRefused) (n : Sat) : Type 0 where
   pub after : DeskView
   pub published : Published m.0.hand message.channel (fields_of_message message) result after
-  pub is : n ≡ (frees (counts_message m.0 after result) (pass_published (counts_message m.0 after result) result), [])
+  pub is : n ≡ (frees_published m.0 after result, [])
 
 -- the same of a declaration
 pub record DeclaredInTurn (m : Sat) (c : ChannelDef) (result : Result Declared DeclareRefused) (n : Sat) : Type 0 where
@@ -96,7 +103,7 @@ pub record StoppedInTurn (m : Sat) (stop : Stop) (at : ℕ) (n : Sat) : Type 0 w
 pub record TriedInTurn (m : Sat) (message : NewMessage) (result : Result ℕ PublishRefused) (n : Sat) : Type 0 where
   pub after : DeskView
   pub published : Published m.0.hand message.channel (fields_of_message message) result after
-  pub is : n ≡ (frees (counts_message m.0 after result) (counts_message m.0 after result).pass, [])
+  pub is : n ≡ (frees_behind m.0 after result, [])
 
 abbrev pub pass_named : View → ChannelDef → Result Declared DeclareRefused → PassState
 pass_named v c (Ok given) = with_name (given.channel, c) v

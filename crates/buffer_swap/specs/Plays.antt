@@ -150,6 +150,13 @@ freed f st m r n = FreesTurn st m × (n ≡ (frees m.0 (f m.0), rest m.1))
 abbrev pub same_pass : View → PassState
 same_pass v = v.pass
 
+-- the turn is free again, and the records that the desk got are counted
+abbrev pub frees_counting : View → DeskView → View
+frees_counting v d = frees (counts v d) (counts v d).pass
+
+abbrev pub freed_counting : Told
+freed_counting st m r n = FreesTurn st m × (n ≡ (frees_counting m.0 (desk_of m.1), rest m.1))
+
 -- where the buffer was full
 abbrev pub with_full_hand : View → PassState
 with_full_hand v = record v.pass { fulls = v.pass.fulls ++ full_at (found_of v.hand) ∷ [] }

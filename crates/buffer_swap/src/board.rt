@@ -11,12 +11,12 @@ ghost use Rattle.record_core.specs.Desk.{DeskView, new_desk, found_of, swapped, 
 ghost use Rattle.feed_lane.specs.Pass.{message_record, with_found};
 ghost use Rattle.buffer_swap.specs.Posts.{first_post, drain_post};
 ghost use Rattle.buffer_swap.specs.Turns.{newcomer};
-ghost use Rattle.buffer_swap.specs.Plays.{desk_of, HasDesk, IsIdle, Took, MayCount, NamedAt, LacksAt, missing, counts, hands_over, closes, stops, frees, same_pass, with_full_hand, with_name, with_lacking};
-ghost use Rattle.buffer_swap.specs.Calls.{counts_message, pass_published, counts_declared, pass_declared, PublishedInTurn, DeclaredInTurn, TriedInTurn, pass_named, NamedInTurn, hands_if, SwappedInTurn, closes_if, ClosedInTurn, stops_if, StoppedInTurn};
+ghost use Rattle.buffer_swap.specs.Plays.{desk_of, HasDesk, IsIdle, Took, MayCount, NamedAt, LacksAt, missing, counts, hands_over, closes, stops, frees, frees_counting, same_pass, with_full_hand, with_name, with_lacking};
+ghost use Rattle.buffer_swap.specs.Calls.{frees_published, frees_behind, counts_declared, pass_declared, PublishedInTurn, DeclaredInTurn, TriedInTurn, pass_named, NamedInTurn, hands_if, SwappedInTurn, closes_if, ClosedInTurn, stops_if, StoppedInTurn};
 
 use crate::doorbell::Doorbell;
 use crate::plays::{
-    Close, Count, Free, FreeFull, FreeLacking, FreeNamed, HandOver, Said, Stop, Take,
+    Close, Count, Free, FreeCounting, FreeFull, FreeLacking, FreeNamed, HandOver, Said, Stop, Take,
 };
 use crate::seats::{Board, Seat};
 use atomic_table::{Refused as NoTable, Table};
@@ -237,7 +237,7 @@ impl Board {
 
     // ---- events
 
-    // Records are counted.
+    // The records of a declaration are counted.
     fn count(&self, seat: &mut Seat)
         requires id { seat.old.table_id ≡ self.now.table.shared.table_id }
         requires desk { (seat.old.me.0.holds ≡ true) × (seat.old.me.1 ≡ (0, desk_of seat.old.me.1) ∷ []) }
@@ -246,6 +246,7 @@ impl Board {
         ensures id { seat.new.table_id ≡ seat.old.table_id }
         ensures me { seat.new.me ≡ (counts seat.old.me.0 (desk_of seat.old.me.1), seat.old.me.1) }
     {
+        self.doorbell.fill();
         self.table.shared.fetch_add::<Count>(seat, EVENTS, 1);
     }
 
@@ -298,6 +299,20 @@ impl Board {
         self.wake_for_turn();
     }
 
+    // Counts the records that the desk got, and shows nothing more: one step in place of two.
+    fn free_counting(&self, seat: &mut Seat)
+        requires id { seat.old.table_id ≡ self.now.table.shared.table_id }
+        requires desk { (seat.old.me.0.holds ≡ true) × (seat.old.me.1 ≡ (0, desk_of seat.old.me.1) ∷ []) }
+        requires publisher { seat.old.me.0.post.publishes ≡ true }
+        requires counts { (records : List Rec) × MayCount seat.old.me.0.hand records (desk_of seat.old.me.1) }
+        ensures id { seat.new.table_id ≡ seat.old.table_id }
+        ensures me { seat.new.me ≡ (frees_counting seat.old.me.0 (desk_of seat.old.me.1), []) }
+    {
+        self.doorbell.fill();
+        self.table.shared.store::<FreeCounting>(seat, TURN, 0);
+        self.wake_for_turn();
+    }
+
     // Shows that the buffer was full.
     fn free_full(&self, seat: &mut Seat)
         requires id { seat.old.table_id ≡ self.now.table.shared.table_id }
@@ -337,8 +352,8 @@ impl Board {
 
     // ---- a turn that was taken
 
-    // Counts the record of a message that was accepted.
-    fn count_message(
+    // Frees the turn behind the answer to a message. One that was accepted is counted.
+    fn free_published(
         &self,
         seat: &mut Seat,
         _m: &NewMessage<'_>,
@@ -350,25 +365,12 @@ impl Board {
         requires counts { OnOk answer.now (MayCount seat.old.me.0.hand (message_record _m.now ∷ []) (desk_of seat.old.me.1)) }
         requires refused { OnErr answer.now (desk_of seat.old.me.1 ≡ seat.old.me.0.hand) }
         ensures id { seat.new.table_id ≡ seat.old.table_id }
-        ensures view { seat.new.me.0 ≡ counts_message seat.old.me.0 (desk_of seat.old.me.1) answer.now }
-        ensures desk { HasDesk seat.new.me }
+        ensures me { seat.new.me ≡ (frees_published seat.old.me.0 (desk_of seat.old.me.1) answer.now, []) }
     {
         match answer {
-            Ok(_) => self.count(seat),
-            Err(_) => {}
-        }
-    }
-
-    // Frees the turn behind the answer to a message.
-    fn free_published(&self, seat: &mut Seat, answer: &Result<u64, PublishRefused>)
-        requires id { seat.old.table_id ≡ self.now.table.shared.table_id }
-        requires desk { HasDesk seat.old.me }
-        ensures id { seat.new.table_id ≡ seat.old.table_id }
-        ensures me { seat.new.me ≡ (frees seat.old.me.0 (pass_published seat.old.me.0 answer.now), []) }
-    {
-        match answer {
+            Ok(_) => self.free_counting(seat),
             Err(PublishRefused::Full { .. }) => self.free_full(seat),
-            _ => self.free(seat),
+            Err(_) => self.free(seat),
         }
     }
 
@@ -386,8 +388,7 @@ impl Board {
         ensures published { PublishedInTurn seat.old.me m.now result seat.new.me }
     {
         let answer = self.publish_out(seat, m);
-        self.count_message(seat, m, &answer);
-        self.free_published(seat, &answer);
+        self.free_published(seat, m, &answer);
         self.ring_behind_message(held, m);
         answer
     }
@@ -511,7 +512,7 @@ impl Board {
     {
         let answer = self.swap_out(seat, empty);
         self.hand_swapped(seat, &answer);
-        self.doorbell.forget(self.table.shared.peek(EVENTS));
+        self.doorbell.forget();
         self.free(seat);
         self.wake_for_room();
         answer
@@ -586,6 +587,27 @@ impl Board {
 
     // ---- a turn that shows nothing of a full buffer
 
+    // Frees the turn behind the answer to a message. One that was accepted is counted.
+    fn free_behind(
+        &self,
+        seat: &mut Seat,
+        _m: &NewMessage<'_>,
+        answer: &Result<u64, PublishRefused>,
+    )
+        requires id { seat.old.table_id ≡ self.now.table.shared.table_id }
+        requires desk { (seat.old.me.0.holds ≡ true) × (seat.old.me.1 ≡ (0, desk_of seat.old.me.1) ∷ []) }
+        requires publisher { seat.old.me.0.post.publishes ≡ true }
+        requires counts { OnOk answer.now (MayCount seat.old.me.0.hand (message_record _m.now ∷ []) (desk_of seat.old.me.1)) }
+        requires refused { OnErr answer.now (desk_of seat.old.me.1 ≡ seat.old.me.0.hand) }
+        ensures id { seat.new.table_id ≡ seat.old.table_id }
+        ensures me { seat.new.me ≡ (frees_behind seat.old.me.0 (desk_of seat.old.me.1) answer.now, []) }
+    {
+        match answer {
+            Ok(_) => self.free_counting(seat),
+            Err(_) => self.free(seat),
+        }
+    }
+
     /// Publishes a message in a turn that was taken and found the buffer to hold so many bytes, and frees it.
     pub(crate) fn try_in_turn(
         &self,
@@ -600,8 +622,7 @@ impl Board {
         ensures tried { TriedInTurn seat.old.me m.now result seat.new.me }
     {
         let answer = self.publish_out(seat, m);
-        self.count_message(seat, m, &answer);
-        self.free(seat);
+        self.free_behind(seat, m, &answer);
         self.ring_behind_message(held, m);
         answer
     }
@@ -654,8 +675,8 @@ impl Board {
         (self.table.shared.peek(EVENTS) & 0xffff_ffff) as u32
     }
 
-    /// Sleeps until a swap, a close or a stop behind these events, and may return early. Where records were counted since, it
-    /// doesn't sleep; where some are counted while it sleeps, that doesn't wake it.
+    /// Sleeps until a swap, a close or a stop behind these events, and may return early. Where a channel was declared since, it
+    /// doesn't sleep; where one is declared while it sleeps, that doesn't wake it.
     pub(crate) fn sleep_for_room<R: Wait>(&self, rt: &R, events: u32) {
         self.room_sleepers.fetch_add(1, SeqCst);
         self.table.shared.park(rt, EVENTS, events);
@@ -671,22 +692,16 @@ impl Board {
 
     // ---- the drain's rest
 
-    // Whether records were accepted since the last swap. The last swap is read first, so that no event of it is missed.
-    fn has_more(&self) -> bool {
-        let swapped_at = self.doorbell.swapped_at();
-        self.table.shared.peek(EVENTS) != swapped_at
-    }
-
     /// Rouses the drain where records were accepted since the last swap.
     pub(crate) fn rouse(&self) {
-        if self.has_more() {
+        if self.doorbell.is_filled() {
             self.doorbell.rouse();
         }
     }
 
     // Rings where the buffer holds enough for a swap.
     fn ring_if_ripe(&self, held: u64) {
-        if held >= self.ripe && self.has_more() {
+        if held >= self.ripe && self.doorbell.is_filled() {
             self.doorbell.ring();
         }
     }

@@ -2,7 +2,7 @@
 //! before the drain rests lets it not rest at all. What a ring or a rest does to threads is no part of any contract.
 use std::sync::Wait;
 use std::sync::atomic::Ordering::SeqCst;
-use std::sync::atomic::{AtomicBool, AtomicU64};
+use std::sync::atomic::AtomicBool;
 use std::thread::Parker;
 use std::time::Duration;
 
@@ -20,8 +20,8 @@ pub(crate) struct Doorbell {
     ended: AtomicBool,
     // The drain rests, or is about to.
     resting: AtomicBool,
-    // How many events there were at the last swap.
-    swapped_at: AtomicU64,
+    // Since the last swap something was accepted. It is changed in a turn alone.
+    filled: AtomicBool,
     parker: Parker,
 }
 
@@ -32,7 +32,7 @@ impl Doorbell {
             roused: AtomicBool::new(false),
             ended: AtomicBool::new(false),
             resting: AtomicBool::new(false),
-            swapped_at: AtomicU64::new(0),
+            filled: AtomicBool::new(false),
             parker: Parker::new(),
         }
     }
@@ -69,16 +69,24 @@ impl Doorbell {
         self.wake();
     }
 
-    /// Forgets the rings so far, in the turn of a swap: all that they were of is taken then.
-    pub(crate) fn forget(&self, events: u64) {
-        self.swapped_at.store(events, SeqCst);
-        self.ripe.store(false, SeqCst);
-        self.roused.store(false, SeqCst);
+    /// Notes that something was accepted, in the turn in which that was. Behind the first of a buffer it writes nothing, since
+    /// a store that all threads see costs as much as a step of the turn.
+    pub(crate) fn fill(&self) {
+        if !self.filled.load(SeqCst) {
+            self.filled.store(true, SeqCst);
+        }
     }
 
-    /// How many events there were at the last swap.
-    pub(crate) fn swapped_at(&self) -> u64 {
-        self.swapped_at.load(SeqCst)
+    /// Whether something was accepted since the last swap.
+    pub(crate) fn is_filled(&self) -> bool {
+        self.filled.load(SeqCst)
+    }
+
+    /// Forgets the rings so far, in the turn of a swap: all that they were of is taken then.
+    pub(crate) fn forget(&self) {
+        self.filled.store(false, SeqCst);
+        self.ripe.store(false, SeqCst);
+        self.roused.store(false, SeqCst);
     }
 
     fn is_due(&self) -> bool {

@@ -2,7 +2,7 @@
 //! call promises of its steps rests on these kinds: each names the word and the change that it is of.
 ghost use Rattle.buffer_swap.specs.Posts.{first_post};
 ghost use Rattle.buffer_swap.specs.Turns.{Kept, newcomer, nobody};
-ghost use Rattle.buffer_swap.specs.Plays.{took, counted, handed_over, closed, stopped, freed, same_pass, with_full_hand, with_name, with_lacking, starts, drainer, hires, hired, gathers, noted, reads, settled, met};
+ghost use Rattle.buffer_swap.specs.Plays.{took, counted, handed_over, closed, stopped, freed, freed_counting, same_pass, with_full_hand, with_name, with_lacking, starts, drainer, hires, hired, gathers, noted, reads, settled, met};
 
 use crate::view::View;
 use atomic_table::{Join, Play, Split, TableRule};
@@ -24,7 +24,7 @@ impl Play<Desk, View> for Take {
     ghost then = { took };
 }
 
-// Records are counted.
+// The records of a declaration are counted.
 pub(crate) struct Count;
 
 impl Play<Desk, View> for Count {
@@ -56,6 +56,13 @@ pub(crate) struct Free;
 
 impl Play<Desk, View> for Free {
     ghost then = { freed same_pass };
+}
+
+// The turn is freed, and in the same step the records are counted.
+pub(crate) struct FreeCounting;
+
+impl Play<Desk, View> for FreeCounting {
+    ghost then = { freed_counting };
 }
 
 pub(crate) struct FreeFull;
