@@ -321,25 +321,25 @@ counting t k id v records me holds may named = let hand = v.hand in let d = adde
       };
       others = λ u idle h. view_grown k.s.history records hand k.halt u unended spares idle (subst (λ (z : DeskView). Fits k.s.history z k.halt u) (sym is) h);
       pairs = λ h.
-      let a : total h (v.pass.own ++ placed_from (accepted hand) (fresh hand d)) ≡ total h v.pass.own + total h (placed_from (length k.s.history) records) =
-      total-append h v.pass.own (placed_from (accepted hand) (fresh hand d)) ∙ ap (λ (z : ℕ × List Rec). total h v.pass.own + total h (placed_from z.0 z.1)) (λ i. (p.count i, new i)) in
-      let size : 0 + length k.s.history ≡ length k.s.history = omega arith in
-      let b : total h (placed_from 0 history) ≡ total h (placed_from 0 k.s.history) + total h (placed_from (length k.s.history) records) =
-      ap (total h) (placed_more 0 k.s.history records ∙ ap (λ (z : ℕ). placed_from 0 k.s.history ++ placed_from z records) size) ∙ total-append h (placed_from 0 k.s.history) (placed_from (length k.s.history) records) in
-      omega (arith, a, b);
+          let a : total h (v.pass.own ++ placed_from (accepted hand) (fresh hand d)) ≡ total h v.pass.own + total h (placed_from (length k.s.history) records) =
+          total-append h v.pass.own (placed_from (accepted hand) (fresh hand d)) ∙ ap (λ (z : ℕ × List Rec). total h v.pass.own + total h (placed_from z.0 z.1)) (λ i. (p.count i, new i)) in
+          let size : 0 + length k.s.history ≡ length k.s.history = omega arith in
+          let b : total h (placed_from 0 history) ≡ total h (placed_from 0 k.s.history) + total h (placed_from (length k.s.history) records) =
+          ap (total h) (placed_more 0 k.s.history records ∙ ap (λ (z : ℕ). placed_from 0 k.s.history ++ placed_from z records) size) ∙ total-append h (placed_from 0 k.s.history) (placed_from (length k.s.history) records) in
+          omega (arith, a, b);
     }
 
 -- records are counted
 counts_records : (n id : ℕ) (v : View) (records : List Rec) → v.holds ≡ true → MayCount v.hand records (added v.hand records) → v.post.publishes ≡ true → let d = added v.hand records in
     Allows Kept n id (v, (0, d) ∷ []) 1 (λ y. (y + 1) % 2 ^ 64) (counted (step n 1 1 0 none) (v, (0, d) ∷ []))
 counts_records n id v records holds may named t k wide me _ = let d = added v.hand records in let w : View = counts v d in let it = counting t k id v records me holds may named in (
-      w,
-      keeps,
-      tt,
-      event t k id v w ((get_or t.words 1 0 + 1) % 2 ^ 64) (accept 0 records k.s) d k.head k.halt me holds refl it.world (it.mine true) (λ u j _ _ idle h. it.others u idle h)
-          (heads t k id v me) (λ _. refl) (k.controls id v me) (λ h. refl) (omega arith) it.pairs,
-      (rises n, refl),
-    )
+  w,
+  keeps,
+  tt,
+  event t k id v w ((get_or t.words 1 0 + 1) % 2 ^ 64) (accept 0 records k.s) d k.head k.halt me holds refl it.world (it.mine true) (λ u j _ _ idle h. it.others u idle h)
+      (heads t k id v me) (λ _. refl) (k.controls id v me) (λ h. refl) (omega arith) it.pairs,
+  (rises n, refl),
+)
 
 -- records are counted as the turn is freed
 frees_records : (n id : ℕ) (v : View) (records : List Rec) → v.holds ≡ true → MayCount v.hand records (added v.hand records) → v.post.publishes ≡ true → let d = added v.hand records in

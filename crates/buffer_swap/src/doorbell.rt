@@ -1,9 +1,9 @@
 //! How a drain that rests is told that there may be something for it. It is told by flags, so that a ring is never lost: a ring
 //! before the drain rests lets it not rest at all. What a ring or a rest does to threads is no part of any contract.
 use std::sync::Wait;
-use std::sync::atomic::Ordering::SeqCst;
 use std::sync::atomic::AtomicBool;
-use std::thread::Parker;
+use std::sync::atomic::Ordering::SeqCst;
+use std::thread::{Parker, yield_now};
 use std::time::Duration;
 
 // How long a drain that was only roused lets more gather, in nanoseconds: a feed that goes on doesn't cost a swap for each
@@ -45,13 +45,16 @@ impl Doorbell {
         }
     }
 
-    /// Wakes the drain where it rests, and lets it not rest before its next swap. Behind an earlier ring it does nothing.
+    /// Wakes the drain where it rests, and lets it not rest before its next swap. Behind an earlier ring it does nothing. Where
+    /// the drain waits for this thread's processor it goes first: else the buffer would grow for a whole slice of time, and
+    /// leave the processor's cache.
     pub(crate) fn ring(&self) {
         if self.ripe.load(SeqCst) {
             return;
         }
         self.ripe.store(true, SeqCst);
         self.wake();
+        yield_now();
     }
 
     /// The same, but the drain may let more gather for a moment.
