@@ -36,19 +36,22 @@ use Rattle.record_cache.specs.Buffers.{IsKept}
 use Rattle.chunk_writer.specs.Limits.{Holds}
 use Rattle.chunk_writer.specs.Stops.{StopsAt}
 use Rattle.recorder.specs.Laws.{AreReadable, ReadsAs}
-use Rattle.recorder.specs.Recorded.{sides}
+use Rattle.recorder.specs.Recorded.{Sides, sides, Recorded}
+use Rattle.recorder.specs.declared.options.RecordOptions.{RecordOptions}
+use Rattle.recorder.specs.declared.report.Report.{Report}
 use Rattle.recorder.proofs.ReadBack.{IsClosedFile, closed_file, can_be_read, files_read_back}
 use Rattle.recorder.proofs.Validity.{can_be_written, files_sound}
 use Rattle.mcap_recover.specs.declared.answers.Why.{Why}
 use Rattle.mcap_recover.specs.declared.answers.Why.TheVariants as whys
 use Rattle.mcap_recover.specs.declared.answers.RecoverRefused.TheVariants as refusals
 use Rattle.mcap_recover.specs.Recovering.{recovered_options, TellsHalt}
-use Rattle.command_base.specs.Ran.{Scene}
+use Rattle.command_base.specs.Ran.{Scene, counts_in, AnyRose}
 use Rattle.output_commands.specs.declared.recovering.Recovery.{Recovery}
 use Rattle.output_commands.specs.declared.recovering.Recovery.TheVariants as recoveries
 use Rattle.output_commands.specs.Recover.{HoldsRecovered, Decides, RecoversFile}
-use Rattle.record_command.specs.Record.{back_sources}
+use Rattle.record_command.specs.Record.{AreAllowed, back_sources}
 use Rattle.mcap_app.specs.Laws.{IsChunkSize, IsFirstPart, IsWithin, first_records, KeepsFirst, RecoversFirst, PassesLimit, RecordingsLeaveFirstParts, RecordingsAreRecovered}
+use Rattle.mcap_app.proofs.Recordings.{Recording, of_records}
 use Rattle.mcap_app.proofs.Unrepeated.{unrepeated}
 use Rattle.mcap_app.proofs.Sound.{IsExact, found_sound}
 use Rattle.mcap_app.proofs.Recovered.{reached, made}
@@ -242,26 +245,31 @@ begins_so : (profile more : List ℕ) → V1 (front_bytes profile ++ more)
 unfolding front_bytes
 begins_so profile more = (framed 1 (header_text (record { profile = profile; library = library })) ++ more, append_assoc magic (framed 1 (header_text (record { profile = profile; library = library }))) more)
 
-pub recordings_leave_first_parts : RecordingsLeaveFirstParts
-recordings_leave_first_parts options out feeds old new r answer told now it here tells well some =
-    let is = it.reported r refl in
-    let history = is.recorded.history in
-    let holds = is.file told now here tells in
+pub first_left : (options : RecordOptions) (out : List ℕ) (old new : WorldState) (r : Report) (status : ℕ) (told now : Told) → (it : Recording options out old new r status) → old.told ≡ Some told → new.told ≡ Some now
+    → it.live_kept ≡ true → (it.recorded.history ≡ [] → ⊥)
+    → ((part : List ℕ) × (now.names out ≡ Some part) × IsFirstPart options.file it.recorded.history part) × (r.writer.end ≡ ends.Closed → IsWithin options.file it.recorded.history)
+first_left options out old new r status told now it here tells well some =
+    let history = it.recorded.history in
+    let holds = it.file told now here tells in
     let begun = holds.begun some well in
     let part : (part : List ℕ) × (now.names out ≡ Some part) × IsFirstPart options.file history part = elim holds.part [
       | inl (text, stands, size, prefix) ↦ (text, stands, record { part_is = prefix; magic = subst V1 (same_Some (front_bytes options.file.profile ++ begun.0) text (sym begun.1 ∙ stands)) (begins_so options.file.profile begun.0) })
-      | inr (same, unwell) ↦ absurd (both_ways is.live_kept unwell well)
+      | inr (same, unwell) ↦ absurd (both_ways it.live_kept unwell well)
     ] in
     let within : r.writer.end ≡ ends.Closed → IsWithin options.file history = λ closed.
-    let file = (closed_file options (sides is.given is.live) (sides (back_sources is.kept_feeds) is.live_now) r is.recorded closed).0 in
+    let file = (closed_file options it.before it.after r it.recorded closed).0 in
     let few = file.within.few in
     let small = file.within.small in
     record { few = omega (arith, few, file.blocks_are); small = omega (arith, small, file.bytes_are) } in
     (part, within)
 
-pub recordings_are_recovered : FrontsAreRepaired → RecordingsAreRecovered
-recordings_are_recovered fronts_are_repaired options out feeds old new r answer allowed text it within part first chunk input output later last status told size here there recovers quiet =
-    let recorded = (it.reported r refl).recorded in
+pub first_recovered : FrontsAreRepaired → (options : RecordOptions) (before after : Sides) (r : Report) → AreAllowed options → IsUtf8 options.file.profile
+    → (recorded : Recorded options before after r) → IsWithin options.file recorded.history
+    → (part : List ℕ) → IsFirstPart options.file recorded.history part
+    → (chunk : ℕ) (input output : List ℕ) (later last : Scene) (status : ℕ) (told : Told) → IsChunkSize chunk → later.world.told ≡ Some told → told.names input ≡ Some part
+    → RecoversFile chunk input output later last status → (AnyRose (counts_in later) (counts_in last) → ⊥)
+    → ((status ≡ 0) × RecoversFirst options.file recorded.history chunk part output later last) ⊎ (((status ≡ 4) × PassesLimit options.file recorded.history chunk part) ⊎ (status ≡ 5))
+first_recovered fronts_are_repaired options before after r allowed text recorded within part first chunk input output later last status told size here there recovers quiet =
     let history = recorded.history in
     let are : AreRecorded history = record { numbered = recorded.assembled.numbered; kept = recorded.kept } in
     let short = allowed.short in
@@ -271,3 +279,12 @@ recordings_are_recovered fronts_are_repaired options out feeds old new r answer 
     let written = can_be_written options.file history blocks (length (file_of options.file [] history)) readable closed in
     let front = fronts_are_repaired options.file part [] history written (can_be_read options.file history readable are.kept within.small) first.part_is first.magic in
     comes options.file history part (keeps_first options.file history part are front) text short chunk size input output later last told here there status recovers recovers.recovery refl first.magic (recovers.decided told part here there quiet)
+
+pub recordings_leave_first_parts : RecordingsLeaveFirstParts
+recordings_leave_first_parts options out feeds old new r answer told now it here tells well some =
+    first_left options out old.world new.world r answer told now (of_records options out feeds old new r answer it) here tells well some
+
+pub recordings_are_recovered : FrontsAreRepaired → RecordingsAreRecovered
+recordings_are_recovered fronts_are_repaired options out feeds old new r answer allowed text it within part first chunk input output later last status told size here there recovers quiet =
+    let is = it.reported r refl in
+    first_recovered fronts_are_repaired options (sides is.given is.live) (sides (back_sources is.kept_feeds) is.live_now) r allowed text is.recorded within part first chunk input output later last status told size here there recovers quiet

@@ -1,3 +1,4 @@
+mod Recordings
 mod Running
 mod RoundTrip
 mod Sound
@@ -5,3 +6,5 @@ mod Unrepeated
 mod Recovered
 mod Merges
 mod FirstParts
+mod Watched
+mod WatchFiles

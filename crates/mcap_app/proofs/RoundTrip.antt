@@ -1,10 +1,9 @@
 -- What is recorded is printed.
-use Rattle.std.proofs.Common.{◌≡◌, ℕ, ◌+◌, Bool, true, false, if◌then◌else◌, List, [], ◌∷◌, ◌++◌, map, filter, Option, Some, refl, sym, ap, subst, inl, inr, ◌∙◌, arith}
+use Rattle.std.proofs.Common.{◌≡◌, ◌⊎◌, ℕ, List, [], ◌∷◌, filter, Some, refl, sym, ap, subst, inl, inr, ◌∙◌, arith}
 use Rattle.std.specs.Prelude.{IsUtf8}
 use Rattle.std.specs.List.{AllZip}
-use Rattle.std.proofs.lemmas.Option.{same_Some}
 use Rattle.rec_data.specs.declared.owned.Rec.{Rec}
-use Rattle.mcap_io.specs.Outside.{Rose, added, SourceState, WorldState, Told, Opening}
+use Rattle.mcap_io.specs.Outside.{SourceState, WorldState, Told, Opening}
 use Rattle.mcap_model.specs.declared.ends.End.TheVariants as ends
 use Rattle.mcap_model.specs.Tops.{Top}
 use Rattle.mcap_model.specs.Kept.{at_end}
@@ -15,28 +14,19 @@ use Rattle.mcap_model.specs.File.{file_of}
 use Rattle.mcap_model.specs.Laws.{HoldsSeen}
 use Rattle.mcap_model.proofs.Halting.{readings_halt_once}
 use Rattle.recorder.specs.declared.report.Report.{Report}
-use Rattle.recorder.specs.Recorded.{sides}
 use Rattle.recorder.specs.Laws.{AreReadable, ReadsAs}
 use Rattle.recorder.proofs.ReadBack.{recordings_are_read_back}
 use Rattle.file_commands.specs.declared.cat.Reading.{Reading}
 use Rattle.file_commands.specs.declared.cat.Reading.TheVariants as readings
-use Rattle.command_base.specs.Ran.{Scene, counts_in, AnyRose, world_faults}
+use Rattle.command_base.specs.Ran.{Scene, counts_in, AnyRose}
 use Rattle.recorder.specs.declared.options.RecordOptions.{RecordOptions}
-use Rattle.record_command.specs.Record.{AreAllowed, entry_of, live_entry, back_sources, Records}
+use Rattle.record_command.specs.Record.{AreAllowed}
 use Rattle.mcap_scan.specs.declared.answers.ScanRefused.TheVariants as refusals
 use Rattle.command_base.specs.OneFile.{was_read}
 use Rattle.command_base.specs.Printing.{TellsAll}
-use Rattle.file_commands.specs.Cat.{ComesTo, IsReading, IsPrinted, ending_of}
-use Rattle.mcap_app.specs.Laws.{everything, RecordingsArePrinted}
-use Rattle.record_command.proofs.Runs.{world_faults-append}
-use Rattle.record_command.proofs.Whole.{calm}
-
--- ---- the recording
-
--- the keeping of the store went well where the world's count stood still
-kept_well : (before now others : ℕ) (live : Bool) → now ≡ added before (others + (if live then 0 else 1)) → (Rose before now → ⊥) → live ≡ true
-kept_well before now others true is quiet = refl
-kept_well before now others false is quiet = absurd (quiet (omega (arith, is)))
+use Rattle.file_commands.specs.Cat.{ComesTo, IsReading, IsPrinted, ending_of, Cats}
+use Rattle.mcap_app.specs.Laws.{everything, PrintsHistory, RecordingsArePrinted}
+use Rattle.mcap_app.proofs.Recordings.{Recording, of_records}
 
 -- ---- the printing
 
@@ -72,41 +62,40 @@ read_of name file world told (entry ∷ more) reading text here there (inr (keep
 
 -- what a recording with the status 0 left in a world that tells: it is closed, and the file of its history stands under the
 -- output's name and is read back
-pub closed_left : (options : RecordOptions) (out : List ℕ) (feeds : List (List ℕ)) (old new : Scene) (r : Report) (told : Told) → AreAllowed options → IsUtf8 options.file.profile
-    → (it : Records options out feeds old new (Some r) 0) → (here : old.world.told ≡ Some told)
+pub closed_left : (options : RecordOptions) (out : List ℕ) (old new : WorldState) (r : Report) (told : Told) → AreAllowed options → IsUtf8 options.file.profile
+    → (it : Recording options out old new r 0) → (here : old.told ≡ Some told)
     → (r.writer.end ≡ ends.Closed) × AreReadable options.file
-    × ((it.ran.leaves told here).0.names out ≡ Some (file_of options.file [] (it.reported r refl).recorded.history))
-    × ReadsAs (file_of options.file [] (it.reported r refl).recorded.history) (it.reported r refl).recorded.history
-closed_left options out feeds old new r told allowed text it here =
-    let is = it.reported r refl in
-    let all = it.whole refl in
-    let closed : r.writer.end ≡ ends.Closed = subst (λ (x : Report). x.writer.end ≡ ends.Closed) (same_Some all.0 r (sym all.1)) all.2.closed in
-    let risen = calm (counts_in old) (counts_in new) (Some r) it.lacked 0 it.ended refl in
-    let counts = it.ran.counts.world ∙ ap (λ (es : List Opening). added old.world.faults (world_faults es)) is.kept_are in
-    let well : is.live_kept ≡ true = kept_well old.world.faults new.world.faults (world_faults (map entry_of is.kept_feeds)) is.live_kept (omega (arith, counts, world_faults-append (map entry_of is.kept_feeds) (live_entry out is.live_now is.live_kept ∷ []))) (λ rose. risen (inl rose)) in
-    let left = it.ran.leaves told here in
+    × ((it.goes_on told here).0.names out ≡ Some (file_of options.file [] it.recorded.history))
+    × ReadsAs (file_of options.file [] it.recorded.history) it.recorded.history
+closed_left options out old new r told allowed text it here =
+    let closed = it.closed refl in
+    let left = it.goes_on told here in
     let readable : AreReadable options.file = record { profile = text; short = omega (arith, allowed.short); size = allowed.size } in (
       closed,
       readable,
-      (is.file told left.0 here left.1).whole closed well,
-      (recordings_are_read_back options (sides is.given is.live) (sides (back_sources is.kept_feeds) is.live_now) r readable is.recorded closed).0,
+      (it.file told left.0 here left.1).whole closed (it.well refl),
+      (recordings_are_read_back options it.before it.after r readable it.recorded closed).0,
     )
 
-pub recordings_are_printed : RecordingsArePrinted
-recordings_are_printed options out feeds old new later last r answer told allowed text it here same cats quiet =
-    let is = it.reported r refl in
-    let left = it.ran.leaves told here in
-    let stands = closed_left options out feeds old new r told allowed text it here in
-    let file = file_of options.file [] is.recorded.history in
+-- a printing of it in which no count rises
+pub printed_so : (options : RecordOptions) (out : List ℕ) (old new : WorldState) (later last : Scene) (r : Report) (answer : ℕ) (told : Told) → AreAllowed options → IsUtf8 options.file.profile
+    → (it : Recording options out old new r 0) → old.told ≡ Some told
+    → later.world ≡ new → Cats everything out later last answer → (AnyRose (counts_in later) (counts_in last) → ⊥)
+    → ((answer ≡ 0) × PrintsHistory it.recorded.history later.out last.out) ⊎ (answer ≡ 5)
+printed_so options out old new later last r answer told allowed text it here same cats quiet =
+    let history = it.recorded.history in
+    let left = it.goes_on told here in
+    let stands = closed_left options out old new r told allowed text it here in
+    let file = file_of options.file [] history in
     let held : left.0.names out ≡ Some file = stands.2 in
-    let reads : ReadsAs file is.recorded.history = stands.3 in
+    let reads : ReadsAs file history = stands.3 in
     let tells : later.world.told ≡ Some left.0 = ap (λ (w : WorldState). w.told) same ∙ left.1 in
     elim (cats.decided left.0 file reads.tops (at_end reads.end) tells held reads.halts quiet) [
       | inr five ↦ inr five
       | inl zero_is ↦
           let (well, printed) = cats.ran.whole zero_is in
           let source = read_of out file later.world left.0 cats.entries cats.reading printed.0 tells held cats.read (read_lines out cats.reading printed.0 printed.1) in
-          let lines = lines_of file is.recorded.history source.0 source.1 printed.0 source.2 source.3 reads in
+          let lines = lines_of file history source.0 source.1 printed.0 source.2 source.3 reads in
           inl (
             zero_is,
             record {
@@ -121,3 +110,7 @@ recordings_are_printed options out feeds old new later last r answer told allowe
             },
           )
     ]
+
+pub recordings_are_printed : RecordingsArePrinted
+recordings_are_printed options out feeds old new later last r answer told allowed text it here same cats quiet =
+    printed_so options out old.world new.world later last r answer told allowed text (of_records options out feeds old new r 0 it) here same cats quiet

@@ -1,5 +1,6 @@
 -- What is recorded keeps all rules.
 use Rattle.std.proofs.Common.{◌≡◌, ◌⊎◌, ℕ, ◌≤◌, List, [], ◌++◌, length, Option, Some, None, refl, ap, subst, inl, inr, ◌∙◌, arith, length-append}
+use Rattle.std.specs.Prelude.{IsUtf8}
 use Rattle.std.proofs.lemmas.Bool.{both_ways}
 use Rattle.mcap_wire.specs.Layout.{magic}
 use Rattle.mcap_io.specs.Outside.{WorldState, Told}
@@ -26,7 +27,8 @@ use Rattle.mcap_model.proofs.Halting.{readings_halt_once}
 use Rattle.mcap_model.proofs.Prefixes.{ends_there}
 use Rattle.mcap_model.proofs.Fronts.{fronts_keep_whole}
 use Rattle.mcap_model.proofs.Flaws.{flaws_exclude_validity}
-use Rattle.recorder.specs.Recorded.{sides}
+use Rattle.recorder.specs.declared.options.RecordOptions.{RecordOptions}
+use Rattle.recorder.specs.declared.report.Report.{Report}
 use Rattle.recorder.specs.Laws.{ReadsAs, IsSound}
 use Rattle.recorder.proofs.Validity.{recordings_are_valid}
 use Rattle.file_check.specs.declared.refusals.CheckRefused.TheVariants as refusals
@@ -36,8 +38,9 @@ use Rattle.file_commands.specs.declared.checking.Judgement.{Judgement}
 use Rattle.file_commands.specs.declared.checking.Judgement.TheVariants as judgements
 use Rattle.file_commands.specs.Check.{verdict_status, Decides, FileChecks}
 use Rattle.command_base.specs.Ran.{Scene, counts_in, AnyRose}
-use Rattle.record_command.specs.Record.{back_sources}
+use Rattle.record_command.specs.Record.{AreAllowed}
 use Rattle.mcap_app.specs.Laws.{IsSaid, PrintsSound, RecordingsAreSound}
+use Rattle.mcap_app.proofs.Recordings.{Recording, of_records}
 use Rattle.mcap_app.proofs.RoundTrip.{closed_left}
 
 -- ---- no compression
@@ -163,15 +166,23 @@ found_sound options file name tops end later last told answer exact halts here h
           inl (zero_is, record { verdict = given.0; said = said_of options file given.0 exact so; line = given.3 })
     ]
 
-pub recordings_are_sound : RecordingsAreSound
-recordings_are_sound options out feeds old new later last r answer told allowed text it here same checks quiet =
-    let is = it.reported r refl in
-    let left = it.ran.leaves told here in
-    let stands = closed_left options out feeds old new r told allowed text it here in
-    let file = file_of options.file [] is.recorded.history in
+-- a check of the output of a recording with the status 0
+pub checked_so : (options : RecordOptions) (out : List ℕ) (old new : WorldState) (later last : Scene) (r : Report) (answer : ℕ) (told : Told) → AreAllowed options → IsUtf8 options.file.profile
+    → Recording options out old new r 0 → old.told ≡ Some told
+    → later.world ≡ new → FileChecks out later last answer → (AnyRose (counts_in later) (counts_in last) → ⊥)
+    → ((answer ≡ 0) × PrintsSound options.file.chunk later.out last.out) ⊎ (answer ≡ 5)
+checked_so options out old new later last r answer told allowed text it here same checks quiet =
+    let history = it.recorded.history in
+    let left = it.goes_on told here in
+    let stands = closed_left options out old new r told allowed text it here in
+    let file = file_of options.file [] history in
     let held : left.0.names out ≡ Some file = stands.2 in
-    let reads : ReadsAs file is.recorded.history = stands.3 in
-    let valid = recordings_are_valid options (sides is.given is.live) (sides (back_sources is.kept_feeds) is.live_now) r stands.1 is.recorded stands.0 in
-    let exact : IsExact options.file file = record { sound = valid.1; plain = unindexed options.file is.recorded.history valid.0 } in
+    let reads : ReadsAs file history = stands.3 in
+    let valid = recordings_are_valid options it.before it.after r stands.1 it.recorded stands.0 in
+    let exact : IsExact options.file file = record { sound = valid.1; plain = unindexed options.file history valid.0 } in
     let tells : later.world.told ≡ Some left.0 = ap (λ (w : WorldState). w.told) same ∙ left.1 in
     found_sound options.file file out reads.tops reads.end later last left.0 answer exact reads.halts tells held checks quiet
+
+pub recordings_are_sound : RecordingsAreSound
+recordings_are_sound options out feeds old new later last r answer told allowed text it here same checks quiet =
+    checked_so options out old.world new.world later last r answer told allowed text (of_records options out feeds old new r 0 it) here same checks quiet

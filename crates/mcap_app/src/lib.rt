@@ -3,6 +3,7 @@
 
 pub mod laws;
 mod program;
+pub mod watched_laws;
 
 pub use command_words::{Command, Names, WordsRefused, parse_words};
 pub use mcap_model::{End, Stop};
