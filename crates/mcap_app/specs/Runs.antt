@@ -26,6 +26,22 @@ use Rattle.generate_command.specs.Generating.{Generates}
 abbrev pub IsWatchable : FileOptions → ℕ → Type 0
 IsWatchable file watchers = (watchers ≤ watcher_limit) × (1 ≤ watchers → (size : ℕ) × (file.chunk ≡ Some size))
 
+-- by its function a command records feeds or made ones, reads one file, or reads some and writes one
+pub data Way : Type 0 where
+  records : Way
+  generates : Way
+  reads : Way
+  writes : Way
+
+abbrev pub way_of : Command → Way
+way_of (commands.Record out feeds file limit lossless range watchers) = records
+way_of (commands.Info file) = reads
+way_of (commands.Check file) = reads
+way_of (commands.Cat file indexed range topic) = reads
+way_of (commands.Recover input out chunk) = writes
+way_of (commands.Merge out inputs chunk) = writes
+way_of (commands.Generate seed feeds messages out) = generates
+
 -- the numbers and texts of a command are in their ranges
 abbrev pub IsAllowed : Command → Type 0
 IsAllowed (commands.Record out feeds file limit lossless range watchers) = AreAllowed (record { file = file; limit = limit; lossless = lossless }) × AreFew feeds × IsWatchable file watchers

@@ -7,9 +7,8 @@ ghost use Rattle.mcap_model.specs.Places.{Each};
 ghost use Rattle.feed_lane.specs.Feeds.{ListsMessages};
 ghost use Rattle.command_base.specs.Printing.{Takes};
 ghost use Rattle.command_base.specs.Ran.{scene};
-ghost use Rattle.generate_command.specs.Generating.{Generates};
 ghost use Rattle.record_command.specs.Record.{AreAllowed, AreFew};
-ghost use Rattle.mcap_app.specs.Runs.{IsAllowed, IsWatchable, RecordsBeside, Runs, LacksForWords, generate_options};
+ghost use Rattle.mcap_app.specs.Runs.{IsAllowed, IsWatchable, RecordsBeside, Runs, LacksForWords, records, generates, reads, writes, way_of, generate_options};
 
 use command_base::{refuse_for_memory, refuse_words};
 use command_words::{Command, USUAL_CHUNK, USUAL_LIMIT, WordsRefused, parse_words, watch_names};
@@ -53,21 +52,36 @@ fn generated_options(alloc: Global) -> RecordOptions
 #[tactic(auto, using(crate::proofs::Running::generate_allowed))]
 fn run_generate<R: AllocGlobal + Threads + Wait + Sync, W: World, O: Sink, E: Sink>(
     rt: &R,
-    numbers: Numbers,
-    name: &str,
+    command: Command,
     world: &mut W,
     out: &mut O,
     err: &mut E,
     listed: bool,
 ) -> Ended
-    requires few { (1 ≤ numbers.feeds) × (numbers.feeds ≤ 64) }
-    ensures runs { Generates generate_options numbers name.now
+    requires allowed { IsAllowed command }
+    requires way { way_of command ≡ generates }
+    ensures runs { Runs command
         (scene (W.state world.old) (O.state out.old) (E.state err.old))
         (scene (W.state world.new) (O.state out.new) (E.state err.new))
         result.report result.status }
     ensures listed { (r : _) → result.report ≡ Some r → Each (λ f. ListsMessages f listed) r.feeds.items }
 {
+    let Command::Generate {
+        seed,
+        feeds,
+        messages,
+        out: name,
+    } = command
+    else {
+        unreachable!()
+    };
+    let numbers = Numbers {
+        seed,
+        feeds,
+        messages,
+    };
     let options = generated_options(rt.alloc());
+    let name = name.as_str();
     let Generated { status, report } = generate_file(
         rt, &options, numbers, name, world, out, err, listed,
     );
@@ -124,6 +138,118 @@ fn run_record<R: AllocGlobal + Threads + Wait + Sync, W: World, O: Sink, E: Sink
     }
 }
 
+// Records feeds as the command says, or does nothing where memory lacks for the names of watchers' files.
+fn run_recording<R: AllocGlobal + Threads + Wait + Sync, W: World, O: Sink, E: Sink>(
+    rt: &R,
+    command: Command,
+    world: &mut W,
+    out: &mut O,
+    err: &mut E,
+    listed: bool,
+) -> Ended
+    requires allowed { IsAllowed command }
+    requires way { way_of command ≡ records }
+    ensures runs { Runs command
+        (scene (W.state world.old) (O.state out.old) (E.state err.old))
+        (scene (W.state world.new) (O.state out.new) (E.state err.new))
+        result.report result.status
+        ⊎ LacksForWords
+        (scene (W.state world.old) (O.state out.old) (E.state err.old))
+        (scene (W.state world.new) (O.state out.new) (E.state err.new))
+        result.report result.status }
+    ensures listed { (r : _) → result.report ≡ Some r → Each (λ f. ListsMessages f listed) r.feeds.items }
+{
+    let Command::Record {
+        out: name,
+        feeds,
+        file,
+        limit,
+        lossless,
+        range,
+        watchers,
+    } = command
+    else {
+        unreachable!()
+    };
+    let options = RecordOptions {
+        file,
+        limit,
+        lossless,
+    };
+    let watching = Watching { range, watchers };
+    let (name, feeds) = (name.as_str(), feeds.as_slice());
+    run_record(rt, &options, watching, name, feeds, world, out, err, listed)
+}
+
+// Reads one file as the command says.
+fn run_reading<W: World, O: Sink, E: Sink>(
+    alloc: Global,
+    command: Command,
+    world: &mut W,
+    out: &mut O,
+    err: &mut E,
+) -> u8
+    requires { way_of command ≡ reads }
+    ensures { Runs command
+        (scene (W.state world.old) (O.state out.old) (E.state err.old))
+        (scene (W.state world.new) (O.state out.new) (E.state err.new))
+        None result }
+{
+    match command {
+        Command::Info { file } => return describe_file(alloc, file.as_str(), world, out, err),
+        Command::Check { file } => return check_file(alloc, file.as_str(), world, out, err),
+        Command::Cat {
+            file,
+            indexed,
+            range,
+            topic,
+        } => {
+            let (name, topic) = (file.as_str(), topic.as_ref());
+            if indexed {
+                return print_indexed(alloc, name, range, topic, world, out, err);
+            }
+            return print_file(alloc, name, range, topic, world, out, err);
+        }
+        _ => unreachable!(),
+    }
+}
+
+// Reads some files and writes one as the command says.
+fn run_writing<W: World, O: Sink, E: Sink>(
+    alloc: Global,
+    command: Command,
+    world: &mut W,
+    out: &mut O,
+    err: &mut E,
+) -> u8
+    requires allowed { IsAllowed command }
+    requires way { way_of command ≡ writes }
+    ensures { Runs command
+        (scene (W.state world.old) (O.state out.old) (E.state err.old))
+        (scene (W.state world.new) (O.state out.new) (E.state err.new))
+        None result }
+{
+    match command {
+        Command::Recover {
+            input,
+            out: name,
+            chunk,
+        } => {
+            let (input, name) = (input.as_str(), name.as_str());
+            return recover_file(alloc, chunk, input, name, world, out, err);
+        }
+        Command::Merge {
+            out: name,
+            inputs,
+            chunk,
+        } => {
+            let (inputs, name) = (inputs.as_slice(), name.as_str());
+            return merge_file(alloc, chunk, inputs, name, world, out, err);
+        }
+        _ => unreachable!(),
+    }
+}
+
 // Does what the command says, or nothing where memory lacks for the names of watchers' files.
 fn run_command<R: AllocGlobal + Threads + Wait + Sync, W: World, O: Sink, E: Sink>(
     rt: &R,
@@ -144,72 +270,14 @@ fn run_command<R: AllocGlobal + Threads + Wait + Sync, W: World, O: Sink, E: Sin
         result.report result.status }
     ensures listed { (r : _) → result.report ≡ Some r → Each (λ f. ListsMessages f listed) r.feeds.items }
 {
-    let alloc = rt.alloc();
     match command {
-        Command::Record {
-            out: name,
-            feeds,
-            file,
-            limit,
-            lossless,
-            range,
-            watchers,
-        } => {
-            let options = RecordOptions {
-                file,
-                limit,
-                lossless,
-            };
-            let watching = Watching { range, watchers };
-            let (name, feeds) = (name.as_str(), feeds.as_slice());
-            return run_record(rt, &options, watching, name, feeds, world, out, err, listed);
+        Command::Record { .. } => return run_recording(rt, command, world, out, err, listed),
+        Command::Generate { .. } => return run_generate(rt, command, world, out, err, listed),
+        Command::Info { .. } | Command::Check { .. } | Command::Cat { .. } => {
+            return unreported(run_reading(rt.alloc(), command, world, out, err));
         }
-        Command::Info { file } => {
-            return unreported(describe_file(alloc, file.as_str(), world, out, err));
-        }
-        Command::Check { file } => {
-            return unreported(check_file(alloc, file.as_str(), world, out, err));
-        }
-        Command::Cat {
-            file,
-            indexed,
-            range,
-            topic,
-        } => {
-            let (name, topic) = (file.as_str(), topic.as_ref());
-            if indexed {
-                return unreported(print_indexed(alloc, name, range, topic, world, out, err));
-            }
-            return unreported(print_file(alloc, name, range, topic, world, out, err));
-        }
-        Command::Recover {
-            input,
-            out: name,
-            chunk,
-        } => {
-            let (input, name) = (input.as_str(), name.as_str());
-            return unreported(recover_file(alloc, chunk, input, name, world, out, err));
-        }
-        Command::Merge {
-            out: name,
-            inputs,
-            chunk,
-        } => {
-            let (inputs, name) = (inputs.as_slice(), name.as_str());
-            return unreported(merge_file(alloc, chunk, inputs, name, world, out, err));
-        }
-        Command::Generate {
-            seed,
-            feeds,
-            messages,
-            out: name,
-        } => {
-            let numbers = Numbers {
-                seed,
-                feeds,
-                messages,
-            };
-            return run_generate(rt, numbers, name.as_str(), world, out, err, listed);
+        Command::Recover { .. } | Command::Merge { .. } => {
+            return unreported(run_writing(rt.alloc(), command, world, out, err));
         }
     }
 }
