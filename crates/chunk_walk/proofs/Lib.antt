@@ -1,0 +1,20 @@
+pub mod Calls
+mod Dues
+mod Fitting
+mod Giving
+mod Going
+mod Listed
+mod Loading
+mod Ordered
+mod Placed
+mod Places
+pub mod Queues
+mod Reached
+mod Risen
+pub mod Stayed
+mod Steps
+mod Summed
+mod Turns
+mod Unchanged
+mod Walked
+mod Zipped

@@ -1,0 +1,16 @@
+use Rattle.std.proofs.Common.{◌≡◌, ◌↔◌, ◌<◌, nat_lt, IsTrue, Option, Some, length, sym, subst, rules}
+use Rattle.mcap_model.proofs.Places.{at_within}
+use Rattle.chunk_walk.specs.Cursors.{FindsFirst, TellsBefore}
+use Rattle.chunk_walk.proofs.Places.{read_there}
+use Rattle.chunk_walk.proofs.cursors.comes_before.Goals as goal
+
+pub returns-in-Some : goal.returns-in-Some
+returns-in-Some c =
+    let cursors = c.args.cursors.now in
+    let i = c.in-Some.i in
+    let is : c.args.due ≡ Some i = c.in-Some.is in
+    let first = subst (FindsFirst cursors) is c.requires.due in
+    let within : i < length cursors = at_within cursors i first.0 first.2 in
+    let at = read_there cursors i c.index-cursors-i.result c.index-cursors-i.is within in
+    let tells : IsTrue (nat_lt c.entry.result.time c.args.time) ↔ (c.entry.result.time < c.args.time) = search rules in
+    subst (λ d. TellsBefore cursors d c.args.time (nat_lt c.entry.result.time c.args.time)) (sym is) (c.index-cursors-i.result, c.entry.result, at, c.entry.ensures, tells)

@@ -1,0 +1,69 @@
+-- Loaded pieces, and how far their messages were given.
+use Rattle.std.specs.Prelude.{◌≡◌, ◌⊎◌, ◌↔◌, ℕ, ◌<◌, ◌≤◌, List, [], drop, map, length, Option, Some, None, Result, Ok, Err, Bool, false, IsTrue, IsPermutation}
+use Rattle.mcap_model.specs.Places.{At, Each}
+use Rattle.chunk_walk.specs.declared.answers.Turn.{Turn}
+use Rattle.chunk_walk.specs.declared.answers.WalkRefused.{WalkRefused}
+use Rattle.chunk_walk.specs.declared.answers.WalkRefused.TheVariants as refusals
+use Rattle.chunk_walk.specs.declared.entries.Entry.{Entry}
+use Rattle.chunk_walk.specs.declared.pieces.Piece.{Piece}
+use Rattle.chunk_walk.specs.declared.cursors.Cursor.{Cursor}
+use Rattle.chunk_walk.specs.Entries.{entries_in, AreWithin, EntriesRise, FitsSpan}
+
+-- a message of a piece, with its turn
+abbrev pub turn_of : Piece → Entry → Turn
+turn_of p e = record { log_time = e.time; input = p.input; offset = p.span.offset; at = p.span.at; inner = e.inner }
+
+-- a message comes before another: by log time, input, piece and place in the piece
+abbrev pub TurnBefore : Turn → Turn → Type 0
+TurnBefore t u = (t.log_time < u.log_time)
+    ⊎ ((t.log_time ≡ u.log_time) × ((t.input < u.input)
+    ⊎ ((t.input ≡ u.input) × ((t.at < u.at) ⊎ ((t.at ≡ u.at) × (t.inner < u.inner))))))
+
+-- the turns that are left in a piece
+abbrev pub turns_left : Cursor → List Turn
+turns_left c = map (turn_of c.piece) (drop c.given c.entries.items)
+
+-- a message of one piece doesn't come behind that of another: their places inside aren't looked at
+abbrev pub PieceTurnNotBehind : Turn → Turn → Type 0
+PieceTurnNotBehind t u = (t.log_time < u.log_time) ⊎ ((t.log_time ≡ u.log_time) × ((t.input < u.input) ⊎ ((t.input ≡ u.input) × (t.at ≤ u.at))))
+
+-- one is left
+abbrev pub HasLeft : Cursor → Type 0
+HasLeft c = c.given < length c.entries.items
+
+-- this message is the next of a piece
+abbrev pub IsNext : Cursor → Turn → Type 0
+IsNext c t = (e : Entry) × At c.entries.items c.given e × (t ≡ turn_of c.piece e)
+
+-- of the pieces at two places this is one whose next message doesn't come behind that of the other
+abbrev pub EarlierOf : List Cursor → ℕ → ℕ → ℕ → Type 0
+EarlierOf cursors first i n = (c d : Cursor) (t u : Turn) → At cursors first c → At cursors i d → IsNext c t → IsNext d u → ((n ≡ first) × PieceTurnNotBehind t u) ⊎ ((n ≡ i) × PieceTurnNotBehind u t)
+
+-- the piece at that place has a next message which doesn't come behind that of any other
+abbrev pub IsFirst : List Cursor → ℕ → Type 0
+IsFirst cursors i = (c : Cursor) × (t : Turn) × At cursors i c × IsNext c t × Each (λ d. (u : Turn) → IsNext d u → PieceTurnNotBehind t u) cursors
+
+abbrev pub FindsFirst : List Cursor → Option ℕ → Type 0
+FindsFirst cursors (Some i) = IsFirst cursors i
+FindsFirst cursors None = cursors ≡ []
+
+-- whether the next message of the piece at that place, if there is one, was logged before a time
+abbrev pub TellsBefore : List Cursor → Option ℕ → ℕ → Bool → Type 0
+TellsBefore cursors (Some i) time before = (c : Cursor) × (e : Entry) × At cursors i c × At c.entries.items c.given e × (IsTrue before ↔ (e.time < time))
+TellsBefore cursors None time before = before ≡ false
+
+-- nothing was given of a piece with these bytes: its messages are those of the bytes, in their order, within the span
+pub record IsFresh (p : Piece) (bytes : List ℕ) (c : Cursor) : Type 0 where
+  pub piece : c.piece ≡ p
+  pub given : c.given ≡ 0
+  pub some : 0 < length c.entries.items
+  pub same : IsPermutation (entries_in bytes) c.entries.items
+  pub rise : EntriesRise c.entries.items
+  pub within : AreWithin p.span c.entries.items
+
+-- bytes that can't be those of the piece's span are refused as changed
+abbrev pub MakesCursor : Piece → List ℕ → Result Cursor WalkRefused → Type 0
+MakesCursor p bytes (Ok c) = IsFresh p bytes c
+MakesCursor p bytes (Err (refusals.Fault faults)) = ⊥
+MakesCursor p bytes (Err (refusals.Changed input offset)) = (input ≡ p.input) × (offset ≡ p.span.offset) × (FitsSpan p.span bytes → ⊥)
+MakesCursor p bytes (Err refusals.Memory) = Unit {0}

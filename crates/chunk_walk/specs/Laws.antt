@@ -1,0 +1,28 @@
+-- When a walk finds a piece changed.
+use Rattle.std.specs.Prelude.{ℕ, ◌<◌, List, take, drop, Some}
+use Rattle.mcap_model.specs.Places.{At, Each}
+use Rattle.mcap_model.specs.Tops.{records_in}
+use Rattle.chunk_survey.specs.declared.spans.Span.{Span}
+use Rattle.chunk_survey.specs.Times.{times_of, TimesAre}
+use Rattle.chunk_walk.specs.declared.answers.WalkRefused.TheVariants as refusals
+use Rattle.chunk_walk.specs.declared.pieces.Piece.{Piece}
+use Rattle.chunk_walk.specs.declared.walk.Walk.{Walk}
+use Rattle.chunk_walk.specs.Entries.{FitsSpan}
+use Rattle.chunk_walk.specs.Pieces.{Files, BeginTogether}
+use Rattle.chunk_walk.specs.Walks.{pieces_in, IsRefused}
+
+-- bytes whose messages were logged when a span says can be those of the span
+abbrev pub SurveyedBytesFit : Type 0
+SurveyedBytesFit = (span : Span) (bytes : List ℕ) → TimesAre (times_of (records_in bytes)) span.least span.greatest span.in_order → FitsSpan span bytes
+
+-- the input tells, and the bytes that stand there can be those of the piece's span
+abbrev pub IsTold : Files → Piece → Type 0
+IsTold files p = (file : List ℕ) × At files p.input (Some file) × FitsSpan p.span (take p.span.length (drop p.span.at file))
+
+-- no two begin at one place
+abbrev pub BeginApart : List Piece → Type 0
+BeginApart pieces = (i j : ℕ) (p q : Piece) → i < j → At pieces i p → At pieces j q → BeginTogether p q → ⊥
+
+-- where all pieces are told and begin at different places, none is found changed
+abbrev pub ToldPiecesStay : Type 0
+ToldPiecesStay = (files : Files) (w : Walk) (input offset : ℕ) → Each (IsTold files) (pieces_in w) → BeginApart (pieces_in w) → IsRefused files w (refusals.Changed input offset) → ⊥

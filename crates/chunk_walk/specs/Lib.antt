@@ -1,0 +1,6 @@
+pub mod Entries
+pub mod Pieces
+pub mod Cursors
+pub mod Stores
+pub mod Walks
+pub mod Laws

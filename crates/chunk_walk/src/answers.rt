@@ -1,0 +1,22 @@
+//! What a walk gives, and why it ends before all is given.
+
+/// A message whose turn it is: when it was logged, the number of its input, the offset of the record of the top level that it
+/// is or in which it stands, where the loaded piece begins, and where the message's record begins in that piece.
+#[derive(Clone, Copy, Debug, PartialEq, Eq)]
+pub struct Turn {
+    pub log_time: u64,
+    pub input: u32,
+    pub offset: u64,
+    pub at: u64,
+    pub inner: u64,
+}
+
+/// Why a walk can't go on.
+#[derive(Clone, Copy, Debug, PartialEq, Eq)]
+pub enum WalkRefused {
+    /// A store failed, and this is its count of faults.
+    Fault { faults: u64 },
+    /// The record at that offset of the input isn't what it was when the input was surveyed.
+    Changed { input: u32, offset: u64 },
+    Memory,
+}

@@ -1,0 +1,127 @@
+//! How far the messages of the loaded pieces were given.
+ghost use Rattle.std.specs.Prelude.{◌≡◌, ◌↔◌, ◌<◌, ◌≤◌, IsTrue, length};
+ghost use Rattle.mcap_model.specs.Places.{At, Each};
+ghost use Rattle.chunk_walk.specs.declared.answers.Turn.{Turn as Coming};
+ghost use Rattle.chunk_walk.specs.declared.answers.WalkRefused.{WalkRefused as Refusal};
+ghost use Rattle.chunk_walk.specs.declared.answers.WalkRefused.TheVariants as refusals;
+ghost use Rattle.chunk_walk.specs.Cursors.{HasLeft, IsNext, MakesCursor, EarlierOf, PieceTurnNotBehind, FindsFirst, TellsBefore};
+
+use crate::answers::WalkRefused;
+use crate::entries::{Entry, are_within, list_entries, put_in_order};
+use crate::pieces::Piece;
+use std::alloc::Global;
+
+/// A piece that is loaded, its messages in their order, and how many of them were given. One is left, but for the time between
+/// two steps.
+#[derive(Drop)]
+pub(crate) struct Cursor {
+    pub piece: Piece,
+    pub entries: Vec<Entry>,
+    pub given: usize,
+}
+
+/// The piece isn't what it was when it was surveyed.
+pub(crate) fn changed(piece: &Piece) -> WalkRefused
+    ensures { result ≡ refusals.Changed piece.now.input piece.now.span.offset }
+{
+    WalkRefused::Changed {
+        input: piece.input,
+        offset: piece.span.offset,
+    }
+}
+
+/// A piece that was loaded with these bytes. Bytes that can't be those that were surveyed are refused.
+pub(crate) fn cursor_of(alloc: Global, piece: Piece, bytes: &[u8]) -> Result<Cursor, WalkRefused>
+    ensures { MakesCursor piece bytes.now result }
+{
+    let mut entries = Vec::new(alloc);
+    match list_entries(&mut entries, bytes) {
+        Ok(()) => {}
+        Err(_) => return Err(WalkRefused::Memory),
+    }
+    put_in_order(&mut entries);
+    if entries.is_empty() {
+        return Err(changed(&piece));
+    }
+    if !are_within(&entries, &piece.span) {
+        return Err(changed(&piece));
+    }
+    return Ok(Cursor {
+        piece,
+        entries,
+        given: 0,
+    });
+}
+
+impl Cursor {
+    /// The message that comes next.
+    pub(crate) fn entry(&self) -> Entry
+        requires { HasLeft self.now }
+        ensures { At self.now.entries.items self.now.given result }
+    {
+        self.entries[self.given]
+    }
+
+    /// Whether all of its messages were given.
+    pub(crate) fn is_over(&self) -> bool
+        ensures { IsTrue result ↔ (length self.now.entries.items ≤ self.now.given) }
+    {
+        self.given >= self.entries.len()
+    }
+}
+
+// Whether the next message of a piece doesn't come behind that of another.
+fn is_not_behind(one: &Cursor, other: &Cursor) -> bool
+    requires left { HasLeft one.now }
+    requires others { HasLeft other.now }
+    ensures { (t u : Coming) → IsNext one.now t → IsNext other.now u → IsTrue result ↔ PieceTurnNotBehind t u }
+{
+    let (a, b) = (one.entry(), other.entry());
+    if a.time != b.time {
+        return a.time < b.time;
+    }
+    if one.piece.input != other.piece.input {
+        return one.piece.input < other.piece.input;
+    }
+    return one.piece.span.at <= other.piece.span.at;
+}
+
+// Of two pieces that whose next message comes first.
+fn earlier(cursors: &[Cursor], first: usize, i: usize) -> usize
+    requires one { first < length cursors.now }
+    requires other { i < length cursors.now }
+    requires left { Each HasLeft cursors.now }
+    ensures { EarlierOf cursors.now first i result }
+{
+    if is_not_behind(&cursors[first], &cursors[i]) {
+        return first;
+    }
+    return i;
+}
+
+/// The piece whose next message comes first.
+pub(crate) fn first_due(cursors: &[Cursor]) -> Option<usize>
+    requires { Each HasLeft cursors.now }
+    ensures { FindsFirst cursors.now result }
+{
+    if cursors.len() == 0 {
+        return None;
+    }
+    let mut first = 0;
+    'pieces: for i in 1..cursors.len() {
+        first = earlier(cursors, first, i);
+    }
+    return Some(first);
+}
+
+/// Whether the next message of the piece at that place, if there is one, was logged before a time.
+pub(crate) fn comes_before(cursors: &[Cursor], due: Option<usize>, time: u64) -> bool
+    requires left { Each HasLeft cursors.now }
+    requires due { FindsFirst cursors.now due }
+    ensures { TellsBefore cursors.now due time result }
+{
+    match due {
+        Some(i) => return cursors[i].entry().time < time,
+        None => return false,
+    }
+}
