@@ -14,7 +14,7 @@ use Rattle.id_table.specs.declared.given.Given.{Given}
 use Rattle.id_table.specs.declared.given.Given.TheVariants.{Known, New}
 use Rattle.id_table.specs.declared.given.GivenIds.{GivenIds}
 use Rattle.id_table.specs.Given.{Lacks, EachOnce, FoundAt, Offers, OffersTo, IsFull, IsFullTo, fresh_to, place_given, KeptKey, with_given, with_given_to}
-use Rattle.id_table.specs.Ids.{Ids}
+use Rattle.id_table.specs.Ids.{ids}
 use Rattle.id_table.proofs.Places.{at_end}
 use Rattle.id_table.specs.Parts.{Grows, StandAt, FoundPlaces}
 use Rattle.id_table.specs.Keys.{Stock, stocked, ShowsSchema, ShowsKey, FoundKey, schema_at, content_at, Stands, AllStand, Stocks}
@@ -173,9 +173,6 @@ contents_with stock [] k d shows = ap (λ (e : ChannelDef). e ∷ []) (content_i
 contents_with stock (l ∷ keys) k d shows = ap (λ (rest : List ChannelDef). content_at stock l ∷ rest) (contents_with stock keys k d shows)
 
 -- ---- declaring
-
-abbrev pub ids : List SchemaDef → List ChannelDef → Ids
-ids schemas channels = record { schemas = schemas; channels = channels }
 
 pub not_full : {X : Type 0} (xs : List X) (x : X) → Lacks xs x → (IsFull xs x → ⊥) → length xs < id_limit
 not_full xs x lacks left = elim (cases_lt (length xs) id_limit) [

@@ -1,6 +1,7 @@
 -- Which id a content has or gets.
 use Rattle.std.specs.Prelude.{◌≡◌, ◌⊎◌, ℕ, ◌+◌, ◌-◌, ◌<◌, ◌≤◌, List, [], ◌∷◌, ◌++◌, length, Option, Some, None, slice_get}
 use Rattle.mcap_wire.specs.Limits.{id_limit}
+use Rattle.rec_data.specs.declared.schema.SchemaDef.{SchemaDef}
 use Rattle.rec_data.specs.declared.channel.ChannelDef.{ChannelDef}
 use Rattle.id_table.specs.declared.keys.ChannelKey.{ChannelKey}
 use Rattle.id_table.specs.Parts.{StandAt}
@@ -107,6 +108,12 @@ abbrev pub KeptKey : List (List ℕ) → List (List (List ℕ × List ℕ)) → 
 KeptKey texts maps d schema (Known id) kept = kept ≡ None
 KeptKey texts maps d schema (New id) None = ⊥
 KeptKey texts maps d schema (New id) (Some k) = (k.schema ≡ place_given schema) × StandAt texts maps d k.parts
+
+-- the channel with that id has this schema, or none where this is none
+pub record SharesSchema (ids : Ids) (schema : Option SchemaDef) (like : ℕ) : Type 0 where
+  pub channel : ChannelDef
+  pub has_id : HasId ids.channels channel like
+  pub same : channel.schema ≡ schema
 
 -- ids were given to a channel and to its schema
 pub record Declares (before : Ids) (d : ChannelDef) (g : GivenIds) (after : Ids) : Type 0 where

@@ -24,6 +24,13 @@ impl ChannelKey {
     {
         ChannelKey { schema, parts }
     }
+
+    /// Where its schema stands, if it has one.
+    pub(crate) fn schema(&self) -> Option<usize>
+        ensures { result ≡ self.now.schema }
+    {
+        self.schema
+    }
 }
 
 // Where the schema of a channel stands, if it has one, which is looked for at one place first; or that it stands nowhere.

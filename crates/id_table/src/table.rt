@@ -3,10 +3,10 @@ ghost use Rattle.std.specs.Prelude.{◌≡◌, ◌+◌, ◌<◌, ◌≤◌, ◌+
 ghost use Rattle.mcap_wire.specs.Limits.{id_limit};
 ghost use Rattle.rec_data.specs.declared.channel.ChannelDef.{ChannelDef};
 ghost use Rattle.indexmap.specs.IndexSet.{spare};
-ghost use Rattle.id_table.specs.Ids.{Ids};
+ghost use Rattle.id_table.specs.Ids.{Ids, ids};
 ghost use Rattle.id_table.specs.Parts.{Grows};
-ghost use Rattle.id_table.specs.Keys.{FoundKey, stocked, content_at, AllStand};
-ghost use Rattle.id_table.specs.Given.{place_given, KeptKey, IsNew, Lacks, LacksTo, EachOnce, Found, FoundAt, Offers, OffersTo, fresh, fresh_to, IsFull, IsFullTo, Declares, Refuses, PlaceGives, GivesOrFull};
+ghost use Rattle.id_table.specs.Keys.{ShowsSchema, FoundKey, stocked, content_at, AllStand};
+ghost use Rattle.id_table.specs.Given.{place_given, KeptKey, IsNew, Lacks, LacksTo, EachOnce, Found, FoundAt, Offers, OffersTo, fresh, fresh_to, IsFull, IsFullTo, SharesSchema, Declares, Refuses, PlaceGives, GivesOrFull};
 
 use crate::given::{Given, GivenIds, IdRefused};
 use crate::keys::{ChannelKey, key_of, key_with, place_given};
@@ -71,6 +71,21 @@ impl IdTable {
         }
     }
 
+    /// The same of a channel that shares its schema with the channel of that id. However long the schema is, it isn't looked at.
+    pub fn find_like(&self, d: &ChannelDef, like: u16) -> Option<u16>
+        requires { SharesSchema self.now d.now.schema like }
+        ensures found { Found self.now.channels d.now result }
+        ensures once { EachOnce self.now.channels }
+    {
+        let schema = given_like(&self.schemas, &self.parts, &self.channels, &d.schema, like);
+        let key = key_with(&self.schemas, &self.parts, d, schema);
+        let Some(place) = place_of_channel(&self.schemas, &self.parts, &self.channels, d, key)
+        else {
+            return None;
+        };
+        Some((place + 1) as u16)
+    }
+
     /// The ids of a channel and of its schema. New contents get the next ids, and contents that have ids are never refused.
     /// The table is unchanged where ids are refused. A schema's bytes aren't looked at where the channel's other parts show
     /// that it is refused.
@@ -82,19 +97,31 @@ impl IdTable {
         if lacks_by_parts(&self.schemas, &self.parts, &self.channels, d) {
             return Err(IdRefused::TooManyChannels);
         }
-        self.give(d)
+        match given_to_schema(&self.schemas, &d.schema, self.last_schema) {
+            Ok(schema) => return self.give(d, schema),
+            Err(refused) => return Err(refused),
+        }
     }
 
-    // The same, with a look at the schema.
-    fn give(&mut self, d: &ChannelDef) -> Result<GivenIds, IdRefused>
+    /// The same of a channel that shares its schema with the channel of that id. However long the schema is, it isn't looked at.
+    pub fn declare_like(&mut self, d: &ChannelDef, like: u16) -> Result<GivenIds, IdRefused>
+        requires { SharesSchema self.old d.now.schema like }
         ensures ok { IfOk result (λ g. Declares self.old d.now g self.new) }
         ensures err { OnErr result (self.new ≡ self.old) }
         ensures why { IfErr result (Refuses self.old d.now) }
     {
-        let schema = match given_to_schema(&self.schemas, &d.schema, self.last_schema) {
-            Ok(given) => given,
-            Err(refused) => return Err(refused),
-        };
+        let schema = given_like(&self.schemas, &self.parts, &self.channels, &d.schema, like);
+        self.give(d, schema)
+    }
+
+    // The same of a channel whose schema is offered that id.
+    fn give(&mut self, d: &ChannelDef, schema: Option<Given>) -> Result<GivenIds, IdRefused>
+        requires offered { OffersTo self.old.schemas d.now.schema schema }
+        requires room { IsFullTo self.old.schemas d.now.schema → ⊥ }
+        ensures ok { IfOk result (λ g. Declares self.old d.now g self.new) }
+        ensures err { OnErr result (self.new ≡ self.old) }
+        ensures why { IfErr result (Refuses self.old d.now) }
+    {
         let key = key_with(&self.schemas, &self.parts, d, schema);
         let channel = match given_to_channel(&self.schemas, &self.parts, &self.channels, d, key) {
             Some(given) => given,
@@ -247,6 +274,44 @@ fn given_to_schema(
             Some(given) => return Ok(Some(given)),
             None => return Err(IdRefused::TooManySchemas),
         },
+    }
+}
+
+// The id of a schema that the channel of that id has too, if it has one.
+fn given_like(
+    schemas: &IndexSet<SchemaDef>,
+    parts: &Parts,
+    channels: &IndexSet<ChannelKey>,
+    _schema: &Option<SchemaDef>,
+    like: u16,
+) -> Option<Given>
+    requires few { length schemas.now.keys ≤ id_limit }
+    requires stand { AllStand (stocked schemas.now.keys parts.now.texts.keys parts.now.maps.keys) channels.now.keys }
+    requires shares { SharesSchema (ids schemas.now.keys (map (content_at (stocked schemas.now.keys parts.now.texts.keys parts.now.maps.keys)) channels.now.keys)) _schema.now like }
+    ensures offered { OffersTo schemas.now.keys _schema.now result }
+    ensures room { IsFullTo schemas.now.keys _schema.now → ⊥ }
+{
+    let place = match channels.get_index((like as usize).saturating_sub(1)) {
+        Some(key) => key.schema(),
+        None => unreachable!(),
+    };
+    given_at(schemas, _schema, place)
+}
+
+// The id of a schema that stands at a place, if there is one.
+fn given_at(
+    _schemas: &IndexSet<SchemaDef>,
+    _schema: &Option<SchemaDef>,
+    place: Option<usize>,
+) -> Option<Given>
+    requires few { length _schemas.now.keys ≤ id_limit }
+    requires shows { ShowsSchema _schemas.now.keys place _schema.now }
+    ensures offered { OffersTo _schemas.now.keys _schema.now result }
+    ensures room { IsFullTo _schemas.now.keys _schema.now → ⊥ }
+{
+    match place {
+        Some(place) => return Some(Given::Known((place + 1) as u16)),
+        None => return None,
     }
 }
 
