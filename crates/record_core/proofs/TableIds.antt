@@ -7,9 +7,9 @@ use Rattle.mcap_model.specs.Places.{At}
 use Rattle.mcap_model.specs.Fields.{SchemaFields, ChannelFields}
 use Rattle.mcap_model.proofs.Places.{at_within, at_one}
 use Rattle.id_table.specs.Ids as tables
-use Rattle.id_table.specs.Given.{Lacks, EachOnce, Found}
+use Rattle.id_table.specs.Given.{Lacks, EachOnce, Found, SharesSchema}
 use Rattle.record_core.specs.Ids.{same_schema, same_channel, fields_of_schema, fields_of_channel, schema_place, id_at, schema_id, channel_place}
-use Rattle.record_core.specs.Tables.{content_in, ids_in, HasSchema, HasSchemas, IsIdAt}
+use Rattle.record_core.specs.Tables.{content_in, ids_in, HasSchema, HasSchemas, IsIdAt, IsSchemaAt, HasSchemaOf}
 use Rattle.record_core.proofs.Places.{at_map, map_at}
 use Rattle.record_core.proofs.Searches.{found, not_found, schema_own, schema_same, channel_own, channel_same}
 
@@ -106,3 +106,26 @@ id_by t c (Some k) (Some id) has once e is =
 
 pub id_found : (t : tables.Ids) (c : ChannelDef) (id : Option ℕ) → HasSchemas t → EachOnce t.channels → Found t.channels c id → IsIdAt (channel_place (ids_in t) c) id
 id_found t c id has once is = id_by t c (channel_place (ids_in t) c) id has once refl is
+
+-- ---- a schema that another channel has
+
+schema_under : (t : tables.Ids) (one schema : Option SchemaDef) → HasSchema t.schemas one → IsSchemaAt (ids_in t) (schema_id (ids_in t) one) schema → one ≡ schema
+schema_under t None None has is = refl
+schema_under t None (Some s) has is = absurd (omega (arith, is.0))
+schema_under t (Some x) None has is = absurd (id_some (schema_place (ids_in t) x) (length (map fields_of_schema t.schemas)) is)
+schema_under t (Some x) (Some s) has is =
+    let (k, place, at) = schema_found t x has.0 (schema_place (ids_in t) x) refl has.1 in
+    let id : schema_id (ids_in t) (Some x) ≡ k + 1 = ap (λ (o : Option ℕ). id_at o (length (map fields_of_schema t.schemas))) place in
+    let (y, there, same) = map_at fields_of_schema t.schemas (schema_id (ids_in t) (Some x) - 1) (fields_of_schema s) is.1 in
+    let here : schema_id (ids_in t) (Some x) - 1 ≡ k = omega (arith, id) in
+    let one : x ≡ y = at_one t.schemas k x y at (subst (λ (n : ℕ). At t.schemas n y) here there) in
+    ap {B = Option SchemaDef} Some (one ∙ schema_back y s same)
+
+pub shares : (t : tables.Ids) (schema : Option SchemaDef) (like : ℕ) → HasSchemas t → HasSchemaOf (ids_in t) schema like → SharesSchema t schema like
+shares t schema like has it =
+    let (c, at, same) = map_at (content_in (map fields_of_schema t.schemas)) t.channels (like - 1) it.content it.there in
+    record {
+      channel = c;
+      has_id = (it.some, at);
+      same = schema_under t c.schema schema (has (like - 1) c at) (subst (λ (f : ChannelFields). IsSchemaAt (ids_in t) f.schema schema) (sym same) it.schema_is);
+    }

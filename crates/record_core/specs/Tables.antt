@@ -1,12 +1,12 @@
 -- The table of ids beside the ids of a history, and what it gives.
-use Rattle.std.specs.Prelude.{◌≡◌, ℕ, ◌+◌, ◌≤◌, List, [], ◌∷◌, length, map, Bool, ◌&&◌, nat_lt, nat_le, if◌then◌else◌, Option, Some, None, Result, Ok, Err}
+use Rattle.std.specs.Prelude.{◌≡◌, ℕ, ◌+◌, ◌-◌, ◌≤◌, List, [], ◌∷◌, length, map, Bool, ◌&&◌, nat_lt, nat_le, if◌then◌else◌, Option, Some, None, Result, Ok, Err}
 use Rattle.mcap_wire.specs.Limits.{id_limit}
 use Rattle.rec_data.specs.declared.schema.SchemaDef.{SchemaDef}
 use Rattle.rec_data.specs.declared.channel.ChannelDef.{ChannelDef}
 use Rattle.rec_data.specs.declared.owned.Rec.{Rec}
 use Rattle.mcap_model.specs.History.{schema_of}
 use Rattle.mcap_model.specs.Fields.{SchemaFields, ChannelFields}
-use Rattle.mcap_model.specs.Places.{Has, Each}
+use Rattle.mcap_model.specs.Places.{At, Has, Each}
 use Rattle.record_core.specs.Ids.{Ids, with_ids, fields_of_schema, fields_of_channel, schema_place, channel_place, new_schema, new_records}
 use Rattle.record_core.specs.declared.answers.DeclareRefused.{DeclareRefused}
 use Rattle.record_core.specs.declared.answers.DeclareRefused.TheVariants as declaring
@@ -83,6 +83,25 @@ IdsDeclared ids c (Err TooManyChannels) after = (ids_lack ids c ≡ Some declari
 pub record IsTable (ids : Ids) : Type 0 where
   pub few_schemas : length ids.schemas ≤ id_limit
   pub few_channels : length ids.channels ≤ id_limit
+
+-- ---- a schema that another channel has
+
+-- the schema stands under that id, which is 0 where there is none
+abbrev pub IsSchemaAt : Ids → ℕ → Option SchemaDef → Type 0
+IsSchemaAt ids id None = id ≡ 0
+IsSchemaAt ids id (Some s) = (1 ≤ id) × At ids.schemas (id - 1) (fields_of_schema s)
+
+-- the channel of that id has this schema, or none where this is none
+pub record HasSchemaOf (ids : Ids) (schema : Option SchemaDef) (like : ℕ) : Type 0 where
+  pub some : 1 ≤ like
+  pub content : ChannelFields
+  pub there : At ids.channels (like - 1) content
+  pub schema_is : IsSchemaAt ids content.schema schema
+
+-- so it is of the channel that is named, if one is
+abbrev pub MayShare : Ids → Option SchemaDef → Option ℕ → Type 0
+MayShare ids schema None = Unit {0}
+MayShare ids schema (Some like) = HasSchemaOf ids schema like
 
 -- ---- parts of a declaration
 

@@ -3,7 +3,7 @@ ghost use Rattle.std.specs.Prelude.{◌≡◌, ◌≤◌, ◌<◌, ◌+◌, [], 
 ghost use Rattle.mcap_wire.specs.Limits.{buffer_limit, data_limit, record_count_limit};
 ghost use Rattle.mcap_model.specs.declared.ends.End.TheVariants.{Closed, Stopped};
 ghost use Rattle.record_core.specs.Ids.{is_known};
-ghost use Rattle.record_core.specs.Tables.{IsTable};
+ghost use Rattle.record_core.specs.Tables.{IsTable, MayShare};
 ghost use Rattle.record_core.specs.Desk.{new_desk, accepted, held, added, swapped, ended, fields_of_message, publish_refusal, Published, SwapAnswered, EndIsLast, EndsAt, IsCause, end_of, found_of, DeclaredBy};
 ghost use Rattle.mcap_model.specs.History.{message_of};
 ghost use Rattle.record_cache.specs.Offers.{Offered};
@@ -13,7 +13,7 @@ ghost use Rattle.record_core.specs.Stands.{DeskStandsFor, Steps, Stays, PublishS
 
 use crate::answers::{DeclareRefused, Declared, Empty, Found, NewMessage, PublishRefused};
 use crate::framing::{declared_size, offer_declared};
-use crate::ids::{give_ids, id_of_channel, number_of};
+use crate::ids::{give_ids_sharing, id_of_channel, number_of};
 use crate::limits::{DATA_LIMIT, DECLARATION_LIMIT, RECORD_COUNT_LIMIT};
 use id_table::{IdRefused, IdTable};
 use mcap_model::{End, Stop};
@@ -156,8 +156,9 @@ impl Desk {
     }
 
     // What is seen of a declaration before ids are given.
-    fn sight(&self, channel: &ChannelDef) -> Sight
-        requires { DefFits channel.now }
+    fn sight(&self, channel: &ChannelDef, like: Option<u16>) -> Sight
+        requires fits { DefFits channel.now }
+        requires shares { MayShare self.now.ids channel.now.schema like }
         ensures { SightOf self.now channel.now result }
     {
         let len = declared_size(channel);
@@ -171,7 +172,7 @@ impl Desk {
             }
             None => {}
         }
-        match id_of_channel(&self.ids, channel) {
+        match id_of_channel(&self.ids, channel, like) {
             Some(id) => return Sight::Known(id),
             None => {}
         }
@@ -187,13 +188,14 @@ impl Desk {
     }
 
     // Gives ids to a channel that is new, and adds its records.
-    fn give(&mut self, channel: &ChannelDef) -> Result<Declared, DeclareRefused>
+    fn give(&mut self, channel: &ChannelDef, like: Option<u16>) -> Result<Declared, DeclareRefused>
         requires fits { DefFits channel.now }
+        requires shares { MayShare self.old.ids channel.now.schema like }
         requires is_open { IsOpen self.old channel.now }
         ensures { DeclaredBy self.old channel.now result self.new }
     {
         let first = self.count();
-        let given = match give_ids(&mut self.ids, channel) {
+        let given = match give_ids_sharing(&mut self.ids, channel, like) {
             Ok(given) => given,
             Err(IdRefused::TooManySchemas) => return Err(DeclareRefused::TooManySchemas),
             Err(IdRefused::TooManyChannels) => return Err(DeclareRefused::TooManyChannels),
@@ -213,11 +215,16 @@ impl Desk {
     }
 
     // Declares a channel, unless it is refused.
-    fn accept_channel(&mut self, channel: &ChannelDef) -> Result<Declared, DeclareRefused>
-        requires { DefFits channel.now }
+    fn accept_channel(
+        &mut self,
+        channel: &ChannelDef,
+        like: Option<u16>,
+    ) -> Result<Declared, DeclareRefused>
+        requires fits { DefFits channel.now }
+        requires shares { MayShare self.old.ids channel.now.schema like }
         ensures { DeclaredBy self.old channel.now result self.new }
     {
-        match self.sight(channel) {
+        match self.sight(channel, like) {
             Sight::Refused(refused) => return Err(refused),
             Sight::Known(id) => {
                 return Ok(Declared {
@@ -226,7 +233,7 @@ impl Desk {
                     count: 0,
                 });
             }
-            Sight::New => return self.give(channel),
+            Sight::New => return self.give(channel, like),
         }
     }
 
@@ -241,8 +248,25 @@ impl Desk {
         ensures few { IsTable self.new.ids }
         ensures last { EndIsLast self.old }
     {
+        self.declare_sharing(channel, None)
+    }
+
+    /// The same. Where a channel is named that has the same schema, that isn't looked at, however long it is.
+    pub fn declare_sharing(
+        &mut self,
+        channel: &ChannelDef,
+        like: Option<u16>,
+    ) -> Result<Declared, DeclareRefused>
+        requires fits { DefFits channel.now }
+        requires shares { MayShare self.old.ids channel.now.schema like }
+        ensures answer { DeclaredBy self.old channel.now result self.new }
+        ensures steps { DeclareSteps self.old channel.now result self.new }
+        ensures unended { OnOk result (self.old.end ≡ None) }
+        ensures few { IsTable self.new.ids }
+        ensures last { EndIsLast self.old }
+    {
         let _pairs = channel.metadata.as_slice();
-        let answer = self.accept_channel(channel);
+        let answer = self.accept_channel(channel, like);
         let _schemas = self.ids.schemas();
         let _channels = self.ids.channels();
         answer

@@ -14,11 +14,11 @@ returns-in-Err-Memory c = search rules
 pub returns-in-Ok-offer_declared : goal.returns-in-Ok-offer_declared
 returns-in-Ok-offer_declared c = search rules
 
-pub give_ids-requires-clause-schemas : goal.give_ids-requires-clause-schemas
-give_ids-requires-clause-schemas c = search rules
+pub give_ids_sharing-requires-clause-schemas : goal.give_ids_sharing-requires-clause-schemas
+give_ids_sharing-requires-clause-schemas c = search rules
 
-pub give_ids-requires-clause-is_new : goal.give_ids-requires-clause-is_new
-give_ids-requires-clause-is_new c = search rules
+pub give_ids_sharing-requires-clause-is_new : goal.give_ids_sharing-requires-clause-is_new
+give_ids_sharing-requires-clause-is_new c = search rules
 
 pub offer_declared-requires-clause-fits : goal.offer_declared-requires-clause-fits
 offer_declared-requires-clause-fits c = search rules
