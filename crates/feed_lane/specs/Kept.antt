@@ -1,5 +1,6 @@
 -- What a lane keeps of its declarations.
-use Rattle.std.specs.Prelude.{ℕ, List, set, None}
+use Rattle.std.specs.Prelude.{◌≡◌, ℕ, List, set, Bool, true, false, Option, None, Result, Ok, Err}
+use Rattle.rec_data.specs.declared.schema.SchemaDef.{SchemaDef}
 use Rattle.mcap_model.specs.Tops.{Top}
 use Rattle.feed_lane.specs.declared.ids.KeptSchema.{KeptSchema}
 use Rattle.feed_lane.specs.Lanes.{SchemaShown}
@@ -15,7 +16,7 @@ abbrev pub lane_ids : List ℕ → KeptSchema → List ℕ → LaneIds
 lane_ids given kept wide = record { given = given; kept = kept; wide = wide }
 
 abbrev pub no_schema : KeptSchema
-no_schema = record { id = 0; schema = None }
+no_schema = record { id = 0; schema = None; known = false }
 
 -- with that id for a channel
 abbrev pub with_id : LaneIds → ℕ → ℕ → LaneIds
@@ -28,3 +29,12 @@ with_kept ids kept = record ids { kept = kept }
 -- the schema is that of its id in the feed
 abbrev pub KeptStands : List Top → KeptSchema → Type 0
 KeptStands records kept = SchemaShown records kept.id kept.schema
+
+-- where the pass is said to know the schema, it does
+abbrev pub IsKnown : (Option SchemaDef → Type 0) → KeptSchema → Type 0
+IsKnown knows kept = kept.known ≡ true → knows kept.schema
+
+-- the pass knows the schema of a channel behind its declaration: it knew it before, or the channel got an id
+abbrev pub KnownBehind : {A E : Type 0} → Bool → Result A E → Type 0
+KnownBehind known (Ok answer) = Unit {0}
+KnownBehind known (Err why) = known ≡ true

@@ -1,5 +1,5 @@
 //! A channel of a feed as it is declared.
-ghost use Rattle.std.specs.Prelude.{◌≡◌, ◌<◌, ◌≤◌, ◌^◌, Some, List, length, IfOk, IfSome};
+ghost use Rattle.std.specs.Prelude.{◌≡◌, ◌<◌, ◌≤◌, ◌^◌, true, Some, List, length, IfOk, IfSome};
 ghost use Rattle.mcap_wire.specs.Limits.{declaration_limit};
 ghost use Rattle.mcap_wire.specs.Maps.{pair_texts};
 ghost use Rattle.rec_data.specs.Owned.{rec_bytes};
@@ -49,6 +49,7 @@ fn schema_of(
 ) -> Result<Option<SchemaDef>, Memory>
     requires { SchemaFits kept.schema }
     ensures shows { IfOk result (λ s. (records : List Top) → TablesOf records tables.now → KeptStands records kept → SchemaShown records id s) }
+    ensures same { id ≡ kept.id → IfOk result (λ s. s ≡ kept.schema) }
     ensures fits { IfOk result SchemaFits }
 {
     if id == kept.id {
@@ -81,19 +82,24 @@ pub fn definition(alloc: Global, tables: &Tables, source: u16) -> Result<Channel
     }
 }
 
-/// A channel as it is declared, and the id of its schema in the feed, or 0.
+/// A channel as it is declared, the id of its schema in the feed, or 0, and whether the pass knows that schema.
 #[derive(Drop)]
 pub(crate) struct Described {
     pub channel: ChannelDef,
     pub schema_id: u16,
+    pub known: bool,
 }
 
 impl Described {
-    /// Its schema, with its id in the feed.
-    pub(crate) fn into_schema(self) -> KeptSchema
-        ensures { result ≡ record { id = self.schema_id; schema = self.channel.schema } }
+    /// Its schema, with its id in the feed, and whether the pass knows it now.
+    pub(crate) fn into_schema(self, known: bool) -> KeptSchema
+        ensures { result ≡ record { id = self.schema_id; schema = self.channel.schema; known = known } }
     {
-        let Described { channel, schema_id } = self;
+        let Described {
+            channel,
+            schema_id,
+            known: _,
+        } = self;
         let ChannelDef {
             topic: _,
             message_encoding: _,
@@ -103,8 +109,16 @@ impl Described {
         KeptSchema {
             id: schema_id,
             schema,
+            known,
         }
     }
+}
+
+// Whether the schema of that id is the one that is kept, and known.
+fn is_known(kept: &KeptSchema, id: u16) -> bool
+    ensures { result ≡ true → (kept.now.known ≡ true) × (id ≡ kept.now.id) }
+{
+    kept.known && kept.id == id
 }
 
 /// The same, without a look at the schema where that is the one that is handed in.
@@ -117,6 +131,7 @@ pub(crate) fn definition_over(
     requires { SchemaFits kept.schema }
     ensures describes { IfOk result (λ d. (records : List Top) → TablesOf records tables.now → KeptStands records kept → Describes records source d.channel) }
     ensures shows { IfOk result (λ d. (records : List Top) → TablesOf records tables.now → KeptStands records kept → SchemaShown records d.schema_id d.channel.schema) }
+    ensures known { IfOk result (λ d. d.known ≡ true → (kept.known ≡ true) × (d.channel.schema ≡ kept.schema)) }
     ensures fits { IfOk result (λ d. DefFits d.channel) }
 {
     let Some(content) = tables.channels.find(source) else {
@@ -135,6 +150,7 @@ pub(crate) fn definition_over(
     let Ok(metadata) = Pairs::sorted(alloc, &channel.metadata) else {
         return Err(Memory);
     };
+    let known = is_known(&kept, channel.schema_id);
     match schema_of(alloc, tables, channel.schema_id, kept) {
         Ok(schema) => return Ok(Described {
             channel: ChannelDef {
@@ -144,6 +160,7 @@ pub(crate) fn definition_over(
                 schema,
             },
             schema_id: channel.schema_id,
+            known,
         }),
         Err(memory) => return Err(memory),
     }

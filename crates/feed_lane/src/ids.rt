@@ -12,11 +12,13 @@ use std::alloc::Global;
 use std::marker::Model;
 use std::mem;
 
-/// A schema as a declaration has it, with its id in the feed: none for 0.
+/// A schema as a declaration has it, with its id in the feed, none for 0, and whether the pass knows it of the last channel that
+/// got an id.
 #[derive(Drop)]
 pub(crate) struct KeptSchema {
     pub id: u16,
     pub schema: Option<SchemaDef>,
+    pub known: bool,
 }
 
 /// For each id that a channel of a feed may have, the id that its declaration got, or 0 while it has none. Beside them the
@@ -52,6 +54,7 @@ pub(crate) fn no_schema() -> KeptSchema
     KeptSchema {
         id: 0,
         schema: None,
+        known: false,
     }
 }
 

@@ -1,11 +1,12 @@
 //! A lane at a message: its channel is declared where it wasn't, the message is published, and what became of both is listed.
-ghost use Rattle.std.specs.Prelude.{◌≡◌, ◌+◌, ◌<◌, ◌∷◌, ◌++◌, [], ℕ, List, length, vec_len, vec_capacity, ◌≤◌, IfOk, IfSome, OnOk};
+ghost use Rattle.std.specs.Prelude.{◌≡◌, ◌+◌, ◌<◌, ◌∷◌, ◌++◌, [], ℕ, List, length, vec_len, vec_capacity, ◌≤◌, true, IfOk, IfSome, OnOk};
 ghost use Rattle.mcap_wire.specs.Limits.{declaration_limit};
 ghost use Rattle.mcap_model.specs.Places.{At};
 ghost use Rattle.mcap_model.specs.Tops.{Top};
 ghost use Rattle.mcap_model.specs.Fields.{IsMessage};
 ghost use Rattle.mcap_model.specs.Declarations.{TablesOf};
-ghost use Rattle.feed_lane.specs.Pass.{PassState, no_calls};
+ghost use Rattle.feed_lane.specs.Pass.{PassState, no_calls, DeclaredInto};
+ghost use Rattle.feed_lane.specs.Kept.{no_schema, IsKnown, KnownBehind};
 ghost use Rattle.feed_lane.specs.Lanes.{messages, IsOn, Describes};
 ghost use Rattle.record_core.specs.Sights.{DefFits};
 ghost use Rattle.feed_lane.specs.Sizes.{IsLength};
@@ -20,7 +21,7 @@ use listing::Listing;
 use mcap_model::Tables;
 use mcap_wire::Memory;
 use rec_data::{ChannelDef, Message};
-use record_core::{DeclareRefused, Found, NewMessage, PublishRefused};
+use record_core::{DeclareRefused, Declared, Found, NewMessage, PublishRefused};
 use std::alloc::Global;
 
 /// What a lane has done: the ids that the feed's channels got, what became of each message, and how many records were passed
@@ -108,12 +109,41 @@ pub(crate) fn add<T: Drop>(list: &mut Vec<T>, one: T)
     }
 }
 
+// Declares a channel, whose schema the pass may know of the last one that got an id.
+fn declare_to<P: Pass>(
+    pass: &mut P,
+    channel: &ChannelDef,
+    known: bool,
+) -> Result<Declared, DeclareRefused>
+    requires fits { DefFits channel.now }
+    requires known { known ≡ true → P.knows pass.old channel.now.schema }
+    ensures shows { (begun : P) (before : PassState) → P.since begun pass.old before
+        → (after : PassState) × P.since begun pass.new after × DeclaredInto before after channel.now result }
+    ensures knows { KnownBehind known result → P.knows pass.new channel.now.schema }
+{
+    if known {
+        return pass.declare_like(channel);
+    }
+    pass.declare(channel)
+}
+
+// Whether the pass knows a channel's schema behind its declaration.
+fn knows_behind(known: bool, answer: &Result<u16, Cause>) -> bool
+    ensures { result ≡ true → KnownBehind known answer.now }
+{
+    match answer {
+        Ok(_) => return true,
+        Err(_) => return known,
+    }
+}
+
 impl Lane {
     /// A lane that has read nothing, and lists messages or only counts them.
     pub(crate) fn new(alloc: Global, listed: bool) -> Result<Lane, Memory>
         ensures stands { IfOk result (λ lane. (limit : ℕ) → LaneStands lane [] 0 (no_calls limit)) }
         ensures passed { IfOk result (λ lane. lane.passed ≡ 0) }
         ensures kept { IfOk result (λ lane. KeepsLists lane listed) }
+        ensures schema { IfOk result (λ lane. lane.ids.kept ≡ no_schema) }
     {
         match Ids::new(alloc) {
             Ok(ids) => return Ok(Lane {
@@ -162,6 +192,7 @@ impl Lane {
         requires { length self.old.refused.items + 1 ≤ self.old.refused.capacity }
         ensures taken { (records : List Top) (handled : ℕ) (pass : PassState) → IsDue self.old records handled pass cause
             → MessageTaken self.new records handled pass result }
+        ensures ids { self.new.ids ≡ self.old.ids }
         ensures passed { self.new.passed ≡ self.old.passed }
         ensures kept { KeepsAs self.old self.new }
     {
@@ -181,6 +212,7 @@ impl Lane {
             (records : List Top) (handled source : ℕ) (t : Top) → ListsStand records handled (handled + 1) self.old.ids (lists_of self.old) before
             → HasId records self.old.declared.items source id → At (messages records) handled t → IsMessage t source (fields_of m.now)
             → MessageTaken self.new records handled after result) }
+        ensures knows { IsKnown (P.knows pass.old) self.old.ids.kept → IsKnown (P.knows pass.new) self.new.ids.kept }
         ensures passed { self.new.passed ≡ self.old.passed }
         ensures kept { KeepsAs self.old self.new }
     {
@@ -209,6 +241,7 @@ impl Lane {
     fn excess_of(&mut self, tables: &Tables, source: u16) -> Option<u64>
         ensures stands { (records : List Top) (declared : List DeclaredAt) → IdsStand records declared self.old.ids → TablesOf records tables.now → IdsStand records declared self.new.ids }
         ensures given { self.new.ids.given ≡ self.old.ids.given }
+        ensures kept { self.new.ids.kept ≡ self.old.ids.kept }
         ensures rest { self.new ≡ record self.old { ids = self.new.ids } }
         ensures size { IfSome result (λ len. (records : List Top) (declared : List DeclaredAt) → IdsStand records declared self.old.ids → TablesOf records tables.now → IsLength records source len) }
         ensures over { IfSome result (λ len. declaration_limit < len) }
@@ -234,7 +267,9 @@ impl Lane {
         source: u16,
         pass: &mut P,
     ) -> Result<u16, Cause>
-        requires { vec_len self.old.declared + 1 ≤ vec_capacity self.old.declared }
+        requires room { vec_len self.old.declared + 1 ≤ vec_capacity self.old.declared }
+        requires knows { IsKnown (P.knows pass.old) self.old.ids.kept }
+        ensures knows { IsKnown (P.knows pass.new) self.new.ids.kept }
         ensures found { (begun : P) (before : PassState) → P.since begun pass.old before → ThenShows (P.since begun pass.new) before (λ after.
             (records : List Top) (handled : ℕ) → LaneStands self.old records handled before → AreKnown records tables.now
             → IsOn records handled source → At self.old.ids.given source 0 → ChannelFound self.new records handled source after result) }
@@ -249,23 +284,29 @@ impl Lane {
         let kept = self.ids.take_schema();
         match definition_over(alloc, tables, source, kept) {
             Ok(described) => {
-                let found = self.declare_as(source, &described.channel, pass);
-                self.ids.keep_schema(described.into_schema());
+                let known = described.known;
+                let found = self.declare_as(source, &described.channel, known, pass);
+                let known = knows_behind(known, &found);
+                self.ids.keep_schema(described.into_schema(known));
                 return found;
             }
             Err(_) => return Err(Cause::Memory),
         }
     }
 
-    // Declares this channel, which has that id in the feed, for the message at hand, and says which id it got.
+    // Declares this channel, which has that id in the feed, and whose schema the pass may know, for the message at hand, and
+    // says which id it got.
     fn declare_as<P: Pass>(
         &mut self,
         source: u16,
         channel: &ChannelDef,
+        known: bool,
         pass: &mut P,
     ) -> Result<u16, Cause>
         requires room { vec_len self.old.declared + 1 ≤ vec_capacity self.old.declared }
         requires fits { DefFits channel.now }
+        requires known { known ≡ true → P.knows pass.old channel.now.schema }
+        ensures knows { KnownBehind known result → P.knows pass.new channel.now.schema }
         ensures found { (begun : P) (before : PassState) → P.since begun pass.old before → ThenShows (P.since begun pass.new) before (λ after.
             (records : List Top) (handled : ℕ) → LaneStands self.old records handled before → Describes records source channel.now
             → IsOn records handled source → At self.old.ids.given source 0 → ChannelFound self.new records handled source after result) }
@@ -273,7 +314,7 @@ impl Lane {
         ensures accepted { self.new.accepted ≡ self.old.accepted }
         ensures refused { self.new.refused ≡ self.old.refused }
     {
-        match pass.declare(channel) {
+        match declare_to(pass, channel, known) {
             Ok(given) => {
                 let declared = DeclaredAt {
                     index: self.handled(),
@@ -297,7 +338,9 @@ impl Lane {
         source: u16,
         pass: &mut P,
     ) -> Result<u16, Cause>
-        requires { vec_len self.old.declared + 1 ≤ vec_capacity self.old.declared }
+        requires room { vec_len self.old.declared + 1 ≤ vec_capacity self.old.declared }
+        requires knows { IsKnown (P.knows pass.old) self.old.ids.kept }
+        ensures knows { IsKnown (P.knows pass.new) self.new.ids.kept }
         ensures found { (begun : P) (before : PassState) → P.since begun pass.old before → ThenShows (P.since begun pass.new) before (λ after.
             (records : List Top) (handled : ℕ) → LaneStands self.old records handled before → AreKnown records tables.now
             → IsOn records handled source → ChannelFound self.new records handled source after result) }
@@ -320,6 +363,8 @@ impl Lane {
         content: &[u8],
         pass: &mut P,
     ) -> Result<(), Over>
+        requires { IsKnown (P.knows pass.old) self.old.ids.kept }
+        ensures knows { IsKnown (P.knows pass.new) self.new.ids.kept }
         ensures taken { (begun : P) (before : PassState) → P.since begun pass.old before → ThenShows (P.since begun pass.new) before (λ after.
             (records : List Top) (handled : ℕ) → LaneStands self.old records handled before → AreKnown records tables.now
             → AtHand records handled content.now → MessageTaken self.new records handled after result) }

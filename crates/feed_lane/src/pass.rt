@@ -1,6 +1,7 @@
 //! What a lane hands its declarations and messages to.
-ghost use Rattle.std.specs.Prelude.{◌≡◌, ◌<◌, ℕ};
+ghost use Rattle.std.specs.Prelude.{◌≡◌, ◌<◌, ℕ, Option, OnOk};
 ghost use Rattle.mcap_wire.specs.Limits.{declaration_limit};
+ghost use Rattle.rec_data.specs.declared.schema.SchemaDef.{SchemaDef};
 ghost use Rattle.record_core.specs.Sights.{DefFits};
 ghost use Rattle.feed_lane.specs.Pass.{PassState, for_size, with_reason, DeclaredInto, PublishedBy};
 
@@ -13,16 +14,30 @@ pub trait Pass {
     /// The second is the first, later, and its calls since then showed this.
     ghost since: { Self → Self → PassState → Type 0 };
 
+    /// The last channel that got an id has this schema, or none where this is none.
+    ghost knows: { Self → Option SchemaDef → Type 0 };
+
     /// Declares a channel with its schema.
     fn declare(&mut self, channel: &ChannelDef) -> Result<Declared, DeclareRefused>
         requires { DefFits channel.now }
-        ensures { (begun : Self) (before : PassState) → since begun self.old before
-            → (after : PassState) × since begun self.new after × DeclaredInto before after channel.now result };
+        ensures shows { (begun : Self) (before : PassState) → since begun self.old before
+            → (after : PassState) × since begun self.new after × DeclaredInto before after channel.now result }
+        ensures knows { OnOk result (knows self.new channel.now.schema) };
+
+    /// The same of a channel that has the schema of the last channel that got an id. However long the schema is, it isn't
+    /// looked at.
+    fn declare_like(&mut self, channel: &ChannelDef) -> Result<Declared, DeclareRefused>
+        requires fits { DefFits channel.now }
+        requires knows { knows self.old channel.now.schema }
+        ensures shows { (begun : Self) (before : PassState) → since begun self.old before
+            → (after : PassState) × since begun self.new after × DeclaredInto before after channel.now result }
+        ensures knows { knows self.new channel.now.schema };
 
     /// Publishes a message on a channel that was declared.
     fn publish(&mut self, m: &NewMessage<'_>) -> Result<u64, PublishRefused>
-        ensures { (begun : Self) (before : PassState) → since begun self.old before
-            → (after : PassState) × since begun self.new after × PublishedBy before after m.now result };
+        ensures shows { (begun : Self) (before : PassState) → since begun self.old before
+            → (after : PassState) × since begun self.new after × PublishedBy before after m.now result }
+        ensures knows { (schema : Option SchemaDef) → knows self.old schema → knows self.new schema };
 
     /// How the last call found the intake, before what it did there.
     fn found(&self) -> Option<Found>

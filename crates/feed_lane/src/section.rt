@@ -5,6 +5,7 @@ ghost use Rattle.mcap_model.specs.Rules.{V6};
 ghost use Rattle.mcap_model.specs.Made.{top};
 ghost use Rattle.mcap_model.specs.Written.{passed_in};
 ghost use Rattle.feed_lane.specs.Pass.{PassState};
+ghost use Rattle.feed_lane.specs.Kept.{IsKnown};
 ghost use Rattle.feed_lane.specs.Steps.{LaneStands, AreKnown, ThenShows, Waits, RecordHandled, unknown_in, Counted, KeepsAs};
 
 use crate::lane::{Lane, Over};
@@ -24,6 +25,8 @@ impl Lane {
         content: &[u8],
         pass: &mut P,
     ) -> Result<(), Over>
+        requires { IsKnown (P.knows pass.old) self.old.ids.kept }
+        ensures knows { IsKnown (P.knows pass.new) self.new.ids.kept }
         ensures taken { (begun : P) (before : PassState) → P.since begun pass.old before → ThenShows (P.since begun pass.new) before (λ after.
             (records more : List Top) (handled : ℕ) → LaneStands self.old records handled before → AreKnown records tables.now
             → Waits records handled (top op content.now ∷ more) → RecordHandled self.new records handled more after result) }
@@ -48,6 +51,8 @@ impl Lane {
         bytes: &[u8],
         pass: &mut P,
     ) -> Result<(), Over>
+        requires { IsKnown (P.knows pass.old) self.old.ids.kept }
+        ensures knows { IsKnown (P.knows pass.new) self.new.ids.kept }
         ensures taken { (begun : P) (before : PassState) → P.since begun pass.old before → ThenShows (P.since begun pass.new) before (λ after.
             (records : List Top) (handled : ℕ) → LaneStands self.old records handled before → AreKnown records tables.now
             → Waits records handled (records_in bytes.now) → RecordHandled self.new records handled [] after result) }
@@ -73,6 +78,8 @@ impl Lane {
         content: &[u8],
         pass: &mut P,
     ) -> Result<(), Over>
+        requires { IsKnown (P.knows pass.old) self.old.ids.kept }
+        ensures knows { IsKnown (P.knows pass.new) self.new.ids.kept }
         ensures taken { (begun : P) (before : PassState) → P.since begun pass.old before → ThenShows (P.since begun pass.new) before (λ after.
             (records : List Top) (handled : ℕ) → LaneStands self.old records handled before → AreKnown records tables.now
             → V6 (top op content.now) → Waits records handled (opened (top op content.now)) → RecordHandled self.new records handled [] after result) }

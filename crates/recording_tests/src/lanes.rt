@@ -68,6 +68,8 @@ impl Pass for Lacking {
 
     ghost since = { λ begun t now. (reasons : List Reason) × (now ≡ shown [] [] reasons (found_when t.asked 0 0 false)) };
 
+    ghost knows = { λ t schema. Unit {0} };
+
     fn declare(&mut self, d: &ChannelDef) -> Result<Declared, DeclareRefused> {
         self.declarations = self.declarations.saturating_add(1);
         let len = declared_size(d);
@@ -76,6 +78,10 @@ impl Pass for Lacking {
         }
         self.asked = true;
         Err(DeclareRefused::Memory)
+    }
+
+    fn declare_like(&mut self, d: &ChannelDef) -> Result<Declared, DeclareRefused> {
+        self.declare(d)
     }
 
     fn publish(&mut self, m: &NewMessage<'_>) -> Result<u64, PublishRefused> {

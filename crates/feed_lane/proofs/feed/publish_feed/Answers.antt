@@ -9,7 +9,7 @@ use Rattle.feed_lane.specs.Lanes.{messages}
 use Rattle.feed_lane.specs.Steps.{AreKnown}
 use Rattle.feed_lane.specs.Feeds.{Reports}
 use Rattle.feed_lane.proofs.Walking.{waits_more, passed_more}
-use Rattle.feed_lane.proofs.Keeping.{keeps_listed}
+use Rattle.feed_lane.proofs.Keeping.{keeps_listed, unknown}
 use Rattle.feed_lane.proofs.Feeding.{ready, known, meets, place_stands, read_so_far, fed, report_of, reports_done, reports_refused, reports_over, reports_nothing}
 use Rattle.feed_lane.proofs.feed.publish_feed.Goals as goal
 
@@ -31,7 +31,7 @@ returns-in-Err-new-clause-reports g c = λ limit since. (
 
 pub records-init : goal.records-init
 records-init g c =
-    (([], c.in-Ok.ensures.stands _, λ limit since. (no_calls limit, since, refl, record { stands = c.in-Ok-new.ensures.stands limit; passed_are = c.in-Ok-new.ensures.passed })), omega (arith, c.in-Ok.ensures.begins), g.S.Source.stays_so _, c.in-Ok-new.ensures.kept)
+    (([], c.in-Ok.ensures.stands _, λ limit since. (no_calls limit, since, refl, record { stands = c.in-Ok-new.ensures.stands limit; passed_are = c.in-Ok-new.ensures.passed })), omega (arith, c.in-Ok.ensures.begins), g.S.Source.stays_so _, c.in-Ok-new.ensures.kept, unknown (g.P.Pass.knows c.args.pass.now) _ c.in-Ok-new.ensures.schema)
 
 pub records-preserved : goal.records-preserved
 records-preserved g c =
@@ -59,6 +59,7 @@ records-preserved g c =
       m.1,
       g.S.Source.stays_on _ _ _ i.2 c.in-Record.ensures.stays,
       keeps_listed lane c.take.new.self c.args.listed i.3 c.in-Ok-take.ensures.kept,
+      c.in-Ok-take.ensures.knows,
     )
 
 pub returns-in-Err-take-clause-reports : goal.returns-in-Err-take-clause-reports

@@ -13,7 +13,7 @@ use Rattle.feed_lane.proofs.lane.Lane.declare_as.Goals as goal
 pub returns-in-Ok-clause-found : goal.returns-in-Ok-clause-found
 returns-in-Ok-clause-found g c = λ begun before since.
     let l = c.args.self.now in
-    let shown = c.in-Ok.ensures begun before since in
+    let shown = c.in-Ok.ensures.shows begun before since in
     let after = shown.0 in
     let call = shown.2 in
     let given = c.in-Ok.given in
@@ -44,7 +44,7 @@ returns-in-Ok-clause-found g c = λ begun before since.
 
 pub returns-in-Err-clause-found : goal.returns-in-Err-clause-found
 returns-in-Err-clause-found g c = λ begun before since.
-    let shown = c.in-Err.ensures begun before since in
+    let shown = c.in-Err.ensures.shows begun before since in
     let after = shown.0 in
     let content = c.args.channel.now in
     let cause : c.declare_cause.result ≡ declare_cause c.in-Err.refusal after.found = c.declare_cause.ensures ∙ ap (declare_cause c.in-Err.refusal) (c.found.ensures begun after shown.1) in (

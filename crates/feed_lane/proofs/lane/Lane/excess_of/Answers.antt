@@ -1,4 +1,4 @@
-use Rattle.std.proofs.Common.{ℕ, List, ◌⊎◌, inl, inr, sym, subst}
+use Rattle.std.proofs.Common.{ℕ, List, inl, inr, sym, subst}
 use Rattle.mcap_model.specs.Places.{At}
 use Rattle.feed_lane.specs.Kept.{KeptStands}
 use Rattle.feed_lane.specs.Sizes.{IsLength}

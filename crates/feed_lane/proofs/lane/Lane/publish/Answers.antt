@@ -13,7 +13,7 @@ use Rattle.feed_lane.proofs.lane.Lane.publish.Goals as goal
 pub returns-in-Ok-clause-taken : goal.returns-in-Ok-clause-taken
 returns-in-Ok-clause-taken g c = λ begun before since.
     let l = c.args.self.now in
-    let shown = c.in-Ok.ensures begun before since in
+    let shown = c.in-Ok.ensures.shows begun before since in
     let after = shown.0 in
     let call = shown.2 in
     let found = call.0 in
@@ -32,7 +32,7 @@ returns-in-Ok-clause-taken g c = λ begun before since.
 
 pub returns-in-Err-clause-taken : goal.returns-in-Err-clause-taken
 returns-in-Err-clause-taken g c = λ begun before since.
-    let shown = c.in-Err.ensures begun before since in
+    let shown = c.in-Err.ensures.shows begun before since in
     let after = shown.0 in
     let m : NewMessage = record { channel = c.args.id; sequence = c.args.m.now.sequence; log_time = c.args.m.now.log_time; publish_time = c.args.m.now.publish_time; payload = c.args.m.now.payload } in (
       after,

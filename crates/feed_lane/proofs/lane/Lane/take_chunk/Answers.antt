@@ -32,6 +32,7 @@ records-preserved g c =
           let now = counted.2 (omega (arith, few, was, split, size)) in
           omega (arith, was, split, size, now),
       keeps_on c.args.self.now c.records.self c.take_inner.new.self i.4 c.in-Ok.ensures.kept,
+      c.in-Ok.ensures.knows,
     )
 
 pub returns-in-Err-clause-passed : goal.returns-in-Err-clause-passed
