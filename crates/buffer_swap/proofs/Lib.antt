@@ -8,6 +8,7 @@ pub mod Fulls
 mod Fitting
 mod Keeps
 mod Answering
+mod Naming
 mod Publishing
 mod Ending
 mod Waiting

@@ -1,5 +1,5 @@
 -- Ids by content, of a history and of what a declaration adds to it.
-use Rattle.std.proofs.Common.{◌≡◌, ℕ, ◌+◌, ◌<◌, ◌≤◌, Bool, true, false, List, [], ◌∷◌, ◌++◌, length, take, Option, Some, None, refl, sym, ap, subst, inl, inr, ◌∙◌, append-nil, append_assoc, length-append, arith}
+use Rattle.std.proofs.Common.{◌≡◌, ℕ, ◌+◌, ◌-◌, ◌<◌, ◌≤◌, Bool, true, false, List, [], ◌∷◌, ◌++◌, length, take, Option, Some, None, refl, sym, ap, subst, inl, inr, ◌∙◌, append-nil, append_assoc, length-append, arith}
 use Rattle.std.specs.Prelude.{position, nat_lt, nat_le, ◌&&◌}
 use Rattle.std.proofs.lemmas.Bool.{and_parts, ltb-true, leb-true}
 use Rattle.std.proofs.lemmas.List.{nil_from_length}
@@ -10,9 +10,9 @@ use Rattle.mcap_model.specs.Places.{At, Has}
 use Rattle.mcap_model.specs.Fields.{SchemaFields, ChannelFields, MessageFields}
 use Rattle.mcap_model.specs.History.{schema_of, channel_of, message_of, SchemaFollows, ChannelFollows, Numbered}
 use Rattle.mcap_model.proofs.Places.{at_within, has_kept, has_last}
-use Rattle.mcap_model.proofs.Lists.{cut_at, has_taken}
+use Rattle.mcap_model.proofs.Lists.{at_second, cut_at, has_taken}
 use Rattle.record_core.specs.Ids.{Ids, schemas_in, channels_in, same_schema, same_channel, fields_of_schema, fields_with, schema_place, id_at, schema_id, fields_of_channel, channel_place, channel_id, new_schema_at, new_schema, new_at, new_records}
-use Rattle.record_core.specs.Tables.{schemas_lack}
+use Rattle.record_core.specs.Tables.{schemas_lack, IsSchemaAt, HasSchemaOf}
 use Rattle.record_core.proofs.Numbering.{HasContents, schema_at, channel_at}
 use Rattle.record_core.proofs.Searches.{found, not_found, schema_own, schema_same, channel_own, channel_same, schemas_counted, channels_counted, schemas_more, channels_more, schema_content, channel_content}
 use Rattle.record_core.specs.Desk.{DeskView, found_of}
@@ -203,6 +203,46 @@ schema_is_by ids history s id None has numbered is there = absurd (no_schema_fou
 schema_is : (ids : Ids) (history : List Rec) (schema : Option SchemaDef) (id : ℕ) → HasContents ids history → Numbered history → SchemaStands history id schema → id ≡ schema_id ids schema
 schema_is ids history None id has numbered stands = stands
 schema_is ids history (Some s) id has numbered stands = schema_is_by ids history s id (schema_place ids s) has numbered refl stands
+
+-- ---- what stands under an id
+
+schema_index : (history : List Rec) (n id : ℕ) (f : SchemaFields) → Numbered history → At history n (schema_of id f) → (1 ≤ id) × At (schemas_in history) (id - 1) f
+schema_index history n id f numbered at =
+    let follows : SchemaFollows (take n history) id f = numbered n (schema_of id f) at in
+    let (more, whole) = cut_at history n (schema_of id f) at in
+    let front = schemas_in (take n history) in
+    let behind = schemas_in (schema_of id f ∷ more) in
+    let split : schemas_in history ≡ front ++ behind = ap schemas_in whole ∙ schemas_more (take n history) (schema_of id f ∷ more) in
+    let index : length front + 0 ≡ id - 1 = omega (arith, follows.numbered, schemas_counted (take n history)) in
+    (omega (arith, follows.numbered), subst (λ (l : List SchemaFields). At l (id - 1) f) (sym split) (subst (λ (k : ℕ). At (front ++ behind) k f) index (at_second front behind 0 f refl)))
+
+channel_index : (history : List Rec) (n id : ℕ) (f : ChannelFields) → Numbered history → At history n (channel_of id f) → (1 ≤ id) × At (channels_in history) (id - 1) f
+channel_index history n id f numbered at =
+    let follows : ChannelFollows (take n history) id f = numbered n (channel_of id f) at in
+    let (more, whole) = cut_at history n (channel_of id f) at in
+    let front = channels_in (take n history) in
+    let behind = channels_in (channel_of id f ∷ more) in
+    let split : channels_in history ≡ front ++ behind = ap channels_in whole ∙ channels_more (take n history) (channel_of id f ∷ more) in
+    let index : length front + 0 ≡ id - 1 = omega (arith, follows.numbered, channels_counted (take n history)) in
+    (omega (arith, follows.numbered), subst (λ (l : List ChannelFields). At l (id - 1) f) (sym split) (subst (λ (k : ℕ). At (front ++ behind) k f) index (at_second front behind 0 f refl)))
+
+schema_under : (ids : Ids) (history : List Rec) (schema : Option SchemaDef) (id : ℕ) → HasContents ids history → Numbered history → SchemaStands history id schema → IsSchemaAt ids id schema
+schema_under ids history None id has numbered stands = stands
+schema_under ids history (Some s) id has numbered stands =
+    let at = schema_index history stands.0 id (fields_of_schema s) numbered stands.1 in
+    (at.0, subst (λ (l : List SchemaFields). At l (id - 1) (fields_of_schema s)) (sym has.schemas) at.1)
+
+-- a channel that stands in the history has its schema there
+pub stands_sharing : (ids : Ids) (history : List Rec) (c : ChannelDef) (id : ℕ) → HasContents ids history → Numbered history → ChannelStands history id c → HasSchemaOf ids c.schema id
+stands_sharing ids history c id has numbered stands =
+    let f = fields_with c stands.schema in
+    let at = channel_index history stands.has.0 id f numbered stands.has.1 in
+    record {
+      some = at.0;
+      content = f;
+      there = subst (λ (l : List ChannelFields). At l (id - 1) f) (sym has.channels) at.1;
+      schema_is = schema_under ids history c.schema stands.schema has numbered stands.schema_stands;
+    }
 
 -- no channel of a content that isn't found stands in the history
 pub stands_nowhere : (ids : Ids) (history : List Rec) (c : ChannelDef) (id : ℕ) → HasContents ids history → Numbered history → channel_place ids c ≡ None → ChannelStands history id c → ⊥

@@ -2,11 +2,12 @@
 use Rattle.std.proofs.Common.{◌≡◌, ℕ, ◌<◌, ◌≤◌, true, List, [], ◌∷◌, ◌++◌, length, drop, Option, Some, None, Result, Ok, Err, refl, sym, ap, subst, ◌∙◌, arith}
 use Rattle.std.proofs.Math.Seq.{drop-append_seam}
 use Rattle.rec_data.specs.declared.owned.Rec.{Rec}
+use Rattle.rec_data.specs.declared.schema.SchemaDef.{SchemaDef}
 use Rattle.rec_data.specs.declared.channel.ChannelDef.{ChannelDef}
 use Rattle.mcap_model.specs.declared.ends.End.TheVariants as ends
 use Rattle.mcap_model.proofs.Places.{at_within}
 use Rattle.record_core.specs.Ids.{channel_place, channel_id, new_records}
-use Rattle.record_core.specs.Tables.{IsTable}
+use Rattle.record_core.specs.Tables.{IsTable, HasSchemaOf, MayShare}
 use Rattle.record_core.specs.Desk.{DeskView, accepted, added, first_of, found_of, fields_of_message, Published, declared_size, DeclaredBy}
 use Rattle.record_core.specs.declared.answers.Declared.{Declared}
 use Rattle.record_core.specs.declared.answers.NewMessage.{NewMessage}
@@ -19,11 +20,11 @@ use Rattle.buffer_swap.specs.Shown.{ChannelStands}
 use Rattle.buffer_swap.specs.Posts.{Post}
 use Rattle.buffer_swap.specs.Turns.{view}
 use Rattle.buffer_swap.specs.Plays.{Sat, Stood, Took, fresh}
-use Rattle.buffer_swap.specs.Calls.{counts_message, pass_published, counts_declared, pass_declared, PublishedInTurn, DeclaredInTurn, reasoned, Publishes, Declares, TriesBy}
+use Rattle.buffer_swap.specs.Calls.{counts_message, pass_published, counts_declared, pass_declared, PublishedInTurn, DeclaredInTurn, reasoned, Publishes, Declares, NamesSchema, MayName, TriesBy}
 use Rattle.buffer_swap.specs.declared.view.View.{View}
 use Rattle.buffer_swap.proofs.Desks.{parts, known_id, unknown_id}
 use Rattle.buffer_swap.proofs.Reasons.{PublishReason, HasRecords, HasAll, MayHave, publish_reason, declare_reason}
-use Rattle.buffer_swap.proofs.Numbers.{are_added, lacking_schemas, stands_nowhere, gets_id}
+use Rattle.buffer_swap.proofs.Numbers.{are_added, lacking_schemas, stands_sharing, stands_nowhere, gets_id}
 
 -- how the desk was found, beside what the pass had
 pub finds : (d : DeskView) (p : PassState) (reasons : List Reason) → Stood d p → Finds (reasoned p reasons) (found_of d)
@@ -165,6 +166,19 @@ declared_answer m n behind c result took seated small declared =
 
 pub too_wide : (p : PassState) (c : ChannelDef) (len : ℕ) → len ≡ declared_size c → 1048576 < len → Declares p p c (Err (declaring.TooLarge len))
 too_wide p c len is over reasons = (reasons ++ for_size len ∷ [], (is, over, refl))
+
+-- ---- a schema that another channel has
+
+named_sharing : (d : DeskView) (p : PassState) (schema : Option SchemaDef) (id : ℕ) → Stood d p → NamesSchema p id schema → HasSchemaOf d.ids schema id
+named_sharing d p schema id stood names =
+    let c = names.0 in
+    let there = stood.fits.named names.1.0 (id, c) names.1.1 in
+    subst (λ (o : Option SchemaDef). HasSchemaOf d.ids o id) names.2 (stands_sharing d.ids stood.s.history c id (parts d stood.s stood.stands).contents stood.stands.numbered there)
+
+pub may_share : (m n : Sat) (schema : Option SchemaDef) (like : Option ℕ) → Took m n → m.0.post.seated ≡ true → MayName m.0.pass like schema → MayShare n.0.hand.ids schema like
+may_share m n schema None took seated names = tt
+may_share m n schema (Some id) took seated names =
+    subst (λ (x : Sat). HasSchemaOf x.0.hand.ids schema id) (sym took.is) (named_sharing took.d m.0.pass schema id (took.stood seated) names)
 
 -- ---- a call that may find the turn taken
 

@@ -1,9 +1,11 @@
 -- What the calls at a turn answer.
 use Rattle.std.specs.Prelude.{◌≡◌, ℕ, ◌+◌, List, [], ◌++◌, length, true, OnOk, Option, Some, None, Result, Ok, Err}
+use Rattle.rec_data.specs.declared.schema.SchemaDef.{SchemaDef}
 use Rattle.rec_data.specs.declared.channel.ChannelDef.{ChannelDef}
 use Rattle.mcap_model.specs.declared.ends.End.{End}
 use Rattle.mcap_model.specs.declared.ends.End.TheVariants.{Closed, Stopped}
 use Rattle.mcap_model.specs.declared.ends.Stop.{Stop}
+use Rattle.mcap_model.specs.Places.{Has}
 use Rattle.mcap_model.specs.History.{Numbered}
 use Rattle.record_cache.specs.Buffers.{Buffer}
 use Rattle.record_core.specs.Desk.{DeskView, swapped, ended, end_of, fields_of_message, Published, DeclaredBy, SwapAnswered, EndsAt}
@@ -130,6 +132,20 @@ Publishes before after m result = (reasons : List Reason) → (more : List Reaso
 
 abbrev pub Declares : PassState → PassState → ChannelDef → Result Declared DeclareRefused → Type 0
 Declares before after c result = (reasons : List Reason) → (more : List Reason) × DeclaredInto (reasoned before reasons) (reasoned after more) c result
+
+-- the pass has that id for a channel with this schema, or with none where this is none
+abbrev pub NamesSchema : PassState → ℕ → Option SchemaDef → Type 0
+NamesSchema pass id schema = (c : ChannelDef) × Has pass.named (id, c) × (c.schema ≡ schema)
+
+-- so it is of the id that is handed in, if one is
+abbrev pub MayName : PassState → Option ℕ → Option SchemaDef → Type 0
+MayName pass None schema = Unit {0}
+MayName pass (Some id) schema = NamesSchema pass id schema
+
+-- the last id that a channel got, behind a declaration
+abbrev pub last_of : ℕ → Result Declared DeclareRefused → ℕ
+last_of last (Ok given) = given.channel
+last_of last (Err refusal) = last
 
 -- The pass has but looked at the intake since.
 pub record LooksOn (before after : PassState) : Type 0 where

@@ -4,7 +4,7 @@ ghost use Rattle.rec_data.specs.declared.owned.Rec.{Rec};
 ghost use Rattle.mcap_model.specs.declared.ends.End.TheVariants.{Closed, Stopped};
 ghost use Rattle.mcap_model.specs.History.{Numbered};
 ghost use Rattle.record_core.specs.Ids.{new_records};
-ghost use Rattle.record_core.specs.Tables.{IsTable};
+ghost use Rattle.record_core.specs.Tables.{IsTable, MayShare};
 ghost use Rattle.record_core.specs.Sights.{DefFits};
 ghost use Rattle.record_core.specs.declared.answers.DeclareRefused.TheVariants.{TooManySchemas, TooManyChannels};
 ghost use Rattle.record_core.specs.Desk.{DeskView, new_desk, found_of, swapped, ended, end_of, fields_of_message, Published, DeclaredBy, SwapAnswered, EndsAt, IsCause, EndIsLast};
@@ -174,10 +174,16 @@ impl Board {
     }
 
     // The desk's answer to a declaration.
-    fn declare_out(&self, seat: &mut Seat, channel: &ChannelDef) -> Result<Declared, DeclareRefused>
+    fn declare_out(
+        &self,
+        seat: &mut Seat,
+        channel: &ChannelDef,
+        like: Option<u16>,
+    ) -> Result<Declared, DeclareRefused>
         requires id { seat.old.table_id ≡ self.now.table.shared.table_id }
         requires desk { HasDesk seat.old.me }
         requires fits { DefFits channel.now }
+        requires shares { MayShare seat.old.me.0.hand.ids channel.now.schema like }
         ensures id { seat.new.table_id ≡ seat.old.table_id }
         ensures same { seat.new.me.0 ≡ seat.old.me.0 }
         ensures out { seat.new.me.1 ≡ (0, desk_of seat.new.me.1) ∷ [] }
@@ -191,7 +197,7 @@ impl Board {
         ensures no_channels { result ≡ Err TooManyChannels → LacksAt seat.old.me.0.hand (channel.now, TooManyChannels) }
     {
         let desk = seat.slot_mut(&self.table.shared, 0);
-        desk.declare(channel)
+        desk.declare_sharing(channel, like)
     }
 
     // The desk's buffer for an empty one.
@@ -465,16 +471,18 @@ impl Board {
         &self,
         seat: &mut Seat,
         channel: &ChannelDef,
+        like: Option<u16>,
         held: u64,
     ) -> Result<Declared, DeclareRefused>
         requires id { seat.old.table_id ≡ self.now.table.shared.table_id }
         requires desk { HasDesk seat.old.me }
         requires publisher { seat.old.me.0.post.publishes ≡ true }
         requires fits { DefFits channel.now }
+        requires shares { MayShare seat.old.me.0.hand.ids channel.now.schema like }
         ensures id { seat.new.table_id ≡ seat.old.table_id }
         ensures declared { DeclaredInTurn seat.old.me channel.now result seat.new.me }
     {
-        let answer = self.declare_out(seat, channel);
+        let answer = self.declare_out(seat, channel, like);
         self.count_declared(seat, channel, &answer);
         self.free_declared(seat, channel, &answer);
         self.ring_if_ripe(held);
@@ -653,16 +661,18 @@ impl Board {
         &self,
         seat: &mut Seat,
         channel: &ChannelDef,
+        like: Option<u16>,
         held: u64,
     ) -> Result<Declared, DeclareRefused>
         requires id { seat.old.table_id ≡ self.now.table.shared.table_id }
         requires desk { HasDesk seat.old.me }
         requires publisher { seat.old.me.0.post.publishes ≡ true }
         requires fits { DefFits channel.now }
+        requires shares { MayShare seat.old.me.0.hand.ids channel.now.schema like }
         ensures id { seat.new.table_id ≡ seat.old.table_id }
         ensures declared { NamedInTurn seat.old.me channel.now result seat.new.me }
     {
-        let answer = self.declare_out(seat, channel);
+        let answer = self.declare_out(seat, channel, like);
         self.count_declared(seat, channel, &answer);
         self.free_tried(seat, channel, &answer);
         self.ring_if_ripe(held);

@@ -30,6 +30,7 @@ impl<'t> Control<'t> {
             seat,
             number,
             found: None,
+            last: 0,
         }
     }
 
@@ -46,6 +47,7 @@ impl<'t> Control<'t> {
             seat,
             number: _,
             found: _,
+            last: _,
         } = publisher;
         self.board
             .table

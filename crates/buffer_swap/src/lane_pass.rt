@@ -20,17 +20,29 @@ impl<R: Wait> Pass for LanePass<'_, '_, R> {
     ghost use Rattle.std.specs.Prelude.{◌≡◌, [], ◌∷◌, ◌++◌, true};
     ghost use Rattle.std.proofs.Common.{ap};
     ghost use Rattle.feed_lane.specs.Pass.{PassState, for_size};
-    ghost use Rattle.buffer_swap.specs.Calls.{reasoned};
+    ghost use Rattle.buffer_swap.specs.Calls.{reasoned, NamesSchema};
 
     // It is the same publisher, of the same turn, waits for room as before, and shows what that publisher shows.
     ghost since = { λ begun now shown. (now.publisher.seat.table_id ≡ begun.publisher.seat.table_id) × (now.publisher.number ≡ begun.publisher.number) × (now.lossless ≡ begun.lossless)
         × (shown ≡ reasoned now.publisher.seat.me.0.pass shown.reasons) × (now.lossless ≡ true → shown.fulls ≡ []) };
+
+    ghost knows = { λ pass schema. NamesSchema pass.publisher.seat.me.0.pass pass.publisher.last schema };
 
     fn declare(&mut self, channel: &ChannelDef) -> Result<Declared, DeclareRefused> {
         if self.lossless {
             return self.publisher.declare_lossless(self.rt, channel);
         }
         self.publisher.declare(self.rt, channel)
+    }
+
+    fn declare_like(&mut self, channel: &ChannelDef) -> Result<Declared, DeclareRefused> {
+        let last = Some(self.publisher.last());
+        if self.lossless {
+            return self
+                .publisher
+                .declare_lossless_sharing(self.rt, channel, last);
+        }
+        self.publisher.declare_sharing(self.rt, channel, last)
     }
 
     fn publish(&mut self, m: &NewMessage<'_>) -> Result<u64, PublishRefused> {

@@ -6,7 +6,7 @@ ghost use Rattle.record_core.specs.Desk.{declared_size};
 ghost use Rattle.record_core.specs.declared.answers.PublishRefused.TheVariants.{Full};
 ghost use Rattle.record_core.specs.declared.answers.DeclareRefused.TheVariants.{Full as DeclareFull};
 ghost use Rattle.record_core.specs.Sights.{DefFits};
-ghost use Rattle.buffer_swap.specs.Calls.{Publishes, Declares, TriesBy, answer_of, LooksOn, NotFull, NeverFull};
+ghost use Rattle.buffer_swap.specs.Calls.{Publishes, Declares, MayName, last_of, TriesBy, answer_of, LooksOn, NotFull, NeverFull};
 
 use crate::answers::TryRefused;
 use crate::seats::{EndedPass, Publisher, Rouser};
@@ -30,6 +30,16 @@ fn found_full(answer: &Result<Declared, DeclareRefused>) -> bool
     matches!(answer, Err(DeclareRefused::Full { .. }))
 }
 
+// The last id that a channel got, behind a declaration.
+fn last_of(last: u16, answer: &Result<Declared, DeclareRefused>) -> u16
+    ensures { result ≡ last_of last answer.now }
+{
+    match answer {
+        Ok(given) => return given.channel,
+        Err(_) => return last,
+    }
+}
+
 impl<'t> Publisher<'t> {
     /// Its number among the publishers of its turn.
     pub fn number(&self) -> u32
@@ -43,6 +53,13 @@ impl<'t> Publisher<'t> {
         ensures { result ≡ self.now.seat.me.0.pass.found }
     {
         self.found
+    }
+
+    /// The id that its last channel got, or 0.
+    pub fn last(&self) -> u16
+        ensures { result ≡ self.now.last }
+    {
+        self.last
     }
 
     /// Publishes a message, and answers its place. It waits for nobody: where the turn is another's nothing is tried.
@@ -72,6 +89,7 @@ impl<'t> Publisher<'t> {
     pub fn publish<R: Wait>(&mut self, rt: &R, m: &NewMessage<'_>) -> Result<u64, PublishRefused>
         ensures turn { self.new.seat.table_id ≡ self.old.seat.table_id }
         ensures number { self.new.number ≡ self.old.number }
+        ensures last { self.new.last ≡ self.old.last }
         ensures answer { Publishes self.old.seat.me.0.pass self.new.seat.me.0.pass m.now result }
     {
         let len = m.payload.len() as u64;
@@ -94,6 +112,24 @@ impl<'t> Publisher<'t> {
         requires { DefFits channel.now }
         ensures turn { self.new.seat.table_id ≡ self.old.seat.table_id }
         ensures number { self.new.number ≡ self.old.number }
+        ensures last { self.new.last ≡ last_of self.old.last result }
+        ensures answer { Declares self.old.seat.me.0.pass self.new.seat.me.0.pass channel.now result }
+    {
+        self.declare_sharing(rt, channel, None)
+    }
+
+    /// The same. Where a channel is named that got an id here and has the same schema, that isn't looked at.
+    pub fn declare_sharing<R: Wait>(
+        &mut self,
+        rt: &R,
+        channel: &ChannelDef,
+        like: Option<u16>,
+    ) -> Result<Declared, DeclareRefused>
+        requires fits { DefFits channel.now }
+        requires names { MayName self.old.seat.me.0.pass like channel.now.schema }
+        ensures turn { self.new.seat.table_id ≡ self.old.seat.table_id }
+        ensures number { self.new.number ≡ self.old.number }
+        ensures last { self.new.last ≡ last_of self.old.last result }
         ensures answer { Declares self.old.seat.me.0.pass self.new.seat.me.0.pass channel.now result }
     {
         let len = declared_size(channel);
@@ -103,8 +139,11 @@ impl<'t> Publisher<'t> {
         self.board.wait(rt, &mut self.seat);
         let found = self.board.found_out(&mut self.seat);
         self.found = Some(found);
-        self.board
-            .declare_in_turn(&mut self.seat, channel, found.held)
+        let answer = self
+            .board
+            .declare_in_turn(&mut self.seat, channel, like, found.held);
+        self.last = last_of(self.last, &answer);
+        answer
     }
 
     // One turn of a call that waits while the buffer is full.
@@ -112,6 +151,7 @@ impl<'t> Publisher<'t> {
         requires { length m.now.payload.now ≤ data_limit }
         ensures turn { self.new.seat.table_id ≡ self.old.seat.table_id }
         ensures number { self.new.number ≡ self.old.number }
+        ensures last { self.new.last ≡ self.old.last }
         ensures answer { NotFull result → Publishes self.old.seat.me.0.pass self.new.seat.me.0.pass m.now result }
         ensures full { (h : ℕ) → result ≡ Err (Full h) → LooksOn self.old.seat.me.0.pass self.new.seat.me.0.pass }
     {
@@ -129,6 +169,7 @@ impl<'t> Publisher<'t> {
     ) -> Result<u64, PublishRefused>
         ensures turn { self.new.seat.table_id ≡ self.old.seat.table_id }
         ensures number { self.new.number ≡ self.old.number }
+        ensures last { self.new.last ≡ self.old.last }
         ensures answer { Publishes self.old.seat.me.0.pass self.new.seat.me.0.pass m.now result }
         ensures unfull { NotFull result }
     {
@@ -152,18 +193,25 @@ impl<'t> Publisher<'t> {
         &mut self,
         rt: &R,
         channel: &ChannelDef,
+        like: Option<u16>,
     ) -> Result<Declared, DeclareRefused>
         requires fits { DefFits channel.now }
         requires small { declared_size channel.now ≤ declaration_limit }
+        requires names { MayName self.old.seat.me.0.pass like channel.now.schema }
         ensures turn { self.new.seat.table_id ≡ self.old.seat.table_id }
         ensures number { self.new.number ≡ self.old.number }
+        ensures last { self.new.last ≡ last_of self.old.last result }
         ensures answer { NeverFull result → Declares self.old.seat.me.0.pass self.new.seat.me.0.pass channel.now result }
         ensures full { (h : ℕ) → result ≡ Err (DeclareFull h) → LooksOn self.old.seat.me.0.pass self.new.seat.me.0.pass }
     {
         self.board.wait(rt, &mut self.seat);
         let found = self.board.found_out(&mut self.seat);
         self.found = Some(found);
-        self.board.name_in_turn(&mut self.seat, channel, found.held)
+        let answer = self
+            .board
+            .name_in_turn(&mut self.seat, channel, like, found.held);
+        self.last = last_of(self.last, &answer);
+        answer
     }
 
     /// Declares a channel with its schema, and answers its id and the places of the records that this added. It may wait for
@@ -176,6 +224,25 @@ impl<'t> Publisher<'t> {
         requires { DefFits channel.now }
         ensures turn { self.new.seat.table_id ≡ self.old.seat.table_id }
         ensures number { self.new.number ≡ self.old.number }
+        ensures last { self.new.last ≡ last_of self.old.last result }
+        ensures answer { Declares self.old.seat.me.0.pass self.new.seat.me.0.pass channel.now result }
+        ensures unfull { NeverFull result }
+    {
+        self.declare_lossless_sharing(rt, channel, None)
+    }
+
+    /// The same. Where a channel is named that got an id here and has the same schema, that isn't looked at.
+    pub fn declare_lossless_sharing<R: Wait>(
+        &mut self,
+        rt: &R,
+        channel: &ChannelDef,
+        like: Option<u16>,
+    ) -> Result<Declared, DeclareRefused>
+        requires fits { DefFits channel.now }
+        requires names { MayName self.old.seat.me.0.pass like channel.now.schema }
+        ensures turn { self.new.seat.table_id ≡ self.old.seat.table_id }
+        ensures number { self.new.number ≡ self.old.number }
+        ensures last { self.new.last ≡ last_of self.old.last result }
         ensures answer { Declares self.old.seat.me.0.pass self.new.seat.me.0.pass channel.now result }
         ensures unfull { NeverFull result }
     {
@@ -185,7 +252,7 @@ impl<'t> Publisher<'t> {
         }
         'tries: for _ in rt.forever() {
             let events = self.board.events();
-            let answer = self.declare_once(rt, channel);
+            let answer = self.declare_once(rt, channel, like);
             if !found_full(&answer) {
                 return answer;
             }

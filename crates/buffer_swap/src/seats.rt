@@ -35,6 +35,8 @@ pub struct Publisher<'t> {
     pub(crate) seat: Seat,
     pub(crate) number: u32,
     pub(crate) found: Option<Found>,
+    // The id that its last channel got, or 0.
+    pub(crate) last: u16,
     ghost fits: { seat.table_id ≡ board.now.table.shared.table_id },
     ghost idle: { IsIdle seat.me },
     ghost kind: { seat.me.0.post ≡ publisher_post number },
