@@ -2,6 +2,7 @@ mod Appended
 mod Asked
 pub mod Chosen
 mod Digits
+mod Fewer
 mod Named
 pub mod Ordering
 pub mod Parts

@@ -1,5 +1,5 @@
 -- What messages that are kept show.
-use Rattle.std.specs.Prelude.{◌≡◌, ℕ, ◌++◌, ◌∷◌, [], List, length, map, take, drop, Option, Some, Result, Ok, Err}
+use Rattle.std.specs.Prelude.{◌≡◌, ℕ, ◌+◌, ◌≤◌, ◌++◌, ◌∷◌, [], List, length, map, sum_by, take, drop, Option, Some, Result, Ok, Err}
 use Rattle.mcap_io.specs.declared.outside.ReadRefused.{ReadRefused}
 use Rattle.mcap_model.specs.declared.replay.Shown.{Shown}
 use Rattle.rec_data.specs.declared.message.Message.{Message}
@@ -10,6 +10,14 @@ use Rattle.time_player.specs.Heads.{shown_in}
 -- the messages that are kept
 abbrev pub kept_in : Kept → List Shown
 kept_in k = map (shown_in k.payloads.items) k.heads.items
+
+-- how many bytes of data messages have together
+abbrev pub data_in : List Shown → ℕ
+data_in shown = sum_by (λ s. length s.payload) shown
+
+-- how many bytes of data are held for those that are kept
+abbrev pub held_in : Kept → ℕ
+held_in k = length k.payloads.items
 
 -- the message of a record that stands there, with a payload that stands elsewhere
 abbrev pub shown_with : Place → Message → List ℕ → Shown
@@ -29,3 +37,8 @@ pub record IsKeptWith (told : Option (List ℕ)) (at len : ℕ) (show : List ℕ
 abbrev pub KeepsPart : Option (List ℕ) → ℕ → ℕ → (List ℕ → Shown) → List Shown → List Shown → Result Unit ReadRefused → Type 0
 KeepsPart told at len show before now (Ok it) = IsKeptWith told at len show before now
 KeepsPart told at len show before now (Err why) = Unit {0}
+
+-- so many bytes more are held; where they are refused, at most so many
+abbrev pub HoldsPart : ℕ → ℕ → ℕ → Result Unit ReadRefused → Type 0
+HoldsPart len before now (Ok it) = now ≡ before + len
+HoldsPart len before now (Err why) = now ≤ before + len

@@ -101,11 +101,12 @@ impl Kept {
     ghost use Rattle.std.specs.List.{dedup};
     ghost use Rattle.time_player.specs.Heads.{same_place};
     ghost use Rattle.time_player.specs.Ordering.{IsOrdered};
-    ghost use Rattle.time_player.specs.Keeping.{kept_in, shown_at, shown_with, KeepsPart};
+    ghost use Rattle.time_player.specs.Keeping.{data_in, held_in, kept_in, shown_at, shown_with, HoldsPart, KeepsPart};
     ghost use Rattle.time_player.specs.Reading.{ReadsFrom};
 
     pub fn new(alloc: Global) -> Kept
-        ensures { kept_in result ≡ [] }
+        ensures none { kept_in result ≡ [] }
+        ensures empty { held_in result ≡ 0 }
     {
         Kept {
             heads: Vec::new(alloc),
@@ -118,6 +119,13 @@ impl Kept {
         ensures { result ≡ length (kept_in self.now) }
     {
         self.heads.len()
+    }
+
+    /// How many bytes of data are held for the messages that are kept.
+    pub fn data_len(&self) -> usize
+        ensures { result ≡ held_in self.now }
+    {
+        self.payloads.len()
     }
 
     /// The message at that place among those that are kept.
@@ -173,6 +181,7 @@ impl Kept {
         requires { at + len ≤ (T.state store.old).known }
         ensures keeps { KeepsPart (T.state store.old).bytes at len (shown_with place message.now) (kept_in self.old) (kept_in self.new) result }
         ensures reads { ReadsFrom (T.state store.old) (T.state store.new) len result }
+        ensures holds { HoldsPart len (held_in self.old) (held_in self.new) result }
     {
         let from = self.payloads.len();
         match add_part(store, at, len, &mut self.payloads) {
@@ -216,7 +225,8 @@ impl Kept {
 
     /// Puts the messages in the order of log time and place. Of those with one time and place one stays.
     pub fn put_in_order_without_doubles(&mut self)
-        ensures { IsOrdered (kept_in self.old) (kept_in self.new) }
+        ensures order { IsOrdered (kept_in self.old) (kept_in self.new) }
+        ensures fewer { data_in (kept_in self.new) ≤ data_in (kept_in self.old) }
     {
         self.put_in_order();
         self.drop_doubles();

@@ -14,6 +14,7 @@ pub(crate) fn add_part<T: Store>(
     requires { at + len ≤ (T.state store.old).known }
     ensures gives { PartIs (T.state store.old).bytes at len out.old.items out.new.items result }
     ensures grows { length out.old.items ≤ length out.new.items }
+    ensures within { length out.new.items ≤ length out.old.items + len }
     ensures reads { ReadsFrom (T.state store.old) (T.state store.new) len result }
 {
     let from = out.len();

@@ -12,7 +12,7 @@ use Rattle.time_player.proofs.replaying.read_kept.Goals as goal
 
 pub records-init : goal.records-init
 records-init g c = (
-  plays_begin c.args.range (asked_topic c.args.topic) c.in-Ok.reader (g.S.Source.state c.args.source.now) (kept_in c.new-kept.result) (c.in-Ok.ensures.stands _) c.new-kept.ensures,
+  plays_begin c.args.range (asked_topic c.args.topic) c.in-Ok.reader (g.S.Source.state c.args.source.now) (kept_in c.new-kept.result) (c.in-Ok.ensures.stands _) c.new-kept.ensures.none,
   omega (arith, c.in-Ok.ensures.begins),
   g.S.Source.stays_so c.args.source.now,
 )
