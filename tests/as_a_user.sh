@@ -732,6 +732,25 @@ repeated_of() {
         record(2, 20); number(8, start); number(8, 0); number(4, 0)'
     printf '\211MCAP0\r\n'
 }
+# An indexed file of one chunk of so many messages, each of which has all that follow it as its data.
+nested_of() {
+    printf '\211MCAP0\r\n\001\010\0\0\0\0\0\0\0' && head -c 8 /dev/zero
+    writing "messages = $1"'
+        size = 27 + 31 * messages; list = 25 + 49 + size; start = list + 15 + 16 * messages + 13
+        record(6, 40 + size); number(8, 0); number(8, messages - 1); number(8, size); number(4, 0); number(4, 0); number(8, size)
+        channel(1, 0, "/a")
+        for (k = 0; k < messages; k++) { record(5, 22 + 31 * (messages - 1 - k)); number(2, 1); number(4, k); number(8, k); number(8, k) }
+        record(7, 6 + 16 * messages); number(2, 1); number(4, 16 * messages)
+        for (k = 0; k < messages; k++) { number(8, k); number(8, 27 + 31 * k) }
+        record(15, 4); number(4, 0)
+        channel(1, 0, "/a")
+        record(11, 46); number(8, messages); number(2, 0); number(4, 1); number(4, 0); number(4, 0); number(4, 1)
+        number(8, 0); number(8, messages - 1); number(4, 0)
+        record(8, 74); number(8, 0); number(8, messages - 1); number(8, 25); number(8, 49 + size)
+        number(4, 10); number(2, 1); number(8, list); number(8, 15 + 16 * messages); number(4, 0); number(8, size); number(8, size)
+        record(2, 20); number(8, start); number(8, 0); number(4, 0)'
+    printf '\211MCAP0\r\n'
+}
 # A plain file of one Metadata with so many keys, not in order.
 keyed_of() {
     printf '\211MCAP0\r\n\001\010\0\0\0\0\0\0\0' && head -c 8 /dev/zero
@@ -789,6 +808,14 @@ within 100000 mcaprec cat --indexed repeated.mcap >"$room/stdout" 2>"$room/stder
 compare 'the status where an entry stands 200,000 times' 0 $?
 compare 'the length of what is shown of its message' $((2 * 1000000 + 14)) "$(($(wc -c <"$room/stdout")))"
 rm -f repeated.mcap
+
+# Of messages that lie in one another no more is held than the file has bytes: the second one would be too much.
+nested_of 1 >nested.mcap
+expect 0 'ok indexed messages=1 channels=1 schemas=0 chunks=1 attachments=0 metadata=0' '' within 100000 mcaprec check nested.mcap
+expect 0 '0 0 1 0 "/a" -' '' within 100000 mcaprec cat --indexed nested.mcap
+nested_of 8000 >nested.mcap
+expect 4 '' 'mcaprec: "nested.mcap": limit at 248101' within 100000 mcaprec cat --indexed nested.mcap
+rm -f nested.mcap
 
 keyed_of 40000 >keyed.mcap
 expect 0 'ok plain messages=0 channels=0 schemas=0 chunks=0 attachments=0 metadata=1' '' within 100000 mcaprec check keyed.mcap

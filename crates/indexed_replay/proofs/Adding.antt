@@ -22,7 +22,10 @@ use Rattle.mcap_model.proofs.Replays.{range_decided}
 use Rattle.indexed_replay.specs.declared.spots.Spot.{Spot}
 use Rattle.time_player.specs.Ordering.{led_as}
 use Rattle.indexed_replay.specs.Steps.{Adds, IsFound, IsListed, place_in, message_cost, entry_cost, entries_cost}
+use Rattle.indexed_replay.specs.Holding.{Overfull}
 use Rattle.indexed_replay.proofs.Headed.{there_begun}
+use Rattle.indexed_replay.proofs.Once.{once_none, once_alone, once_joined}
+use Rattle.indexed_replay.proofs.Filling.{over_both}
 
 -- ---- lists
 
@@ -60,10 +63,10 @@ sum_front f xs i = omega (arith, ap (sum_by f) (sym (take-append-drop i xs)), su
 -- ---- what is added
 
 pub adds_none : (P : Shown → Type 0) (old : List Shown) → ((s : Shown) → P s → ⊥) → Adds P old old
-adds_none P old none = record { more = []; added = sym (append-nil old); are = λ s has. absurd (at_none has.0 s has.1); all = λ s is. absurd (none s is) }
+adds_none P old none = record { more = []; added = sym (append-nil old); are = λ s has. absurd (at_none has.0 s has.1); all = λ s is. absurd (none s is); once = once_none }
 
-pub adds_both : (P Q R : Shown → Type 0) (old mid new : List Shown) → Adds P old mid → Adds Q mid new → ((s : Shown) → R s → P s ⊎ Q s) → ((s : Shown) → P s → R s) → ((s : Shown) → Q s → R s) → Adds R old new
-adds_both P Q R old mid new first second cut p q = record {
+pub adds_both : (P Q R : Shown → Type 0) (old mid new : List Shown) → Adds P old mid → Adds Q mid new → ((s : Shown) → P s → Q s → ⊥) → ((s : Shown) → R s → P s ⊎ Q s) → ((s : Shown) → P s → R s) → ((s : Shown) → Q s → R s) → Adds R old new
+adds_both P Q R old mid new first second apart cut p q = record {
   more = first.more ++ second.more;
   added = second.added ∙ ap (λ (l : List Shown). l ++ second.more) first.added ∙ append_assoc old first.more second.more;
   are = λ s has. elim (at_either first.more second.more has.0 s has.1) [
@@ -74,6 +77,7 @@ adds_both P Q R old mid new first second cut p q = record {
     | inl here ↦ let f = first.all in let has = f s here in (has.0, at_kept first.more second.more has.0 s has.1)
     | inr here ↦ let f = second.all in let has = f s here in (length first.more + has.0, at_second first.more second.more has.0 s has.1)
   ];
+  once = once_joined P Q first.more second.more first.are second.are first.once second.once apart;
 }
 
 pub adds_same : (P Q : Shown → Type 0) (old new : List Shown) → Adds P old new → ((s : Shown) → P s → Q s) → ((s : Shown) → Q s → P s) → Adds Q old new
@@ -82,6 +86,7 @@ adds_same P Q old new adds p q = record {
   added = adds.added;
   are = λ s has. let f = adds.are in p s (f s has);
   all = λ s is. let f = adds.all in f s (q s is);
+  once = adds.once;
 }
 
 -- ---- a message
@@ -117,6 +122,7 @@ adds_found file chunk channel entry s old new is added = record {
   added = added;
   are = λ r has. one r has.0 has.1;
   all = λ r other. (0, ap Rattle.std.specs.Prelude.Some (in_chunk_once file chunk s r (is.place ∙ sym other.place) is.stands other.stands));
+  once = once_alone s;
 }
   where
     one : (r : Shown) (n : ℕ) → At (s ∷ []) n r → IsFound file chunk channel entry r
@@ -128,10 +134,41 @@ adds_found file chunk channel entry s old new is added = record {
 listed_first : (file : List ℕ) (range : Range) (spot : Spot) (entries : List (ℕ × ℕ)) (i k : ℕ) (s : Shown) → i ≤ k → IsListed file range spot (take i entries) s → IsListed file range spot (take k entries) s
 listed_first file range spot entries i k s few is = record { entry = taken_front {X = ℕ × ℕ} entries i k few (s.log_time, s.place.inner) is.entry; in_range = is.in_range; channel_is = is.channel_is; stands = is.stands }
 
-pub listed_more : (file : List ℕ) (range : Range) (spot : Spot) (entries : List (ℕ × ℕ)) (i k : ℕ) (e : ℕ × ℕ) (old mid new : List Shown) → At {X = ℕ × ℕ} entries i e → k ≡ suc i → is_within range e.0 ≡ true → Adds (IsListed file range spot (take i entries)) old mid
+listed_whole : (file : List ℕ) (range : Range) (spot : Spot) (entries : List (ℕ × ℕ)) (i : ℕ) (s : Shown) → IsListed file range spot (take i entries) s → IsListed file range spot entries s
+listed_whole file range spot entries i s is = record {
+  entry = let (n, there) = is.entry in (n, (has_taken {X = ℕ × ℕ} entries i n (s.log_time, s.place.inner) there).1);
+  in_range = is.in_range;
+  channel_is = is.channel_is;
+  stands = is.stands;
+}
+
+pair : (a b c d : ℕ) → a ≡ c → b ≡ d → Rattle.std.proofs.Common.◌≡◌ {A = ℕ × ℕ} (a, b) (c, d)
+pair a b c d one two = cc
+
+-- the entry of a message that was found
+found_entry : (file : List ℕ) (chunk channel : ℕ) (e : ℕ × ℕ) (s : Shown) → IsFound file chunk channel e s → Rattle.std.proofs.Common.◌≡◌ {A = ℕ × ℕ} e (s.log_time, s.place.inner)
+found_entry file chunk channel e s found = pair e.0 e.1 s.log_time s.place.inner (sym found.time) (sym (ap (λ (p : Place). p.inner) found.place))
+
+found_listed : (file : List ℕ) (range : Range) (spot : Spot) (entries : List (ℕ × ℕ)) (i k : ℕ) (e : ℕ × ℕ) → At {X = ℕ × ℕ} entries i e → k ≡ suc i → is_within range e.0 ≡ true → (s : Shown) → IsFound file spot.chunk spot.channel e s → IsListed file range spot (take k entries) s
+found_listed file range spot entries i k e at is within s found = record {
+  entry = subst (λ (p : ℕ × ℕ). Has {X = ℕ × ℕ} (take k entries) p) (found_entry file spot.chunk spot.channel e s found) (taken_last {X = ℕ × ℕ} entries i k e at (omega (arith, is)));
+  in_range = subst (λ (n : ℕ). InRange range n) (sym found.time) ((range_decided range e.0).0 within);
+  channel_is = found.channel_is;
+  stands = found.stands;
+}
+
+-- where the entry doesn't stand before, its message isn't one of those before
+found_apart : (file : List ℕ) (range : Range) (spot : Spot) (entries : List (ℕ × ℕ)) (i : ℕ) (e : ℕ × ℕ) → ((j : ℕ) → j < i → At {X = ℕ × ℕ} entries j e → ⊥) → (s : Shown) → IsListed file range spot (take i entries) s → IsFound file spot.chunk spot.channel e s → ⊥
+found_apart file range spot entries i e none s listed found =
+    let (n, there) = listed.entry in
+    let (less, at_n) = has_taken {X = ℕ × ℕ} entries i n (s.log_time, s.place.inner) there in
+    none n less (subst (λ (p : ℕ × ℕ). At {X = ℕ × ℕ} entries n p) (sym (found_entry file spot.chunk spot.channel e s found)) at_n)
+
+pub listed_more : (file : List ℕ) (range : Range) (spot : Spot) (entries : List (ℕ × ℕ)) (i k : ℕ) (e : ℕ × ℕ) (old mid new : List Shown) → At {X = ℕ × ℕ} entries i e → k ≡ suc i → is_within range e.0 ≡ true → ((j : ℕ) → j < i → At {X = ℕ × ℕ} entries j e → ⊥) → Adds (IsListed file range spot (take i entries)) old mid
     → Adds (IsFound file spot.chunk spot.channel e) mid new → Adds (IsListed file range spot (take k entries)) old new
-listed_more file range spot entries i k e old mid new at is within first second =
+listed_more file range spot entries i k e old mid new at is within none first second =
     adds_both (IsListed file range spot (take i entries)) (IsFound file spot.chunk spot.channel e) (IsListed file range spot (take k entries)) old mid new first second
+    (found_apart file range spot entries i e none)
     (λ s listed. elim (taken_or {X = ℕ × ℕ} entries i e at k is (s.log_time, s.place.inner) listed.entry) [
       | inl there ↦ inl (record { entry = there; in_range = listed.in_range; channel_is = listed.channel_is; stands = listed.stands })
       | inr same ↦
@@ -144,18 +181,21 @@ listed_more file range spot entries i k e old mid new at is within first second 
           })
     ])
     (λ s listed. listed_first file range spot entries i k s (omega (arith, is)) listed)
-    (λ s found. record {
-      entry = let last = taken_last {X = ℕ × ℕ} entries i k e at (omega (arith, is)) in subst (λ (p : ℕ × ℕ). Has {X = ℕ × ℕ} (take k entries) p) (pair e.0 e.1 s.log_time s.place.inner (sym found.time) (sym (ap (λ (p : Place). p.inner) found.place))) last;
-      in_range = subst (λ (n : ℕ). InRange range n) (sym found.time) ((range_decided range e.0).0 within);
-      channel_is = found.channel_is;
-      stands = found.stands;
-    })
+    (found_listed file range spot entries i k e at is within)
   where
     made : (p : Place) (chunk inner : ℕ) → p.top ≡ chunk → p.inner ≡ inner → place_in p.top p.inner ≡ place_in chunk inner
     made p chunk inner top is = cc
 
-    pair : (a b c d : ℕ) → a ≡ c → b ≡ d → Rattle.std.proofs.Common.◌≡◌ {A = ℕ × ℕ} (a, b) (c, d)
-    pair a b c d one two = cc
+-- of which there is no room for the last one
+pub listed_over : (file : List ℕ) (range : Range) (spot : Spot) (entries : List (ℕ × ℕ)) (i : ℕ) (e : ℕ × ℕ) (old mid : List Shown) → At {X = ℕ × ℕ} entries i e → is_within range e.0 ≡ true → ((j : ℕ) → j < i → At {X = ℕ × ℕ} entries j e → ⊥)
+    → Adds (IsListed file range spot (take i entries)) old mid → Overfull (IsFound file spot.chunk spot.channel e) (IsFound file spot.chunk spot.channel e) file mid → Overfull (IsListed file range spot entries) (IsListed file range spot entries) file old
+listed_over file range spot entries i e old mid at within none first over =
+    let last : (s : Shown) → IsFound file spot.chunk spot.channel e s → IsListed file range spot entries s = λ s found. listed_whole file range spot entries (suc i) s (found_listed file range spot entries i (suc i) e at refl within s found) in
+    over_both (IsListed file range spot (take i entries)) (IsFound file spot.chunk spot.channel e) (IsListed file range spot entries) (IsFound file spot.chunk spot.channel e) (IsListed file range spot entries) file old mid first over
+    (found_apart file range spot entries i e none)
+    (λ s listed. listed_whole file range spot entries i s listed)
+    last
+    last
 
 pub listed_skip : (file : List ℕ) (range : Range) (spot : Spot) (entries : List (ℕ × ℕ)) (i k : ℕ) (e : ℕ × ℕ) (old new : List Shown) → At {X = ℕ × ℕ} entries i e → k ≡ suc i → is_within range e.0 ≡ false → Adds (IsListed file range spot (take i entries)) old new
     → Adds (IsListed file range spot (take k entries)) old new

@@ -1,5 +1,5 @@
 -- What the Chunk Indexes of a summary add.
-use Rattle.std.proofs.Common.{◌≡◌, ℕ, suc, ◌+◌, ◌≤◌, Bool, true, false, List, ◌∷◌, take, refl, sym, subst, inl, inr, arith}
+use Rattle.std.proofs.Common.{◌≡◌, ℕ, suc, ◌+◌, ◌≤◌, Bool, true, false, List, ◌∷◌, take, refl, sym, subst, inl, inr, ◌∙◌, arith}
 use Rattle.std.proofs.lemmas.Bool.{both_ways}
 use Rattle.mcap_model.specs.declared.replay.Range.{Range}
 use Rattle.mcap_model.specs.declared.replay.Shown.{Shown}
@@ -8,12 +8,16 @@ use Rattle.mcap_model.specs.Tops.{Top}
 use Rattle.mcap_model.specs.Fields.{ChunkIndexFields, IsChunkIndex}
 use Rattle.mcap_model.specs.Led.{Meets}
 use Rattle.mcap_model.proofs.Places.{at_none}
+use Rattle.mcap_model.proofs.Lists.{has_taken}
 use Rattle.mcap_model.proofs.Once.{chunk_index_once}
+use Rattle.indexed_replay.specs.declared.answers.ReplayRefused.{ReplayRefused}
 use Rattle.indexed_replay.specs.declared.spots.Request.{Request}
 use Rattle.indexed_replay.specs.Steps.{Adds}
-use Rattle.indexed_replay.specs.Chunks.{IsLedAmong, ChunkCost}
-use Rattle.indexed_replay.specs.Gathering.{IsLedFrom, IndexesCost, next_index, last_index}
+use Rattle.indexed_replay.specs.Lists.{IsNamed}
+use Rattle.indexed_replay.specs.Chunks.{spot_of, IsLedAmong, NameFills, ChunkCost}
+use Rattle.indexed_replay.specs.Gathering.{AreApart, IndexFills, IsLedFrom, IndexesCost, next_index, last_index}
 use Rattle.indexed_replay.proofs.Adding.{taken_or, taken_front, taken_last, adds_none, adds_same, adds_both}
+use Rattle.indexed_replay.proofs.Filling.{over_both}
 
 from_front : (file : List ℕ) (request : Request) (tops : List Top) (i k : ℕ) (s : Shown) → i ≤ k → IsLedFrom file request (take i tops) s → IsLedFrom file request (take k tops) s
 from_front file request tops i k s few led = record { index = led.index; shown = led.shown; there = taken_front tops i k few led.index led.there; is = led.is; meets = led.meets; led = led.led }
@@ -33,10 +37,51 @@ from_skip file request tops i k t f old new at is shows missed adds =
           absurd (missed (subst (λ (h : ChunkIndexFields). Meets request.range h) fields led.meets))
     ])
 
-pub from_more : (file : List ℕ) (request : Request) (tops : List Top) (i k : ℕ) (t : Top) (f : ChunkIndexFields) (old mid new : List Shown) → At tops i t → k ≡ suc i → IsChunkIndex t f → Meets request.range f → Adds (IsLedFrom file request (take i tops)) old mid
+-- the Chunk Indexes of other chunks lead to other messages
+from_apart : (file : List ℕ) (request : Request) (tops : List Top) (i : ℕ) (t : Top) (f : ChunkIndexFields) → At tops i t → IsChunkIndex t f → AreApart tops
+    → (s : Shown) → IsLedFrom file request (take i tops) s → IsLedAmong file request f.offset f.indexes s → ⊥
+from_apart file request tops i t f at shows apart s from among =
+    let (n, there) = from.there in
+    let (less, at_n) = has_taken tops i n from.index there in
+    let first = from.led in
+    let first_by = first.led in
+    let first_led = first_by.led in
+    let first_message = first_led.message in
+    let other_by = among.led in
+    let other_led = other_by.led in
+    let other_message = other_led.message in
+    let same = apart n i from.index t from.shown f at_n at from.is shows (sym first_message.place ∙ other_message.place) in
+    omega (arith, less, same)
+
+-- of which there is no room for those of one more
+pub from_over : (file : List ℕ) (request : Request) (tops : List Top) (i : ℕ) (t : Top) (f : ChunkIndexFields) (old mid : List Shown) (why : ReplayRefused) → At tops i t → IsChunkIndex t f → Meets request.range f → AreApart tops → Adds (IsLedFrom file request (take i tops)) old mid
+    → NameFills file request f mid why → IndexFills file request tops old why
+from_over file request tops i t f old mid why at shows meets apart first name =
+    let (is, over) = name.fills in
+    record {
+      place = i;
+      index = t;
+      shown = f;
+      at = at;
+      is = shows;
+      meets = meets;
+      named = name.named;
+      there = name.there;
+      fills = (
+        is,
+        over_both (IsLedFrom file request (take i tops)) (IsLedAmong file request f.offset f.indexes) (IsLedFrom file request tops) (IsNamed file request (spot_of f.offset name.named)) (IsNamed file request (spot_of f.offset name.named)) file old mid first over
+            (from_apart file request tops i t f at shows apart)
+            (λ s led. let (n, there) = led.there in record { index = led.index; shown = led.shown; there = (n, (has_taken tops i n led.index there).1); is = led.is; meets = led.meets; led = led.led })
+            (λ s led. record { index = t; shown = f; there = (i, at); is = shows; meets = meets; led = led })
+            (λ s is_named. is_named),
+      );
+    }
+
+pub from_more : (file : List ℕ) (request : Request) (tops : List Top) (i k : ℕ) (t : Top) (f : ChunkIndexFields) (old mid new : List Shown) → At tops i t → k ≡ suc i → IsChunkIndex t f → Meets request.range f → AreApart tops → Adds (IsLedFrom file request (take i tops)) old mid
     → Adds (IsLedAmong file request f.offset f.indexes) mid new → Adds (IsLedFrom file request (take k tops)) old new
-from_more file request tops i k t f old mid new at is shows meets first second =
+from_more file request tops i k t f old mid new at is shows meets apart first second =
     adds_both (IsLedFrom file request (take i tops)) (IsLedAmong file request f.offset f.indexes) (IsLedFrom file request (take k tops)) old mid new first second
+    (from_apart file request tops i t f at shows apart)
     (λ s led. elim (taken_or tops i t at k is led.index led.there) [
       | inl there ↦ inl (record { index = led.index; shown = led.shown; there = there; is = led.is; meets = led.meets; led = led.led })
       | inr same ↦

@@ -1,6 +1,9 @@
 pub mod Headed
 pub mod Messaging
+pub mod Once
 pub mod Adding
+pub mod Filling
+pub mod Ascending
 pub mod Timely
 pub mod Wanting
 pub mod Listing
@@ -23,3 +26,5 @@ pub mod Costing
 pub mod Bounded
 pub mod Ending
 pub mod Apart
+pub mod Overfull
+pub mod Roomy

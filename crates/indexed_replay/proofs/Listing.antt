@@ -1,5 +1,5 @@
 -- What a Message Index adds, and why it adds nothing.
-use Rattle.std.proofs.Common.{◌≡◌, ℕ, ◌+◌, ◌≤◌, Bool, true, false, List, drop, Result, Ok, Err, refl, sym, ap, subst, ◌∙◌, arith}
+use Rattle.std.proofs.Common.{◌≡◌, ◌⊎◌, ℕ, ◌+◌, ◌≤◌, Bool, true, false, List, drop, Result, Ok, Err, refl, sym, ap, subst, inl, inr, ◌∙◌, arith}
 use Rattle.mcap_model.specs.declared.replay.Range.{Range}
 use Rattle.mcap_model.specs.declared.replay.Shown.{Shown}
 use Rattle.mcap_model.specs.Places.{Has}
@@ -19,8 +19,10 @@ use Rattle.indexed_replay.specs.declared.spots.Request.{Request}
 use Rattle.indexed_replay.specs.Reaching.{Names, LeadsTo, LacksIndex, LacksMessage, no_index, IsTooLong, at_index, at_message, head_length}
 use Rattle.indexed_replay.specs.Replaying.{IsReason}
 use Rattle.indexed_replay.specs.Steps.{FrontStands, Adds, IsListed, EntryRefused, EntriesShown, entries_cost, ListAsked}
-use Rattle.indexed_replay.specs.Lists.{Wanted, Undeclared, Knows, HasTimely, IsShownBy, ContentRefused, at_entry, no_channel, ContentShown, IsLedBy, ListRefused, ListShown, ListCost, own_list, other_list, no_list, IsFound}
+use Rattle.indexed_replay.specs.Lists.{Wanted, Undeclared, Knows, HasTimely, IsShownBy, ContentRefused, at_entry, no_channel, too_much, ContentShown, IsLedBy, IsNamed, ListRefused, ListShown, ListCost, own_list, other_list, no_list, IsFound}
+use Rattle.indexed_replay.specs.Holding.{Fills}
 use Rattle.indexed_replay.proofs.Headed.{there_begun}
+use Rattle.indexed_replay.proofs.Filling.{over_same}
 use Rattle.indexed_replay.proofs.Adding.{adds_none, adds_same, same_there}
 use Rattle.mcap_model.proofs.Once.{message_index_once}
 
@@ -33,16 +35,19 @@ content_shown file request spot entries shown (Ok true) wanted adds =
     (λ s listed. record { listed = listed; wanted = subst (λ (c : ℕ). Wanted request.tables.now.channels c (asked_topic request.topic)) (sym listed.channel_is) wanted })
     (λ s is. is.listed)
 content_shown file request spot entries shown (Ok false) wanted lacks = lacks
-content_shown file request spot entries shown (Err why) wanted refused = at_entry why refused.0 refused.1 refused.2 refused.3
+content_shown file request spot entries shown (Err why) wanted (inl refused) = at_entry why refused
+content_shown file request spot entries shown (Err why) wanted (inr (is, over)) =
+    let shows : (s : Shown) → IsListed file request.range spot entries s → IsShownBy file request spot entries s = λ s listed. record { listed = listed; wanted = subst (λ (c : ℕ). Wanted request.tables.now.channels c (asked_topic request.topic)) (sym listed.channel_is) wanted } in
+    too_much why (is, over_same (IsListed file request.range spot entries) (IsListed file request.range spot entries) (IsShownBy file request spot entries) (IsShownBy file request spot entries) file shown.0 over shows shows)
 
 pub content_none : (file : List ℕ) (request : Request) (spot : Spot) (entries : List (ℕ × ℕ)) (old : List Shown) → (Wanted request.tables.now.channels spot.channel (asked_topic request.topic) → ⊥) → Adds (IsShownBy file request spot entries) old old
 content_none file request spot entries old unwanted =
     adds_none (IsShownBy file request spot entries) old
     (λ s is. let listed = is.listed in unwanted (subst (λ (c : ℕ). Wanted request.tables.now.channels c (asked_topic request.topic)) listed.channel_is is.wanted))
 
-pub content_lacks : (file : List ℕ) (request : Request) (spot : Spot) (entries : List (ℕ × ℕ)) (why : NotIndexed) → (why ≡ lacks.NoChannel spot.channel) × HasTimely request.range entries × Undeclared request.tables.now.channels spot.channel
-    → ContentRefused file request spot entries (refusals.NotIndexed why)
-content_lacks file request spot entries why (is, timely, none) = subst (λ (w : NotIndexed). ContentRefused file request spot entries (refusals.NotIndexed w)) (sym is) (no_channel timely none)
+pub content_lacks : (file : List ℕ) (request : Request) (spot : Spot) (entries : List (ℕ × ℕ)) (old : List Shown) (why : NotIndexed) → (why ≡ lacks.NoChannel spot.channel) × HasTimely request.range entries × Undeclared request.tables.now.channels spot.channel
+    → ContentRefused file request spot entries old (refusals.NotIndexed why)
+content_lacks file request spot entries old why (is, timely, none) = subst (λ (w : NotIndexed). ContentRefused file request spot entries old (refusals.NotIndexed w)) (sym is) (no_channel timely none)
 
 -- ---- a Message Index
 
@@ -92,9 +97,13 @@ module _ (file : List ℕ) (request : Request) (at : ℕ) (spot : Spot) (content
   entry_reason (refusals.Limit offset) f entry place to (here, past) = at_message at f spot.channel spot.list offset entry to (here ∙ ap (λ (o : ℕ). o + 49 + entry.1) (sym place)) past
   entry_reason refusals.Memory f entry place to refused = tt
 
-  content_reason : (why : ReplayRefused) → Knows file request.tables.now.channels → ContentRefused file request spot entries why → ListRefused file request at spot why
-  content_reason why knows (at_entry w entry has in_range refused) = λ f place names. entry_reason w f entry place (leads f entry names has in_range) refused
-  content_reason why knows (no_channel timely none) = λ f place names. record {
+  named : (s : Shown) → IsShownBy file request spot entries s → IsNamed file request spot s
+  named s is = let listed = is.listed in record { led = led s is; own = listed.channel_is }
+
+  content_reason : (old : List Shown) (why : ReplayRefused) → Knows file request.tables.now.channels → ContentRefused file request spot entries old why → ListRefused file request at spot why ⊎ Fills (IsNamed file request spot) (IsNamed file request spot) spot.list file old why
+  content_reason old why knows (at_entry w (entry, has, in_range, refused)) = inl (λ f place names. entry_reason w f entry place (leads f entry names has in_range) refused)
+  content_reason old why knows (too_much w (is, over)) = inr (is, over_same (IsShownBy file request spot entries) (IsShownBy file request spot entries) (IsNamed file request spot) (IsNamed file request spot) file old over named named)
+  content_reason old why knows (no_channel timely none) = inl (λ f place names. record {
     at = at;
     index = f;
     offset = spot.list;
@@ -104,12 +113,12 @@ module _ (file : List ℕ) (request : Request) (at : ℕ) (spot : Spot) (content
     summary = knows.summary;
     has = knows.has;
     none = λ n t found g is. let covers = knows.covers in let (k, d, here, same) = covers t spot.channel g (n, found) is in none k d here same;
-  }
+  })
 
   pub list_shown : (shown : List Shown × List Shown) (result : Result Bool ReplayRefused) → Knows file request.tables.now.channels → ContentShown file request spot entries shown result → ListShown file request at spot shown result
   list_shown shown (Ok true) knows adds = adds_same (IsShownBy file request spot entries) (IsLedBy file request spot) shown.0 shown.1 adds led listed
   list_shown shown (Ok false) knows (entry, has, in_range, lacking) = λ f place names. record { entry = entry; leads = leads f entry names has in_range; lacks = subst (λ (o : ℕ). LacksMessage file o spot.channel entry) (sym place) lacking }
-  list_shown shown (Err why) knows refused = content_reason why knows refused
+  list_shown shown (Err why) knows refused = content_reason shown.0 why knows refused
 
 pub lacks_reason : (file : List ℕ) (request : Request) (at : ℕ) (spot : Spot) → LacksIndex file spot.channel spot.list → ListRefused file request at spot (refusals.Flaw 12 at)
 lacks_reason file request at spot none = λ f place names. no_index at f spot.channel spot.list names none

@@ -1,23 +1,31 @@
 -- What the Message Indexes of a chunk add, and what they cost.
 use Rattle.std.proofs.Common.{◌≡◌, ℕ, zero, suc, ◌+◌, ◌≤◌, Bool, false, Result, Ok, Err, List, [], ◌∷◌, length, take, drop, refl, sym, ap, subst, inl, inr, ◌∙◌, arith}
+use Rattle.std.specs.Prelude.{◌≢◌}
+use Rattle.std.proofs.lemmas.Bool.{cases_eq}
 use Rattle.std.proofs.lemmas.Option.{same_Some}
 use Rattle.std.specs.List.{AllZip}
 use Rattle.mcap_wire.specs.Reading.{text_length}
 use Rattle.mcap_model.specs.declared.replay.Range.{Range}
 use Rattle.mcap_model.specs.declared.replay.Shown.{Shown}
-use Rattle.mcap_model.specs.Places.{At}
+use Rattle.mcap_wire.specs.Maps.{KeysDiffer}
+use Rattle.mcap_model.specs.Places.{At, Has}
 use Rattle.mcap_model.specs.Tops.{Top}
-use Rattle.mcap_model.specs.Fields.{ChunkIndexFields}
+use Rattle.mcap_model.specs.Fields.{ChunkIndexFields, IsMessageIndex}
 use Rattle.mcap_model.proofs.Places.{at_none}
+use Rattle.mcap_model.proofs.Lists.{has_taken, pairs_at}
+use Rattle.mcap_model.proofs.Once.{message_index_once}
 use Rattle.indexed_replay.specs.declared.answers.ReplayRefused.{ReplayRefused}
 use Rattle.indexed_replay.specs.declared.answers.ReplayRefused.TheVariants as refusals
 use Rattle.indexed_replay.specs.declared.spots.Request.{Request}
+use Rattle.indexed_replay.specs.declared.spots.Spot.{Spot}
 use Rattle.indexed_replay.specs.Reaching.{IsReached, EndsAt, LacksIndex, Breaks, no_chunk, at_chunk, NamesNone, AskedBeside}
 use Rattle.indexed_replay.specs.Replaying.{IsReason}
 use Rattle.indexed_replay.specs.Steps.{Adds}
-use Rattle.indexed_replay.specs.Lists.{IsLedBy, ListCost}
-use Rattle.indexed_replay.specs.Chunks.{spot_of, IsLedAmong, ChunkRefused, ChunkAsked, plain_length, IsPackedAs, FrontAsked, NamesCost, no_name, next_name, last_name, ChunkCost, empty_map, plain_chunk, compressed_chunk, lacking_chunk}
+use Rattle.indexed_replay.specs.Holding.{Fills}
+use Rattle.indexed_replay.specs.Lists.{IsLedBy, IsNamed, ListCost}
+use Rattle.indexed_replay.specs.Chunks.{spot_of, IsLedAmong, NameFills, ChunkRefused, ChunkAsked, plain_length, IsPackedAs, FrontAsked, NamesCost, no_name, next_name, last_name, ChunkCost, empty_map, plain_chunk, compressed_chunk, lacking_chunk}
 use Rattle.indexed_replay.proofs.Adding.{same_there, taken_or, taken_front, taken_last, adds_none, adds_both}
+use Rattle.indexed_replay.proofs.Filling.{over_both}
 
 -- ---- lists
 
@@ -40,16 +48,64 @@ dropped {X} xs i k x at is = by xs i at ∙ ap (λ (n : ℕ). x ∷ drop n xs) (
 pub named_none : (file : List ℕ) (request : Request) (chunk : ℕ) (indexes : List (ℕ × ℕ)) (old : List Shown) → Adds (IsLedAmong file request chunk (take 0 indexes)) old old
 named_none file request chunk indexes old = adds_none (IsLedAmong file request chunk (take 0 indexes)) old (λ s is. let has = is.there in at_none {X = ℕ × ℕ} has.0 is.named has.1)
 
-pub named_more : (file : List ℕ) (request : Request) (chunk : ℕ) (indexes : List (ℕ × ℕ)) (i k : ℕ) (p : ℕ × ℕ) (old mid new : List Shown) → At {X = ℕ × ℕ} indexes i p → k ≡ suc i → Adds (IsLedAmong file request chunk (take i indexes)) old mid
+pub named_more : (file : List ℕ) (request : Request) (chunk : ℕ) (indexes : List (ℕ × ℕ)) (i k : ℕ) (p : ℕ × ℕ) (old mid new : List Shown) → At {X = ℕ × ℕ} indexes i p → k ≡ suc i → ((s : Shown) → IsLedAmong file request chunk (take i indexes) s → IsLedBy file request (spot_of chunk p) s → ⊥) → Adds (IsLedAmong file request chunk (take i indexes)) old mid
     → Adds (IsLedBy file request (spot_of chunk p)) mid new → Adds (IsLedAmong file request chunk (take k indexes)) old new
-named_more file request chunk indexes i k p old mid new at is first second =
+named_more file request chunk indexes i k p old mid new at is apart first second =
     adds_both (IsLedAmong file request chunk (take i indexes)) (IsLedBy file request (spot_of chunk p)) (IsLedAmong file request chunk (take k indexes)) old mid new first second
+    apart
     (λ s led. elim (taken_or {X = ℕ × ℕ} indexes i p at k is led.named led.there) [
       | inl there ↦ inl (record { named = led.named; there = there; led = led.led })
       | inr same ↦ inr (subst (λ (q : ℕ × ℕ). IsLedBy file request (spot_of chunk q) s) same led.led)
     ])
     (λ s led. record { named = led.named; there = taken_front {X = ℕ × ℕ} indexes i k (omega (arith, is)) led.named led.there; led = led.led })
     (λ s led. record { named = p; there = taken_last {X = ℕ × ℕ} indexes i k p at (omega (arith, is)); led = led })
+
+-- where the Message Index of a channel stands there, it leads to messages of that channel
+pub own_channel : (file : List ℕ) (request : Request) (spot : Spot) (s : Shown) → (LacksIndex file spot.channel spot.list → ⊥) → IsLedBy file request spot s → s.channel ≡ spot.channel
+own_channel file request spot s found is =
+    let by = is.led in
+    elim (cases_eq s.channel spot.channel) [
+      | inl same ↦ same
+      | inr other ↦ absurd (found (λ t entries there index.
+          let same = same_there file spot.list t by.list there by.there in
+          let once = message_index_once by.list spot.channel s.channel entries by.entries (subst (λ (u : Top). IsMessageIndex u spot.channel entries) same index) by.is in
+          omega (arith, other, once.0)))
+    ]
+
+-- the Message Indexes of channels that differ lead to messages that differ
+pub names_apart : (file : List ℕ) (request : Request) (chunk : ℕ) (indexes : List (ℕ × ℕ)) (i : ℕ) (p : ℕ × ℕ) → KeysDiffer {K = ℕ} {V = ℕ} indexes → At {X = ℕ × ℕ} indexes i p → ((named : ℕ × ℕ) → Has {X = ℕ × ℕ} (take i indexes) named → LacksIndex file named.0 named.1 → ⊥)
+    → (s : Shown) → IsLedAmong file request chunk (take i indexes) s → s.channel ≡ p.0 → ⊥
+names_apart file request chunk indexes i p keys at found s led channel =
+    let named = led.named in
+    let (n, there) = led.there in
+    let (less, at_n) = has_taken {X = ℕ × ℕ} indexes i n named there in
+    let own = own_channel file request (spot_of chunk named) s (found named led.there) led.led in
+    pairs_at {X = ℕ × ℕ} (λ (a b : ℕ × ℕ). a.0 ≢ b.0) indexes keys n i named p less at_n at (sym own ∙ channel)
+
+-- one more was found
+pub found_more : (file : List ℕ) (indexes : List (ℕ × ℕ)) (i k : ℕ) (p : ℕ × ℕ) → At {X = ℕ × ℕ} indexes i p → k ≡ suc i → ((named : ℕ × ℕ) → Has {X = ℕ × ℕ} (take i indexes) named → LacksIndex file named.0 named.1 → ⊥) → (LacksIndex file p.0 p.1 → ⊥)
+    → (named : ℕ × ℕ) → Has {X = ℕ × ℕ} (take k indexes) named → LacksIndex file named.0 named.1 → ⊥
+found_more file indexes i k p at is before here named has lacks = elim (taken_or {X = ℕ × ℕ} indexes i p at k is named has) [
+  | inl there ↦ before named there lacks
+  | inr same ↦ here (subst (λ (q : ℕ × ℕ). LacksIndex file q.0 q.1) same lacks)
+]
+
+-- of which there is no room for those of the last one
+pub names_over : (file : List ℕ) (request : Request) (f : ChunkIndexFields) (i : ℕ) (p : ℕ × ℕ) (old mid : List Shown) (why : ReplayRefused) → KeysDiffer {K = ℕ} {V = ℕ} f.indexes → At {X = ℕ × ℕ} f.indexes i p
+    → ((named : ℕ × ℕ) → Has {X = ℕ × ℕ} (take i f.indexes) named → LacksIndex file named.0 named.1 → ⊥) → Adds (IsLedAmong file request f.offset (take i f.indexes)) old mid
+    → Fills (IsNamed file request (spot_of f.offset p)) (IsNamed file request (spot_of f.offset p)) p.1 file mid why → NameFills file request f old why
+names_over file request f i p old mid why keys at found first (is, over) = record {
+  named = p;
+  there = (i, at);
+  fills = (
+    is,
+    over_both (IsLedAmong file request f.offset (take i f.indexes)) (IsNamed file request (spot_of f.offset p)) (IsLedAmong file request f.offset f.indexes) (IsNamed file request (spot_of f.offset p)) (IsNamed file request (spot_of f.offset p)) file old mid first over
+        (λ s led named. names_apart file request f.offset f.indexes i p keys at found s led named.own)
+        (λ s led. let (n, there) = led.there in record { named = led.named; there = (n, (has_taken {X = ℕ × ℕ} f.indexes i n led.named there).1); led = led.led })
+        (λ s named. record { named = p; there = (i, at); led = named.led })
+        (λ s named. named),
+  );
+}
 
 pub named_empty : (file : List ℕ) (request : Request) (chunk : ℕ) (indexes : List (ℕ × ℕ)) (old : List Shown) → length indexes ≡ 0 → Adds (IsLedAmong file request chunk indexes) old old
 named_empty file request chunk [] old none = named_none file request chunk [] old

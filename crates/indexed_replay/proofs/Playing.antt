@@ -32,7 +32,7 @@ use Rattle.time_player.proofs.Ordering.{same_decided}
 use Rattle.indexed_replay.proofs.Summed.{summary_once, first_once}
 
 -- a message with the topic of its channel
-abbrev seen_of : Shown → List ℕ → Seen
+abbrev pub seen_of : Shown → List ℕ → Seen
 seen_of s topic = record { place = s.place; channel = s.channel; topic = topic; message = record { sequence = s.sequence; log_time = s.log_time; publish_time = s.publish_time; payload = s.payload } }
 
 abbrev is_index_top : Top → Rattle.std.proofs.Common.Bool
@@ -70,7 +70,7 @@ module _ (file : List ℕ) (request : Request) (start : ℕ) (summary tops : Lis
   in_chunk : (chunk : ℕ) (s : Shown) (topic : List ℕ) → IsInChunk file chunk (led_as s) → IsInChunk file chunk (seen_of s topic)
   in_chunk chunk s topic is = record { place = is.place; top = is.top; there = is.there; is = is.is }
 
-  to_led : (s : Shown) (from : IsLedFrom file request tops s) → (topic : List ℕ) × Led file request.range (seen_of s topic) × OnTopic (asked_topic request.topic) topic × FirstTopic summary s.channel topic
+  pub to_led : (s : Shown) (from : IsLedFrom file request tops s) → (topic : List ℕ) × Led file request.range (seen_of s topic) × OnTopic (asked_topic request.topic) topic × FirstTopic summary s.channel topic
   to_led s from =
       let among = from.led in
       let by = among.led in

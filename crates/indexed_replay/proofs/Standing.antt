@@ -90,7 +90,7 @@ astray_reason file range at f channel list end refusals.Memory nowhere ends refu
 -- that is what the Chunk Index is refused for
 pub astray_shown : (file : List ℕ) (request : Request) (at : ℕ) (f : ChunkIndexFields) (channel list end : ℕ) (shown : List Shown × List Shown) (why : ReplayRefused) → (IsReached file request.range at f → LeadsNowhere file request.range at f channel list) → EndsAt file f.offset end
     → AstrayRefused file at end list why → ChunkShown file request at f shown (Err why)
-astray_shown file request at f channel list end shown why nowhere ends refused = λ reached. astray_reason file request.range at f channel list end why (nowhere reached) ends refused
+astray_shown file request at f channel list end shown why nowhere ends refused = inl (λ reached. astray_reason file request.range at f channel list end why (nowhere reached) ends refused)
 
 -- ---- what is asked for
 

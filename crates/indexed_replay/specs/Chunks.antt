@@ -1,5 +1,5 @@
 -- What a chunk adds to a replay.
-use Rattle.std.specs.Prelude.{◌≡◌, ◌≢◌, ℕ, ◌+◌, ◌≤◌, List, [], ◌∷◌, length, Bool, true, false, Option, Some, Result, Ok, Err}
+use Rattle.std.specs.Prelude.{◌≡◌, ◌≢◌, ◌⊎◌, ℕ, ◌+◌, ◌≤◌, List, [], ◌∷◌, length, Bool, true, false, Option, Some, Result, Ok, Err}
 use Rattle.mcap_io.specs.Stores.{StoreState}
 use Rattle.mcap_wire.specs.Reading.{text_length}
 use Rattle.mcap_wire.specs.Contents.{Kind, a_number, a_text, ShowsRow}
@@ -17,7 +17,8 @@ use Rattle.indexed_replay.specs.declared.spots.Request.{Request}
 use Rattle.indexed_replay.specs.Reaching.{IsReached, EndsAt, LacksChunk, LacksIndex, IsTooLong, head_length, AskedBeside}
 use Rattle.indexed_replay.specs.Replaying.{IsReason}
 use Rattle.indexed_replay.specs.Steps.{Adds}
-use Rattle.indexed_replay.specs.Lists.{Knows, IsLedBy, ListCost}
+use Rattle.indexed_replay.specs.Holding.{Fills}
+use Rattle.indexed_replay.specs.Lists.{Knows, IsLedBy, IsNamed, ListCost}
 
 -- ---- the front of a chunk
 
@@ -94,10 +95,16 @@ pub record IsLedAmong (file : List ℕ) (request : Request) (chunk : ℕ) (index
   pub there : Has {X = ℕ × ℕ} indexes named
   pub led : IsLedBy file request (spot_of chunk named) s
 
+-- the data of its messages is too much, beside these: that is told at a Message Index that it names
+pub record NameFills (file : List ℕ) (request : Request) (f : ChunkIndexFields) (old : List Shown) (why : ReplayRefused) : Type 0 where
+  pub named : ℕ × ℕ
+  pub there : Has {X = ℕ × ℕ} f.indexes named
+  pub fills : Fills (IsLedAmong file request f.offset f.indexes) (IsNamed file request (spot_of f.offset named)) named.1 file old why
+
 -- a Chunk Index at that offset
 abbrev pub ChunkShown : List ℕ → Request → ℕ → ChunkIndexFields → (List Shown × List Shown) → Result Unit ReplayRefused → Type 0
 ChunkShown file request at f shown (Ok it) = Adds (IsLedAmong file request f.offset f.indexes) shown.0 shown.1
-ChunkShown file request at f shown (Err why) = IsReached file request.range at f → IsReason file request.range why
+ChunkShown file request at f shown (Err why) = (IsReached file request.range at f → IsReason file request.range why) ⊎ NameFills file request f shown.0 why
 
 abbrev pub ShowsChunk : Option (List ℕ) → Request → ℕ → ChunkIndexFields → (List Shown × List Shown) → Result Unit ReplayRefused → Type 0
 ShowsChunk told request at f shown result = (file : List ℕ) → told ≡ Some file → length file ≡ request.len → Knows file request.tables.now.channels → ChunkShown file request at f shown result

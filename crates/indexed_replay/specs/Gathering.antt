@@ -1,5 +1,5 @@
 -- What the Chunk Indexes of a summary add to a replay, and the Channels that are known.
-use Rattle.std.specs.Prelude.{◌≡◌, ℕ, ◌+◌, ◌<◌, ◌≤◌, List, [], ◌∷◌, length, true, false, Option, Some, Result, Ok, Err}
+use Rattle.std.specs.Prelude.{◌≡◌, ◌⊎◌, ℕ, ◌+◌, ◌<◌, ◌≤◌, List, [], ◌∷◌, length, true, false, Option, Some, Result, Ok, Err}
 use Rattle.mcap_io.specs.Stores.{StoreState}
 use Rattle.mcap_model.specs.declared.replay.Range.{Range}
 use Rattle.mcap_model.specs.declared.replay.Shown.{Shown}
@@ -15,8 +15,9 @@ use Rattle.indexed_replay.specs.declared.spots.Request.{Request}
 use Rattle.indexed_replay.specs.Reaching.{HasChunkIndex, AskedBeside}
 use Rattle.indexed_replay.specs.Replaying.{IsReason}
 use Rattle.indexed_replay.specs.Steps.{Adds}
-use Rattle.indexed_replay.specs.Lists.{Knows}
-use Rattle.indexed_replay.specs.Chunks.{IsLedAmong, ChunkCost}
+use Rattle.indexed_replay.specs.Holding.{Fills}
+use Rattle.indexed_replay.specs.Lists.{Knows, IsNamed}
+use Rattle.indexed_replay.specs.Chunks.{spot_of, IsLedAmong, ChunkCost}
 
 -- ---- channels
 
@@ -56,12 +57,28 @@ pub record IsLedFrom (file : List ℕ) (request : Request) (tops : List Top) (s 
 abbrev pub AreIndexed : List ℕ → List Top → List ℕ → Type 0
 AreIndexed file tops offsets = (n : ℕ) (t : Top) (f : ChunkIndexFields) (at : ℕ) → At tops n t → IsChunkIndex t f → At offsets n at → HasChunkIndex file at f
 
+-- no two of these records are Chunk Indexes of one chunk
+abbrev pub AreApart : List Top → Type 0
+AreApart tops = (j k : ℕ) (t u : Top) (f g : ChunkIndexFields) → At tops j t → At tops k u → IsChunkIndex t f → IsChunkIndex u g → f.offset ≡ g.offset → j ≡ k
+
+-- the data of their messages is too much, beside these: that is told at a Message Index that one of them names
+pub record IndexFills (file : List ℕ) (request : Request) (tops : List Top) (old : List Shown) (why : ReplayRefused) : Type 0 where
+  pub place : ℕ
+  pub index : Top
+  pub shown : ChunkIndexFields
+  pub at : At tops place index
+  pub is : IsChunkIndex index shown
+  pub meets : Meets request.range shown
+  pub named : ℕ × ℕ
+  pub there : Has {X = ℕ × ℕ} shown.indexes named
+  pub fills : Fills (IsLedFrom file request tops) (IsNamed file request (spot_of shown.offset named)) named.1 file old why
+
 abbrev pub AllShown : List ℕ → Request → List Top → List ℕ → (List Shown × List Shown) → Result Unit ReplayRefused → Type 0
 AllShown file request tops offsets shown (Ok it) = Adds (IsLedFrom file request tops) shown.0 shown.1
-AllShown file request tops offsets shown (Err why) = AreIndexed file tops offsets → IsReason file request.range why
+AllShown file request tops offsets shown (Err why) = (AreIndexed file tops offsets → IsReason file request.range why) ⊎ IndexFills file request tops shown.0 why
 
 abbrev pub Gathers : Option (List ℕ) → Request → List Top → List ℕ → (List Shown × List Shown) → Result Unit ReplayRefused → Type 0
-Gathers told request tops offsets shown result = (file : List ℕ) → told ≡ Some file → length file ≡ request.len → Knows file request.tables.now.channels → AllShown file request tops offsets shown result
+Gathers told request tops offsets shown result = (file : List ℕ) → told ≡ Some file → length file ≡ request.len → Knows file request.tables.now.channels → AreApart tops → AllShown file request tops offsets shown result
 
 -- ---- what is asked for
 

@@ -7,12 +7,15 @@ use Rattle.mcap_model.specs.Tops.{Top}
 use Rattle.mcap_model.specs.Fields.{ChunkIndexFields, IsChunkIndex}
 use Rattle.mcap_model.specs.Rules.{V6, V8}
 use Rattle.mcap_model.specs.Whole.{IsWhole, StandsAt, V11, V17}
-use Rattle.mcap_model.specs.Valid.{Keeps, IsPlain, Valid, Flaw}
+use Rattle.mcap_model.specs.Kept.{reading_limits, at_end, Halts}
+use Rattle.mcap_model.specs.Scan.{Seen, Scan}
+use Rattle.mcap_model.specs.Valid.{Keeps, IsPlain, Valid, IsFullyIndexed, Flaw}
 use Rattle.summary_read.specs.declared.refusals.LoadRefused.{LoadRefused}
 use Rattle.summary_read.specs.declared.refusals.LoadRefused.TheVariants as load_refusals
 use Rattle.summary_read.specs.Reached.{HasNoSummary, EndsIn}
 use Rattle.summary_read.specs.Loading.{IsRefused}
 use Rattle.indexed_replay.specs.declared.answers.ReplayRefused.TheVariants as refusals
+use Rattle.indexed_replay.specs.Reaching.{IsTooMuch}
 use Rattle.indexed_replay.specs.Replaying.{IsReason}
 
 -- The file is these whole records, of which the last is the only Footer; and what this and the order of the summary say is
@@ -59,3 +62,7 @@ pub record IsReadable (file : List ℕ) (tops : List Top) : Type 0 where
 -- a rule for which such a file isn't replayed by its index fails in the file, unless it has no summary
 abbrev pub ReplaysTellFlaws : Type 0
 ReplaysTellFlaws = (file : List ℕ) (tops : List Top) (range : Range) → IsReadable file tops → (HasNoSummary file → ⊥) → length file < 2 ^ 64 → (rule offset : ℕ) → IsReason file range (refusals.Flaw rule offset) → Flaw file rule offset
+
+-- the messages of a fully indexed file that is read to its Data End are never too much
+abbrev pub FullFilesHaveRoom : Type 0
+FullFilesHaveRoom = (file : List ℕ) (tops : List Top) (end : ℕ) (messages : List Seen) (range : Range) (offset : ℕ) → IsFullyIndexed file → Halts reading_limits file tops (at_end end) → Scan tops messages → IsTooMuch file range offset → ⊥

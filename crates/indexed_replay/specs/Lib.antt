@@ -4,6 +4,7 @@ pub mod Steps
 pub mod Lists
 pub mod Chunks
 pub mod Gathering
+pub mod Holding
 pub mod Played
 pub mod Belonging
 pub mod Laws

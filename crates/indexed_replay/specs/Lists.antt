@@ -1,5 +1,5 @@
 -- What a Message Index adds to a replay.
-use Rattle.std.specs.Prelude.{◌≡◌, ℕ, ◌+◌, ◌≤◌, List, length, Bool, true, false, Option, Some, Result, Ok, Err}
+use Rattle.std.specs.Prelude.{◌≡◌, ◌⊎◌, ℕ, ◌+◌, ◌≤◌, List, length, Bool, true, false, Option, Some, Result, Ok, Err}
 use Rattle.mcap_io.specs.Stores.{StoreState}
 use Rattle.rec_index.specs.Records.{ShowsMessageIndex}
 use Rattle.mcap_model.specs.declared.replay.Range.{Range}
@@ -20,7 +20,8 @@ use Rattle.indexed_replay.specs.declared.spots.Request.{Request}
 use Rattle.indexed_replay.specs.Reaching.{Names, LeadsNowhere, LacksIndex, head_length}
 use Rattle.indexed_replay.specs.Replaying.{IsReason}
 use Rattle.time_player.specs.Ordering.{led_as}
-use Rattle.indexed_replay.specs.Steps.{Adds, IsListed, LacksListed, EntryRefused, entries_cost, LacksList}
+use Rattle.indexed_replay.specs.Holding.{Fills}
+use Rattle.indexed_replay.specs.Steps.{Adds, IsListed, LacksListed, EntriesRefused, entries_cost, LacksList}
 
 -- ---- channels
 
@@ -59,15 +60,17 @@ pub record IsShownBy (file : List ℕ) (request : Request) (spot : Spot) (entrie
   pub listed : IsListed file request.range spot entries s
   pub wanted : Wanted request.tables.now.channels s.channel (asked_topic request.topic)
 
--- why its messages aren't shown: that of an entry in the range can't be read, or there is one and no Channel
-pub data ContentRefused (file : List ℕ) (request : Request) (spot : Spot) (entries : List (ℕ × ℕ)) : ReplayRefused → Type 0 where
-  at_entry : (why : ReplayRefused) (entry : ℕ × ℕ) → Has entries entry → InRange request.range entry.0 → EntryRefused file spot.chunk entry why → ContentRefused file request spot entries why
-  no_channel : HasTimely request.range entries → Undeclared request.tables.now.channels spot.channel → ContentRefused file request spot entries (refusals.NotIndexed (lacks.NoChannel spot.channel))
+-- why its messages aren't shown: that of an entry in the range can't be read, or there is one and no Channel; or there is too much
+-- data beside these
+pub data ContentRefused (file : List ℕ) (request : Request) (spot : Spot) (entries : List (ℕ × ℕ)) (old : List Shown) : ReplayRefused → Type 0 where
+  at_entry : (why : ReplayRefused) → EntriesRefused file request.range spot entries why → ContentRefused file request spot entries old why
+  no_channel : HasTimely request.range entries → Undeclared request.tables.now.channels spot.channel → ContentRefused file request spot entries old (refusals.NotIndexed (lacks.NoChannel spot.channel))
+  too_much : (why : ReplayRefused) → Fills (IsShownBy file request spot entries) (IsShownBy file request spot entries) spot.list file old why → ContentRefused file request spot entries old why
 
 abbrev pub ContentShown : List ℕ → Request → Spot → List (ℕ × ℕ) → (List Shown × List Shown) → Result Bool ReplayRefused → Type 0
 ContentShown file request spot entries shown (Ok true) = Adds (IsShownBy file request spot entries) shown.0 shown.1
 ContentShown file request spot entries shown (Ok false) = LacksListed file request.range spot entries
-ContentShown file request spot entries shown (Err why) = ContentRefused file request spot entries why
+ContentShown file request spot entries shown (Err why) = ContentRefused file request spot entries shown.0 why
 
 abbrev pub ShowsContent : Option (List ℕ) → Request → Spot → List ℕ → (List Shown × List Shown) → Result Bool ReplayRefused → Type 0
 ShowsContent told request spot content shown result = (file : List ℕ) (entries : List (ℕ × ℕ)) → told ≡ Some file → length file ≡ request.len → DeclareChannels request.tables.now.channels → ShowsMessageIndex content spot.channel entries
@@ -83,6 +86,11 @@ pub record IsLedBy (file : List ℕ) (request : Request) (spot : Spot) (s : Show
   pub led : LedByIndex file request.range spot.chunk spot.list (led_as s)
   pub wanted : Wanted request.tables.now.channels s.channel (asked_topic request.topic)
 
+-- and its channel is the one that is named
+pub record IsNamed (file : List ℕ) (request : Request) (spot : Spot) (s : Shown) : Type 0 where
+  pub led : IsLedBy file request spot s
+  pub own : s.channel ≡ spot.channel
+
 -- why its messages aren't shown, where a Chunk Index that is reached at that offset names it
 abbrev pub ListRefused : List ℕ → Request → ℕ → Spot → ReplayRefused → Type 0
 ListRefused file request at spot why = (f : ChunkIndexFields) → f.offset ≡ spot.chunk → Names file request.range at f spot.channel spot.list → IsReason file request.range why
@@ -94,7 +102,7 @@ ListAstray file request at spot = (f : ChunkIndexFields) → f.offset ≡ spot.c
 abbrev pub ListShown : List ℕ → Request → ℕ → Spot → (List Shown × List Shown) → Result Bool ReplayRefused → Type 0
 ListShown file request at spot shown (Ok true) = Adds (IsLedBy file request spot) shown.0 shown.1
 ListShown file request at spot shown (Ok false) = ListAstray file request at spot
-ListShown file request at spot shown (Err why) = ListRefused file request at spot why
+ListShown file request at spot shown (Err why) = ListRefused file request at spot why ⊎ Fills (IsNamed file request spot) (IsNamed file request spot) spot.list file shown.0 why
 
 abbrev pub Shows : Option (List ℕ) → Request → ℕ → Spot → (List Shown × List Shown) → Result Bool ReplayRefused → Type 0
 Shows told request at spot shown result = (file : List ℕ) → told ≡ Some file → length file ≡ request.len → Knows file request.tables.now.channels → ListShown file request at spot shown result

@@ -1,6 +1,6 @@
 -- What a replay by the index reaches of a file: the Chunk Indexes of its summary that meet a range, the Message Indexes that
 -- they name, and the messages to which these lead. Why such a file isn't indexed, and where a rule fails on what is reached.
-use Rattle.std.specs.Prelude.{◌≡◌, ◌≢◌, ◌⊎◌, ℕ, ◌+◌, ◌*◌, ◌<◌, ◌≤◌, List, [], ◌++◌, length, drop, Some}
+use Rattle.std.specs.Prelude.{◌≡◌, ◌≢◌, ◌⊎◌, ℕ, ◌+◌, ◌*◌, ◌<◌, ◌≤◌, List, [], ◌++◌, length, drop, sum_by, AllPairs, Some}
 use Rattle.mcap_wire.specs.Layout.{content_limit}
 use Rattle.mcap_wire.specs.Reading.{text_length}
 use Rattle.mcap_model.specs.declared.replay.Range.{Range}
@@ -8,9 +8,9 @@ use Rattle.mcap_model.specs.Places.{At, Has, Each}
 use Rattle.mcap_model.specs.Tops.{Top, top_bytes, spelled}
 use Rattle.mcap_model.specs.Fields.{ChannelFields, IsChannel, MessageFields, IsMessage, ChunkFields, IsChunk, IsMessageIndex, ChunkIndexFields, IsChunkIndex, StatisticsFields, IsStatistics}
 use Rattle.mcap_model.specs.Kept.{NamesCompression}
-use Rattle.mcap_model.specs.Scan.{InRange}
+use Rattle.mcap_model.specs.Scan.{Seen, InRange}
 use Rattle.mcap_model.specs.Whole.{AreShort, offset_among}
-use Rattle.mcap_model.specs.Led.{HasSummary, IsThere, Meets}
+use Rattle.mcap_model.specs.Led.{HasSummary, IsThere, LedByIndex, Led, Meets}
 use Rattle.summary_read.specs.Reached.{HasNoSummary, StartsAt, Fails, Passes}
 use Rattle.summary_read.specs.Parts.{of_kind, first_of_kind}
 use Rattle.indexed_replay.specs.declared.answers.NotIndexed.{NotIndexed}
@@ -143,14 +143,35 @@ pub record IsTooLong (file : List ℕ) (at : ℕ) : Type 0 where
   pub there : IsThere file at top
   pub past : content_limit < length top.content
 
+-- how many bytes of data messages have together
+abbrev pub data_of : List Seen → ℕ
+data_of messages = sum_by (λ s. length s.message.payload) messages
+
+-- Messages to which the summary leads, no two of them the same, have together more bytes of data than the file. To one of them
+-- a Message Index leads that is named at that offset.
+pub record IsTooMuch (file : List ℕ) (range : Range) (offset : ℕ) : Type 0 where
+  pub messages : List Seen
+  pub are : (s : Seen) → Has messages s → Led file range s
+  pub once : AllPairs (λ s r. s ≢ r) messages
+  pub past : length file < data_of messages
+  pub last : Seen
+  pub there : Has messages last
+  pub at : ℕ
+  pub index : ChunkIndexFields
+  pub channel : ℕ
+  pub names : Names file range at index channel offset
+  pub led : LedByIndex file range index.offset offset last
+
 -- A limit is passed on the ends of the file or in its summary; or a record whose content is past the limit stands where a
--- Chunk Index, its map or an entry leads, or behind the chunk in front of a Message Index that is named.
+-- Chunk Index, its map or an entry leads, or behind the chunk in front of a Message Index that is named; or with a message of a
+-- Message Index there is more data than in the file.
 pub data PassesLimit (file : List ℕ) (range : Range) : ℕ → Type 0 where
   while_loading : (offset : ℕ) → Passes file offset → PassesLimit file range offset
   at_chunk : (at : ℕ) (f : ChunkIndexFields) (offset : ℕ) → IsReached file range at f → f.offset ≡ offset → IsTooLong file offset → PassesLimit file range offset
   at_index : (at : ℕ) (f : ChunkIndexFields) (channel offset : ℕ) → Names file range at f channel offset → IsTooLong file offset → PassesLimit file range offset
   behind_chunk : (at : ℕ) (f : ChunkIndexFields) (channel list end offset : ℕ) → Names file range at f channel list → EndsAt file f.offset end → IndexesStand file end offset → offset < list → IsTooLong file offset → PassesLimit file range offset
   at_message : (at : ℕ) (f : ChunkIndexFields) (channel list offset : ℕ) (entry : ℕ × ℕ) → LeadsTo file range at f channel list entry → offset ≡ f.offset + 49 + entry.1 → IsTooLong file offset → PassesLimit file range offset
+  too_much_data : (offset : ℕ) → IsTooMuch file range offset → PassesLimit file range offset
 
 -- ---- what is asked for
 

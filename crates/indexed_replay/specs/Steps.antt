@@ -1,5 +1,5 @@
 -- The steps of a replay by the index.
-use Rattle.std.specs.Prelude.{◌≡◌, ℕ, ◌+◌, ◌-◌, ◌≤◌, List, ◌++◌, length, take, drop, sum_by, Bool, true, false, if◌then◌else◌, Option, Some, None, Result, Ok, Err, Vec}
+use Rattle.std.specs.Prelude.{◌≡◌, ◌≢◌, ◌⊎◌, ℕ, ◌+◌, ◌-◌, ◌<◌, ◌≤◌, List, ◌++◌, length, take, drop, sum_by, AllPairs, Bool, true, false, if◌then◌else◌, Option, Some, None, Result, Ok, Err, Vec}
 use Rattle.mcap_io.specs.Stores.{StoreState}
 use Rattle.mcap_io.specs.declared.outside.Failed.{Failed}
 use Rattle.rec_index.specs.Records.{ShowsMessageIndex}
@@ -19,6 +19,7 @@ use Rattle.indexed_replay.specs.declared.fronts.Front.{Front}
 use Rattle.indexed_replay.specs.declared.fronts.Front.TheVariants as fronts
 use Rattle.indexed_replay.specs.declared.spots.Spot.{Spot}
 use Rattle.indexed_replay.specs.Reaching.{LacksIndex, LacksMessage, IsTooLong, head_length}
+use Rattle.indexed_replay.specs.Holding.{Fills}
 
 -- ---- the front of a record
 
@@ -66,12 +67,13 @@ pub record IsFound (file : List ℕ) (chunk channel : ℕ) (entry : ℕ × ℕ) 
   pub time : s.log_time ≡ entry.0
   pub stands : IsInChunk file chunk (led_as s)
 
--- just the messages with that property are added
+-- just the messages with that property are added, each once
 pub record Adds (P : Shown → Type 0) (old new : List Shown) : Type 0 where
   pub more : List Shown
   pub added : new ≡ old ++ more
   pub are : (s : Shown) → Has more s → P s
   pub all : (s : Shown) → P s → Has more s
+  pub once : AllPairs (λ s r. s ≢ r) more
 
 -- why the message of an entry can't be read
 abbrev pub EntryRefused : List ℕ → ℕ → ℕ × ℕ → ReplayRefused → Type 0
@@ -82,14 +84,14 @@ EntryRefused file chunk entry (refusals.Compressed offset name) = ⊥
 EntryRefused file chunk entry (refusals.Limit offset) = (offset ≡ chunk + 49 + entry.1) × IsTooLong file offset
 EntryRefused file chunk entry refusals.Memory = Unit {0}
 
--- the message of an entry is added; or none stands there; or why it can't be read
-abbrev pub MessageIs : List ℕ → ℕ → ℕ → ℕ × ℕ → (List Shown × List Shown) → Result Bool ReplayRefused → Type 0
-MessageIs file chunk channel entry shown (Ok true) = Adds (IsFound file chunk channel entry) shown.0 shown.1
-MessageIs file chunk channel entry shown (Ok false) = LacksMessage file chunk channel entry
-MessageIs file chunk channel entry shown (Err why) = EntryRefused file chunk entry why
+-- the message of an entry is added; or none stands there; or why it can't be read, or isn't, since the data is too much
+abbrev pub MessageIs : List ℕ → Spot → ℕ × ℕ → (List Shown × List Shown) → Result Bool ReplayRefused → Type 0
+MessageIs file spot entry shown (Ok true) = Adds (IsFound file spot.chunk spot.channel entry) shown.0 shown.1
+MessageIs file spot entry shown (Ok false) = LacksMessage file spot.chunk spot.channel entry
+MessageIs file spot entry shown (Err why) = EntryRefused file spot.chunk entry why ⊎ Fills (IsFound file spot.chunk spot.channel entry) (IsFound file spot.chunk spot.channel entry) spot.list file shown.0 why
 
-abbrev pub TellsMessage : Option (List ℕ) → ℕ → ℕ → ℕ → ℕ × ℕ → (List Shown × List Shown) → Result Bool ReplayRefused → Type 0
-TellsMessage told len chunk channel entry shown result = (file : List ℕ) → told ≡ Some file → length file ≡ len → MessageIs file chunk channel entry shown result
+abbrev pub TellsMessage : Option (List ℕ) → ℕ → Spot → ℕ × ℕ → (List Shown × List Shown) → Result Bool ReplayRefused → Type 0
+TellsMessage told len spot entry shown result = (file : List ℕ) → told ≡ Some file → length file ≡ len → MessageIs file spot entry shown result
 
 -- what the reading of a message asks for: 31 bytes, and the rest of the record, where a whole one stands there
 abbrev pub message_cost : List ℕ → ℕ → ℕ
@@ -111,11 +113,15 @@ pub record IsListed (file : List ℕ) (range : Range) (spot : Spot) (entries : L
 abbrev pub LacksListed : List ℕ → Range → Spot → List (ℕ × ℕ) → Type 0
 LacksListed file range spot entries = (entry : ℕ × ℕ) × Has entries entry × InRange range entry.0 × LacksMessage file spot.chunk spot.channel entry
 
--- the messages of the entries are added; or one of them isn't there; or why one can't be read
+-- one of them can't be read, for that reason
+abbrev pub EntriesRefused : List ℕ → Range → Spot → List (ℕ × ℕ) → ReplayRefused → Type 0
+EntriesRefused file range spot entries why = (entry : ℕ × ℕ) × Has entries entry × InRange range entry.0 × EntryRefused file spot.chunk entry why
+
+-- the messages of the entries are added; or one of them isn't there; or why one can't be read, or isn't
 abbrev pub EntriesShown : List ℕ → Range → Spot → List (ℕ × ℕ) → (List Shown × List Shown) → Result Bool ReplayRefused → Type 0
 EntriesShown file range spot entries shown (Ok true) = Adds (IsListed file range spot entries) shown.0 shown.1
 EntriesShown file range spot entries shown (Ok false) = LacksListed file range spot entries
-EntriesShown file range spot entries shown (Err why) = (entry : ℕ × ℕ) × Has entries entry × InRange range entry.0 × EntryRefused file spot.chunk entry why
+EntriesShown file range spot entries shown (Err why) = EntriesRefused file range spot entries why ⊎ Fills (IsListed file range spot entries) (IsListed file range spot entries) spot.list file shown.0 why
 
 abbrev pub TellsEntries : Option (List ℕ) → ℕ → Range → Spot → List (ℕ × ℕ) → (List Shown × List Shown) → Result Bool ReplayRefused → Type 0
 TellsEntries told len range spot entries shown result = (file : List ℕ) → told ≡ Some file → length file ≡ len → EntriesShown file range spot entries shown result
@@ -126,6 +132,13 @@ entry_cost file range chunk entry = if is_within range entry.0 then message_cost
 
 abbrev pub entries_cost : List ℕ → Range → ℕ → List (ℕ × ℕ) → ℕ
 entries_cost file range chunk entries = sum_by (entry_cost file range chunk) entries
+
+-- an entry doesn't come behind another, by offset and then by time
+abbrev pub NotBehind : ℕ × ℕ → ℕ × ℕ → Type 0
+NotBehind e d = (e.1 < d.1) ⊎ ((e.1 ≡ d.1) × (e.0 ≤ d.0))
+
+abbrev pub EntriesAscend : List (ℕ × ℕ) → Type 0
+EntriesAscend entries = AllPairs NotBehind entries
 
 -- These are the entries in the range, in some order, and reading their messages asks for what that of all entries does.
 pub record AreTimely (range : Range) (entries timely : List (ℕ × ℕ)) : Type 0 where

@@ -4,6 +4,7 @@ ghost use Rattle.mcap_io.specs.Stores.{StoreStays};
 ghost use Rattle.rec_index.specs.Parsed.{chunk_index_fields};
 ghost use Rattle.indexed_replay.specs.Replaying.{RefusalCause, ReplayCause};
 ghost use Rattle.indexed_replay.specs.Reaching.{head_length};
+ghost use Rattle.indexed_replay.specs.Holding.{Fits, HoldsWithin};
 ghost use Rattle.indexed_replay.specs.Chunks.{AsksChunk, AsksFront, AsksNames, ChecksChunk, NamesPack, ShowsChunk, ShowsNames, front_length};
 ghost use Rattle.time_player.specs.Keeping.{kept_in};
 
@@ -132,8 +133,10 @@ fn show_names<T: Store>(
     index: &ChunkIndex,
     shown: &mut Kept,
 ) -> Result<(), ReplayRefused>
-    requires { request.now.len ≤ (T.state store.old).known }
+    requires known { request.now.len ≤ (T.state store.old).known }
+    requires fits { Fits request.now.len shown.old }
     ensures told { ShowsNames (T.state store.old).bytes request.now at end (chunk_index_fields index.now) (kept_in shown.old, kept_in shown.new) result }
+    ensures holds { HoldsWithin request.now.len shown.new result }
     ensures cause { ReplayCause (T.state store.old).faults (T.state store.new).faults result }
     ensures stays { StoreStays (T.state store.old) (T.state store.new) }
     ensures asks { AsksNames request.now at end (chunk_index_fields index.now) (T.state store.old) (T.state store.new) result }
@@ -172,8 +175,10 @@ pub(crate) fn show_chunk<T: Store>(
     index: &ChunkIndex,
     shown: &mut Kept,
 ) -> Result<(), ReplayRefused>
-    requires { request.now.len ≤ (T.state store.old).known }
+    requires known { request.now.len ≤ (T.state store.old).known }
+    requires fits { Fits request.now.len shown.old }
     ensures told { ShowsChunk (T.state store.old).bytes request.now at (chunk_index_fields index.now) (kept_in shown.old, kept_in shown.new) result }
+    ensures holds { HoldsWithin request.now.len shown.new result }
     ensures cause { ReplayCause (T.state store.old).faults (T.state store.new).faults result }
     ensures stays { StoreStays (T.state store.old) (T.state store.new) }
     ensures asks { AsksChunk request.now at (chunk_index_fields index.now) (T.state store.old) (T.state store.new) result }

@@ -1,8 +1,9 @@
 //! The messages to which the entries of a Message Index lead.
-ghost use Rattle.std.specs.Prelude.{◌≡◌, ◌<◌, ◌≤◌, ℕ, length, true, Some, slice_get, IfOk, OnErr};
+ghost use Rattle.std.specs.Prelude.{◌≡◌, ◌<◌, ◌≤◌, ℕ, length, false, true, Some, slice_get, IfOk, OnErr};
 ghost use Rattle.mcap_io.specs.Stores.{StoreStays};
 ghost use Rattle.indexed_replay.specs.Replaying.{ReplayCause};
-ghost use Rattle.indexed_replay.specs.Steps.{AreTimely, AsksEntries, TellsEntries};
+ghost use Rattle.indexed_replay.specs.Holding.{Fits, HoldsWithin};
+ghost use Rattle.indexed_replay.specs.Steps.{AreTimely, AsksEntries, EntriesAscend, TellsEntries};
 ghost use Rattle.indexed_replay.specs.Lists.{HasTimely};
 ghost use Rattle.time_player.specs.Keeping.{kept_in};
 
@@ -10,7 +11,7 @@ use crate::answers::ReplayRefused;
 use crate::messages::add_message;
 use crate::spots::Spot;
 use mcap_io::Store;
-use mcap_model::{Place, Range, is_within};
+use mcap_model::{Range, is_within};
 use mcap_wire::{EntriesRef, Memory};
 use std::alloc::Global;
 use time_player::Kept;
@@ -23,10 +24,12 @@ fn entry_in(entries: &[(u64, u64)], i: usize) -> (u64, u64)
     entries[i]
 }
 
-// Whether an entry stands directly before that index too.
+// Whether the entry at an index stands before it too: where they ascend, directly before it.
 fn stands_before(entries: &[(u64, u64)], i: usize, entry: (u64, u64)) -> bool
-    requires { i < length entries.now }
-    ensures { result ≡ true → (k : ℕ) × (k < i) × (slice_get entries.now k ≡ Some entry) }
+    requires ascend { EntriesAscend entries.now }
+    requires here { slice_get entries.now i ≡ Some entry }
+    ensures before { result ≡ true → (k : ℕ) × (k < i) × (slice_get entries.now k ≡ Some entry) }
+    ensures none { result ≡ false → (k : ℕ) → k < i → slice_get entries.now k ≡ Some entry → ⊥ }
 {
     if i == 0 {
         return false;
@@ -64,8 +67,11 @@ fn show_each<T: Store>(
     entries: &[(u64, u64)],
     shown: &mut Kept,
 ) -> Result<bool, ReplayRefused>
-    requires { len ≤ (T.state store.old).known }
+    requires known { len ≤ (T.state store.old).known }
+    requires ascend { EntriesAscend entries.now }
+    requires fits { Fits len shown.old }
     ensures told { TellsEntries (T.state store.old).bytes len range spot entries.now (kept_in shown.old, kept_in shown.new) result }
+    ensures holds { HoldsWithin len shown.new result }
     ensures cause { ReplayCause (T.state store.old).faults (T.state store.new).faults result }
     ensures stays { StoreStays (T.state store.old) (T.state store.new) }
     ensures asks { AsksEntries len range spot.chunk entries.now (T.state store.old) (T.state store.new) }
@@ -78,11 +84,7 @@ fn show_each<T: Store>(
         if stands_before(entries, i, entry) {
             continue;
         }
-        let place = Place {
-            top: spot.chunk,
-            inner: entry.1,
-        };
-        match add_message(store, len, place, spot.channel, entry.0, shown) {
+        match add_message(store, len, spot, entry, shown) {
             Ok(true) => {}
             Ok(false) => return Ok(false),
             Err(why) => return Err(why),
@@ -93,7 +95,7 @@ fn show_each<T: Store>(
 
 /// Adds the messages to which those entries lead whose log times lie in the range, and says whether each of them stands
 /// there. Other entries aren't looked at. They are followed in the order of their offsets, so that of an entry that stands more
-/// than once the message is read once.
+/// than once the message is read once. Where the data is too much, that is told as a limit at the Message Index.
 pub(crate) fn show_entries<T: Store>(
     alloc: Global,
     store: &mut T,
@@ -103,8 +105,10 @@ pub(crate) fn show_entries<T: Store>(
     entries: &EntriesRef,
     shown: &mut Kept,
 ) -> Result<bool, ReplayRefused>
-    requires { len ≤ (T.state store.old).known }
+    requires known { len ≤ (T.state store.old).known }
+    requires fits { Fits len shown.old }
     ensures told { TellsEntries (T.state store.old).bytes len range spot entries.now (kept_in shown.old, kept_in shown.new) result }
+    ensures holds { HoldsWithin len shown.new result }
     ensures cause { ReplayCause (T.state store.old).faults (T.state store.new).faults result }
     ensures stays { StoreStays (T.state store.old) (T.state store.new) }
     ensures asks { AsksEntries len range spot.chunk entries.now (T.state store.old) (T.state store.new) }
@@ -113,6 +117,6 @@ pub(crate) fn show_entries<T: Store>(
         Ok(listed) => listed,
         Err(Memory) => return Err(ReplayRefused::Memory),
     };
-    listed.sort_unstable_by_key(|entry| entry.1);
+    listed.sort_unstable_by_key(|entry| (entry.1, entry.0));
     return show_each(store, len, range, spot, &listed, shown);
 }

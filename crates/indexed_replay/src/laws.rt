@@ -1,5 +1,5 @@
 //! What holds of the definitions, each law as the contract of a function that does nothing.
-ghost use Rattle.indexed_replay.specs.Laws.{FlawlessFilesAreLoaded, LoadsTellFlaws, ReplaysTellFlaws, ValidFilesAreFlawless};
+ghost use Rattle.indexed_replay.specs.Laws.{FlawlessFilesAreLoaded, FullFilesHaveRoom, LoadsTellFlaws, ReplaysTellFlaws, ValidFilesAreFlawless};
 
 /// A rule for which a summary isn't loaded fails in the file, where its records are whole and in order.
 pub fn loads_tell_flaws()
@@ -21,4 +21,10 @@ pub fn flawless_files_are_loaded()
 /// contents and chunks right, and each Chunk Index leads to a record.
 pub fn replays_tell_flaws()
     ensures { ReplaysTellFlaws }
+{}
+
+/// The messages of a fully indexed file that is read to its Data End have no more data than the file, so the limit on them
+/// isn't passed there.
+pub fn full_files_have_room()
+    ensures { FullFilesHaveRoom }
 {}

@@ -4,6 +4,7 @@ ghost use Rattle.mcap_io.specs.Stores.{StoreStays};
 ghost use Rattle.rec_index.specs.Records.{ShowsMessageIndex};
 ghost use Rattle.mcap_model.specs.Plain.{asked_topic, DeclareChannels};
 ghost use Rattle.indexed_replay.specs.Replaying.{ReplayCause};
+ghost use Rattle.indexed_replay.specs.Holding.{Fits, HoldsWithin};
 ghost use Rattle.indexed_replay.specs.Steps.{AsksListAt, TellsIndex, TellsList};
 ghost use Rattle.indexed_replay.specs.Lists.{AsksContent, AsksList, FindsList, HasTimely, Shows, ShowsContent, Undeclared, Wanted};
 ghost use Rattle.time_player.specs.Keeping.{kept_in};
@@ -159,7 +160,9 @@ fn show_content<T: Store>(
 ) -> Result<bool, ReplayRefused>
     requires known { request.now.len ≤ (T.state store.old).known }
     requires is { (entries : List (ℕ × ℕ)) × ShowsMessageIndex content.now spot.channel entries }
+    requires fits { Fits request.now.len shown.old }
     ensures told { ShowsContent (T.state store.old).bytes request.now spot content.now (kept_in shown.old, kept_in shown.new) result }
+    ensures holds { HoldsWithin request.now.len shown.new result }
     ensures cause { ReplayCause (T.state store.old).faults (T.state store.new).faults result }
     ensures stays { StoreStays (T.state store.old) (T.state store.new) }
     ensures asks { AsksContent request.now spot content.now (T.state store.old) (T.state store.new) }
@@ -195,8 +198,10 @@ pub(crate) fn show_list<T: Store>(
     spot: Spot,
     shown: &mut Kept,
 ) -> Result<bool, ReplayRefused>
-    requires { request.now.len ≤ (T.state store.old).known }
+    requires known { request.now.len ≤ (T.state store.old).known }
+    requires fits { Fits request.now.len shown.old }
     ensures told { Shows (T.state store.old).bytes request.now at spot (kept_in shown.old, kept_in shown.new) result }
+    ensures holds { HoldsWithin request.now.len shown.new result }
     ensures found { FindsList (T.state store.old).bytes request.now.len spot result }
     ensures cause { ReplayCause (T.state store.old).faults (T.state store.new).faults result }
     ensures stays { StoreStays (T.state store.old) (T.state store.new) }

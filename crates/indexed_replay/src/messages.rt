@@ -2,11 +2,13 @@
 ghost use Rattle.std.specs.Prelude.{◌+◌, ◌≤◌};
 ghost use Rattle.mcap_io.specs.Stores.{StoreStays};
 ghost use Rattle.indexed_replay.specs.Replaying.{ReplayCause};
+ghost use Rattle.indexed_replay.specs.Holding.{Fits, HoldsWithin};
 ghost use Rattle.indexed_replay.specs.Steps.{AsksMessage, TellsMessage};
 ghost use Rattle.time_player.specs.Keeping.{kept_in};
 
 use crate::answers::ReplayRefused;
 use crate::fronts::{Front, read_front};
+use crate::spots::Spot;
 use mcap_io::{Failed, ReadRefused, Store};
 use mcap_model::Place;
 use rec_data::{MESSAGE, Message};
@@ -16,21 +18,28 @@ use time_player::Kept;
 /// lengths of the compression and of the records.
 const RECORDS_OFFSET: u64 = 49;
 
-/// Adds the message of that channel and that log time at a place, and says whether it stands there.
+/// Adds the message to which an entry of a Message Index leads, and says whether it stands there. Where the messages would have
+/// more bytes of data than the store, that is told as a limit at the Message Index, before any more is read.
 pub(crate) fn add_message<T: Store>(
     store: &mut T,
     len: u64,
-    place: Place,
-    channel: u16,
-    time: u64,
+    spot: Spot,
+    entry: (u64, u64),
     shown: &mut Kept,
 ) -> Result<bool, ReplayRefused>
-    requires { len ≤ (T.state store.old).known }
-    ensures told { TellsMessage (T.state store.old).bytes len place.top channel (time, place.inner) (kept_in shown.old, kept_in shown.new) result }
+    requires known { len ≤ (T.state store.old).known }
+    requires fits { Fits len shown.old }
+    ensures told { TellsMessage (T.state store.old).bytes len spot entry (kept_in shown.old, kept_in shown.new) result }
+    ensures holds { HoldsWithin len shown.new result }
     ensures cause { ReplayCause (T.state store.old).faults (T.state store.new).faults result }
     ensures stays { StoreStays (T.state store.old) (T.state store.new) }
-    ensures asks { AsksMessage len (place.top + 49 + place.inner) (T.state store.old) (T.state store.new) }
+    ensures asks { AsksMessage len (spot.chunk + 49 + entry.1) (T.state store.old) (T.state store.new) }
 {
+    let (time, inner) = entry;
+    let place = Place {
+        top: spot.chunk,
+        inner,
+    };
     let Some(records) = place.top.checked_add(RECORDS_OFFSET) else {
         return Ok(false);
     };
@@ -55,10 +64,14 @@ pub(crate) fn add_message<T: Store>(
         Ok(message) => message,
         Err(_) => return Ok(false),
     };
-    if message.channel_id != channel || message.log_time != time {
+    if message.channel_id != spot.channel || message.log_time != time {
         return Ok(false);
     }
-    match shown.add_part_of(store, place, &message, at + 31, head.len - 22) {
+    let size = head.len - 22;
+    if size > len - shown.data_len() as u64 {
+        return Err(ReplayRefused::Limit { offset: spot.list });
+    }
+    match shown.add_part_of(store, place, &message, at + 31, size) {
         Ok(()) => return Ok(true),
         Err(ReadRefused::Failed) => {
             return Err(ReplayRefused::Fault {

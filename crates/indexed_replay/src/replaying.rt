@@ -2,6 +2,8 @@
 ghost use Rattle.std.specs.Prelude.{◌≡◌, ◌≤◌, Ok};
 ghost use Rattle.mcap_io.specs.Stores.{LeavesStore, TellsLength};
 ghost use Rattle.mcap_model.specs.Plain.{asked_topic};
+ghost use Rattle.indexed_replay.specs.Apart.{HaveOne};
+ghost use Rattle.indexed_replay.specs.Holding.{TellsRoom};
 ghost use Rattle.indexed_replay.specs.Played.{AsksBound, AsksIndexed, AsksLoaded, AsksUnloaded, CountsJudged, PlaysLoaded, refused_by};
 ghost use Rattle.indexed_replay.specs.Replaying.{Plays, PlaysScan, ReplayCause, TellsChunks, TellsNoSummary, TellsOneIndex};
 
@@ -62,7 +64,9 @@ fn play<T: Store>(
 ) -> Result<KeptReplay, ReplayRefused>
     requires known { len ≤ (T.state store.old).known }
     requires measured { TellsLength (T.state store.old).bytes (Ok len) }
+    requires apart { HaveOne loaded.now.chunk_indexes loaded.now.chunk_index_offsets }
     ensures plays { PlaysLoaded (T.state store.old).bytes loaded.now range (asked_topic topic.entry) result }
+    ensures room { TellsRoom (T.state store.old).bytes result }
     ensures cause { ReplayCause (T.state store.old).faults (T.state store.new).faults result }
     ensures leaves { LeavesStore (T.state store.old) (T.state store.new) }
     ensures asks { AsksLoaded loaded.now range (T.state store.old) (T.state store.new) }
@@ -92,7 +96,7 @@ fn play<T: Store>(
 /// The messages of the range, and of the topic if one is given, to which the indexes of the file lead that the store
 /// holds, in the order of log time and place (MCAP specification, "Summary Section"). Of the file only the ends, the
 /// summary, and of each chunk that meets the range the front, the Message Indexes and the messages in the range are asked
-/// for. Their payloads stand in one vector.
+/// for. Their payloads stand in one vector, and never more of them than the store has bytes.
 pub fn replay_kept<T: Store>(
     alloc: Global,
     store: &mut T,
@@ -102,6 +106,7 @@ pub fn replay_kept<T: Store>(
     ensures plays { Plays (T.state store.old).bytes range (asked_topic topic.entry) result }
     ensures counted { TellsChunks (T.state store.old).bytes result }
     ensures apart { TellsOneIndex (T.state store.old).bytes result }
+    ensures room { TellsRoom (T.state store.old).bytes result }
     ensures unsummed { TellsNoSummary (T.state store.old).bytes result }
     ensures scanned { PlaysScan (T.state store.old).bytes range (asked_topic topic.entry) result }
     ensures asks { AsksIndexed range (T.state store.old) (T.state store.new) }
@@ -143,6 +148,7 @@ pub fn replay_indexed<T: Store>(
     ensures plays { Plays (T.state store.old).bytes range (asked_topic topic.entry) result }
     ensures counted { TellsChunks (T.state store.old).bytes result }
     ensures apart { TellsOneIndex (T.state store.old).bytes result }
+    ensures room { TellsRoom (T.state store.old).bytes result }
     ensures unsummed { TellsNoSummary (T.state store.old).bytes result }
     ensures scanned { PlaysScan (T.state store.old).bytes range (asked_topic topic.entry) result }
     ensures asks { AsksIndexed range (T.state store.old) (T.state store.new) }

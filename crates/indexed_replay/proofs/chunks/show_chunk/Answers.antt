@@ -1,4 +1,4 @@
-use Rattle.std.proofs.Common.{◌∙◌, arith}
+use Rattle.std.proofs.Common.{inl, ◌∙◌, arith}
 use Rattle.rec_index.specs.Parsed.{chunk_index_fields}
 use Rattle.indexed_replay.specs.Reaching.{nothing}
 use Rattle.indexed_replay.proofs.Naming.{named_empty, chunk_reason, empty_goes_on, front_enough, names_enough}
@@ -9,7 +9,7 @@ pub returns-then-index-eq0-2-clause-told : goal.returns-then-index-eq0-2-clause-
 returns-then-index-eq0-2-clause-told g c = λ file told size knows. named_empty file c.args.request.now c.args.index.now.chunk_start_offset c.args.index.now.message_index_offsets (kept_in c.args.shown.now) (omega (arith, c.count.ensures.count, c.if-count-eq0.true))
 
 pub returns-in-Err-clause-told : goal.returns-in-Err-clause-told
-returns-in-Err-clause-told g c = λ file told size knows reached. chunk_reason file c.args.request.now c.args.at (chunk_index_fields c.args.index.now) c.in-Err.why (c.in-Err.ensures.told file told size) reached
+returns-in-Err-clause-told g c = λ file told size knows. inl (λ reached. chunk_reason file c.args.request.now c.args.at (chunk_index_fields c.args.index.now) c.in-Err.why (c.in-Err.ensures.told file told size) reached)
 
 pub returns-in-Err-clause-asks : goal.returns-in-Err-clause-asks
 returns-in-Err-clause-asks g c = λ file cost ends told size is knows reached.

@@ -1,9 +1,10 @@
 use Rattle.std.proofs.Common.{ℕ, List, ◌+◌, drop, refl, subst, inl, inr, ◌∙◌, arith}
 use Rattle.std.proofs.lemmas.List.{take_all, length-drop}
 use Rattle.indexed_replay.specs.Steps.{Adds}
-use Rattle.indexed_replay.specs.Chunks.{IsLedAmong, NamesCost}
+use Rattle.indexed_replay.specs.Chunks.{spot_of, IsLedAmong, NamesCost}
 use Rattle.indexed_replay.proofs.Standing.{astray_shown, astray_asked}
-use Rattle.indexed_replay.proofs.Naming.{named_none, named_more, dropped, one_name, no_name_ends}
+use Rattle.mcap_model.proofs.Places.{at_none}
+use Rattle.indexed_replay.proofs.Naming.{named_none, named_more, names_apart, names_over, own_channel, found_more, dropped, one_name, no_name_ends}
 use Rattle.indexed_replay.specs.Reaching.{index_elsewhere, nothing}
 use Rattle.indexed_replay.proofs.chunks.show_names.Goals.{then-list-end-via-then-list-end, then-list-end-via-else-list-end+then-list-end-2}
 use Rattle.time_player.specs.Keeping.{kept_in}
@@ -14,11 +15,13 @@ names-init g c = record {
   stays = record { bytes = refl; known = refl };
   still = refl;
   shows = λ file told size knows. named_none file c.args.request.now c.args.index.now.chunk_start_offset c.args.index.now.message_index_offsets (kept_in c.args.shown.now);
+  found = λ file told size named has lacks. at_none {X = ℕ × ℕ} has.0 named has.1;
+  holds = c.requires.fits;
   asks = λ file cost ends told size are. (cost, are, omega arith);
 }
 
 pub returns-then-list-end-clause-told : goal.returns-then-list-end-clause-told
-returns-then-list-end-clause-told g c = λ file told size knows ends reached.
+returns-then-list-end-clause-told g c = λ file told size knows ends. inl (λ reached.
     let f = Rattle.rec_index.specs.Parsed.chunk_index_fields c.args.index.now in
     index_elsewhere c.args.at f c.item-channel.result.0 c.item-channel.result.1 (record { reached = reached; named = (c.names.i, c.item-channel.ensures) }) (record {
       end = c.args.end;
@@ -27,7 +30,7 @@ returns-then-list-end-clause-told g c = λ file told size knows ends reached.
         | then-list-end-via-then-list-end w ↦ inl w.if-list-end.true
         | then-list-end-via-else-list-end+then-list-end-2 w ↦ inr (omega (arith, w.if-list-end.false, w.if-list-end-2.true))
       ];
-    })
+    }))
 
 pub returns-then-list-end-clause-asks : goal.returns-then-list-end-clause-asks
 returns-then-list-end-clause-asks g c = λ file cost ends told size stands are knows reached.
@@ -36,9 +39,13 @@ returns-then-list-end-clause-asks g c = λ file cost ends told size stands are k
     (0, nothing, omega (arith, few))
 
 pub returns-in-Err-clause-told : goal.returns-in-Err-clause-told
-returns-in-Err-clause-told g c = λ file told size knows ends reached.
+returns-in-Err-clause-told g c = λ file told size knows ends.
     let i = c.names.invariant in
-    c.in-Err.ensures.told file (i.stays.bytes ∙ told) size knows (Rattle.rec_index.specs.Parsed.chunk_index_fields c.args.index.now) refl (record { reached = reached; named = (c.names.i, c.item-channel.ensures) })
+    let f = Rattle.rec_index.specs.Parsed.chunk_index_fields c.args.index.now in
+    elim (c.in-Err.ensures.told file (i.stays.bytes ∙ told) size knows) [
+      | inl refused ↦ inl (λ reached. refused f refl (record { reached = reached; named = (c.names.i, c.item-channel.ensures) }))
+      | inr fills ↦ inr (names_over file c.args.request.now f c.names.i c.item-channel.result (kept_in c.args.shown.now) (kept_in c.names.shown) c.in-Err.why c.count-i-end.ensures.keys c.item-channel.ensures (i.found file told size) (i.shows file told size knows) fills)
+    ]
 
 pub returns-in-Err-clause-asks : goal.returns-in-Err-clause-asks
 returns-in-Err-clause-asks g c = λ file cost ends told size stands are knows reached.
@@ -83,7 +90,11 @@ names-preserved g c =
     record {
       stays = record { bytes = e.stays.bytes ∙ i.stays.bytes; known = e.stays.known ∙ i.stays.known };
       still = e.cause ∙ i.still;
-      shows = λ file told size knows. named_more file c.args.request.now c.args.index.now.chunk_start_offset c.args.index.now.message_index_offsets c.names.i (c.names.i + 1) c.item-channel.result (kept_in c.args.shown.now) (kept_in c.names.shown) (kept_in c.show_list.new.shown) c.item-channel.ensures (omega arith) (i.shows file told size knows) (rw c.in-Ok-true.field-0-test at c.in-Ok-true.ensures.told file (i.stays.bytes ∙ told) size knows);
+      found = λ file told size. found_more file c.args.index.now.message_index_offsets c.names.i (c.names.i + 1) c.item-channel.result c.item-channel.ensures (omega arith) (i.found file told size) (e.found file (i.stays.bytes ∙ told) size);
+      holds = e.holds;
+      shows = λ file told size knows. named_more file c.args.request.now c.args.index.now.chunk_start_offset c.args.index.now.message_index_offsets c.names.i (c.names.i + 1) c.item-channel.result (kept_in c.args.shown.now) (kept_in c.names.shown) (kept_in c.show_list.new.shown) c.item-channel.ensures (omega arith)
+          (λ s among by. names_apart file c.args.request.now c.args.index.now.chunk_start_offset c.args.index.now.message_index_offsets c.names.i c.item-channel.result c.count-i-end.ensures.keys c.item-channel.ensures (i.found file told size) s among (own_channel file c.args.request.now (spot_of c.args.index.now.chunk_start_offset c.item-channel.result) s (e.found file (i.stays.bytes ∙ told) size) by))
+          (i.shows file told size knows) (rw c.in-Ok-true.field-0-test at c.in-Ok-true.ensures.told file (i.stays.bytes ∙ told) size knows);
       asks = λ file cost ends told size are.
           let range = c.args.request.now.range in
           let chunk = c.args.index.now.chunk_start_offset in

@@ -1,10 +1,10 @@
-use Rattle.std.proofs.Common.{List, ◌+◌, drop, refl, subst, ◌∙◌, arith}
+use Rattle.std.proofs.Common.{List, ◌+◌, drop, refl, subst, inl, inr, ◌∙◌, arith}
 use Rattle.std.proofs.lemmas.Bool.{false≢true}
 use Rattle.rec_index.specs.Parsed.{chunk_index_fields}
 use Rattle.mcap_model.specs.Tops.{Top}
 use Rattle.indexed_replay.specs.Reaching.{IsReached}
 use Rattle.indexed_replay.specs.Gathering.{IndexesCost}
-use Rattle.indexed_replay.proofs.Gathered.{from_none, from_skip, from_more, one_index}
+use Rattle.indexed_replay.proofs.Gathered.{from_none, from_skip, from_more, from_over, one_index}
 use Rattle.indexed_replay.proofs.Naming.{dropped, asked_among}
 use Rattle.time_player.specs.Keeping.{kept_in}
 use Rattle.indexed_replay.proofs.gathering.gather.Goals as goal
@@ -13,7 +13,8 @@ pub chunks-init : goal.chunks-init
 chunks-init g c = record {
   stays = record { bytes = refl; known = refl };
   still = refl;
-  shows = λ file told size knows. from_none file c.args.request.now c.args.loaded.now.chunk_indexes (kept_in c.args.shown.now);
+  shows = λ file told size knows apart. from_none file c.args.request.now c.args.loaded.now.chunk_indexes (kept_in c.args.shown.now);
+  holds = c.requires.fits;
   asks = λ file cost told size are. (cost, are, omega arith);
 }
 
@@ -24,7 +25,8 @@ chunks-preserved-then-not-meets g c =
     record {
       stays = i.stays;
       still = i.still;
-      shows = λ file told size knows. from_skip file c.args.request.now c.args.loaded.now.chunk_indexes c.chunks.i (c.chunks.i + 1) t (chunk_index_fields c.chunk_index-index.result) (kept_in c.args.shown.now) (kept_in c.chunks.shown) at (omega arith) is (λ m. false≢true (c.if-not-meets.ensures.1 m)) (i.shows file told size knows);
+      holds = i.holds;
+      shows = λ file told size knows apart. from_skip file c.args.request.now c.args.loaded.now.chunk_indexes c.chunks.i (c.chunks.i + 1) t (chunk_index_fields c.chunk_index-index.result) (kept_in c.args.shown.now) (kept_in c.chunks.shown) at (omega arith) is (λ m. false≢true (c.if-not-meets.ensures.1 m)) (i.shows file told size knows apart);
       asks = λ file cost told size are.
           let f = chunk_index_fields c.chunk_index-index.result in
           let range = c.args.request.now.range in
@@ -38,11 +40,15 @@ chunks-preserved-then-not-meets g c =
     }
 
 pub returns-in-Err-clause-told : goal.returns-in-Err-clause-told
-returns-in-Err-clause-told g c = λ file told size knows are.
+returns-in-Err-clause-told g c = λ file told size knows apart.
     let i = c.chunks.invariant in
     let (t, at, is) = c.chunk_index-index.ensures in
     let f = chunk_index_fields c.chunk_index-index.result in
-    c.in-Err.ensures.told file (i.stays.bytes ∙ told) size knows (record { indexed = are c.chunks.i t f c.chunk_index_offset-at.result at is c.chunk_index_offset-at.ensures; meets = c.if-not-meets.ensures.0 refl })
+    let meets = c.if-not-meets.ensures.0 refl in
+    elim (c.in-Err.ensures.told file (i.stays.bytes ∙ told) size knows) [
+      | inl refused ↦ inl (λ are. refused (record { indexed = are c.chunks.i t f c.chunk_index_offset-at.result at is c.chunk_index_offset-at.ensures; meets = meets }))
+      | inr fills ↦ inr (from_over file c.args.request.now c.args.loaded.now.chunk_indexes c.chunks.i t f (kept_in c.args.shown.now) (kept_in c.chunks.shown) c.in-Err.why at is meets apart (i.shows file told size knows apart) fills)
+    ]
 
 pub returns-in-Err-clause-asks : goal.returns-in-Err-clause-asks
 returns-in-Err-clause-asks g c = λ file cost told size are knows indexed.
@@ -69,7 +75,8 @@ chunks-preserved g c =
     record {
       stays = record { bytes = e.stays.bytes ∙ i.stays.bytes; known = e.stays.known ∙ i.stays.known };
       still = e.cause ∙ i.still;
-      shows = λ file told size knows. from_more file c.args.request.now c.args.loaded.now.chunk_indexes c.chunks.i (c.chunks.i + 1) t f (kept_in c.args.shown.now) (kept_in c.chunks.shown) (kept_in c.show_chunk.new.shown) at (omega arith) is (c.if-not-meets.ensures.0 refl) (i.shows file told size knows) (e.told file (i.stays.bytes ∙ told) size knows);
+      holds = e.holds;
+      shows = λ file told size knows apart. from_more file c.args.request.now c.args.loaded.now.chunk_indexes c.chunks.i (c.chunks.i + 1) t f (kept_in c.args.shown.now) (kept_in c.chunks.shown) (kept_in c.show_chunk.new.shown) at (omega arith) is (c.if-not-meets.ensures.0 refl) apart (i.shows file told size knows apart) (e.told file (i.stays.bytes ∙ told) size knows);
       asks = λ file cost told size are.
           let range = c.args.request.now.range in
           let tops = c.args.loaded.now.chunk_indexes in

@@ -28,4 +28,4 @@ returns-in-Ok-check_channel-clause-told g c = λ file entries told size declare 
 pub returns-in-Err-check_channel-clause-told : goal.returns-in-Err-check_channel-clause-told
 returns-in-Err-check_channel-clause-told g c = λ file entries told size declare shows.
     let same = (index_once c.args.content.now c.in-Ok.index.channel_id c.args.spot.channel c.in-Ok.index.entries entries c.in-Ok.ensures.shown shows).1 in
-    content_lacks file c.args.request.now c.args.spot entries c.in-Err-check_channel.why (let e = c.in-Err-check_channel.ensures in (e.0, subst (λ (l : List (ℕ × ℕ)). Rattle.indexed_replay.specs.Lists.HasTimely c.args.request.now.range l) same e.1, e.2))
+    content_lacks file c.args.request.now c.args.spot entries (kept_in c.args.shown.now) c.in-Err-check_channel.why (let e = c.in-Err-check_channel.ensures in (e.0, subst (λ (l : List (ℕ × ℕ)). Rattle.indexed_replay.specs.Lists.HasTimely c.args.request.now.range l) same e.1, e.2))

@@ -1,4 +1,4 @@
-use Rattle.std.proofs.Common.{Global, ◌≡◌, ℕ, List, ◌≤◌, ◌+◌, ◌∙◌, sym, subst}
+use Rattle.std.proofs.Common.{Global, ◌≡◌, ℕ, List, ◌≤◌, ◌+◌, ◌∙◌, inl, sym, subst}
 use Rattle.rec_index.specs.Records.{ShowsMessageIndex}
 use Rattle.indexed_replay.specs.declared.answers.ReplayRefused.{ReplayRefused}
 use Rattle.indexed_replay.specs.declared.answers.ReplayRefused.TheVariants as refusals
@@ -19,7 +19,7 @@ index_reason file request at spot (refusals.Limit offset) is = limit_reason file
 index_reason file request at spot refusals.Memory is = λ f place names. tt
 
 pub returns-in-Err-clause-told : goal.returns-in-Err-clause-told
-returns-in-Err-clause-told g c = λ file told size knows. index_reason file c.args.request.now c.args.at c.args.spot c.in-Err.why (c.in-Err.ensures.told file told size)
+returns-in-Err-clause-told g c = λ file told size knows. inl (index_reason file c.args.request.now c.args.at c.args.spot c.in-Err.why (c.in-Err.ensures.told file told size))
 
 pub returns-in-Err-clause-asks : goal.returns-in-Err-clause-asks
 returns-in-Err-clause-asks g c = λ file cost told size is. cost_front file c.args.request.now.range c.args.spot cost (g.T.Store.state c.args.store.now).asked (g.T.Store.state c.read_index.new.store).asked is (c.in-Err.ensures.asks file told size)
@@ -52,7 +52,7 @@ returns-in-Some-clause-found g c = λ file told size.
     list_found file c.args.spot c.in-Some.content.items here.1.0 c.show_content.result here.0 here.1.1
 
 pub returns-in-None-clause-told : goal.returns-in-None-clause-told
-returns-in-None-clause-told g c = λ file told size knows. lacks_reason file c.args.request.now c.args.at c.args.spot (rw c.in-None.is at (c.in-Ok.ensures.told file told size))
+returns-in-None-clause-told g c = λ file told size knows. inl (lacks_reason file c.args.request.now c.args.at c.args.spot (rw c.in-None.is at (c.in-Ok.ensures.told file told size)))
 
 pub returns-in-None-clause-asks : goal.returns-in-None-clause-asks
 returns-in-None-clause-asks g c = λ file cost told size is. cost_front file c.args.request.now.range c.args.spot cost (g.T.Store.state c.args.store.now).asked (g.T.Store.state c.read_index.new.store).asked is (c.in-Ok.ensures.asks file told size)

@@ -1,0 +1,49 @@
+-- How much data a replay holds: no more than so many bytes; and where it would be more, that the messages to which the indexes
+-- lead have more.
+use Rattle.std.specs.Prelude.{◌≡◌, ◌≢◌, ℕ, ◌+◌, ◌<◌, ◌≤◌, List, length, AllPairs, Option, Some, Result, Ok, Err}
+use Rattle.mcap_model.specs.declared.replay.Shown.{Shown}
+use Rattle.mcap_model.specs.declared.replay.Replayed.{Replayed}
+use Rattle.mcap_model.specs.Places.{Has}
+use Rattle.time_player.specs.declared.kept.Kept.{Kept}
+use Rattle.time_player.specs.Keeping.{data_in, held_in, kept_in}
+use Rattle.indexed_replay.specs.declared.answers.ReplayRefused.{ReplayRefused}
+use Rattle.indexed_replay.specs.declared.answers.ReplayRefused.TheVariants as refusals
+
+-- ---- while it reads
+
+-- what is held is the data of the messages that are kept, and no more than so many bytes
+pub record Fits (room : ℕ) (k : Kept) : Type 0 where
+  pub exact : held_in k ≡ data_in (kept_in k)
+  pub within : held_in k ≤ room
+
+-- so it is behind a step; where that is refused, no more than so many bytes are held
+abbrev pub HoldsWithin : {X : Type 0} → ℕ → Kept → Result X ReplayRefused → Type 0
+HoldsWithin room k (Ok it) = Fits room k
+HoldsWithin room k (Err why) = held_in k ≤ room
+
+-- ---- too much
+
+-- Messages with the first property, each once, have together with these more bytes of data than the file; one of them has the
+-- other property.
+pub record Overfull (P Q : Shown → Type 0) (file : List ℕ) (old : List Shown) : Type 0 where
+  pub more : List Shown
+  pub are : (s : Shown) → Has more s → P s
+  pub once : AllPairs (λ s r. s ≢ r) more
+  pub last : Shown
+  pub there : Has more last
+  pub is : Q last
+  pub past : length file < data_in old + data_in more
+
+-- that is why the limit is told there
+abbrev pub Fills : (Shown → Type 0) → (Shown → Type 0) → ℕ → List ℕ → List Shown → ReplayRefused → Type 0
+Fills P Q at file old why = (why ≡ refusals.Limit at) × Overfull P Q file old
+
+-- ---- what is played
+
+abbrev pub HasRoom : List ℕ → Result Replayed ReplayRefused → Type 0
+HasRoom file (Ok played) = data_in played.shown.items ≤ length file
+HasRoom file (Err why) = Unit {0}
+
+-- the messages that are played have no more bytes of data than the file
+abbrev pub TellsRoom : Option (List ℕ) → Result Replayed ReplayRefused → Type 0
+TellsRoom told result = (file : List ℕ) → told ≡ Some file → HasRoom file result
