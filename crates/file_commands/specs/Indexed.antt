@@ -15,6 +15,7 @@ use Rattle.indexed_replay.specs.declared.answers.ReplayRefused.{ReplayRefused}
 use Rattle.indexed_replay.specs.declared.answers.ReplayRefused.TheVariants as refusals
 use Rattle.indexed_replay.specs.declared.answers.NotIndexed.{NotIndexed}
 use Rattle.indexed_replay.specs.declared.answers.NotIndexed.TheVariants as lacks
+use Rattle.indexed_replay.specs.Holding.{TellsRoom}
 use Rattle.indexed_replay.specs.Replaying.{IsReason, Plays, TellsChunks, TellsNoSummary, PlaysScan, ReplayCause}
 use Rattle.indexed_replay.specs.Played.{AsksIndexed, AsksUnloaded, AsksBound}
 use Rattle.file_commands.specs.declared.indexed.Following.{Following}
@@ -42,6 +43,8 @@ pub record Replays (asked : Selection) (store now : StoreState) (answer : Result
   pub unsummed : TellsNoSummary store.bytes answer
   -- of a fully indexed file those of its scan
   pub scanned : PlaysScan store.bytes asked.range asked.topic answer
+  -- the messages have no more data than the file
+  pub room : TellsRoom store.bytes answer
   -- of the file no more is asked for than its ends, its summary, and what the indexes lead to
   pub asks : AsksIndexed asked.range store now
   -- of one whose summary can't be loaded no more than its ends and the summary
