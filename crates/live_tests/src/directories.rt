@@ -11,7 +11,8 @@ use std::marker::Brand;
 use std::process::Abort;
 use std::sync::Wait;
 use std::test::*;
-use std::thread::{Threads, for_each_mut, join};
+use std::thread::{Parker, Threads, for_each_mut, join};
+use std::time::Duration;
 
 fn front(blocks: u64, end: Option<End>) -> Front {
     Front { blocks, end }
@@ -101,8 +102,12 @@ fn one_reader_finds_what_is_published(rt: HostRuntime) -> Result<(), Fail> {
     one_reader_as::<Brand, _>(&rt, rt.alloc(), Opened::new())
 }
 
-// A reader beside the writer: its fronts never fall, it holds as many entries as the front says, in their order, and an end
-// stays. It goes on until it sees the end.
+/// How long a reader rests between two looks, in nanoseconds. One that never rests is nearly always inside when its thread is
+/// put aside, and then a publish waits for that thread's next turn.
+const REST: u64 = 1_000_000;
+
+// A reader beside the writer, which rests between two looks as a watcher does: its fronts never fall, it holds the entries that
+// were published, as many as the front says, and an end stays. It goes on until it sees the end.
 #[derive(Drop)]
 struct Watch<J: Naming> {
     reader: Reader<Untold, J>,
@@ -112,31 +117,66 @@ struct Watch<J: Naming> {
     right: bool,
 }
 
-fn follow_to_the_end<J: Naming, R: Wait>(rt: &R, watch: &mut Watch<J>) {
-    'fronts: for _ in rt.forever() {
-        let seen = watch.reader.front();
-        let Ok(found) = watch.reader.refresh(rt) else {
-            watch.right = false;
-            return;
-        };
-        watch.right &= watch.blocks <= seen.blocks && seen.blocks <= found.blocks;
-        watch.right &= watch.reader.entries().len() as u64 == found.blocks;
-        watch.right &= seen.end.is_none() || seen == found;
-        watch.fronts = watch.fronts.saturating_add(1);
-        watch.blocks = found.blocks;
-        watch.end = found.end;
-        if found.end.is_some() {
-            break;
-        }
-    }
-    let mut offset = 34;
-    for entry in watch.reader.entries() {
-        watch.right &= entry.offset == offset;
-        offset = offset.wrapping_add(139);
-    }
+fn is_entry_at(entry: &Entry<Untold>, offset: u64) -> bool {
+    let published = entry_at(offset);
+    entry.offset == published.offset
+        && entry.extent.from == published.extent.from
+        && entry.extent.len == published.extent.len
+        && entry.chunk_length == published.chunk_length
+        && entry.start_time == published.start_time
+        && entry.end_time == published.end_time
+        && entry.messages == published.messages
+        && entry.declared == published.declared
 }
 
-const BLOCKS: u64 = 2000;
+// Whether the entries behind the first ones are those that were published.
+fn are_published(entries: &[Entry<Untold>], first: u64) -> bool {
+    let mut offset = first.wrapping_mul(139).wrapping_add(34);
+    for n in first as usize..entries.len() {
+        if !is_entry_at(&entries[n], offset) {
+            return false;
+        }
+        offset = offset.wrapping_add(139);
+    }
+    true
+}
+
+// Takes in a front that has moved, and says whether memory was there.
+fn take_in<J: Naming, R: Wait>(rt: &R, watch: &mut Watch<J>, seen: Front) -> bool {
+    let Ok(found) = watch.reader.refresh(rt) else {
+        return false;
+    };
+    let entries = watch.reader.entries();
+    watch.right &= watch.blocks <= seen.blocks && seen.blocks <= found.blocks;
+    watch.right &= entries.len() as u64 == found.blocks;
+    watch.right &= are_published(entries, watch.blocks);
+    watch.right &= seen.end.is_none() || seen == found;
+    watch.fronts = watch.fronts.saturating_add(1);
+    watch.blocks = found.blocks;
+    watch.end = found.end;
+    true
+}
+
+fn follow_to_the_end<J: Naming, R: Wait>(rt: &R, watch: &mut Watch<J>) {
+    let parker = Parker::new();
+    'fronts: for _ in rt.forever() {
+        let seen = watch.reader.front();
+        if seen != front(watch.blocks, watch.end) && !take_in(rt, watch, seen) {
+            watch.right = false;
+            return;
+        }
+        if watch.end.is_some() {
+            return;
+        }
+        parker.park_timeout(rt, Duration::from_nanos(REST));
+    }
+    unreachable!()
+}
+
+const BLOCKS: u64 = 100_000;
+
+/// As many as a recording may have watchers.
+const READERS: u32 = 16;
 
 fn write<J: Naming, R: Wait>(
     rt: &R,
@@ -168,7 +208,12 @@ fn beside<J: Naming + Send + Sync, R: Threads + Wait + Sync>(
 {
     let (_, note) = join(
         rt,
-        || for_each_mut(rt, watches, 4, &|_, one| follow_to_the_end(rt, one)),
+        || for_each_mut(
+            rt,
+            watches,
+            READERS as usize,
+            &|_, one| follow_to_the_end(rt, one),
+        ),
         || -> Option<Note<Untold, J>>
             requires { (end_of directory.now.shown ≡ None) × (directory.now.short ≡ false) }
         { write(rt, alloc, directory) },
@@ -176,14 +221,14 @@ fn beside<J: Naming + Send + Sync, R: Threads + Wait + Sync>(
     note
 }
 
-fn four_readers_as<J: Naming + Send + Sync, R: Threads + Wait + Abort + Sync>(
+fn many_readers_as<J: Naming + Send + Sync, R: Threads + Wait + Abort + Sync>(
     rt: &R,
     alloc: Global,
     opened: Opened<Untold>,
 ) -> Result<(), Fail>
     requires { opened.seen.book ≡ J.book }
 {
-    let (mut directory, readers) = open_directory::<Untold, J, R>(alloc, rt, opened, 4)?;
+    let (mut directory, readers) = open_directory::<Untold, J, R>(alloc, rt, opened, READERS)?;
     let answer = watch_all(rt, alloc, &mut directory, readers);
     directory.close(rt);
     answer
@@ -210,7 +255,7 @@ fn watch_all<J: Naming + Send + Sync, R: Threads + Wait + Abort + Sync>(
     }
     let note = beside(rt, alloc, directory, watches.as_mut_slice());
     assert!(rt; note.is_some());
-    assert_eq!(rt; watches.len(), 4);
+    assert_eq!(rt; watches.len(), READERS as usize);
     for watch in watches.iter() {
         assert!(rt; watch.right);
         assert!(rt; watch.fronts > 0);
@@ -222,7 +267,7 @@ fn watch_all<J: Naming + Send + Sync, R: Threads + Wait + Abort + Sync>(
 
 #[test]
 fn fronts_never_fall_beside_the_writer(rt: HostRuntime) -> Result<(), Fail> {
-    four_readers_as::<Brand, _>(&rt, rt.alloc(), Opened::new())
+    many_readers_as::<Brand, _>(&rt, rt.alloc(), Opened::new())
 }
 
 // Hands in entries, one a call, until memory lacks or there are five, and says how many.
