@@ -3,18 +3,17 @@ use Rattle.std.proofs.Common.{◌≡◌, ℕ, ◌≤◌, List, [], ◌∷◌, �
 use Rattle.std.specs.List.{AllZip}
 use Rattle.std.proofs.lemmas.List.{take-map, length-map, map-append}
 use Rattle.mcap_io.specs.Outside.{SinkState}
-use Rattle.mcap_model.specs.declared.ends.End.{End}
 use Rattle.mcap_model.specs.declared.replay.Range.{Range}
 use Rattle.live_entry.specs.declared.entry.Entry.{Entry}
 use Rattle.live_entry.specs.Following.{Stored, IsStored}
 use Rattle.live_directory.specs.declared.front.Added.{Added}
 use Rattle.live_directory.specs.Published.{end_or, entries_of, end_of}
-use Rattle.live_directory.specs.Reading.{ReaderState, unread}
+use Rattle.live_directory.specs.Reading.{ReaderState}
 use Rattle.watching.specs.declared.report.WatchReport.{WatchReport}
 use Rattle.watching.specs.declared.report.WatchEnd.{WatchEnd}
 use Rattle.watching.specs.declared.report.WatchEnd.TheVariants as watch_ends
 use Rattle.watching.specs.Text.{Ending, undecided, sealed_by, unsealed, WatchText, WatchPart, WatchTextOf, WatchPartOf, replays_of, IsReplayText}
-use Rattle.watching.specs.Watching.{Written, unwritten, written_by, new_watcher, IsUntold, Takes, WritesTo, Holds, EndsUnsealed}
+use Rattle.watching.specs.Watching.{Written, unwritten, written_by, Takes, WritesTo, Holds}
 use Rattle.watching.proofs.Taking.{takes_as}
 use Rattle.watching.proofs.Texts.{whole_as, part_as}
 use Rattle.watched_recording.specs.Watched.{Watch, WatchTells, IsWatched}
