@@ -1,11 +1,10 @@
 -- What the openings and the keepings of feeds, output and watch files come to.
-use Rattle.std.proofs.Common.{◌≡◌, ◌⊎◌, ℕ, zero, suc, ◌+◌, ◌^◌, ◌<◌, ◌≤◌, Bool, true, false, List, [], ◌∷◌, ◌++◌, length, map, take, get_or, append_assoc, length-append, Option, Some, None, Result, Ok, Err, refl, sym, ap, subst, inl, inr, ◌∙◌, arith}
-use Rattle.std.specs.Prelude.{AllPairs}
+use Rattle.std.proofs.Common.{◌≡◌, ℕ, zero, suc, ◌+◌, ◌^◌, ◌<◌, Bool, true, List, [], ◌∷◌, ◌++◌, map, get_or, append_assoc, Option, Some, None, Result, Ok, Err, refl, sym, ap, subst, inl, inr, ◌∙◌, arith}
 use Rattle.std.specs.List.{sum}
 use Rattle.std.proofs.lemmas.Bool.{cases_order}
-use Rattle.std.proofs.lemmas.List.{append-nil, length-map}
+use Rattle.std.proofs.lemmas.List.{append-nil}
 use Rattle.std.proofs.lemmas.Option.{same_Some}
-use Rattle.mcap_io.specs.Outside.{HasCause, Opens, OpenCause, CountsStand, added, Opening, Keeping, Told, Names, opened, with_opening, went_well, SourceState, SinkState, LiveState, WorldState, KeepsLive, Placed, NoneIsOut}
+use Rattle.mcap_io.specs.Outside.{HasCause, Opens, OpenCause, CountsStand, added, Opening, Told, Names, opened, with_opening, went_well, SourceState, SinkState, LiveState, WorldState, KeepsLive, Placed, NoneIsOut}
 use Rattle.mcap_io.specs.declared.outside.Failed.{Failed}
 use Rattle.mcap_io.specs.declared.outside.ObjectKind.{ObjectKind}
 use Rattle.mcap_io.specs.declared.outside.ObjectKind.TheVariants as kinds
@@ -19,7 +18,7 @@ use Rattle.command_words.specs.Commands.{AreApart}
 use Rattle.command_base.specs.Ran.{Wanted, refused, input_faults, output_faults, world_faults, AreOpened}
 use Rattle.command_base.proofs.Counting.{added_none, kept_adds}
 use Rattle.command_base.proofs.Opened.{tells_more}
-use Rattle.record_command.specs.Record.{FeedKept, entry_of, live_entry, names_kept, back_sources}
+use Rattle.record_command.specs.Record.{FeedKept, entry_of, live_entry}
 use Rattle.record_command.specs.Sources.{given, with_openings, FeedsKept}
 use Rattle.record_command.specs.Sinks.{SinkKept, sink_entry, sink_names, back_sinks, watch_faults, given_sink, AreOnce, SinkHolds, SinksOpened, SinksKept, ViewsLetGo, OutOpened}
 use Rattle.record_command.proofs.Runs.{world_faults-append, input_faults-append, output_faults-append, sources_write_nothing, refusal_of}

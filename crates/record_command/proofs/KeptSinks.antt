@@ -1,21 +1,21 @@
 -- What is seen of a world over the openings and keepings of watchers' sinks.
-use Rattle.std.proofs.Common.{◌≡◌, ◌⊎◌, ℕ, zero, suc, ◌+◌, ◌^◌, ◌<◌, Bool, true, false, if◌then◌else◌, List, [], ◌∷◌, ◌++◌, length, map, take, get_or, append_assoc, length-append, Option, Some, None, Result, Ok, Err, refl, sym, ap, subst, inl, inr, ◌∙◌, arith}
+use Rattle.std.proofs.Common.{◌≡◌, ℕ, zero, suc, ◌+◌, ◌<◌, Bool, List, [], ◌∷◌, ◌++◌, length, map, take, get_or, append_assoc, length-append, Option, Some, Result, Ok, Err, refl, sym, ap, subst, inl, inr, ◌∙◌, arith}
 use Rattle.std.specs.Prelude.{reverse}
 use Rattle.std.specs.List.{fold, sum}
 use Rattle.std.specs.Option.{option_map}
 use Rattle.std.proofs.lemmas.List.{append-nil, reverse-append, map-append, take_more}
 use Rattle.std.proofs.lemmas.Option.{same_Some}
-use Rattle.mcap_io.specs.Outside.{WorldState, SinkState, Told, Names, Opening, Keeping, CountsStand, TookNothingYet, NoneIsOut, IsNewestOut, with_opening, added, went_well, KeepsSink, KeepsName, Placed, HasCause, LetsViewGo}
+use Rattle.mcap_io.specs.Outside.{WorldState, SinkState, Told, Names, Opening, CountsStand, TookNothingYet, NoneIsOut, with_opening, added, went_well, KeepsSink, KeepsName, HasCause, LetsViewGo}
 use Rattle.mcap_io.specs.declared.outside.Failed.{Failed}
 use Rattle.mcap_io.specs.declared.outside.ObjectKind.TheVariants as kinds
 use Rattle.mcap_io.proofs.Notes.{noted_in}
 use Rattle.mcap_model.specs.Places.{At, Has, Each}
 use Rattle.mcap_model.proofs.Places.{at_none}
-use Rattle.command_base.specs.Ran.{has_failed, failed_so, world_faults}
+use Rattle.command_base.specs.Ran.{failed_so}
 use Rattle.command_base.proofs.Counting.{kept_adds}
 use Rattle.command_base.proofs.Opened.{tells_more}
 use Rattle.record_command.specs.Sources.{with_openings}
-use Rattle.record_command.specs.Sinks.{SinkKept, sink_keeping, sink_entry, sink_names, back_sinks, watch_faults, AreOnce, SinkHolds, given_sink, NoSinkOut, SinksOpened, PlacesSink, OneSinkKept, SinksKept, ViewsLetGo}
+use Rattle.record_command.specs.Sinks.{SinkKept, sink_keeping, sink_entry, sink_names, AreOnce, SinkHolds, given_sink, NoSinkOut, SinksOpened, PlacesSink, OneSinkKept, SinksKept, ViewsLetGo}
 use Rattle.record_command.proofs.Sources.{each_push, some_told}
 
 -- ---- openings

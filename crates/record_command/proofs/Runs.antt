@@ -1,5 +1,5 @@
 -- What the openings, the recording and the keepings of all names come to.
-use Rattle.std.proofs.Common.{◌≡◌, ◌⊎◌, ℕ, zero, suc, ◌+◌, ◌^◌, ◌<◌, ◌≤◌, Bool, true, false, ◌||◌, List, [], ◌∷◌, ◌++◌, length, map, take, append_assoc, length-append, Option, Some, None, Result, Ok, Err, refl, sym, ap, subst, inl, inr, ◌∙◌, arith}
+use Rattle.std.proofs.Common.{◌≡◌, ℕ, zero, suc, ◌+◌, ◌^◌, ◌<◌, ◌≤◌, Bool, true, false, ◌||◌, List, [], ◌∷◌, ◌++◌, length, map, take, append_assoc, length-append, Option, Some, None, Result, Err, refl, sym, ap, subst, inl, inr, ◌∙◌, arith}
 use Rattle.std.specs.List.{AllZip, list_any}
 use Rattle.std.specs.Option.{option_map}
 use Rattle.std.proofs.lemmas.Option.{same_Some}
@@ -13,7 +13,7 @@ use Rattle.mcap_io.specs.declared.outside.OpenRefused.{OpenRefused}
 use Rattle.mcap_io.specs.declared.outside.OpenRefused.TheVariants as open_refusals
 use Rattle.mcap_io.proofs.Notes.{noted_in}
 use Rattle.mcap_model.specs.Places.{At, Has, Each}
-use Rattle.mcap_model.proofs.Places.{at_none, at_more, heads}
+use Rattle.mcap_model.proofs.Places.{at_none}
 use Rattle.mcap_model.proofs.Lists.{at_either, cut_at}
 use Rattle.recorder.specs.declared.options.RecordOptions.{RecordOptions}
 use Rattle.recorder.specs.declared.report.Report.{Report}

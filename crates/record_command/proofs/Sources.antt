@@ -1,17 +1,17 @@
 -- What the openings and the keepings of feeds come to, one by one.
-use Rattle.std.proofs.Common.{◌≡◌, ◌⊎◌, ℕ, zero, suc, ◌+◌, ◌-◌, ◌^◌, ◌<◌, ◌≤◌, Bool, true, false, ◌||◌, List, [], ◌∷◌, ◌++◌, length, map, take, get_or, append_assoc, length-append, Option, Some, None, Result, Ok, Err, refl, sym, ap, subst, inl, inr, ◌∙◌, arith}
+use Rattle.std.proofs.Common.{◌≡◌, ℕ, zero, suc, ◌+◌, ◌<◌, Bool, List, [], ◌∷◌, ◌++◌, length, map, take, get_or, append_assoc, length-append, Option, Some, refl, sym, ap, subst, inl, inr, ◌∙◌, arith}
 use Rattle.std.specs.Prelude.{reverse}
 use Rattle.std.specs.List.{AllZip}
 use Rattle.std.specs.Option.{option_map}
 use Rattle.std.proofs.lemmas.List.{append-nil, reverse-append, map-append, take_more}
-use Rattle.mcap_io.specs.Outside.{WorldState, SourceState, Told, Opening, Keeping, CountsStand, TellsName, NoneIsOut, IsNewestOut, with_opening, added}
+use Rattle.mcap_io.specs.Outside.{WorldState, SourceState, Told, Opening, CountsStand, TellsName, NoneIsOut, with_opening}
 use Rattle.mcap_io.specs.declared.outside.ObjectKind.TheVariants as kinds
 use Rattle.mcap_io.proofs.Notes.{noted_in}
-use Rattle.mcap_model.specs.Places.{At, Each}
+use Rattle.mcap_model.specs.Places.{Each}
 use Rattle.mcap_model.proofs.Places.{at_none, at_more}
-use Rattle.command_base.specs.Ran.{has_failed, failed_so, input_faults, world_faults}
+use Rattle.command_base.specs.Ran.{failed_so}
 use Rattle.command_base.proofs.Opened.{tells_more}
-use Rattle.record_command.specs.Record.{FeedKept, entry_of, names_kept, back_sources}
+use Rattle.record_command.specs.Record.{FeedKept, entry_of}
 use Rattle.record_command.specs.Sources.{source_keeping, given, with_openings, FeedsOpened, OneKept, NoSourceOut, FeedsKept}
 
 -- ---- lists

@@ -5,7 +5,7 @@ use Rattle.std.proofs.Math.Seq.{drop-length}
 use Rattle.std.proofs.lemmas.Bool.{both_ways}
 use Rattle.std.proofs.lemmas.List.{append-nil}
 use Rattle.std.proofs.lemmas.Option.{same_Some}
-use Rattle.mcap_io.specs.Outside.{Rose, RisesOnce, SinkState, LiveState, Opening}
+use Rattle.mcap_io.specs.Outside.{RisesOnce, SinkState, LiveState, Opening}
 use Rattle.mcap_io.specs.declared.outside.ObjectKind.{ObjectKind}
 use Rattle.mcap_io.specs.declared.outside.ObjectKind.TheVariants as kinds
 use Rattle.mcap_model.specs.declared.ends.End.{End}
@@ -15,13 +15,12 @@ use Rattle.mcap_model.proofs.Places.{at_none}
 use Rattle.live_entry.specs.declared.entry.Entry.{Entry}
 use Rattle.live_directory.specs.declared.front.Added.{Added}
 use Rattle.live_directory.specs.Published.{entries_of, end_of}
-use Rattle.live_directory.specs.Reading.{unread}
 use Rattle.live_directory.specs.Writing.{at_most_one}
 use Rattle.watching.specs.declared.report.WatchReport.{WatchReport}
 use Rattle.watching.specs.declared.report.WatchEnd.{WatchEnd}
 use Rattle.watching.specs.declared.report.WatchEnd.TheVariants as watch_ends
 use Rattle.watching.specs.Text.{Ending, sealed_by, unsealed}
-use Rattle.watching.specs.Watching.{unwritten, written_by, IsQuiet, HasFailed, IsUntold, WritesTo}
+use Rattle.watching.specs.Watching.{unwritten, written_by, IsQuiet, IsUntold, WritesTo}
 use Rattle.watched_recording.specs.Watched.{Watch, WatchTells, AsksView, AsksViews}
 use Rattle.command_base.specs.Ran.{has_failed, object_faults, world_faults}
 use Rattle.record_command.specs.Record.{some_failed}

@@ -1,22 +1,21 @@
 -- What the openings, the recording and the keepings of all names come to, where watchers write.
-use Rattle.std.proofs.Common.{◌≡◌, ◌⊎◌, ℕ, zero, suc, ◌+◌, ◌-◌, ◌^◌, ◌<◌, ◌≤◌, Bool, true, false, ◌||◌, List, [], ◌∷◌, ◌++◌, length, map, take, append_assoc, length-append, Option, Some, None, Result, Ok, Err, refl, sym, ap, subst, inl, inr, ◌∙◌, arith}
+use Rattle.std.proofs.Common.{◌≡◌, ◌⊎◌, ℕ, zero, suc, ◌+◌, ◌^◌, ◌<◌, ◌≤◌, Bool, true, false, List, [], ◌∷◌, ◌++◌, length, map, take, append_assoc, length-append, Option, Some, None, Result, Ok, Err, refl, sym, ap, subst, inl, inr, ◌∙◌, arith}
 use Rattle.std.specs.Prelude.{IsSome}
 use Rattle.std.specs.List.{AllZip, list_any, sum}
 use Rattle.std.proofs.lemmas.Bool.{both_ways, false≢true}
 use Rattle.std.proofs.lemmas.List.{append-nil, map-append, length-map}
 use Rattle.std.proofs.lemmas.Option.{same_Some}
-use Rattle.mcap_io.specs.Outside.{Rose, RisesOnce, Opening, Keeping, Told, opened, went_well, SourceState, SinkState, LiveState, WorldState, TellsName, OpenCause, CountsStand, Opens}
+use Rattle.mcap_io.specs.Outside.{Opening, Told, went_well, SourceState, SinkState, LiveState, WorldState, TellsName}
 use Rattle.mcap_io.specs.declared.outside.ObjectKind.{ObjectKind}
 use Rattle.mcap_io.specs.declared.outside.ObjectKind.TheVariants as kinds
 use Rattle.mcap_io.specs.declared.outside.OpenRefused.{OpenRefused}
 use Rattle.mcap_io.specs.declared.outside.OpenRefused.TheVariants as open_refusals
-use Rattle.mcap_model.specs.declared.ends.End.{End}
 use Rattle.mcap_model.specs.declared.ends.Stop.{Stop}
 use Rattle.mcap_model.specs.declared.ends.Stop.TheVariants as stops
 use Rattle.mcap_model.specs.declared.replay.Range.{Range}
 use Rattle.mcap_model.specs.Places.{At, Has, Each}
 use Rattle.mcap_model.proofs.Places.{at_none, at_within, at_kept, at_last}
-use Rattle.mcap_model.proofs.Lists.{at_either, at_second, take_second, each_cons, cut_at}
+use Rattle.mcap_model.proofs.Lists.{at_either, at_second, take_second, each_cons}
 use Rattle.live_directory.specs.declared.front.Added.{Added}
 use Rattle.chunk_writer.specs.Stops.{Cause}
 use Rattle.recorder.specs.declared.options.RecordOptions.{RecordOptions}
@@ -26,23 +25,23 @@ use Rattle.recorder.specs.Laws.{AreReadable}
 use Rattle.watching.specs.declared.report.WatchReport.{WatchReport}
 use Rattle.watching.specs.declared.report.WatchEnd.{WatchEnd}
 use Rattle.watching.specs.declared.report.WatchEnd.TheVariants as watch_ends
-use Rattle.watched_recording.specs.Watched.{Watch, IsWatched, RecordedWatched, Told as GaveBack}
+use Rattle.watched_recording.specs.Watched.{Watch, IsWatched, RecordedWatched}
 use Rattle.watched_recording.specs.Files.{IsWatchedFile, WatchFilesAreTold}
 use Rattle.command_words.specs.Commands.{AreApart}
-use Rattle.command_base.specs.Ran.{Wanted, wanted, kept, refused, has_failed, failed_so, failed_names, named_when, object_faults, input_faults, output_faults, world_faults, AreOpened, IsWritten}
+use Rattle.command_base.specs.Ran.{Wanted, wanted, has_failed, failed_so, failed_names, named_when, object_faults, output_faults, world_faults, AreOpened, IsWritten}
 use Rattle.command_base.proofs.Counting.{not_risen}
 use Rattle.record_command.specs.declared.answering.Outcome.{Outcome}
 use Rattle.record_command.specs.declared.watched_names.WatchedOutcome.{WatchedOutcome}
-use Rattle.record_command.specs.Record.{files_of, failed_of, some_failed, FeedKept, entry_of, live_entry, names_kept, back_sources, IsLeft, Unreported, NamesRecorded}
+use Rattle.record_command.specs.Record.{files_of, some_failed, FeedKept, entry_of, names_kept, back_sources, IsLeft, NamesRecorded}
 use Rattle.record_command.specs.Sources.{flags_with}
-use Rattle.record_command.specs.Sinks.{SinkKept, sink_entry, sink_names, back_sinks, sink_faults, watch_faults, SinkHolds}
-use Rattle.record_command.specs.Watched.{wanted_names, IsWrittenBeside, EndsSo, view_faults, is_watch_fault, is_flaw, IsWatchedAlone, with_ends, watch_flags, ReportedBeside, UnreportedBeside, NamesWatched}
+use Rattle.record_command.specs.Sinks.{SinkKept, sink_entry, sink_names, back_sinks, sink_faults, watch_faults}
+use Rattle.record_command.specs.Watched.{wanted_names, IsWrittenBeside, EndsSo, view_faults, is_flaw, IsWatchedAlone, with_ends, watch_flags, ReportedBeside, UnreportedBeside, NamesWatched}
 use Rattle.record_command.proofs.Held.{Holds, holds, placed_holds, placed_nothing}
 use Rattle.record_command.proofs.Flags.{some_more, AreKind, rest_kind}
 use Rattle.record_command.proofs.Runs.{world_faults-append, input_faults-append, output_faults-append, sources_write_nothing, unused_count_nothing, each_both, each_none, each_alone, are_sources, left_all, opened_all, none_some, map_kept, names_same, or_nothing, has_there, refusal_of}
-use Rattle.record_command.proofs.Beside.{watch_faults-append, sinks_read_nothing, sinks_write_nothing, feeds_watch_nothing, unused_sinks_count, are_sinks, opened_sinks, names_once, out_apart, has_named, AllSeen, NamesHold, seen_feeds, seen_sinks, store, sinks_behind, seen_entries, told_since, names_since, nothing_yet, sinks_yet, world_since, inputs_since, outputs_since, watches_since}
+use Rattle.record_command.proofs.Beside.{watch_faults-append, sinks_read_nothing, sinks_write_nothing, feeds_watch_nothing, unused_sinks_count, are_sinks, opened_sinks, names_once, out_apart, AllSeen, seen_feeds, seen_sinks, store, sinks_behind, seen_entries, told_since, names_since, nothing_yet, sinks_yet, world_since, inputs_since, outputs_since, watches_since}
 use Rattle.record_command.proofs.Alone.{watched_alone}
-use Rattle.record_command.proofs.WatchEnds.{ended_so, ends_nothing, ends_why, ends_first, ends_second, some_has_sink, sinks_have, sinks_total, sinks_watched, fault_shows, faults_show, views_told, views_later, views_hold, asked_for, ended, unflawed}
+use Rattle.record_command.proofs.WatchEnds.{ended_so, ends_nothing, ends_why, ends_first, ends_second, some_has_sink, sinks_have, sinks_total, sinks_watched, fault_shows, faults_show, views_told, views_hold, asked_for, ended, unflawed}
 
 -- ---- no watch file was reached
 

@@ -1,5 +1,5 @@
 -- What a recording does: to the names of the feeds and of the output, what it reports, and how it ends.
-use Rattle.std.specs.Prelude.{◌≡◌, ◌⊎◌, ◌↔◌, ◌≤◌, ◌<◌, ◌-◌, ◌^◌, ◌||◌, ◌==◌, ℕ, List, [], ◌∷◌, ◌++◌, map, length, Bool, true, false, if◌then◌else◌, Option, Some, None}
+use Rattle.std.specs.Prelude.{◌≡◌, ◌⊎◌, ◌↔◌, ◌≤◌, ◌||◌, ◌==◌, ℕ, List, [], ◌∷◌, ◌++◌, map, length, Bool, true, false, if◌then◌else◌, Option, Some, None}
 use Rattle.std.specs.List.{list_any, AllZip}
 use Rattle.mcap_io.specs.Outside.{Rose, WorldState, SourceState, LiveState, Told, Keeping, Opening, TellsName}
 use Rattle.mcap_io.specs.declared.outside.ObjectKind.TheVariants as kinds
@@ -7,7 +7,6 @@ use Rattle.mcap_wire.specs.Limits.{buffer_limit, chunk_size_limit, profile_limit
 use Rattle.rec_data.specs.declared.owned.Rec.{Rec}
 use Rattle.mcap_model.specs.declared.ends.End.{End}
 use Rattle.mcap_model.specs.declared.ends.End.TheVariants as ends
-use Rattle.mcap_model.specs.declared.ends.Stop.{Stop}
 use Rattle.mcap_model.specs.declared.ends.Stop.TheVariants as stops
 use Rattle.mcap_model.specs.declared.options.FileOptions.{FileOptions}
 use Rattle.mcap_model.specs.Places.{Has, Each}
@@ -24,7 +23,7 @@ use Rattle.feed_lane.specs.declared.report.FeedEnd.TheVariants as feed_ends
 use Rattle.recorder.specs.declared.options.RecordOptions.{RecordOptions}
 use Rattle.recorder.specs.declared.report.Report.{Report}
 use Rattle.recorder.specs.declared.report.WriterReport.{WriterReport}
-use Rattle.recorder.specs.Recorded.{Sides, sides, Recorded}
+use Rattle.recorder.specs.Recorded.{sides, Recorded}
 use Rattle.command_base.specs.declared.faults.Counts.{Counts}
 use Rattle.record_command.specs.declared.answering.Outcome.{Outcome}
 use Rattle.command_base.specs.Texts.{Trouble, grammar, compressed, limit, output_limit, halt_status}

@@ -15,7 +15,7 @@ use Rattle.watching.specs.declared.report.WatchEnd.{WatchEnd}
 use Rattle.watching.specs.declared.report.WatchEnd.TheVariants as watch_ends
 use Rattle.watched_recording.specs.Watched.{Watch, IsWatched, AsksViews}
 use Rattle.watched_recording.specs.Files.{IsWatchedFile}
-use Rattle.command_base.specs.Ran.{Files, Wanted, wanted, AreOpened, CountsKept, has_failed, failed_names, blamed_names}
+use Rattle.command_base.specs.Ran.{Wanted, wanted, AreOpened, CountsKept, has_failed, failed_names, blamed_names}
 use Rattle.record_command.specs.declared.watched_names.WatchedOutcome.{WatchedOutcome}
 use Rattle.record_command.specs.Record.{files_of, failed_of, some_failed, FeedKept, entry_of, live_entry, names_kept, back_sources, OutputHolds, Unreported, SparesOutput}
 use Rattle.record_command.specs.Sinks.{SinkKept, sink_entry, sink_names, back_sinks, watch_faults, SinkHolds}

@@ -1,9 +1,9 @@
 -- The troubles of the recording are told.
 use Rattle.std.proofs.Common.{Bool, List, [], ◌∷◌, ◌++◌, subst, sym, ap, ◌∙◌}
 use Rattle.std.specs.List.{flat_map}
-use Rattle.command_base.specs.Texts.{Trouble, fault, output_limit, output_fault, no_memory, complained}
+use Rattle.command_base.specs.Texts.{Trouble, output_limit, complained}
 use Rattle.command_base.specs.Ran.{when, told_of, Complains}
-use Rattle.record_command.specs.Record.{ends_of, reports_in, limit_passed}
+use Rattle.record_command.specs.Record.{ends_of, reports_in}
 use Rattle.record_command.specs.Answer.{flags_of}
 use Rattle.record_command.proofs.Due.{four_more, told_behind}
 use Rattle.feed_lane.specs.declared.report.FeedReport.{FeedReport}

@@ -1,5 +1,5 @@
 -- All names were opened, or one of the feeds wasn't.
-use Rattle.std.proofs.Common.{◌≡◌, refl, sym, ap, subst, ◌∙◌, ℕ, length, map, take, rules}
+use Rattle.std.proofs.Common.{◌≡◌, sym, ap, subst, ◌∙◌, ℕ, length, map, take, rules}
 use Rattle.std.proofs.lemmas.List.{length-map}
 use Rattle.record_command.specs.declared.answering.Outcome.{Outcome}
 use Rattle.record_command.specs.Sources.{FeedsKept}

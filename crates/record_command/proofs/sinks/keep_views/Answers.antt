@@ -1,5 +1,5 @@
 -- One view more was let go.
-use Rattle.std.proofs.Common.{◌≡◌, ◌∙◌, ◌++◌, ◌∷◌, [], rules, map, ap, ℕ, List}
+use Rattle.std.proofs.Common.{◌≡◌, ◌∙◌, ◌++◌, ◌∷◌, [], rules, map, ap}
 use Rattle.std.proofs.lemmas.List.{map-append}
 use Rattle.record_command.proofs.KeptSinks.{views_none, views_more, views_all}
 use Rattle.record_command.proofs.sinks.keep_views.Goals as goal

@@ -1,5 +1,5 @@
 -- An answer is added at a place, or there is none.
-use Rattle.std.proofs.Common.{◌≡◌, ◌∙◌, Bool, set, sym, ap}
+use Rattle.std.proofs.Common.{◌∙◌, Bool, set, sym, ap}
 use Rattle.record_command.specs.Watched.{is_watch_fault}
 use Rattle.record_command.proofs.WatchEnds.{or_at_within, or_at_past}
 use Rattle.record_command.proofs.watched_names.add_end.Goals as goal

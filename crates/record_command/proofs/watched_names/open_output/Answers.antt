@@ -1,5 +1,5 @@
 -- The output wasn't given.
-use Rattle.std.proofs.Common.{◌≡◌, refl, ap, ◌∙◌, Bool, map, rules, []}
+use Rattle.std.proofs.Common.{refl, ap, ◌∙◌, Bool, map}
 use Rattle.std.specs.Prelude.{Vec}
 use Rattle.record_command.proofs.Runs.{out_refused}
 use Rattle.record_command.proofs.WatchedRuns.{alone, unreached}

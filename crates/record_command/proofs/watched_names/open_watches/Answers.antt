@@ -1,10 +1,10 @@
 -- The watch files were given, or one of them wasn't.
-use Rattle.std.proofs.Common.{◌≡◌, refl, sym, ap, subst, ◌∙◌, ◌++◌, ◌∷◌, [], List, ℕ, Bool, length, map, take, rules}
+use Rattle.std.proofs.Common.{◌≡◌, refl, sym, ap, subst, ◌∙◌, ◌∷◌, [], List, ℕ, Bool, length, map, take, rules}
 use Rattle.std.specs.Prelude.{Vec}
 use Rattle.std.proofs.lemmas.List.{length-map}
 use Rattle.mcap_io.specs.Outside.{went_well}
 use Rattle.mcap_io.specs.declared.outside.ObjectKind.TheVariants as kinds
-use Rattle.mcap_model.specs.Places.{At, Has}
+use Rattle.mcap_model.specs.Places.{At}
 use Rattle.mcap_model.proofs.Places.{at_kept}
 use Rattle.mcap_model.proofs.Lists.{cut_at}
 use Rattle.command_base.specs.Ran.{failed_so}

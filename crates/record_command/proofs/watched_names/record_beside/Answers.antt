@@ -1,12 +1,11 @@
 -- The recording and the keepings come to what a recording with watchers does to the world.
-use Rattle.std.proofs.Common.{◌≡◌, refl, sym, ap, subst, ◌∙◌, ◌++◌, [], List, ℕ, Bool, Some, None, length, map, vec_len, rules, arith}
+use Rattle.std.proofs.Common.{◌≡◌, refl, sym, ap, ◌∙◌, [], length, map, vec_len, rules, arith}
 use Rattle.std.proofs.lemmas.List.{append-nil, length-map}
-use Rattle.mcap_io.specs.Outside.{went_well, SinkState, WorldState}
+use Rattle.mcap_io.specs.Outside.{went_well}
 use Rattle.command_base.specs.Ran.{failed_so}
-use Rattle.record_command.specs.Sinks.{OutOpened, SinksOpened}
 use Rattle.record_command.specs.Watched.{with_ends}
 use Rattle.record_command.proofs.Sources.{zip_long}
-use Rattle.record_command.proofs.Beside.{AllSeen, nothing_refused, names_once, out_apart, nothing_yet}
+use Rattle.record_command.proofs.Beside.{AllSeen, nothing_refused, names_once, out_apart}
 use Rattle.record_command.proofs.WatchedRuns.{watchers_long, no_total, all_watched}
 use Rattle.record_command.proofs.watched_names.record_beside.Goals as goal
 
