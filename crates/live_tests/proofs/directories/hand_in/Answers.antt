@@ -1,6 +1,5 @@
-use Rattle.std.proofs.Common.{rules, refl}
+use Rattle.std.proofs.Common.{refl}
 use Rattle.live_entry.proofs.Nothing.{untold_follow}
-use Rattle.live_directory.specs.Published.{entries_of}
 use Rattle.live_tests.proofs.directories.hand_in.Goals as goal
 
 pub publish-requires-clause-follow : goal.publish-requires-clause-follow
