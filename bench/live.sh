@@ -413,7 +413,8 @@ fn copy_all<S: Source, L: LiveStore>(alloc: Global, source: &mut S, live: &mut L
     None
 }
 
-// The entries of the blocks that the summary tells. The first one is taken to declare all channels.
+// The entries of the blocks that the summary tells, each with about as many messages as it has. The first one is taken to declare
+// all channels.
 fn entries_of(alloc: Global, loaded: &Loaded) -> Option<Vec<Entry<Stretch>>> {
     let mut entries = Vec::new(alloc);
     for i in 0..loaded.chunk_indexes() {
@@ -429,7 +430,7 @@ fn entries_of(alloc: Global, loaded: &Loaded) -> Option<Vec<Entry<Stretch>>> {
             chunk_length: index.chunk_length,
             start_time: index.message_start_time,
             end_time: index.message_end_time,
-            messages: 1,
+            messages: index.message_index_length / 16,
             declared: if i == 0 { 1 } else { 0 },
         };
         entries.push(entry).ok()?;
