@@ -1,7 +1,8 @@
 #!/usr/bin/env bash
-# Refuses memory to a writer of a directory with two readers, one allocation after another and then two of them in each run, and
-# looks at what the readers find. The refusals are made by a library that stands in front of the C library's allocator, so it
-# needs a C compiler, and perl. The program is proved and built in a folder of its own that goes at the end.
+# Refuses memory to programs, one allocation after another, and looks at what they leave: a writer of a directory beside two
+# readers, with one allocation refused and with two; and recordings of the program with two watchers, likewise. The refusals are
+# made by a library that stands in front of the C library's allocator, so it needs a C compiler, and perl. The first program is
+# proved and built in a folder of its own that goes at the end. MCAPREC names another recorder in place of this checkout's.
 set -e
 export LC_ALL=C
 here="$(cd "$(dirname "$0")" && pwd)"
@@ -13,6 +14,7 @@ for tool in cc perl; do
 done
 room="$(mktemp -d)"
 trap 'rm -rf "$room"' EXIT
+wrong=0
 
 cat >"$room/refusing.c" <<'END_OF_C'
 // Refuses the allocations of a process whose numbers REFUSED names, and puts a byte into the file REFUSED_TOLD for each.
@@ -65,6 +67,8 @@ void *realloc(void *block, size_t size) {
 }
 END_OF_C
 cc -O2 -shared -fPIC -o "$room/refusing.so" "$room/refusing.c"
+
+# --- A directory ---
 
 mkdir -p "$room/crates/refused_publish/src" "$room/crates/refused_publish/proofs/main"
 mkdir -p "$room/crates/refused_publish/proofs/publish_one" "$room/crates/refused_publish/proofs/hand_in"
@@ -389,4 +393,188 @@ my @both = grep { /seals=1 .*lacks memory/ } keys %seen;
 print "WRONG: no publish and then the seal lacked memory\n" if !@both;
 exit($wrong || !@both ? 1 : 0);
 END_OF_PERL
-perl "$room/publishing.pl" "$room/crates/refused_publish/out/refused_publish" "$room/refusing.so" "$room"
+perl "$room/publishing.pl" "$room/crates/refused_publish/out/refused_publish" "$room/refusing.so" "$room" || wrong=1
+
+# --- Recordings ---
+
+program="${MCAPREC:-$here/../crates/mcap_cli/out/mcap_cli}"
+# The first run of the launcher may build the program.
+[ -n "${MCAPREC-}" ] || "$here/../mcaprec" record "$room/whole.mcap" "$here/../samples/empty.mcap" >/dev/null
+cat >"$room/recording.pl" <<'END_OF_PERL'
+# Records a feed beside two watchers again and again, with another allocation refused each time, and looks at what is left.
+use strict;
+use warnings;
+use Fcntl;
+use POSIX ':sys_wait_h';
+use Time::HiRes 'sleep';
+my ($program, $shim, $room) = @ARGV;
+my ($feed, $whole, $out) = ("$room/feed.mcap", "$room/whole.mcap", "$room/out.mcap");
+$SIG{PIPE} = 'IGNORE';
+
+sub framed { my ($op, $content) = @_; return pack('C Q<', $op, length $content) . $content; }
+sub text { my ($text) = @_; return pack('V', length $text) . $text; }
+sub content_of { my ($name) = @_; open(my $file, '<:raw', $name) or return undef; local $/; return scalar(<$file>) // ''; }
+my @crcs = map { my $c = $_; for (1 .. 8) { $c = $c & 1 ? ($c >> 1) ^ 0xedb88320 : $c >> 1 } $c } 0 .. 255;
+sub crc_of {
+    my $crc = 0xffffffff;
+    $crc = ($crc >> 8) ^ $crcs[($crc ^ $_) & 255] for unpack('C*', $_[0]);
+    return sprintf('%08x', $crc ^ 0xffffffff);
+}
+
+# A channel and twelve messages on it, whose times rise: a block each, of which the first has no message.
+my $messages = 12;
+my @records = (framed(4, pack('v v', 1, 0) . text('/a') . text('') . pack('V', 0)),
+    map { framed(5, pack('v V Q< Q<', 1, $_, 10 + $_, 9) . 'x' x $_) } 1 .. $messages);
+my $head = "\x89MCAP0\r\n" . framed(1, text('') . text(''));
+my $tail = framed(15, pack('V', 0));
+open(my $file, '>:raw', $feed) or die;
+print $file $head, @records, $tail;
+close $file or die;
+
+# Runs words, with these allocations refused; the feed comes by a pipe in two halves where one is to be watched meanwhile.
+my ($said, $complained, $refused);
+sub run_words {
+    my ($first, $second, $halves, @words) = @_;
+    unlink $out, "$out.watch1", "$out.watch2", "$room/told";
+    pipe(my $from, my $to) or die;
+    my $child = fork() // die;
+    if (!$child) {
+        close $to;
+        open(STDIN, '<&', $from) or die;
+        open(STDOUT, '>', "$room/said") or die;
+        open(STDERR, '>', "$room/complained") or die;
+        @ENV{'REFUSED', 'REFUSED_TOLD', 'LD_PRELOAD'} = ("$first $second", "$room/told", $shim) if $first;
+        exec $program, @words or die;
+    }
+    my $ended;
+    for my $half ($halves ? @$halves : ()) {
+        syswrite($to, $half);
+        # Until it is read.
+        for (1 .. 5000) {
+            my $left = pack('i', 0);
+            ioctl($from, 0x541b, $left);
+            last if ($ended = waitpid($child, WNOHANG)) || !unpack('i', $left);
+            sleep 0.001;
+        }
+        last if $ended;
+        sleep 0.012;
+    }
+    close $to;
+    close $from;
+    for (1 .. 20000) {
+        last if $ended;
+        $ended = waitpid($child, WNOHANG);
+        sleep 0.0005 if !$ended;
+    }
+    if (!$ended) {
+        kill 'KILL', $child;
+        waitpid($child, 0);
+        return 'no end';
+    }
+    my $status = $? & 127 ? 'signal ' . ($? & 127) : $? >> 8;
+    ($said, $complained, $refused) = map { content_of("$room/$_") // '' } 'said', 'complained', 'told';
+    $refused = length $refused;
+    return $status;
+}
+
+sub read_back {
+    my (@words) = @_;
+    open(my $pipe, '-|', $program, @words) or die;
+    local $/;
+    my $text = <$pipe> // '';
+    return close($pipe) ? $text : undef;
+}
+
+die "the feed isn't recorded\n" if run_words(0, 0, undef, 'record', '--chunk', '1', $whole, $feed) ne '0';
+my $all = content_of($whole);
+my $lines = read_back('cat', $whole);
+
+# Whether a watcher's text is right beside a file of so many blocks and these lines, and how it ends.
+sub judge_watch {
+    my ($text, $blocks, $lines, $word) = @_;
+    my @lines = split /(?<=\n)/, $lines;
+    my $last = 0;
+    while ($text =~ s/^front (\d+) (\d+) ([0-9a-f]{8})\n//) {
+        my ($n, $count, $crc) = ($1, $2, $3);
+        return 'wrong front' if $n > $blocks || $n < 1 || $n < 2 * $last || $count != $n - 1;
+        return 'wrong crc' if $crc ne crc_of(join '', @lines[0 .. $n - 2]);
+        $last = $n;
+    }
+    my $end = sprintf("end %s %d %d\n", $word, $blocks, scalar @lines) . $lines;
+    return 'whole' if $text eq $end;
+    return 'unsealed' if $text eq "end unsealed\n";
+    return 'cut' if substr($end, 0, length $text) eq $text;
+    return 'wrong end';
+}
+
+# What is wrong with what a run left, or a few words on it.
+sub judge {
+    my ($status) = @_;
+    return "wrong status $status" if $status ne '0' && $status ne '5';
+    return 'complaint missing' if $status eq '5' && $complained !~ /^mcaprec: no memory$/m;
+    my @watched = map { content_of("$out.watch$_") } 1, 2;
+    my $left = content_of($out);
+    if ($said !~ /^file records=\d+ blocks=(\d+) bytes=(\d+) (closed|stopped memory)$/m) {
+        return 'wrong without a report' if $status eq '0' || grep { defined && length } $left, @watched;
+        return 'nothing was begun';
+    }
+    my ($blocks, $bytes, $end) = ($1, $2, $3);
+    return 'wrong length' if !defined $left || length $left != $bytes;
+    my $shown = $lines;
+    if ($left ne $all) {
+        return 'wrong file' if $status eq '0';
+        my $from = $out;
+        if ($end ne 'closed') {
+            return 'wrong front of a file' if substr($all, 0, $bytes) ne $left && !$main::several;
+            $from = "$room/recovered.mcap";
+            return 'a file without blocks' if !$blocks;
+            defined read_back('recover', $out, $from) or return 'wrong: not recovered';
+        } elsif ((read_back('check', $out) // '') !~ /^ok indexed /) {
+            return 'wrong: not valid';
+        }
+        $shown = read_back('cat', $from) // return 'wrong: not read';
+    }
+    my @how = map { judge_watch($_ // '', $blocks, $shown, $end eq 'closed' ? 'closed' : 'stopped') } @watched;
+    my ($bad) = grep { /wrong/ } @how;
+    return "$bad of a watcher" if $bad;
+    return 'wrong: a watcher is not whole' if $status eq '0' && grep { $_ ne 'whole' } @how;
+    my $file = $left eq $all ? 'the whole file' : $end eq 'closed' ? 'a file of fewer messages' : 'a front of the file';
+    return "$file, watchers @how";
+}
+
+my ($runs, $wrong, %seen) = (0, 0);
+our $several = 0;
+sub try_one {
+    my ($first, $second, $halves) = @_;
+    my @words = ('record', '--chunk', '1', '--watchers', '2', $out, $halves ? '/dev/stdin' : $feed);
+    my $status = run_words($first, $second, $halves, @words);
+    my $what = $status eq 'no end' ? 'wrong: it does not end' : judge($status);
+    $seen{"$status: $what"}++;
+    $runs++;
+    if ($what =~ /wrong|missing/) {
+        $wrong++;
+        print "WRONG: allocations $first and $second refused: $status: $what\n$complained";
+    }
+    return $refused;
+}
+
+my @halves = ($head . join('', @records[0 .. 6]), join('', @records[7 .. $#records]) . $tail);
+my $count = 0;
+for (my $none = 0; $none < 3; ) {
+    $count++;
+    if (try_one($count, 0, \@halves)) { $none = 0 } else { $none++ }
+}
+$several = 1;
+for my $first (1 .. $count) {
+    try_one($first, $first + $_, undef) for 1 .. 12;
+}
+print "$runs runs of a recording with two watchers:\n";
+printf "%6d  status %s\n", $seen{$_}, $_ for sort keys %seen;
+my $sealed = grep { /the whole file, watchers unsealed unsealed/ } keys %seen;
+print "WRONG: no run lacked memory in the seal\n" if !$sealed;
+exit($wrong || !$sealed ? 1 : 0);
+END_OF_PERL
+perl "$room/recording.pl" "$program" "$room/refusing.so" "$room" || wrong=1
+
+if [ "$wrong" -ne 0 ]; then echo 'WRONG: see above'; fi
+exit "$wrong"
