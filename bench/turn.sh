@@ -9,28 +9,18 @@ work="$(mktemp -d)"
 trap 'rm -rf "$work"' EXIT
 messages=20000000
 
-# The crates that one stands on, and itself, one a line.
-crates_of() {
-    awk -F: -v top="$1" '!/^#/ && NF > 1 { line[++lines] = $1; below[$1] = $2 }
-        END {
-            wanted[top] = 1
-            for (i = lines; i > 0; i--) {
-                if (line[i] in wanted) {
-                    count = split(below[line[i]], names, " ")
-                    for (j = 1; j <= count; j++) { wanted[names[j]] = 1 }
-                }
-            }
-            for (i = 1; i <= lines; i++) { if (line[i] in wanted) { print line[i] } }
-        }' "$here/../crates.txt"
+# Copies a crate and those below it, with what is proved of them.
+take_crate() {
+    local deps dep
+    if [ -d "$work/crates/$1" ] || [ ! -d "$here/../crates/$1" ]; then return; fi
+    mkdir -p "$work/crates"
+    cp -r "$here/../crates/$1" "$work/crates/$1"
+    grep "^$1:" "$here/../crates.txt" >>"$work/crates.txt"
+    deps="$(sed -n "s/^$1://p" "$here/../crates.txt")"
+    for dep in $deps; do take_crate "$dep"; done
 }
 
-for crate in $(crates_of buffer_swap); do
-    mkdir -p "$work/crates/$crate"
-    for folder in src specs proofs; do
-        if [ -d "$here/../crates/$crate/$folder" ]; then cp -r "$here/../crates/$crate/$folder" "$work/crates/$crate/"; fi
-    done
-    grep "^$crate:" "$here/../crates.txt" >>"$work/crates.txt"
-done
+take_crate buffer_swap
 cp "$here/../HANDLES" "$work/"
 echo 'turn_times: buffer_swap record_core record_cache rec_data mcap_wire' >>"$work/crates.txt"
 program="$work/crates/turn_times"
