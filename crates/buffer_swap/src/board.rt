@@ -24,7 +24,9 @@ use mcap_model::{End, Stop as Why};
 use mcap_wire::Memory;
 use rec_data::ChannelDef;
 use record_cache::Cache;
-use record_core::{DeclareRefused, Declared, Desk, Empty, Found, NewMessage, PublishRefused};
+use record_core::{
+    DeclareRefused, Declared, Desk, Empty, Found, NewMessage, PublishRefused, declared_size,
+};
 use std::alloc::Global;
 use std::hint::spin_loop;
 use std::marker::Brand;
@@ -485,7 +487,7 @@ impl Board {
         let answer = self.declare_out(seat, channel, like);
         self.count_declared(seat, channel, &answer);
         self.free_declared(seat, channel, &answer);
-        self.ring_if_ripe(held);
+        self.ring_behind_declaration(held, channel);
         answer
     }
 
@@ -675,7 +677,7 @@ impl Board {
         let answer = self.declare_out(seat, channel, like);
         self.count_declared(seat, channel, &answer);
         self.free_tried(seat, channel, &answer);
-        self.ring_if_ripe(held);
+        self.ring_behind_declaration(held, channel);
         answer
     }
 
@@ -714,6 +716,12 @@ impl Board {
         if held >= self.ripe && self.doorbell.is_filled() {
             self.doorbell.ring();
         }
+    }
+
+    // The same behind a declaration, before which the buffer held so many bytes. Its length is that of new records, so it may
+    // ring too early.
+    fn ring_behind_declaration(&self, held: u64, channel: &ChannelDef) {
+        self.ring_if_ripe(held.saturating_add(declared_size(channel)));
     }
 
     // The same behind a message, before which the buffer held so many bytes.

@@ -38,7 +38,8 @@ impl<'a, 't, S: Source> Source for Rousing<'a, 't, S> {
     }
 }
 
-/// Reads a feed and publishes it, as `publish_feed` does, and rouses the writer before each read.
+/// Reads a feed and publishes it, as `publish_feed` does, and rouses the writer before each read and at the end: what came by
+/// the last read isn't held back while other feeds are silent.
 pub(crate) fn publish_roused<S: Source, P: Pass>(
     alloc: Global,
     source: &mut S,
@@ -53,5 +54,7 @@ pub(crate) fn publish_roused<S: Source, P: Pass>(
     ensures listed { ListsMessages result listed }
 {
     let mut rousing = Rousing { source, rouser };
-    publish_feed(alloc, &mut rousing, pass, listed)
+    let report = publish_feed(alloc, &mut rousing, pass, listed);
+    rouser.rouse();
+    report
 }
