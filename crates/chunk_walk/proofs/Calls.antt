@@ -1,5 +1,5 @@
 -- What a caller shows from call to call.
-use Rattle.std.proofs.Common.{◌≡◌, List, [], ◌∷◌, ◌++◌, sym, ap, subst, Option, Some, Ok}
+use Rattle.std.proofs.Common.{List, [], ◌∷◌, ◌++◌, sym, ap, subst, Option, Some, Ok}
 use Rattle.mcap_io.specs.Stores.{StoreState}
 use Rattle.mcap_model.specs.Places.{Has}
 use Rattle.chunk_walk.specs.declared.answers.Turn.{Turn}

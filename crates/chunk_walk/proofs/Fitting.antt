@@ -1,8 +1,8 @@
 -- Bytes that can be those of a span, or can't.
-use Rattle.std.proofs.Common.{◌≡◌, ℕ, ◌+◌, ◌<◌, ◌≤◌, List, [], ◌∷◌, ◌++◌, length, refl, sym, ap, subst, inl, inr, ◌∙◌, arith}
+use Rattle.std.proofs.Common.{◌≡◌, ℕ, List, [], ◌∷◌, ◌++◌, length, refl, sym, ap, subst, inl, inr, arith}
 use Rattle.std.specs.Prelude.{IsPermutation}
 use Rattle.std.proofs.lemmas.List.Sorted.{IsPermutation-sym, length_permutation}
-use Rattle.mcap_model.specs.Places.{At, Has}
+use Rattle.mcap_model.specs.Places.{Has}
 use Rattle.mcap_model.specs.Tops.{records_in}
 use Rattle.mcap_model.proofs.Places.{at_more}
 use Rattle.chunk_window.specs.declared.window.Loaded.{Loaded}

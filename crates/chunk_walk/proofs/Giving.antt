@@ -1,25 +1,24 @@
 -- How a walk stands when a message is given.
-use Rattle.std.proofs.Common.{◌≡◌, ◌⊎◌, ℕ, suc, ◌+◌, ◌<◌, ◌≤◌, List, [], ◌∷◌, ◌++◌, length, take, drop, map, set, refl, sym, ap, subst, inl, inr, ◌∙◌, arith}
+use Rattle.std.proofs.Common.{◌≡◌, ℕ, suc, ◌<◌, ◌≤◌, List, [], ◌∷◌, ◌++◌, length, take, drop, map, set, refl, sym, ap, subst, inl, inr, ◌∙◌, arith}
 use Rattle.std.specs.Prelude.{IsPermutation}
 use Rattle.std.specs.List.{AllZip, sum_by}
 use Rattle.std.proofs.lemmas.List.{map-set}
 use Rattle.std.proofs.lemmas.List.Sorted.{IsPermutation-sym}
-use Rattle.mcap_model.specs.Places.{At, Has, Each}
+use Rattle.mcap_model.specs.Places.{At, Has}
 use Rattle.mcap_model.proofs.Places.{at_one, at_more, at_set}
 use Rattle.mcap_model.proofs.Flat.{at_mapped}
 use Rattle.mcap_model.proofs.NamedTopics.{unmapped, zip_front, zip_back}
 use Rattle.chunk_window.specs.declared.window.Loaded.{Loaded}
-use Rattle.chunk_window.specs.Parts.{bytes_in, BeginsAt, IsLoaded}
+use Rattle.chunk_window.specs.Parts.{bytes_in, BeginsAt}
 use Rattle.chunk_window.specs.Windows.{loaded_in}
 use Rattle.chunk_walk.specs.declared.answers.Turn.{Turn}
-use Rattle.chunk_walk.specs.declared.entries.Entry.{Entry}
 use Rattle.chunk_walk.specs.declared.pieces.Piece.{Piece}
 use Rattle.chunk_walk.specs.declared.cursors.Cursor.{Cursor}
 use Rattle.chunk_walk.specs.declared.walk.Walk.{Walk}
 use Rattle.chunk_walk.specs.Entries.{entries_in, AreWithin}
 use Rattle.chunk_walk.specs.Pieces.{Files, PiecesInOrder, BeginTogether, IsInOverlap}
 use Rattle.chunk_walk.specs.Cursors.{turn_of, turns_left, TurnBefore, PieceTurnNotBehind, IsNext, IsFirst}
-use Rattle.chunk_walk.specs.Walks.{pieces_loaded, pieces_ahead, Text, text_of, turns_in, turns_of, IsTextOf, HoldsText, QueuesStand, AreAll, Apart, LeftButLast, AllLeft, IsHeldAs, PeakStands, WalkStands, GivesNext, IsOfHeld}
+use Rattle.chunk_walk.specs.Walks.{pieces_loaded, pieces_ahead, Text, text_of, turns_of, IsTextOf, QueuesStand, AreAll, LeftButLast, AllLeft, IsHeldAs, PeakStands, WalkStands, GivesNext, IsOfHeld}
 use Rattle.chunk_walk.proofs.Places.{undropped, drop_head}
 use Rattle.chunk_walk.proofs.Ordered.{which, next_is_one}
 use Rattle.chunk_walk.proofs.Queues.{HeadIsFirst, queues_on, all_on}

@@ -1,5 +1,5 @@
 -- How a walk stands when a piece goes.
-use Rattle.std.proofs.Common.{◌≡◌, ◌⊎◌, ℕ, ◌+◌, ◌<◌, ◌≤◌, List, [], length, take, drop, map, refl, sym, ap, subst, inl, inr, ◌∙◌, arith}
+use Rattle.std.proofs.Common.{◌≡◌, ℕ, ◌≤◌, List, [], length, take, drop, map, sym, ap, subst, inl, inr, ◌∙◌, arith}
 use Rattle.std.specs.List.{AllZip, remove, sum_by}
 use Rattle.std.proofs.Math.ListN.{drop_of_length-le}
 use Rattle.mcap_model.specs.Places.{At, Has, Each}
@@ -15,7 +15,7 @@ use Rattle.chunk_walk.specs.declared.cursors.Cursor.{Cursor}
 use Rattle.chunk_walk.specs.declared.walk.Walk.{Walk}
 use Rattle.chunk_walk.specs.Pieces.{Files, PiecesInOrder, IsInOverlap}
 use Rattle.chunk_walk.specs.Cursors.{turn_of, turns_left, HasLeft}
-use Rattle.chunk_walk.specs.Walks.{pieces_loaded, pieces_ahead, Text, turns_of, IsTextOf, QueuesStand, AreAll, Apart, LeftButLast, AllLeft, IsHeldAs, WalkStands, Stands, LastGoes, NoneGoes, LetsGo}
+use Rattle.chunk_walk.specs.Walks.{pieces_loaded, Text, turns_of, IsTextOf, QueuesStand, AreAll, Apart, LeftButLast, AllLeft, IsHeldAs, WalkStands, Stands, LastGoes, LetsGo}
 use Rattle.chunk_walk.proofs.Places.{map_removed, StoodAt, removed_from, stood_apart}
 use Rattle.chunk_walk.proofs.Ordered.{which}
 use Rattle.chunk_walk.proofs.Queues.{queues_less, all_less}

@@ -1,8 +1,8 @@
 -- The messages of a piece, one after the other.
-use Rattle.std.proofs.Common.{◌≡◌, ◌⊎◌, ℕ, zero, suc, ◌+◌, ◌<◌, ◌≤◌, Bool, true, false, List, [], ◌∷◌, ◌++◌, length, cond, sym, ap, refl, ◌∙◌, inl, inr, append_assoc, append-nil, arith}
+use Rattle.std.proofs.Common.{◌≡◌, ◌⊎◌, ℕ, zero, suc, ◌+◌, ◌<◌, Bool, true, false, List, [], ◌∷◌, ◌++◌, length, cond, sym, ap, refl, ◌∙◌, inl, inr, append_assoc, append-nil, arith}
 use Rattle.std.proofs.lemmas.List.{length-append}
 use Rattle.std.proofs.lemmas.Option.{same_Some}
-use Rattle.mcap_model.specs.Places.{At, Has, Each}
+use Rattle.mcap_model.specs.Places.{At}
 use Rattle.mcap_model.specs.Tops.{Top, top_bytes, spelled}
 use Rattle.mcap_model.specs.Scan.{is_message_top}
 use Rattle.mcap_model.proofs.Places.{at_none}

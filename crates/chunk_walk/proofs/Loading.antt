@@ -1,19 +1,19 @@
 -- How a walk stands when a piece is loaded.
-use Rattle.std.proofs.Common.{◌≡◌, ◌⊎◌, ℕ, zero, suc, ◌+◌, ◌-◌, ◌<◌, ◌≤◌, List, [], ◌∷◌, ◌++◌, length, take, drop, map, max, refl, sym, ap, subst, inl, inr, ◌∙◌, append-nil, arith}
-use Rattle.std.specs.Prelude.{AllPairs, IsPermutation}
+use Rattle.std.proofs.Common.{◌≡◌, ◌⊎◌, ℕ, suc, ◌+◌, ◌-◌, ◌≤◌, List, [], ◌∷◌, ◌++◌, length, take, drop, map, refl, sym, ap, subst, inl, inr, ◌∙◌, append-nil, arith}
+use Rattle.std.specs.Prelude.{AllPairs}
 use Rattle.std.specs.List.{AllZip, sum_by}
 use Rattle.std.proofs.lemmas.Grind.{flat_map-append}
 use Rattle.std.proofs.lemmas.List.{map-append}
 use Rattle.std.proofs.lemmas.List.Sorted.{IsPermutation-sym}
 use Rattle.std.proofs.lemmas.List.Sums.{sum_by-take-le, sum_by_push}
 use Rattle.std.proofs.Math.Nat.{max-eq_left, max-eq_right, le-max_left, le-max_right}
-use Rattle.mcap_model.specs.Places.{At, Has, Each}
+use Rattle.mcap_model.specs.Places.{At, Has}
 use Rattle.mcap_model.proofs.Places.{at_none, at_within, at_more, has_kept, has_last}
 use Rattle.mcap_model.proofs.Lists.{pairs_from, has_taken}
 use Rattle.mcap_model.proofs.NamedTopics.{unmapped, zip_front}
 use Rattle.mcap_model.proofs.OneMore.{taken_more, zip_push}
 use Rattle.chunk_window.specs.declared.window.Loaded.{Loaded}
-use Rattle.chunk_window.specs.Parts.{loaded_part, bytes_in, BeginsAt, IsLoaded}
+use Rattle.chunk_window.specs.Parts.{loaded_part, bytes_in}
 use Rattle.chunk_window.specs.Windows.{loaded_in}
 use Rattle.chunk_walk.specs.declared.answers.Turn.{Turn}
 use Rattle.chunk_walk.specs.declared.entries.Entry.{Entry}
@@ -22,7 +22,7 @@ use Rattle.chunk_walk.specs.declared.cursors.Cursor.{Cursor}
 use Rattle.chunk_walk.specs.declared.walk.Walk.{Walk}
 use Rattle.chunk_walk.specs.Entries.{entries_in, AreWithin}
 use Rattle.chunk_walk.specs.Pieces.{Files, PiecesInOrder, BeginTogether, overlap_at, IsInOverlap}
-use Rattle.chunk_walk.specs.Cursors.{turn_of, turns_left, TurnBefore, HasLeft, IsNext, IsFresh}
+use Rattle.chunk_walk.specs.Cursors.{turn_of, turns_left, TurnBefore, HasLeft, IsFresh}
 use Rattle.chunk_walk.specs.Walks.{pieces_loaded, pieces_ahead, Text, text_of, turns_in, turns_of, IsTextOf, QueuesStand, AreAll, Apart, AllLeft, IsHeldAs, PeakStands, WalkStands, NextIsDue, LoadsNext}
 use Rattle.chunk_walk.proofs.Places.{dropped, undropped}
 use Rattle.chunk_walk.proofs.Ordered.{which, at_some}

@@ -9,7 +9,6 @@ use Rattle.mcap_model.specs.Places.{At, Each}
 use Rattle.mcap_model.proofs.Places.{at_one, at_within, at_read}
 use Rattle.chunk_walk.specs.declared.answers.Turn.{Turn}
 use Rattle.chunk_walk.specs.declared.cursors.Cursor.{Cursor}
-use Rattle.chunk_walk.specs.declared.entries.Entry.{Entry}
 use Rattle.chunk_walk.specs.declared.pieces.Piece.{Piece}
 use Rattle.chunk_walk.specs.Pieces.{PieceNotBehind}
 use Rattle.chunk_walk.specs.Cursors.{turn_of, HasLeft, IsNext, IsFirst, EarlierOf, PieceTurnNotBehind}

@@ -1,8 +1,8 @@
 -- Places in lists that are cut, or have an element less or another.
-use Rattle.std.proofs.Common.{◌≡◌, ◌⊎◌, ℕ, zero, suc, ◌+◌, ◌<◌, ◌≤◌, List, [], ◌∷◌, ◌++◌, length, take, drop, map, get_or, refl, sym, ap, subst, inl, inr, ◌∙◌, Some, arith}
+use Rattle.std.proofs.Common.{◌≡◌, ◌⊎◌, ℕ, zero, suc, ◌+◌, ◌<◌, ◌≤◌, List, [], ◌∷◌, length, drop, map, get_or, refl, sym, ap, subst, inl, inr, arith}
 use Rattle.std.specs.List.{remove}
 use Rattle.std.proofs.lemmas.Option.{same_Some}
-use Rattle.mcap_model.specs.Places.{At, Has}
+use Rattle.mcap_model.specs.Places.{At}
 use Rattle.mcap_model.proofs.Places.{at_none, at_read}
 
 pub dropped : {X : Type 0} (xs : List X) (n m k : ℕ) (x : X) → m ≡ n + k → At xs m x → At (drop n xs) k x

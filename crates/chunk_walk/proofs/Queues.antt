@@ -1,11 +1,11 @@
 -- Messages that were given, and those that are left in queues, each of which is in order.
-use Rattle.std.proofs.Common.{◌≡◌, ◌⊎◌, ℕ, zero, suc, ◌+◌, ◌-◌, ◌<◌, ◌≤◌, List, [], ◌∷◌, ◌++◌, length, take, drop, set, refl, sym, ap, subst, inl, inr, ◌∙◌, Some, arith}
+use Rattle.std.proofs.Common.{◌≡◌, ◌⊎◌, ℕ, zero, suc, ◌+◌, List, [], ◌∷◌, ◌++◌, length, set, refl, sym, ap, subst, inl, inr, ◌∙◌, arith}
 use Rattle.std.specs.Prelude.{AllPairs}
 use Rattle.std.specs.List.{remove}
 use Rattle.std.proofs.lemmas.Option.{same_Some}
-use Rattle.mcap_model.specs.Places.{At, Has, Each}
+use Rattle.mcap_model.specs.Places.{At, Has}
 use Rattle.mcap_model.proofs.Places.{at_none, at_one, at_within, at_kept, at_last, at_more, at_set, at_set_same, at_set_other, pairs_more}
-use Rattle.mcap_model.proofs.Lists.{at_either, at_second, cut_at, take_second, pairs_at, pairs_from}
+use Rattle.mcap_model.proofs.Lists.{at_either, at_second, pairs_at, pairs_from}
 use Rattle.chunk_walk.specs.declared.answers.Turn.{Turn}
 use Rattle.chunk_walk.specs.Cursors.{TurnBefore}
 use Rattle.chunk_walk.specs.Walks.{QueuesStand, AreAll}

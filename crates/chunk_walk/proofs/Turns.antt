@@ -1,5 +1,5 @@
 -- The turns of pieces, and pieces by their least times.
-use Rattle.std.proofs.Common.{◌≡◌, ℕ, zero, suc, ◌+◌, ◌-◌, ◌<◌, ◌≤◌, List, length, drop, map, get_or, refl, sym, ap, subst, inl, inr, ◌∙◌, arith}
+use Rattle.std.proofs.Common.{◌≡◌, ℕ, zero, suc, ◌+◌, ◌-◌, ◌<◌, ◌≤◌, List, length, drop, map, get_or, refl, ap, subst, inl, inr, ◌∙◌, arith}
 use Rattle.std.specs.Prelude.{AllPairs, IsPermutation}
 use Rattle.std.proofs.lemmas.List.Sorted.{Contains-permutation}
 use Rattle.mcap_model.specs.Places.{At, Has}
@@ -11,7 +11,7 @@ use Rattle.chunk_walk.specs.declared.answers.Turn.{Turn}
 use Rattle.chunk_walk.specs.declared.entries.Entry.{Entry}
 use Rattle.chunk_walk.specs.declared.pieces.Piece.{Piece}
 use Rattle.chunk_walk.specs.declared.cursors.Cursor.{Cursor}
-use Rattle.chunk_walk.specs.Entries.{entries_in, EntryBefore, EntriesRise}
+use Rattle.chunk_walk.specs.Entries.{EntryBefore, EntriesRise}
 use Rattle.chunk_walk.specs.Pieces.{PieceNotBehind, PiecesInOrder}
 use Rattle.chunk_walk.specs.Cursors.{turn_of, turns_left, TurnBefore, IsFresh}
 use Rattle.chunk_walk.proofs.Places.{undropped}

@@ -1,13 +1,12 @@
 -- A walk over whole steps.
-use Rattle.std.proofs.Common.{◌≡◌, ◌⊎◌, ℕ, zero, ◌+◌, ◌-◌, ◌<◌, ◌≤◌, List, [], ◌∷◌, ◌++◌, length, take, drop, map, refl, sym, ap, subst, inl, inr, ◌∙◌, append-nil, append_assoc, Option, Some, None, arith}
+use Rattle.std.proofs.Common.{◌≡◌, ℕ, ◌+◌, ◌-◌, ◌<◌, ◌≤◌, List, [], ◌∷◌, ◌++◌, length, map, refl, sym, ap, subst, inl, inr, ◌∙◌, append-nil, append_assoc, Option, Some, None, arith}
 use Rattle.std.specs.List.{AllZip}
 use Rattle.std.proofs.Math.ListN.{drop_of_length-le}
-use Rattle.mcap_model.specs.Places.{At, Has, Each}
-use Rattle.mcap_model.proofs.Places.{at_none, at_one, at_within, at_more}
+use Rattle.mcap_model.specs.Places.{At, Has}
+use Rattle.mcap_model.proofs.Places.{at_none, at_one, at_within}
 use Rattle.mcap_model.proofs.Lists.{has_taken}
-use Rattle.mcap_model.proofs.NamedTopics.{unmapped, zip_back, take_past}
-use Rattle.chunk_window.specs.declared.window.Loaded.{Loaded}
-use Rattle.chunk_window.specs.Parts.{BeginsAt, IsLoaded}
+use Rattle.mcap_model.proofs.NamedTopics.{zip_back, take_past}
+use Rattle.chunk_window.specs.Parts.{IsLoaded}
 use Rattle.chunk_window.specs.Windows.{loaded_in}
 use Rattle.chunk_walk.specs.declared.answers.Turn.{Turn}
 use Rattle.chunk_walk.specs.declared.answers.WalkRefused.{WalkRefused}
@@ -16,10 +15,9 @@ use Rattle.chunk_walk.specs.declared.entries.Entry.{Entry}
 use Rattle.chunk_walk.specs.declared.pieces.Piece.{Piece}
 use Rattle.chunk_walk.specs.declared.cursors.Cursor.{Cursor}
 use Rattle.chunk_walk.specs.declared.walk.Walk.{Walk}
-use Rattle.chunk_walk.specs.Entries.{entries_in}
-use Rattle.chunk_walk.specs.Pieces.{Files, PiecesInOrder, AreBytesOf, BeginTogether, IsSecond}
-use Rattle.chunk_walk.specs.Cursors.{turn_of, turns_left, PieceTurnNotBehind, HasLeft, IsNext, IsFirst, FindsFirst}
-use Rattle.chunk_walk.specs.Walks.{pieces_loaded, pieces_ahead, Text, text_of, turns_in, turns_of, IsTextOf, AreAll, AllLeft, IsHeldAs, WalkStands, Stands, NextIsDue, LoadsNext, IsRefused, LetsGo, DueIs, StandsFrom, FindsDue, GivesNext, AllGiven, Gives, Advances}
+use Rattle.chunk_walk.specs.Pieces.{Files, PiecesInOrder, IsSecond}
+use Rattle.chunk_walk.specs.Cursors.{turn_of, turns_left, PieceTurnNotBehind, IsNext, IsFirst, FindsFirst}
+use Rattle.chunk_walk.specs.Walks.{pieces_loaded, pieces_ahead, Text, text_of, turns_of, IsTextOf, AreAll, AllLeft, IsHeldAs, WalkStands, Stands, NextIsDue, LoadsNext, IsRefused, LetsGo, DueIs, StandsFrom, FindsDue, GivesNext, Advances}
 use Rattle.chunk_walk.proofs.Places.{dropped, undropped}
 use Rattle.chunk_walk.proofs.Ordered.{next_is_one}
 use Rattle.chunk_walk.proofs.Queues.{all_given}

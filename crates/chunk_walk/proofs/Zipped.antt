@@ -1,5 +1,5 @@
 -- Lists that go side by side, when one of their elements changes in both.
-use Rattle.std.proofs.Common.{◌≡◌, ℕ, zero, suc, ◌<◌, ◌≤◌, List, [], ◌∷◌, length, set, refl, sym, subst, Some, arith}
+use Rattle.std.proofs.Common.{ℕ, zero, suc, List, [], ◌∷◌, set, subst}
 use Rattle.std.specs.List.{AllZip, remove}
 use Rattle.std.proofs.lemmas.Option.{same_Some}
 use Rattle.mcap_model.specs.Places.{At}

@@ -16,7 +16,8 @@ pub struct Turn {
 pub enum WalkRefused {
     /// A store failed, and this is its count of faults.
     Fault { faults: u64 },
-    /// The record at that offset of the input isn't what it was when the input was surveyed.
+    /// The bytes that were loaded for the record at that offset of the input can't be those that were surveyed, or another piece
+    /// begins where it does.
     Changed { input: u32, offset: u64 },
     Memory,
 }

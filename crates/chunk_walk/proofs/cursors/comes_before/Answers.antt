@@ -1,4 +1,4 @@
-use Rattle.std.proofs.Common.{◌≡◌, ◌↔◌, ◌<◌, nat_lt, IsTrue, Option, Some, length, sym, subst, rules}
+use Rattle.std.proofs.Common.{◌≡◌, ◌↔◌, ◌<◌, nat_lt, IsTrue, Some, length, sym, subst, rules}
 use Rattle.mcap_model.proofs.Places.{at_within}
 use Rattle.chunk_walk.specs.Cursors.{FindsFirst, TellsBefore}
 use Rattle.chunk_walk.proofs.Places.{read_there}

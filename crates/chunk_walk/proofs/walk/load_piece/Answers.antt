@@ -1,6 +1,5 @@
-use Rattle.std.proofs.Common.{◌≡◌, ◌∷◌, [], ◌+◌, ◌<◌, ◌≤◌, length, refl, sym, subst, Result, Ok, Err, rules, arith}
+use Rattle.std.proofs.Common.{◌≡◌, ◌∷◌, [], ◌+◌, ◌≤◌, refl, subst, Ok, Err, rules, arith}
 use Rattle.mcap_model.proofs.Places.{at_one}
-use Rattle.chunk_window.specs.declared.answers.WindowRefused.{WindowRefused}
 use Rattle.chunk_window.specs.declared.answers.WindowRefused.TheVariants as refusals
 use Rattle.chunk_window.specs.Parts.{ReadsFrom}
 use Rattle.chunk_walk.proofs.Places.{read_there}

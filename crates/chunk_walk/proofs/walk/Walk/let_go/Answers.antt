@@ -1,5 +1,5 @@
 use Rattle.std.proofs.Common.{List, ◌<◌, ◌≤◌, ◌≡◌, length, refl, sym, subst, inr, arith}
-use Rattle.mcap_model.specs.Places.{At, Each}
+use Rattle.mcap_model.specs.Places.{Each}
 use Rattle.mcap_model.proofs.Places.{at_one}
 use Rattle.chunk_window.specs.Windows.{loaded_in}
 use Rattle.chunk_walk.specs.declared.cursors.Cursor.{Cursor}
