@@ -720,7 +720,9 @@ impl Board {
 
     // The same behind a declaration, before which the buffer held so many bytes. Its length is that of new records, so it may
     // ring too early.
-    fn ring_behind_declaration(&self, held: u64, channel: &ChannelDef) {
+    fn ring_behind_declaration(&self, held: u64, channel: &ChannelDef)
+        requires { DefFits channel.now }
+    {
         self.ring_if_ripe(held.saturating_add(declared_size(channel)));
     }
 
