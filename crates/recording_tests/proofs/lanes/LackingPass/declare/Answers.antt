@@ -5,11 +5,11 @@ use Rattle.feed_lane.specs.Tapes.{found_now}
 use Rattle.feed_lane.proofs.Tapes.{finds}
 use Rattle.recording_tests.proofs.lanes.LackingPass.declare.Goals as goal
 
-pub returns-then-len-gt1048576 : goal.returns-then-len-gt1048576
-returns-then-len-gt1048576 c = λ begun before (reasons, is). rw is (_, (reasons ++ for_size c.declared_size-len.result ∷ [], refl), (c.declared_size-len.ensures, omega (arith, c.if-len-gt1048576.true), refl))
+pub returns-then-len-gt1048576-clause-shows : goal.returns-then-len-gt1048576-clause-shows
+returns-then-len-gt1048576-clause-shows c = λ begun before (reasons, is). rw is (_, (reasons ++ for_size c.declared_size-len.result ∷ [], refl), (c.declared_size-len.ensures, omega (arith, c.if-len-gt1048576.true), refl))
 
-pub returns : goal.returns
-returns c = λ begun before (reasons, is). rw is (
+pub returns-clause-shows : goal.returns-clause-shows
+returns-clause-shows c = λ begun before (reasons, is). rw is (
   _,
   (reasons, refl),
   (

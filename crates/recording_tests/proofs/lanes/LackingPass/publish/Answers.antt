@@ -9,11 +9,11 @@ unknown : (channel : ℕ) → (channel ≡ 0) ⊎ (0 < channel)
 unknown zero = inl refl
 unknown (suc n) = inr (omega arith)
 
-pub returns-then-len-gt33554432 : goal.returns-then-len-gt33554432
-returns-then-len-gt33554432 c = λ begun before (reasons, is). rw is (_, (reasons ++ for_size (length c.args.m.now.payload.now) ∷ [], refl), (refl, omega (arith, c.if-len-gt33554432.true), refl))
+pub returns-then-len-gt33554432-clause-shows : goal.returns-then-len-gt33554432-clause-shows
+returns-then-len-gt33554432-clause-shows c = λ begun before (reasons, is). rw is (_, (reasons ++ for_size (length c.args.m.now.payload.now) ∷ [], refl), (refl, omega (arith, c.if-len-gt33554432.true), refl))
 
-pub returns : goal.returns
-returns c = λ begun before (reasons, is). rw is (
+pub returns-clause-shows : goal.returns-clause-shows
+returns-clause-shows c = λ begun before (reasons, is). rw is (
   _,
   (reasons ++ for_channel ∷ [], refl),
   (
