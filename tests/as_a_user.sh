@@ -328,6 +328,23 @@ expect_slow_feed_written() {
 expect_slow_feed_written --chunk 1
 expect_slow_feed_written --plain
 
+# So is what a feed sent last that has ended beside a silent one.
+expect_ended_feed_written() {
+    sleep 50 >pipe-2 &
+    silent=$!
+    mcaprec record "$@" slow.mcap pipe-2 "$session" >/dev/null 2>&1 &
+    launcher=$!
+    sleep 3
+    kill -9 "$(pgrep -P "$launcher" mcap_cli)"
+    kill "$silent"
+    wait
+    filter='sed s/at=[0-9]*/at=N/'
+    expect 0 'recovered messages=5 records=8 extras=0 at=N short' '' mcaprec recover slow.mcap saved.mcap
+    filter='cat'
+}
+expect_ended_feed_written --chunk 1
+expect_ended_feed_written --plain
+
 # ---- watchers
 
 # The CRC-32 of what comes in, as gzip has it.
