@@ -42,6 +42,9 @@ pub(crate) const EVENTS: usize = 1;
 // From how many bytes on a buffer is worth a swap, where the limit isn't less.
 const RIPE: u64 = 262_144;
 
+// How many times as much as is worth a swap may gather before the drain should have come: with a processor of its own it has.
+const OVERDUE: u64 = 4;
+
 // How often a turn that is taken is looked at before a sleep: most turns are shorter than a sleep.
 const LOOKS: u32 = 16;
 
@@ -711,10 +714,14 @@ impl Board {
         }
     }
 
-    // Rings where the buffer holds enough for a swap.
+    // Rings where the buffer holds enough for a swap, and lets the drain go first where that should have come.
     fn ring_if_ripe(&self, held: u64) {
-        if held >= self.ripe && self.doorbell.is_filled() {
-            self.doorbell.ring();
+        if held < self.ripe || !self.doorbell.is_filled() {
+            return;
+        }
+        self.doorbell.ring();
+        if held >= self.ripe.saturating_mul(OVERDUE) {
+            self.doorbell.give_way();
         }
     }
 

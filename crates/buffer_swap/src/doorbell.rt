@@ -14,6 +14,8 @@ const GATHERING: u64 = 1_000_000;
 pub(crate) struct Doorbell {
     // Since the last swap the buffer was seen to be worth one.
     ripe: AtomicBool,
+    // Since the last swap the buffer was seen to hold so much that the drain should have come.
+    overdue: AtomicBool,
     // Since the last swap somebody waits for what there is.
     roused: AtomicBool,
     // An end was set: the drain rests no more.
@@ -29,6 +31,7 @@ impl Doorbell {
     pub(crate) fn new() -> Doorbell {
         Doorbell {
             ripe: AtomicBool::new(false),
+            overdue: AtomicBool::new(false),
             roused: AtomicBool::new(false),
             ended: AtomicBool::new(false),
             resting: AtomicBool::new(false),
@@ -45,16 +48,13 @@ impl Doorbell {
         }
     }
 
-    /// Wakes the drain where it rests, and lets it not rest before its next swap. Behind an earlier ring it does nothing. Where
-    /// the drain waits for this thread's processor it goes first: else the buffer would grow for a whole slice of time, and
-    /// leave the processor's cache.
+    /// Wakes the drain where it rests, and lets it not rest before its next swap. Behind an earlier ring it does nothing.
     pub(crate) fn ring(&self) {
         if self.ripe.load(SeqCst) {
             return;
         }
         self.ripe.store(true, SeqCst);
         self.wake();
-        yield_now();
     }
 
     /// The same, but the drain may let more gather for a moment.
@@ -64,6 +64,16 @@ impl Doorbell {
         }
         self.roused.store(true, SeqCst);
         self.wake();
+    }
+
+    /// Lets the system run another thread, once before the next swap: the drain may wait for this thread's processor. Else the
+    /// buffer would grow for a whole slice of time, and leave the processor's cache.
+    pub(crate) fn give_way(&self) {
+        if self.overdue.load(SeqCst) {
+            return;
+        }
+        self.overdue.store(true, SeqCst);
+        yield_now();
     }
 
     /// Wakes the drain where it rests, and lets it never rest again.
@@ -89,6 +99,7 @@ impl Doorbell {
     pub(crate) fn forget(&self) {
         self.filled.store(false, SeqCst);
         self.ripe.store(false, SeqCst);
+        self.overdue.store(false, SeqCst);
         self.roused.store(false, SeqCst);
     }
 

@@ -63,7 +63,7 @@ impl<'t> Publisher<'t> {
     }
 
     /// Publishes a message, and answers its place. It waits for nobody: where the turn is another's nothing is tried. Where the
-    /// buffer becomes ripe it lets the system run another thread first.
+    /// drain is behind it lets the system run another thread first.
     pub fn try_publish(&mut self, m: &NewMessage<'_>) -> Result<u64, TryRefused>
         ensures turn { self.new.seat.table_id ≡ self.old.seat.table_id }
         ensures number { self.new.number ≡ self.old.number }
