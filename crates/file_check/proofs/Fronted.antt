@@ -1,27 +1,21 @@
 -- What the reading of the front of a store asks for, and when the store failed in it.
-use Rattle.std.proofs.Common.{◌≡◌, ℕ, ◌+◌, ◌<◌, ◌≤◌, List, Option, Result, length, take, drop, Some, Ok, Err, refl, sym, ap, subst, inl, inr, ◌∙◌, arith}
-use Rattle.std.proofs.lemmas.Bool.{cases_lt}
+use Rattle.std.proofs.Common.{◌≡◌, ℕ, List, Option, Result, length, take, drop, Some, Ok, Err, refl, sym, ap, subst, ◌∙◌, arith}
 use Rattle.std.proofs.lemmas.List.{length-take-le, length-drop}
 use Rattle.std.proofs.lemmas.Option.{same_Some}
-use Rattle.mcap_io.specs.Outside.{SourceState, RisesOnce, one_more}
+use Rattle.mcap_io.specs.Outside.{SourceState, RisesOnce}
 use Rattle.mcap_io.specs.Stores.{StoreState}
 use Rattle.mcap_io.specs.StoreSources.{front_left}
 use Rattle.mcap_model.specs.declared.checked.Verdict.{Verdict}
 use Rattle.mcap_model.proofs.Flaws.{left_size}
 use Rattle.mcap_scan.specs.declared.answers.ScanRefused.TheVariants as scans
+use Rattle.store_front.specs.Fronts.{WasRead}
+use Rattle.store_front.proofs.Lent.{asks_front}
 use Rattle.index_check.specs.declared.section.Section.{Section}
 use Rattle.file_check.specs.declared.reading.SectionRefused.{SectionRefused}
 use Rattle.file_check.specs.declared.reading.SectionRefused.TheVariants as sections
 use Rattle.file_check.specs.declared.refusals.CheckRefused.{CheckRefused}
 use Rattle.file_check.specs.Reading.{Reads}
 use Rattle.file_check.specs.Checking.{front_of, SectionCause, SectionAsks, CheckCause, RefusedCause}
-
--- a source over the front of a store gave those of so many bytes that stand in front of the next one, and had failed so often
-pub record WasRead (old new : StoreState) (next end failures : ℕ) : Type 0 where
-  pub bytes : new.bytes ≡ old.bytes
-  pub within : next ≤ end
-  pub whole : failures ≡ 0 → (new.faults ≡ old.faults) × (new.asked ≤ old.asked + next)
-  pub broken : 0 < failures → (old.faults ≤ new.faults) × (new.faults ≡ one_more old.faults) × (new.asked ≤ old.asked + end)
 
 -- where the reading had no failure the store had none
 still : (old new : StoreState) (next end failures : ℕ) → WasRead old new next end failures → failures ≡ 0 → new.faults ≡ old.faults
@@ -38,13 +32,6 @@ front_cause old new now next end (Err (sections.Scan (scans.Compressed offset na
 front_cause old new now next end (Err (sections.Scan (scans.Limit offset))) was (tops, stands) = still old new next end now.faults was stands.still
 front_cause old new now next end (Err (sections.Scan scans.Memory)) was (tops, stands) = still old new next end now.faults was stands.still
 front_cause old new now next end (Err (sections.Index offset)) was (tops, wrong) = let read = wrong.are_read in still old new next end now.faults was read.still
-
--- no more is asked for than the front has
-asks_front : (old new : StoreState) (next end failures : ℕ) → WasRead old new next end failures → new.asked ≤ old.asked + end
-asks_front old new next end failures was = elim (cases_lt 0 failures) [
-  | inl failed ↦ let broken = was.broken failed in broken.2
-  | inr none ↦ let whole = was.whole (omega (arith, none)) in omega (arith, whole.1, was.within)
-]
 
 pub front_asks : (old new : StoreState) (now : SourceState) (next end : ℕ) (result : Result Section SectionRefused) → WasRead old new next end now.faults → now.left ≡ front_left new.bytes next end
     → Reads (front_of old end) now result → SectionAsks old end new.asked result

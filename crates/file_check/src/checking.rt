@@ -9,12 +9,12 @@ ghost use Rattle.file_check.specs.Checking.{Counted, CheckCause, SectionReads, S
 use crate::ends::tell_flaw;
 use crate::reading::{SectionRefused, read_section};
 use crate::refusals::CheckRefused;
-use crate::store_front::StoreFront;
 use index_check::Section;
 use mcap_io::{ReadRefused, Store, read_part};
 use mcap_model::{Counts, Verdict};
 use mcap_scan::ScanRefused;
 use std::alloc::Global;
+use store_front::StoreFront;
 use summary_check::{SummaryRefused, judge_summary};
 
 /// Reads the data section of a store in front of that end.

@@ -13,7 +13,6 @@ mod message_counts;
 mod reading;
 mod record_counts;
 mod refusals;
-mod store_front;
 mod unended;
 mod whole;
 

@@ -1,10 +1,12 @@
 -- What the source asked of the store is bounded by what it gave, and by the front where the store failed.
-use Rattle.std.proofs.Common.{◌≡◌, ◌∙◌, ℕ, ap, subst, arith, rules}
-use Rattle.mcap_io.specs.Outside.{SourceState, one_more}
+use Rattle.std.proofs.Common.{◌≡◌, ◌∙◌, ℕ, ap, subst, rules}
+use Rattle.mcap_io.specs.Outside.{SourceState}
 use Rattle.mcap_io.specs.StoreSources.{front_left}
+use Rattle.store_front.specs.Fronts.{WasRead}
+use Rattle.store_front.proofs.Lent.{front_read}
 use Rattle.file_check.specs.Reading.{Reads}
 use Rattle.file_check.specs.Checking.{SectionAsks}
-use Rattle.file_check.proofs.Fronted.{WasRead, front_asks}
+use Rattle.file_check.proofs.Fronted.{front_asks}
 use Rattle.file_check.proofs.checking.read_front.Goals as goal
 
 pub returns-clause-reads : goal.returns-clause-reads
@@ -22,15 +24,7 @@ returns-clause-asks g c =
     let made = c.new-source.ensures in
     let now : SourceState = record { left = front_left new.bytes source.next source.len; faults = source.failures } in
     let len : source.len ≡ c.args.end = stays.1 ∙ made.len in
-    let faults : source.faults_before ≡ old.faults = stays.2 ∙ made.faults in
-    let asked : source.asked_before ≡ old.asked = stays.3 ∙ made.asked in
-    let was : WasRead old new source.next c.args.end source.failures =
-    record {
-      bytes = stays.4 ∙ ap (λ s. (g.T.Store.state s).bytes) made.now;
-      within = omega (arith, source.within.0, len);
-      whole = λ none. let is = source.whole none in (is.0 ∙ faults, omega (arith, is.1, asked));
-      broken = λ some. let is = source.broken some in (omega (arith, is.0, faults), is.1 ∙ ap (λ n. one_more n) faults, omega (arith, is.2, asked, len));
-    } in
+    let was : WasRead old new source.next c.args.end source.failures = front_read g.T.Store c.args.store.now c.args.end c.new-source.result source made.now made.len made.faults made.asked stays in
     let reads = subst (λ (s : SourceState). Reads s now c.read_section.result) made.state c.read_section.ensures.reads in
     let asks : SectionAsks old c.args.end new.asked c.read_section.result = front_asks old new now source.next c.args.end c.read_section.result was (ap (λ n. front_left new.bytes source.next n) len) reads in
     subst (λ (n : ℕ). SectionAsks old c.args.end n c.read_section.result) (search rules) asks

@@ -3,7 +3,7 @@ use Rattle.std.proofs.Common.{arith, length-take}
 use Rattle.std.proofs.lemmas.Grind.{common_steps}
 use Rattle.std.proofs.Math.Nat.{le_trans}
 use Rattle.mcap_io.proofs.Fronts.{part_gives}
-use Rattle.file_check.proofs.store_front.StoreFrontSource.read.Goals as goal
+use Rattle.store_front.proofs.front.StoreFrontSource.read.Goals as goal
 
 pub returns-in-Ok-clause-gives : goal.returns-in-Ok-clause-gives
 returns-in-Ok-clause-gives g c = λ rest left.

@@ -9,7 +9,7 @@ use mcap_io::{Failed, Source, Store};
 /// A source of the first bytes of a store, which it reads as it is asked. Once the store has failed it fails without asking
 /// for more, and it counts its own failures.
 #[derive(Drop)]
-pub(crate) struct StoreFront<'a, T: Store> {
+pub struct StoreFront<'a, T: Store> {
     store: &'a mut T,
     next: u64,
     len: u64,
@@ -24,7 +24,7 @@ pub(crate) struct StoreFront<'a, T: Store> {
 
 impl<'a, T: Store> StoreFront<'a, T> {
     /// Reads the first `len` bytes of the lent store, and none past them.
-    pub(crate) fn new(store: &'a mut T, len: u64) -> StoreFront<'a, T>
+    pub fn new(store: &'a mut T, len: u64) -> StoreFront<'a, T>
         requires { len ≤ (T.state store.old).known }
         ensures same_reference { result.store.ghost_name ≡ store.entry.ghost_name }
         ensures now { result.store.now ≡ store.old }
