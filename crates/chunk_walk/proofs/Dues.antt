@@ -1,17 +1,16 @@
 -- The pieces that are loaded until it is known which message is next.
-use Rattle.std.proofs.Common.{◌≡◌, ℕ, ◌<◌, ◌≤◌, Bool, true, false, List, length, refl, sym, ap, subst, ◌∙◌, Option, Some, None, inl, inr, Ok, Err, arith}
+use Rattle.std.proofs.Common.{◌≡◌, ℕ, ◌≤◌, Bool, true, false, List, length, refl, sym, ap, subst, ◌∙◌, Option, Some, None, Ok, Err, arith}
 use Rattle.std.proofs.lemmas.Bool.{both_ways}
 use Rattle.mcap_io.specs.Stores.{StoreState}
 use Rattle.mcap_model.specs.Places.{At}
 use Rattle.chunk_walk.specs.declared.answers.WalkRefused.{WalkRefused}
-use Rattle.chunk_walk.specs.declared.entries.Entry.{Entry}
 use Rattle.chunk_walk.specs.declared.pieces.Piece.{Piece}
 use Rattle.chunk_walk.specs.declared.walk.Walk.{Walk}
 use Rattle.chunk_walk.specs.Pieces.{Files}
 use Rattle.chunk_walk.specs.Cursors.{FindsFirst, TellsBefore}
 use Rattle.chunk_walk.specs.Stores.{files_of, StoresFit, LeavesStores}
 use Rattle.chunk_walk.specs.Walks.{AllLeft, Stands, NextIsDue, LoadsNext, IsRefused, DueIs, StandsFrom, FindsDue}
-use Rattle.chunk_walk.proofs.Ordered.{which}
+use Rattle.chunk_walk.proofs.Ordered.{before_else}
 use Rattle.chunk_walk.proofs.Loading.{left_more}
 use Rattle.chunk_walk.proofs.Stayed.{files_stay, fit_on, leaves_so, leaves_on}
 use Rattle.chunk_walk.proofs.Walked.{due_some, next_is_due, none_is_due, from_itself, one_more_loaded, stands_now, refused_from}
@@ -76,20 +75,13 @@ module _ (olds nows : List StoreState) (start now : Walk) (was : DueSoFar olds n
 
 -- ---- which message is next
 
-pub due_before_next : (w : Walk) (found : Option ℕ) (before : Bool) (next : Piece) → FindsFirst w.cursors.items found → TellsBefore w.cursors.items found next.span.least before → At w.pieces.items w.next next → before ≡ true → DueIs w found
+pub due_before_next : (w : Walk) (found : Option ℕ) (before : Bool) (next : Piece) → FindsFirst w.cursors.items found → TellsBefore w.cursors.items found next before → At w.pieces.items w.next next → before ≡ true → DueIs w found
 due_before_next w None before next none tells at is = absurd (never (sym is ∙ tells))
   where
     never : true ≡ false → ⊥
     never e = cc
-due_before_next w (Some i) before next first (c, e, at_c, at_e, tells) at is = due_some w i c e next first at_c at_e at (tells.0 is)
+due_before_next w (Some i) before next first (c, t, at_c, is_t, tells) at is = due_some w i c t next first at_c is_t at (tells.0 is)
 
-pub next_before_due : (w : Walk) (found : Option ℕ) (before : Bool) (next : Piece) → FindsFirst w.cursors.items found → TellsBefore w.cursors.items found next.span.least before → At w.pieces.items w.next next → before ≡ false → NextIsDue w
+pub next_before_due : (w : Walk) (found : Option ℕ) (before : Bool) (next : Piece) → FindsFirst w.cursors.items found → TellsBefore w.cursors.items found next before → At w.pieces.items w.next next → before ≡ false → NextIsDue w
 next_before_due w None before next none tells at is = none_is_due w none
-next_before_due w (Some i) before next first (c, e, at_c, at_e, tells) at is = next_is_due w i c e next first at_c at_e at (above e (λ less. both_ways before is (tells.1 less)))
-  where
-    above : (f : Entry) → (f.time < next.span.least → ⊥) → next.span.least ≤ f.time
-    above f other = elim (which f.time next.span.least) [
-      | inl less ↦ absurd (other less)
-      | inr (inl same) ↦ omega (arith, same)
-      | inr (inr more) ↦ omega (arith, more)
-    ]
+next_before_due w (Some i) before next first (c, t, at_c, is_t, tells) at is = next_is_due w i c t next first at_c is_t at (before_else t next (λ less. both_ways before is (tells.1 less)))

@@ -17,7 +17,7 @@ use Rattle.chunk_walk.specs.declared.cursors.Cursor.{Cursor}
 use Rattle.chunk_walk.specs.declared.walk.Walk.{Walk}
 use Rattle.chunk_walk.specs.Entries.{entries_in, AreWithin}
 use Rattle.chunk_walk.specs.Pieces.{Files, PiecesInOrder, BeginTogether, IsInOverlap}
-use Rattle.chunk_walk.specs.Cursors.{turn_of, turns_left, TurnBefore, PieceTurnNotBehind, IsNext, IsFirst}
+use Rattle.chunk_walk.specs.Cursors.{turn_of, turns_left, TurnBefore, TurnBeforePiece, PieceTurnNotBehind, IsNext, IsFirst}
 use Rattle.chunk_walk.specs.Walks.{pieces_loaded, pieces_ahead, Text, text_of, turns_of, IsTextOf, QueuesStand, AreAll, LeftButLast, AllLeft, IsHeldAs, PeakStands, WalkStands, GivesNext, IsOfHeld}
 use Rattle.chunk_walk.proofs.Places.{undropped, drop_head}
 use Rattle.chunk_walk.proofs.Ordered.{which, next_is_one}
@@ -41,7 +41,7 @@ head_next d u q is =
     (e, undropped d.entries.items d.given d.given 0 e (omega arith) at, sym same)
 
 module _ (files : Files) (old new : Walk) (texts : List Text) (given : List Turn) (i : ℕ) (t : Turn) (stands : WalkStands files old texts given) (left : AllLeft old) (gives : GivesNext old new i t) (first : IsFirst old.cursors.items i)
-    (early : (p : Piece) → Has (pieces_ahead old) p → t.log_time < p.span.least) where
+    (early : (p : Piece) → Has (pieces_ahead old) p → TurnBeforePiece t p) where
   abbrev c : Cursor
   c = gives.old_cursor
 
@@ -155,7 +155,7 @@ module _ (files : Files) (old new : Walk) (texts : List Text) (given : List Turn
             let there : Has (pieces_ahead old) p = (has_p.0, subst (λ (l : List Piece). At l has_p.0 p) (ap (drop new.next) pieces_are ∙ ap (λ (n : ℕ). drop n old.pieces.items) next) has_p.1) in
             elim (at_more given t has_g.0 g has_g.1) [
               | inl before ↦ stands.early g p (has_g.0, before) there
-              | inr last ↦ subst (λ (x : Turn). x.log_time < p.span.least) (sym last.1) (early p there)
+              | inr last ↦ subst (λ (x : Turn). TurnBeforePiece x p) (sym last.1) (early p there)
             ];
         left = given_left;
         held = held_still;

@@ -5,7 +5,7 @@ mod Giving
 mod Going
 mod Listed
 mod Loading
-mod Ordered
+pub mod Ordered
 mod Placed
 mod Places
 pub mod Queues

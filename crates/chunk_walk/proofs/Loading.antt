@@ -25,7 +25,7 @@ use Rattle.chunk_walk.specs.Pieces.{Files, PiecesInOrder, BeginTogether, overlap
 use Rattle.chunk_walk.specs.Cursors.{turn_of, turns_left, TurnBefore, HasLeft, IsFresh}
 use Rattle.chunk_walk.specs.Walks.{pieces_loaded, pieces_ahead, Text, text_of, turns_in, turns_of, IsTextOf, QueuesStand, AreAll, Apart, AllLeft, IsHeldAs, PeakStands, WalkStands, NextIsDue, LoadsNext}
 use Rattle.chunk_walk.proofs.Places.{dropped, undropped}
-use Rattle.chunk_walk.proofs.Ordered.{which, at_some}
+use Rattle.chunk_walk.proofs.Ordered.{which, before_each, at_some}
 use Rattle.chunk_walk.proofs.Queues.{queues_more, all_more}
 use Rattle.chunk_walk.proofs.Summed.{sums_same, sums_zipped, share_at, share_within}
 use Rattle.chunk_walk.proofs.Turns.{turns_rise, fresh_left, moved, mapped_moved, pieces_above}
@@ -102,7 +102,7 @@ module _ (files : Files) (old new : Walk) (texts : List Text) (given : List Turn
       let within = loads.fresh.within has_u.0 e at in
       let early = stands.early g loads.piece has_g (0, dropped old.pieces.items old.next old.next 0 loads.piece (omega arith) loads.at) in
       let time : u.log_time ≡ e.time = sym (ap (λ (x : Turn). x.log_time) is) in
-      inl (let low = within.0 in omega (arith, low, early, time))
+      before_each g u loads.piece early (let low = within.0 in omega (arith, low, time)) (sym (ap (λ (x : Turn). x.input) is)) (sym (ap (λ (x : Turn). x.at) is))
 
   maps : map turns_left new.cursors.items ≡ map turns_left old.cursors.items ++ turns_left loads.cursor ∷ []
   maps = ap (map turns_left) loads.cursors ∙ map-append turns_left old.cursors.items (loads.cursor ∷ [])

@@ -11,22 +11,22 @@ use Rattle.chunk_walk.specs.declared.answers.Turn.{Turn}
 use Rattle.chunk_walk.specs.declared.cursors.Cursor.{Cursor}
 use Rattle.chunk_walk.specs.declared.pieces.Piece.{Piece}
 use Rattle.chunk_walk.specs.Pieces.{PieceNotBehind}
-use Rattle.chunk_walk.specs.Cursors.{turn_of, HasLeft, IsNext, IsFirst, EarlierOf, PieceTurnNotBehind}
+use Rattle.chunk_walk.specs.Cursors.{turn_of, TurnBefore, TurnBeforePiece, HasLeft, IsNext, IsFirst, EarlierOf, PieceTurnNotBehind}
 
 not_so : true ≡ false → ⊥
 not_so e = cc
 
-pub piece_not_less : (s r : Piece) → is_lt (ordering_then (ordering_then (nat_cmp s.span.least r.span.least) (nat_cmp s.input r.input)) (nat_cmp s.span.offset r.span.offset)) ≡ false → PieceNotBehind r s
-piece_not_less s r = by (nat_lt s.span.least r.span.least) (s.span.least == r.span.least) (nat_lt s.input r.input) (s.input == r.input) (nat_lt s.span.offset r.span.offset) (s.span.offset == r.span.offset) refl refl refl refl refl
+pub piece_not_less : (s r : Piece) → is_lt (ordering_then (ordering_then (nat_cmp s.span.least r.span.least) (nat_cmp s.input r.input)) (nat_cmp s.span.at r.span.at)) ≡ false → PieceNotBehind r s
+piece_not_less s r = by (nat_lt s.span.least r.span.least) (s.span.least == r.span.least) (nat_lt s.input r.input) (s.input == r.input) (nat_lt s.span.at r.span.at) (s.span.at == r.span.at) refl refl refl refl refl
   where
-    by : (l e m f n g : Bool) → nat_lt s.span.least r.span.least ≡ l → (s.span.least == r.span.least) ≡ e → nat_lt s.input r.input ≡ m → (s.input == r.input) ≡ f → nat_lt s.span.offset r.span.offset ≡ n
+    by : (l e m f n g : Bool) → nat_lt s.span.least r.span.least ≡ l → (s.span.least == r.span.least) ≡ e → nat_lt s.input r.input ≡ m → (s.input == r.input) ≡ f → nat_lt s.span.at r.span.at ≡ n
         → is_lt (ordering_then (ordering_then (cond l Less (cond e Equal Greater)) (cond m Less (cond f Equal Greater))) (cond n Less (cond g Equal Greater))) ≡ false → PieceNotBehind r s
     by true e m f n g l_is e_is m_is f_is n_is less = absurd (not_so less)
     by false false m f n g l_is e_is m_is f_is n_is less = inl (omega (arith, ltb-false s.span.least r.span.least l_is, eqb-false s.span.least r.span.least e_is))
     by false true true f n g l_is e_is m_is f_is n_is less = absurd (not_so less)
     by false true false false n g l_is e_is m_is f_is n_is less = inr (sym (eqb-true s.span.least r.span.least e_is), inl (omega (arith, ltb-false s.input r.input m_is, eqb-false s.input r.input f_is)))
     by false true false true true g l_is e_is m_is f_is n_is less = absurd (not_so less)
-    by false true false true false g l_is e_is m_is f_is n_is less = inr (sym (eqb-true s.span.least r.span.least e_is), inr (sym (eqb-true s.input r.input f_is), ltb-false s.span.offset r.span.offset n_is))
+    by false true false true false g l_is e_is m_is f_is n_is less = inr (sym (eqb-true s.span.least r.span.least e_is), inr (sym (eqb-true s.input r.input f_is), ltb-false s.span.at r.span.at n_is))
 
 -- ---- the next messages of pieces
 
@@ -38,6 +38,53 @@ which a b = elim (leb_tells a b) [
   ]
   | inr less ↦ inr (inr less.1)
 ]
+
+-- ---- messages and whole pieces
+
+pub piece_itself : (p : Piece) → PieceNotBehind p p
+piece_itself p = inr (refl, inr (refl, omega arith))
+
+pub piece_trans : (p q r : Piece) → PieceNotBehind p q → PieceNotBehind q r → PieceNotBehind p r
+piece_trans p q r (inl one) (inl other) = inl (omega (arith, one, other))
+piece_trans p q r (inl one) (inr (e, rest)) = inl (omega (arith, one, e))
+piece_trans p q r (inr (e, rest)) (inl other) = inl (omega (arith, e, other))
+piece_trans p q r (inr (e, inl one)) (inr (f, inl other)) = inr (e ∙ f, inl (omega (arith, one, other)))
+piece_trans p q r (inr (e, inl one)) (inr (f, inr (g, other))) = inr (e ∙ f, inl (omega (arith, one, g)))
+piece_trans p q r (inr (e, inr (g, one))) (inr (f, inl other)) = inr (e ∙ f, inl (omega (arith, g, other)))
+piece_trans p q r (inr (e, inr (g, one))) (inr (f, inr (h, other))) = inr (e ∙ f, inr (g ∙ h, omega (arith, one, other)))
+
+-- what comes before a piece comes before those that aren't in front of it
+pub before_more : (t : Turn) (p q : Piece) → TurnBeforePiece t p → PieceNotBehind p q → TurnBeforePiece t q
+before_more t p q (inl one) (inl other) = inl (omega (arith, one, other))
+before_more t p q (inl one) (inr (e, rest)) = inl (omega (arith, one, e))
+before_more t p q (inr (e, rest)) (inl other) = inl (omega (arith, e, other))
+before_more t p q (inr (e, inl one)) (inr (f, inl other)) = inr (e ∙ f, inl (omega (arith, one, other)))
+before_more t p q (inr (e, inl one)) (inr (f, inr (g, other))) = inr (e ∙ f, inl (omega (arith, one, g)))
+before_more t p q (inr (e, inr (g, one))) (inr (f, inl other)) = inr (e ∙ f, inl (omega (arith, g, other)))
+before_more t p q (inr (e, inr (g, one))) (inr (f, inr (h, other))) = inr (e ∙ f, inr (g ∙ h, omega (arith, one, other)))
+
+-- it comes before each message of the piece
+pub before_each : (t u : Turn) (p : Piece) → TurnBeforePiece t p → p.span.least ≤ u.log_time → u.input ≡ p.input → u.at ≡ p.span.at → TurnBefore t u
+before_each t u p (inl less) least input at = inl (omega (arith, less, least))
+before_each t u p (inr (time, place)) least input at = elim (which p.span.least u.log_time) [
+  | inl less ↦ inl (omega (arith, time, less))
+  | inr (inl same) ↦ inr (time ∙ same, behind place)
+  | inr (inr more) ↦ absurd (omega (arith, more, least))
+]
+  where
+    behind : (t.input < p.input) ⊎ ((t.input ≡ p.input) × (t.at < p.span.at)) → (t.input < u.input) ⊎ ((t.input ≡ u.input) × ((t.at < u.at) ⊎ ((t.at ≡ u.at) × (t.inner < u.inner))))
+    behind (inl less) = inl (omega (arith, less, input))
+    behind (inr (same, less)) = inr (same ∙ sym input, inl (omega (arith, less, at)))
+
+-- what doesn't come before a piece wasn't logged before its least time
+pub before_else : (t : Turn) (p : Piece) → (TurnBeforePiece t p → ⊥) → p.span.least ≤ t.log_time
+before_else t p other = elim (which t.log_time p.span.least) [
+  | inl less ↦ absurd (other (inl less))
+  | inr (inl same) ↦ omega (arith, same)
+  | inr (inr more) ↦ omega (arith, more)
+]
+
+-- ---- which of two messages comes first
 
 pub not_behind_itself : (t : Turn) → PieceTurnNotBehind t t
 not_behind_itself t = inr (refl, inr (refl, omega arith))
@@ -77,7 +124,7 @@ at_some [] n less = absurd (omega (arith, less))
 at_some (x ∷ xs) zero less = (x, refl)
 at_some (x ∷ xs) (suc n) less = at_some xs n (omega (arith, less))
 
-next_of : (c : Cursor) → HasLeft c → (t : Turn) × IsNext c t
+pub next_of : (c : Cursor) → HasLeft c → (t : Turn) × IsNext c t
 next_of c left = let (e, at) = at_some c.entries.items c.given left in (turn_of c.piece e, (e, at, refl))
 
 -- its next message doesn't come behind those of the first pieces

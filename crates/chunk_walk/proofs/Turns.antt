@@ -1,4 +1,4 @@
--- The turns of pieces, and pieces by their least times.
+-- The turns of pieces, and pieces by their order.
 use Rattle.std.proofs.Common.{◌≡◌, ℕ, zero, suc, ◌+◌, ◌-◌, ◌<◌, ◌≤◌, List, length, drop, map, get_or, refl, ap, subst, inl, inr, ◌∙◌, arith}
 use Rattle.std.specs.Prelude.{AllPairs, IsPermutation}
 use Rattle.std.proofs.lemmas.List.Sorted.{Contains-permutation}
@@ -15,6 +15,7 @@ use Rattle.chunk_walk.specs.Entries.{EntryBefore, EntriesRise}
 use Rattle.chunk_walk.specs.Pieces.{PieceNotBehind, PiecesInOrder}
 use Rattle.chunk_walk.specs.Cursors.{turn_of, turns_left, TurnBefore, IsFresh}
 use Rattle.chunk_walk.proofs.Places.{undropped}
+use Rattle.chunk_walk.proofs.Ordered.{piece_itself, piece_trans}
 
 entry_trans : (a b c : Entry) → EntryBefore a b → EntryBefore b c → EntryBefore a c
 entry_trans a b c (inl one) (inl other) = inl (omega (arith, one, other))
@@ -60,25 +61,28 @@ mapped_moved p xs ys u same has =
     let there = moved xs ys e same (has.0, at) in
     (there.0, subst (λ (x : Turn). At (map (turn_of p) ys) there.0 x) is (at_mapped (turn_of p) ys there.0 e there.1))
 
--- ---- pieces by their least times
+-- ---- pieces by their order
 
-least_far : (xs : List Piece) → PiecesInOrder xs → (i n : ℕ) (d : Piece) → i + n < length xs → (get_or xs i d).span.least ≤ (get_or xs (i + n) d).span.least
-least_far xs order i zero d within =
+follows_far : (xs : List Piece) → PiecesInOrder xs → (i n : ℕ) (d : Piece) → i + n < length xs → PieceNotBehind (get_or xs i d) (get_or xs (i + n) d)
+follows_far xs order i zero d within =
     let is : i ≡ i + 0 = omega arith in
-    subst (λ (k : ℕ). (get_or xs i d).span.least ≤ (get_or xs k d).span.least) is (omega arith)
-least_far xs order i (suc n) d within =
+    subst (λ (k : ℕ). PieceNotBehind (get_or xs i d) (get_or xs k d)) is (piece_itself (get_or xs i d))
+follows_far xs order i (suc n) d within =
     let is : i + n + 1 ≡ i + suc n = omega arith in
-    let far = least_far xs order i n d (omega (arith, within)) in
-    let next = by (get_or xs (i + n) d) (get_or xs (i + n + 1) d) (order (i + n) d (omega (arith, within))) in
-    subst (λ (k : ℕ). (get_or xs i d).span.least ≤ (get_or xs k d).span.least) is (omega (arith, far, next))
-  where
-    by : (p q : Piece) → PieceNotBehind p q → p.span.least ≤ q.span.least
-    by p q (inl less) = omega (arith, less)
-    by p q (inr same) = omega (arith, same.0)
+    let far = follows_far xs order i n d (omega (arith, within)) in
+    let next = order (i + n) d (omega (arith, within)) in
+    subst (λ (k : ℕ). PieceNotBehind (get_or xs i d) (get_or xs k d)) is (piece_trans (get_or xs i d) (get_or xs (i + n) d) (get_or xs (i + n + 1) d) far next)
 
-pub pieces_above : (xs : List Piece) (k : ℕ) (p q : Piece) → PiecesInOrder xs → At xs k p → Has (drop k xs) q → p.span.least ≤ q.span.least
-pieces_above xs k p q order at has =
+pub pieces_follow : (xs : List Piece) (k : ℕ) (p q : Piece) → PiecesInOrder xs → At xs k p → Has (drop k xs) q → PieceNotBehind p q
+pieces_follow xs k p q order at has =
     let there : At xs (k + has.0) q = undropped xs k (k + has.0) has.0 q refl has.1 in
     let one : get_or xs k p ≡ p = at_one xs k (get_or xs k p) p (at_read xs k p (at_within xs k p at)) at in
     let other : get_or xs (k + has.0) p ≡ q = at_one xs (k + has.0) (get_or xs (k + has.0) p) q (at_read xs (k + has.0) p (at_within xs (k + has.0) q there)) there in
-    subst (λ (r : Piece). r.span.least ≤ q.span.least) one (subst (λ (r : Piece). (get_or xs k p).span.least ≤ r.span.least) other (least_far xs order k has.0 p (at_within xs (k + has.0) q there)))
+    subst (λ (r : Piece). PieceNotBehind r q) one (subst (PieceNotBehind (get_or xs k p)) other (follows_far xs order k has.0 p (at_within xs (k + has.0) q there)))
+
+pub pieces_above : (xs : List Piece) (k : ℕ) (p q : Piece) → PiecesInOrder xs → At xs k p → Has (drop k xs) q → p.span.least ≤ q.span.least
+pieces_above xs k p q order at has = by (pieces_follow xs k p q order at has)
+  where
+    by : PieceNotBehind p q → p.span.least ≤ q.span.least
+    by (inl less) = omega (arith, less)
+    by (inr same) = omega (arith, same.0)

@@ -11,17 +11,16 @@ use Rattle.chunk_window.specs.Windows.{loaded_in}
 use Rattle.chunk_walk.specs.declared.answers.Turn.{Turn}
 use Rattle.chunk_walk.specs.declared.answers.WalkRefused.{WalkRefused}
 use Rattle.chunk_walk.specs.declared.answers.WalkRefused.TheVariants as refusals
-use Rattle.chunk_walk.specs.declared.entries.Entry.{Entry}
 use Rattle.chunk_walk.specs.declared.pieces.Piece.{Piece}
 use Rattle.chunk_walk.specs.declared.cursors.Cursor.{Cursor}
 use Rattle.chunk_walk.specs.declared.walk.Walk.{Walk}
 use Rattle.chunk_walk.specs.Pieces.{Files, PiecesInOrder, IsSecond}
-use Rattle.chunk_walk.specs.Cursors.{turn_of, turns_left, PieceTurnNotBehind, IsNext, IsFirst, FindsFirst}
+use Rattle.chunk_walk.specs.Cursors.{turns_left, TurnBeforePiece, PieceTurnNotBehind, IsNext, IsFirst, FindsFirst}
 use Rattle.chunk_walk.specs.Walks.{pieces_loaded, pieces_ahead, Text, text_of, turns_of, IsTextOf, AreAll, AllLeft, IsHeldAs, WalkStands, Stands, NextIsDue, LoadsNext, IsRefused, LetsGo, DueIs, StandsFrom, FindsDue, GivesNext, Advances}
 use Rattle.chunk_walk.proofs.Places.{dropped, undropped}
-use Rattle.chunk_walk.proofs.Ordered.{next_is_one}
+use Rattle.chunk_walk.proofs.Ordered.{before_more, next_is_one}
 use Rattle.chunk_walk.proofs.Queues.{all_given}
-use Rattle.chunk_walk.proofs.Turns.{pieces_above}
+use Rattle.chunk_walk.proofs.Turns.{pieces_follow}
 use Rattle.chunk_walk.proofs.Loading.{walk_loads}
 use Rattle.chunk_walk.proofs.Going.{walk_lets_go}
 use Rattle.chunk_walk.proofs.Giving.{walk_gives, given_is_held}
@@ -29,19 +28,16 @@ use Rattle.chunk_walk.proofs.Giving.{walk_gives, given_is_held}
 -- ---- which message is due
 
 -- the next message comes before the pieces that aren't loaded
-pub due_before : (w : Walk) (i : ℕ) (c : Cursor) (e : Entry) (next : Piece) → PiecesInOrder w.pieces.items → At w.cursors.items i c → At c.entries.items c.given e → At w.pieces.items w.next next → e.time < next.span.least
-    → (d : Cursor) (t : Turn) (p : Piece) → At w.cursors.items i d → IsNext d t → Has (pieces_ahead w) p → t.log_time < p.span.least
-due_before w i c e next order at at_e at_next below d t p at_d is has =
+due_before : (w : Walk) (i : ℕ) (c : Cursor) (s : Turn) (next : Piece) → PiecesInOrder w.pieces.items → At w.cursors.items i c → IsNext c s → At w.pieces.items w.next next → TurnBeforePiece s next
+    → (d : Cursor) (t : Turn) (p : Piece) → At w.cursors.items i d → IsNext d t → Has (pieces_ahead w) p → TurnBeforePiece t p
+due_before w i c s next order at is_s at_next below d t p at_d is has =
     let same : d ≡ c = at_one w.cursors.items i d c at_d at in
-    let mine : IsNext c (turn_of c.piece e) = (e, at_e, refl) in
-    let one : t ≡ turn_of c.piece e = next_is_one c t (turn_of c.piece e) (subst (λ (x : Cursor). IsNext x t) same is) mine in
-    let time : t.log_time ≡ e.time = ap (λ (x : Turn). x.log_time) one in
-    let above = pieces_above w.pieces.items w.next next p order at_next has in
-    omega (arith, time, below, above)
+    let one : s ≡ t = next_is_one c s t is_s (subst (λ (x : Cursor). IsNext x t) same is) in
+    before_more t next p (subst (λ (x : Turn). TurnBeforePiece x next) one below) (pieces_follow w.pieces.items w.next next p order at_next has)
 
 -- the pieces that aren't loaded come later
-pub due_some : (w : Walk) (i : ℕ) (c : Cursor) (e : Entry) (next : Piece) → IsFirst w.cursors.items i → At w.cursors.items i c → At c.entries.items c.given e → At w.pieces.items w.next next → e.time < next.span.least → DueIs w (Some i)
-due_some w i c e next first at at_e at_next below = (first, λ order. due_before w i c e next order at at_e at_next below)
+pub due_some : (w : Walk) (i : ℕ) (c : Cursor) (s : Turn) (next : Piece) → IsFirst w.cursors.items i → At w.cursors.items i c → IsNext c s → At w.pieces.items w.next next → TurnBeforePiece s next → DueIs w (Some i)
+due_some w i c s next first at is at_next below = (first, λ order. due_before w i c s next order at is at_next below)
 
 -- all are loaded
 pub due_end : (w : Walk) (found : Option ℕ) → FindsFirst w.cursors.items found → w.next ≡ length w.pieces.items → DueIs w found
@@ -52,12 +48,12 @@ pub due_within : (w : Walk) (i : ℕ) → DueIs w (Some i) → i < length w.curs
 due_within w i due = let (c, t, at, next, others) = due.0 in at_within w.cursors.items i c at
 
 -- no message comes before the next piece, as the first doesn't
-pub next_is_due : (w : Walk) (i : ℕ) (c : Cursor) (e : Entry) (next : Piece) → IsFirst w.cursors.items i → At w.cursors.items i c → At c.entries.items c.given e → At w.pieces.items w.next next → next.span.least ≤ e.time → NextIsDue w
-next_is_due w i c e next first at at_e at_next above p at_p k d at_d u is_u =
+pub next_is_due : (w : Walk) (i : ℕ) (c : Cursor) (s : Turn) (next : Piece) → IsFirst w.cursors.items i → At w.cursors.items i c → IsNext c s → At w.pieces.items w.next next → next.span.least ≤ s.log_time → NextIsDue w
+next_is_due w i c s next first at is_s at_next above p at_p k d at_d u is_u =
     let (f, t, at_f, is_t, others) = first in
     let same : f ≡ c = at_one w.cursors.items i f c at_f at in
-    let one : t ≡ turn_of c.piece e = next_is_one c t (turn_of c.piece e) (subst (λ (x : Cursor). IsNext x t) same is_t) (e, at_e, refl) in
-    let time : t.log_time ≡ e.time = ap (λ (x : Turn). x.log_time) one in
+    let one : t ≡ s = next_is_one c t s (subst (λ (x : Cursor). IsNext x t) same is_t) is_s in
+    let time : t.log_time ≡ s.log_time = ap (λ (x : Turn). x.log_time) one in
     let piece : p.span.least ≡ next.span.least = ap (λ (x : Piece). x.span.least) (at_one w.pieces.items w.next p next at_p at_next) in
     let later = behind t u (others k d at_d u is_u) in
     omega (arith, time, piece, later, above)

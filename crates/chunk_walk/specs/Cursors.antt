@@ -19,6 +19,10 @@ TurnBefore t u = (t.log_time < u.log_time)
     ⊎ ((t.log_time ≡ u.log_time) × ((t.input < u.input)
     ⊎ ((t.input ≡ u.input) × ((t.at < u.at) ⊎ ((t.at ≡ u.at) × (t.inner < u.inner))))))
 
+-- a message comes before all of another piece, none of which was logged before its least time
+abbrev pub TurnBeforePiece : Turn → Piece → Type 0
+TurnBeforePiece t p = (t.log_time < p.span.least) ⊎ ((t.log_time ≡ p.span.least) × ((t.input < p.input) ⊎ ((t.input ≡ p.input) × (t.at < p.span.at))))
+
 -- the turns that are left in a piece
 abbrev pub turns_left : Cursor → List Turn
 turns_left c = map (turn_of c.piece) (drop c.given c.entries.items)
@@ -47,10 +51,10 @@ abbrev pub FindsFirst : List Cursor → Option ℕ → Type 0
 FindsFirst cursors (Some i) = IsFirst cursors i
 FindsFirst cursors None = cursors ≡ []
 
--- whether the next message of the piece at that place, if there is one, was logged before a time
-abbrev pub TellsBefore : List Cursor → Option ℕ → ℕ → Bool → Type 0
-TellsBefore cursors (Some i) time before = (c : Cursor) × (e : Entry) × At cursors i c × At c.entries.items c.given e × (IsTrue before ↔ (e.time < time))
-TellsBefore cursors None time before = before ≡ false
+-- whether there is a next message of the piece at that place, and it comes before all of another piece
+abbrev pub TellsBefore : List Cursor → Option ℕ → Piece → Bool → Type 0
+TellsBefore cursors (Some i) p before = (c : Cursor) × (t : Turn) × At cursors i c × IsNext c t × (IsTrue before ↔ TurnBeforePiece t p)
+TellsBefore cursors None p before = before ≡ false
 
 -- nothing was given of a piece with these bytes: its messages are those of the bytes, in their order, within the span
 pub record IsFresh (p : Piece) (bytes : List ℕ) (c : Cursor) : Type 0 where

@@ -13,9 +13,9 @@ Files = List (Option (List ℕ))
 abbrev pub pieces_with : ℕ → List Span → List Piece
 pieces_with input spans = map (λ s. record { input = input; span = s }) spans
 
--- a piece isn't loaded behind another
+-- a piece isn't loaded behind another: by least time, input, and where it begins
 abbrev pub PieceNotBehind : Piece → Piece → Type 0
-PieceNotBehind p q = (p.span.least < q.span.least) ⊎ ((p.span.least ≡ q.span.least) × ((p.input < q.input) ⊎ ((p.input ≡ q.input) × (p.span.offset ≤ q.span.offset))))
+PieceNotBehind p q = (p.span.least < q.span.least) ⊎ ((p.span.least ≡ q.span.least) × ((p.input < q.input) ⊎ ((p.input ≡ q.input) × (p.span.at ≤ q.span.at))))
 
 -- none comes behind the next
 abbrev pub PiecesInOrder : List Piece → Type 0

@@ -1,5 +1,5 @@
 -- What a walk has given, and what is left.
-use Rattle.std.specs.Prelude.{◌≡◌, ◌⊎◌, ℕ, ◌+◌, ◌<◌, ◌≤◌, List, [], ◌∷◌, ◌++◌, length, map, take, drop, set, max, AllPairs, true, Option, Some, None, Result, Ok, Err, IsPermutation}
+use Rattle.std.specs.Prelude.{◌≡◌, ◌⊎◌, ℕ, ◌+◌, ◌≤◌, List, [], ◌∷◌, ◌++◌, length, map, take, drop, set, max, AllPairs, true, Option, Some, None, Result, Ok, Err, IsPermutation}
 use Rattle.std.specs.List.{AllZip, flat_map, remove, sum_by}
 use Rattle.mcap_model.specs.Places.{At, Has, Each}
 use Rattle.mcap_model.specs.Tops.{Top, spelled, records_in}
@@ -16,7 +16,7 @@ use Rattle.chunk_walk.specs.declared.cursors.Cursor.{Cursor}
 use Rattle.chunk_walk.specs.declared.walk.Walk.{Walk}
 use Rattle.chunk_walk.specs.Entries.{entries_in, AreWithin, FitsSpan}
 use Rattle.chunk_walk.specs.Pieces.{Files, PiecesInOrder, AreBytesOf, BeginTogether, IsSecond, IsInOverlap}
-use Rattle.chunk_walk.specs.Cursors.{turn_of, turns_left, TurnBefore, HasLeft, IsNext, IsFirst, IsFresh}
+use Rattle.chunk_walk.specs.Cursors.{turn_of, turns_left, TurnBefore, TurnBeforePiece, HasLeft, IsNext, IsFirst, IsFresh}
 
 -- ---- what a walk is seen as
 
@@ -113,7 +113,7 @@ pub record PeakStands (w : Walk) : Type 0 where
   pub overlap : IsInOverlap w.pieces.items w.peak
 
 -- The first pieces were loaded with these texts, and these turns were given of them: in their order, each before whatever is
--- left, and before the least time of each piece that wasn't loaded yet.
+-- left, and before all of each piece that wasn't loaded yet.
 pub record WalkStands (files : Files) (w : Walk) (texts : List Text) (given : List Turn) : Type 0 where
   pub next : w.next ≤ length w.pieces.items
   pub taken : AllZip (IsTextOf files) (pieces_loaded w) texts
@@ -121,7 +121,7 @@ pub record WalkStands (files : Files) (w : Walk) (texts : List Text) (given : Li
   pub queues : QueuesStand given (map turns_left w.cursors.items)
   pub all : AreAll (turns_of texts) given (map turns_left w.cursors.items)
   pub apart : (i j : ℕ) (c d : Cursor) → (i ≡ j → ⊥) → At w.cursors.items i c → At w.cursors.items j d → Apart c d
-  pub early : (g : Turn) (p : Piece) → Has given g → Has (pieces_ahead w) p → g.log_time < p.span.least
+  pub early : (g : Turn) (p : Piece) → Has given g → Has (pieces_ahead w) p → TurnBeforePiece g p
   pub left : LeftButLast w
   pub held : AllZip (IsHeldAs (pieces_loaded w) texts) w.cursors.items (loaded_in w.window)
   pub few : (f : Piece → ℕ) → sum_by (λ c. f c.piece) w.cursors.items ≤ sum_by f (pieces_loaded w)
@@ -133,7 +133,7 @@ Stands files w = (texts : List Text) × (given : List Turn) × WalkStands files 
 
 -- ---- steps
 
--- no message that is next comes before the next piece
+-- no message that is next was logged before the least time of the next piece
 abbrev pub NextIsDue : Walk → Type 0
 NextIsDue w = (p : Piece) → At w.pieces.items w.next p → Each (λ c. (t : Turn) → IsNext c t → p.span.least ≤ t.log_time) w.cursors.items
 
@@ -193,7 +193,7 @@ pub record LetsGo (old new : Walk) : Type 0 where
 -- the piece has the next message, which comes before all of those that aren't loaded; or nothing is left
 abbrev pub DueIs : Walk → Option ℕ → Type 0
 DueIs w (Some i) = IsFirst w.cursors.items i
-    × (PiecesInOrder w.pieces.items → (c : Cursor) (t : Turn) (p : Piece) → At w.cursors.items i c → IsNext c t → Has (pieces_ahead w) p → t.log_time < p.span.least)
+    × (PiecesInOrder w.pieces.items → (c : Cursor) (t : Turn) (p : Piece) → At w.cursors.items i c → IsNext c t → Has (pieces_ahead w) p → TurnBeforePiece t p)
 DueIs w None = (w.cursors.items ≡ []) × (length w.pieces.items ≤ w.next)
 
 -- from one walk to another some pieces are loaded

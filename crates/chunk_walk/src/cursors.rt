@@ -4,7 +4,7 @@ ghost use Rattle.mcap_model.specs.Places.{At, Each};
 ghost use Rattle.chunk_walk.specs.declared.answers.Turn.{Turn as Coming};
 ghost use Rattle.chunk_walk.specs.declared.answers.WalkRefused.{WalkRefused as Refusal};
 ghost use Rattle.chunk_walk.specs.declared.answers.WalkRefused.TheVariants as refusals;
-ghost use Rattle.chunk_walk.specs.Cursors.{HasLeft, IsNext, MakesCursor, EarlierOf, PieceTurnNotBehind, FindsFirst, TellsBefore};
+ghost use Rattle.chunk_walk.specs.Cursors.{HasLeft, IsNext, MakesCursor, EarlierOf, PieceTurnNotBehind, FindsFirst, TurnBeforePiece, TellsBefore};
 
 use crate::answers::WalkRefused;
 use crate::entries::{Entry, are_within, list_entries, put_in_order};
@@ -114,14 +114,29 @@ pub(crate) fn first_due(cursors: &[Cursor]) -> Option<usize>
     return Some(first);
 }
 
-/// Whether the next message of the piece at that place, if there is one, was logged before a time.
-pub(crate) fn comes_before(cursors: &[Cursor], due: Option<usize>, time: u64) -> bool
+// Whether the next message of a piece comes before all of one that isn't loaded.
+fn is_before(cursor: &Cursor, piece: &Piece) -> bool
+    requires { HasLeft cursor.now }
+    ensures { (t : Coming) → IsNext cursor.now t → IsTrue result ↔ TurnBeforePiece t piece.now }
+{
+    let time = cursor.entry().time;
+    if time != piece.span.least {
+        return time < piece.span.least;
+    }
+    if cursor.piece.input != piece.input {
+        return cursor.piece.input < piece.input;
+    }
+    return cursor.piece.span.at < piece.span.at;
+}
+
+/// Whether there is a next message of the piece at that place, and it comes before all of one that isn't loaded.
+pub(crate) fn comes_before(cursors: &[Cursor], due: Option<usize>, piece: &Piece) -> bool
     requires left { Each HasLeft cursors.now }
     requires due { FindsFirst cursors.now due }
-    ensures { TellsBefore cursors.now due time result }
+    ensures { TellsBefore cursors.now due piece.now result }
 {
     match due {
-        Some(i) => return cursors[i].entry().time < time,
+        Some(i) => return is_before(&cursors[i], piece),
         None => return false,
     }
 }

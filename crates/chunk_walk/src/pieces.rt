@@ -22,7 +22,7 @@ fn is_not_behind(one: &Piece, other: &Piece) -> bool
     if one.input != other.input {
         return one.input < other.input;
     }
-    return one.span.offset <= other.span.offset;
+    return one.span.at <= other.span.at;
 }
 
 // Whether no piece comes behind the next.
@@ -53,7 +53,8 @@ pub fn pieces_of(pieces: &mut Vec<Piece>, input: u32, spans: &[Span]) -> Result<
     return Ok(());
 }
 
-/// Puts pieces in the order of their least times. Those that are in order already cost no sort.
+/// Puts pieces in the order of their least times, of their inputs, and of where they begin. Those that are in order already
+/// cost no sort.
 pub(crate) fn put_in_order(pieces: &mut Vec<Piece>)
     ensures same { IsPermutation pieces.old.items pieces.new.items }
     ensures order { PiecesInOrder pieces.new.items }
@@ -61,5 +62,5 @@ pub(crate) fn put_in_order(pieces: &mut Vec<Piece>)
     if is_in_order(pieces) {
         return;
     }
-    pieces.sort_unstable_by_key(|p| (p.span.least, p.input, p.span.offset));
+    pieces.sort_unstable_by_key(|p| (p.span.least, p.input, p.span.at));
 }

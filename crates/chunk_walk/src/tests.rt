@@ -174,7 +174,7 @@ fn give_all<T: Store>(
     requires stands { Stands (files_of (map (λ s. T.state s) stores.old.items)) walk.old }
     requires fits { StoresFit (map (λ s. T.state s) stores.old.items) (pieces_in walk.old) }
 {
-    'turns: for _ in 0..100u32 {
+    'turns: for _ in 0..2_000u32 {
         match walk.advance(stores) {
             Ok(Some(turn)) => {
                 if !is_of(walk.message(&turn), turn) {
@@ -229,6 +229,18 @@ fn walked(alloc: Global, files: &[Vec<u8>]) -> Result<Outcome, Fail> {
     })
 }
 
+// Whether each message stands behind the one before it.
+fn stand_in_order(turns: &[Turn]) -> bool {
+    let mut last = 0;
+    for turn in turns {
+        if turn.at <= last {
+            return false;
+        }
+        last = turn.at;
+    }
+    true
+}
+
 fn times(alloc: Global, turns: &[Turn]) -> Result<Vec<(u64, u32)>, Fail> {
     let mut out = Vec::new(alloc);
     for turn in turns {
@@ -275,6 +287,47 @@ fn inputs_are_merged_by_time_input_and_place(rt: HostRuntime) -> Result<(), Fail
         (9, 1),
     ];
     assert!(rt; given.as_slice() == wanted.as_slice());
-    assert!(rt; found.peak == 3 * 32 + 32 + 2 * 32 + 32 + 2 * 32);
+    assert!(rt; found.peak == 3 * 32 + 2 * 32 + 2 * 32);
+    Ok(())
+}
+
+#[test]
+fn messages_of_one_time_are_loaded_one_by_one(rt: HostRuntime) -> Result<(), Fail> {
+    let alloc = rt.alloc();
+    let mut part: Vec<u64> = Vec::new(alloc);
+    part.push(0)?;
+    for _ in 0..1_000u32 {
+        part.push(7)?;
+    }
+    let mut files = Vec::new(alloc);
+    files.push(file(alloc, &[part.as_slice()])?)?;
+    let found = walked(alloc, files.as_slice())?;
+    assert!(rt; found.turns.len() == 1_000);
+    assert!(rt; stand_in_order(found.turns.as_slice()));
+    assert!(rt; found.peak == 32);
+    assert!(rt; found.asked == 32_000);
+    Ok(())
+}
+
+#[test]
+fn messages_of_one_time_of_two_inputs_are_loaded_one_by_one(rt: HostRuntime) -> Result<(), Fail> {
+    let alloc = rt.alloc();
+    let mut files = Vec::new(alloc);
+    files.push(file(alloc, &[&[0, 5, 5, 6, 6]])?)?;
+    files.push(file(alloc, &[&[0, 6, 5, 6, 5]])?)?;
+    let found = walked(alloc, files.as_slice())?;
+    let given = times(alloc, found.turns.as_slice())?;
+    let wanted: [(u64, u32); 8] = [
+        (5, 0),
+        (5, 0),
+        (5, 1),
+        (5, 1),
+        (6, 0),
+        (6, 0),
+        (6, 1),
+        (6, 1),
+    ];
+    assert!(rt; given.as_slice() == wanted.as_slice());
+    assert!(rt; found.peak == 32);
     Ok(())
 }

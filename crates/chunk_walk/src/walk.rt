@@ -159,8 +159,7 @@ impl Walk {
             if self.next == self.pieces.len() {
                 return Ok(due);
             }
-            let least = self.pieces[self.next].span.least;
-            if comes_before(&self.cursors, due, least) {
+            if comes_before(&self.cursors, due, &self.pieces[self.next]) {
                 return Ok(due);
             }
             match self.load_next(stores) {

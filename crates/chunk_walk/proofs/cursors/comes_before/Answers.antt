@@ -1,6 +1,7 @@
-use Rattle.std.proofs.Common.{◌≡◌, ◌↔◌, ◌<◌, nat_lt, IsTrue, Some, length, sym, subst, rules}
+use Rattle.std.proofs.Common.{◌≡◌, ◌<◌, Some, length, sym, subst}
 use Rattle.mcap_model.proofs.Places.{at_within}
 use Rattle.chunk_walk.specs.Cursors.{FindsFirst, TellsBefore}
+use Rattle.chunk_walk.proofs.Ordered.{next_of}
 use Rattle.chunk_walk.proofs.Places.{read_there}
 use Rattle.chunk_walk.proofs.cursors.comes_before.Goals as goal
 
@@ -12,5 +13,5 @@ returns-in-Some c =
     let first = subst (FindsFirst cursors) is c.requires.due in
     let within : i < length cursors = at_within cursors i first.0 first.2 in
     let at = read_there cursors i c.index-cursors-i.result c.index-cursors-i.is within in
-    let tells : IsTrue (nat_lt c.entry.result.time c.args.time) ↔ (c.entry.result.time < c.args.time) = search rules in
-    subst (λ d. TellsBefore cursors d c.args.time (nat_lt c.entry.result.time c.args.time)) (sym is) (c.index-cursors-i.result, c.entry.result, at, c.entry.ensures, tells)
+    let (t, next) = next_of c.index-cursors-i.result (c.requires.left i c.index-cursors-i.result at) in
+    subst (λ d. TellsBefore cursors d c.args.piece.now c.is_before.result) (sym is) (c.index-cursors-i.result, t, at, next, c.is_before.ensures t next)

@@ -33,7 +33,7 @@ returns-then-comes_before-clause-finds g c =
     let within = due_within olds nows start now was c.requires.stands in
     let next = c.index.result.now in
     let at = read_there now.pieces.items now.next next c.index.ensures (omega (arith, within, c.if-self-len.false, c.len.ensures, now.pieces.ok.0)) in
-    let tells = subst (λ (l : List Cursor). TellsBefore l found next.span.least c.comes_before.result) c.deref-in-pieces.ensures.value c.comes_before.ensures in
+    let tells = subst (λ (l : List Cursor). TellsBefore l found next c.comes_before.result) c.deref-in-pieces.ensures.value c.comes_before.ensures in
     due_found olds nows start now was found (due_before_next now found c.comes_before.result next first tells at c.if-comes_before.true)
 
 pub load_next-requires-clause-stands : goal.load_next-requires-clause-stands
@@ -57,7 +57,7 @@ pieces-preserved g c =
     let within = due_within olds nows start now was c.requires.stands in
     let next = c.index.result.now in
     let at = read_there now.pieces.items now.next next c.index.ensures (omega (arith, within, c.if-self-len.false, c.len.ensures, now.pieces.ok.0)) in
-    let tells = subst (λ (l : List Cursor). TellsBefore l found next.span.least c.comes_before.result) c.deref-in-pieces.ensures.value c.comes_before.ensures in
+    let tells = subst (λ (l : List Cursor). TellsBefore l found next c.comes_before.result) c.deref-in-pieces.ensures.value c.comes_before.ensures in
     due_goes_on olds nows start now was (map (λ s. g.T.Store.state s) c.load_next.new.stores.items) c.load_next.new.self c.in-Ok.ensures.loads c.in-Ok.ensures.stores (next_before_due now found c.comes_before.result next first tells at c.if-comes_before.false)
 
 pub returns-in-Err-clause-finds : goal.returns-in-Err-clause-finds
