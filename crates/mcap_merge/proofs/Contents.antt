@@ -12,7 +12,7 @@ use Rattle.mcap_model.specs.Fields.{SchemaFields, IsSchema, ChannelFields, SameC
 use Rattle.mcap_model.specs.Written.{SourceShows}
 use Rattle.mcap_model.specs.declared.table.Declared.{Declared}
 use Rattle.mcap_model.specs.declared.tables.Tables.{Tables}
-use Rattle.mcap_model.specs.Declarations.{FirstOf, TablesOf}
+use Rattle.mcap_model.specs.Declarations.{TablesOf}
 use Rattle.mcap_model.proofs.Maps.{sorted_same, schema_once, shows_once, same_trans}
 use Rattle.mcap_model.specs.Merged.{SchemaContent, IsContent}
 

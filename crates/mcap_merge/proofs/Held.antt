@@ -1,48 +1,60 @@
 -- What is held of an input so far.
-use Rattle.std.proofs.Common.{◌≡◌, ℕ, zero, suc, ◌+◌, ◌<◌, Bool, true, false, List, [], ◌∷◌, ◌++◌, length, map, refl, sym, ap, subst, ◌∙◌, Option, None, arith}
+use Rattle.std.proofs.Common.{◌≡◌, ℕ, ◌+◌, Bool, true, false, List, [], ◌∷◌, ◌++◌, length, refl, sym, ap, subst, ◌∙◌, arith}
 use Rattle.std.specs.Prelude.{filter, ◌==◌}
-use Rattle.std.proofs.lemmas.Bool.{le-leb, and_from, eqb-true, eqb-false}
+use Rattle.std.proofs.lemmas.Bool.{eqb-true, eqb-false}
 use Rattle.std.proofs.lemmas.List.{length-append}
 use Rattle.std.proofs.lemmas.List.Elements.{filter-append}
 use Rattle.mcap_io.specs.Outside.{SourceState}
 use Rattle.rec_data.specs.Records.{ShowsHeader}
-use Rattle.mcap_model.specs.declared.replay.Range.{Range}
-use Rattle.mcap_model.specs.declared.replay.Shown.{Shown}
-use Rattle.mcap_model.specs.declared.tables.Tables.{Tables}
-use Rattle.mcap_model.specs.Tops.{Top, top_bytes, spelled, offset_behind}
+use Rattle.mcap_model.specs.Declarations.{TablesOf}
+use Rattle.mcap_model.specs.Tops.{Top, top_bytes, spelled, offset_behind, flat}
 use Rattle.mcap_model.specs.Made.{top}
 use Rattle.mcap_model.specs.Fields.{IsHeader}
-use Rattle.mcap_model.specs.Rules.{V3}
 use Rattle.mcap_model.specs.Kept.{reading_limits, Good}
 use Rattle.mcap_model.specs.Scan.{Seen}
-use Rattle.mcap_model.specs.Showing.{shown_as}
 use Rattle.mcap_model.specs.Repaired.{is_extra, ProfileIs}
-use Rattle.mcap_model.specs.Plain.{is_within}
+use Rattle.mcap_model.proofs.Flat.{good_lists_are_scanned}
 use Rattle.mcap_model.proofs.Readings.{length-top}
 use Rattle.mcap_scan.specs.declared.reader.Reader.{Reader}
 use Rattle.mcap_scan.specs.Scanning.{Stands, Gives, Finds, content_of}
 use Rattle.mcap_scan.proofs.Scanning.{good_stand}
-use Rattle.time_player.specs.Asking.{is_asked, KeepsRecord}
-use Rattle.time_player.proofs.Played.{PlaysSoFar, plays_begin, plays_begin_tops, plays_on, plays_on_tops, told_at_end, filter_all}
-use Rattle.time_player.specs.Keeping.{kept_in}
-use Rattle.time_player.specs.Replaying.{IsTold}
+use Rattle.chunk_survey.specs.declared.spans.Span.{Span}
+use Rattle.chunk_survey.specs.Spans.{spans_one, spans_of}
+use Rattle.chunk_survey.proofs.Noted.{spans_joined}
 use Rattle.mcap_merge.specs.declared.input.Extra.{Extra}
 use Rattle.mcap_merge.specs.declared.input.Holding.{Holding}
 use Rattle.mcap_merge.specs.declared.input.Input.{Input}
-use Rattle.mcap_merge.specs.Inputs.{extra_tops, whole, KeepsExtra, KeepsProfile, HoldsRecord, HoldsNothing, IsInputOf, HoldsInput}
+use Rattle.mcap_merge.specs.Marks.{channels_under, with_marks, AreUnmarked, AreMarked}
+use Rattle.mcap_merge.specs.Inputs.{extra_tops, KeepsExtra, KeepsProfile, HoldsRecord, HoldsNothing, IsInputOf, HoldsInput}
+use Rattle.mcap_merge.proofs.Marking.{length_marks, marks_more, are_marked}
+
+-- these are the marks of the channels of those records' messages
+pub record MarksStand (tops : List Top) (marks : List Bool) : Type 0 where
+  pub blank : List Bool
+  pub none : AreUnmarked blank
+  pub are : marks ≡ with_marks blank (channels_under tops)
 
 -- the reader stands for records, of which this is held
 pub record HoldsSoFar (reader : Reader) (before now : SourceState) (h : Holding) : Type 0 where
-  pub plays : PlaysSoFar whole None reader before now (kept_in h.kept)
-  pub extras_are : extra_tops h.extras.items ≡ filter is_extra plays.tops
-  pub profile_is : ProfileIs plays.tops h.profile
+  pub tops : List Top
+  pub stands : Stands reader before now tops
+  pub spans_are : h.spans.items ≡ spans_of tops
+  pub used_are : MarksStand tops h.used.items
+  pub extras_are : extra_tops h.extras.items ≡ filter is_extra tops
+  pub profile_is : ProfileIs tops h.profile
 
 pub holds_begin : (reader : Reader) (before : SourceState) (h : Holding) → Stands reader before before [] → HoldsNothing h → HoldsSoFar reader before before h
 holds_begin reader before h stands none = record {
-  plays = plays_begin whole None reader before (kept_in h.kept) stands none.kept;
-  extras_are = ap extra_tops none.extras ∙ sym (ap (filter is_extra) (plays_begin_tops whole None reader before (kept_in h.kept) stands none.kept));
-  profile_is = subst (λ (l : List Top). ProfileIs l h.profile) (sym (plays_begin_tops whole None reader before (kept_in h.kept) stands none.kept)) none.profile;
+  tops = [];
+  stands = stands;
+  spans_are = none.spans;
+  used_are = record { blank = h.used.items; none = none.used; are = refl };
+  extras_are = ap extra_tops none.extras;
+  profile_is = none.profile;
 }
+
+pub marks_sized : (tops : List Top) (marks : List Bool) → MarksStand tops marks → length marks ≡ 65536
+marks_sized tops marks stand = ap length stand.are ∙ length_marks stand.blank (channels_under tops) ∙ stand.none.size
 
 -- the first record is a Header
 first_header : (t : Top) → Good reading_limits ([] ++ t ∷ []) → IsHeader t
@@ -80,33 +92,41 @@ profile_on tops t offset old new false is place good keeps was =
 
 -- a record more
 pub holds_on : (reader reader_new : Reader) (before now now_new : SourceState) (old new : Holding) (op offset : ℕ) (was : HoldsSoFar reader before now old)
-    → Gives reader_new before now_new was.plays.tops op offset → HoldsRecord reader_new.tables offset (top op (content_of reader_new)) old new → HoldsSoFar reader_new before now_new new
+    → Gives reader_new before now_new was.tops op offset → HoldsRecord offset (top op (content_of reader_new)) old new → HoldsSoFar reader_new before now_new new
 holds_on reader reader_new before now now_new old new op offset was gives holds =
     let t = top op (content_of reader_new) in
-    let tops = was.plays.tops in
+    let tops = was.tops in
+    let used = was.used_are in
     let good : Good reading_limits (tops ++ t ∷ []) = good_stand reader_new before now_new (tops ++ t ∷ []) gives.going gives.stands in
-    let grown = plays_on_tops whole None reader reader_new before now now_new (kept_in old.kept) (kept_in new.kept) op offset was.plays gives holds.kept in
     record {
-      plays = plays_on whole None reader reader_new before now now_new (kept_in old.kept) (kept_in new.kept) op offset was.plays gives holds.kept;
-      extras_are = extras_on tops t old.extras.items new.extras.items was.extras_are holds.extra ∙ sym (ap (filter is_extra) grown);
-      profile_is = subst (λ (l : List Top). ProfileIs l new.profile) (sym grown) (profile_on tops t offset old.profile new.profile (offset == 8) refl gives.place good holds.profile was.profile_is);
+      tops = tops ++ t ∷ [];
+      stands = gives.stands;
+      spans_are =
+          holds.spans
+          ∙ ap (λ (l : List Span). l ++ spans_one offset t) was.spans_are
+          ∙ ap (λ (n : ℕ). spans_of tops ++ spans_one n t) gives.place
+          ∙ sym (spans_joined 8 tops t);
+      used_are = record { blank = used.blank; none = used.none; are = marks_more used.blank old.used.items new.used.items tops t used.are holds.used };
+      extras_are = extras_on tops t old.extras.items new.extras.items was.extras_are holds.extra;
+      profile_is = profile_on tops t offset old.profile new.profile (offset == 8) refl gives.place good holds.profile was.profile_is;
     }
-
--- all messages are asked for
-all_asked : (s : Seen) → is_asked whole None s ≡ true
-all_asked s = and_from (is_within whole s.message.log_time) true (and_from _ true (le-leb 0 s.message.log_time (omega arith)) refl) refl
-
-pub all_kept : (messages : List Seen) → map shown_as (filter (is_asked whole None) messages) ≡ map shown_as messages
-all_kept messages = ap (map shown_as) (sym (filter_all (is_asked whole None) messages (λ s has. all_asked s)))
 
 -- what is held at the Data End
-pub held_at_end : (reader reader_new : Reader) (before now now_new : SourceState) (h : Holding) (i : Input) (offset : ℕ) (was : HoldsSoFar reader before now h) → Finds reader_new before now_new was.plays.tops offset → IsInputOf h reader_new.tables i
-    → HoldsInput (record { tops = was.plays.tops; messages = was.plays.messages }) i
+pub held_at_end : (reader reader_new : Reader) (before now now_new : SourceState) (h : Holding) (i : Input) (offset : ℕ) (was : HoldsSoFar reader before now h) → Finds reader_new before now_new was.tops offset → IsInputOf h reader_new.tables i
+    → (messages : List Seen) × HoldsInput (record { tops = was.tops; messages = messages }) i
 held_at_end reader reader_new before now now_new h i offset was finds is =
-    let told = told_at_end whole None reader reader_new before now now_new (kept_in h.kept) offset was.plays finds in
-    record {
-      told = subst (λ (t : Tables). IsTold was.plays.tops t was.plays.messages) (sym is.tables_are) told;
-      kept_are = ap kept_in is.kept ∙ was.plays.kept_are ∙ all_kept was.plays.messages;
-      extras_are = ap (λ e. extra_tops e.items) is.extras ∙ was.extras_are;
-      profile_is = subst (ProfileIs was.plays.tops) (sym is.profile) was.profile_is;
-    }
+    let tops = was.tops in
+    let at_end = finds.is in
+    let found = good_lists_are_scanned reading_limits tops at_end.good in
+    let used = was.used_are in (
+      found.0,
+      record {
+        good = at_end.good;
+        scan = found.1;
+        tables_are = subst (TablesOf (flat tops)) (sym is.tables_are) at_end.tables_are;
+        spans_are = ap (λ v. v.items) is.spans ∙ was.spans_are;
+        used_are = subst (λ (l : List Bool). AreMarked l found.0) (sym (ap (λ v. v.items) is.used)) (are_marked tops found.0 used.blank h.used.items used.none used.are found.1);
+        extras_are = ap (λ e. extra_tops e.items) is.extras ∙ was.extras_are;
+        profile_is = subst (ProfileIs tops) (sym is.profile) was.profile_is;
+      },
+    )

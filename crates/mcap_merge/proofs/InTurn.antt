@@ -1,111 +1,174 @@
--- The turns are those of the messages of the inputs, which make a merge.
-use Rattle.std.proofs.Common.{◌≡◌, ◌⊎◌, ℕ, suc, ◌+◌, ◌<◌, List, [], ◌∷◌, ◌++◌, map, refl, sym, ap, subst, inl, inr, ◌∙◌, arith}
-use Rattle.std.specs.Prelude.{AllPairs, filter}
-use Rattle.std.specs.List.{AllZip, flat_map}
-use Rattle.mcap_model.specs.declared.replay.Shown.{Shown}
-use Rattle.mcap_model.specs.Places.{At, Has, Each}
+-- The messages of all inputs, put in their order.
+use Rattle.std.proofs.Common.{◌≡◌, ◌⊎◌, ℕ, zero, suc, ◌+◌, ◌<◌, List, [], ◌∷◌, ◌++◌, map, refl, sym, ap, subst, inl, inr, ◌∙◌, arith}
+use Rattle.std.specs.Prelude.{filter}
+use Rattle.std.specs.List.{flat_map}
+use Rattle.std.proofs.lemmas.Bool.{cases_order}
+use Rattle.mcap_model.specs.declared.replay.Place.{Place}
+use Rattle.mcap_model.specs.Places.{At, Has}
 use Rattle.mcap_model.specs.Tops.{Top}
-use Rattle.mcap_model.specs.Kept.{reading_limits}
 use Rattle.mcap_model.specs.Scan.{Seen, Scan, PlaceBefore}
-use Rattle.mcap_model.specs.Showing.{shown_as}
 use Rattle.mcap_model.specs.Repaired.{is_extra}
+use Rattle.mcap_model.specs.Merged.{Sent, IsFrom, MergesBefore, AreInTurn}
 use Rattle.mcap_model.proofs.Places.{at_none, at_one}
-use Rattle.mcap_model.proofs.Lists.{pairs_at, pairs_from}
-use Rattle.mcap_model.proofs.NamedTopics.{zip_front, zip_back, unmapped}
+use Rattle.mcap_model.proofs.Lists.{at_either, pairs_at}
+use Rattle.mcap_model.proofs.Members.{has_second}
+use Rattle.mcap_model.proofs.Places.{has_kept}
+use Rattle.mcap_model.proofs.NamedTopics.{unmapped}
 use Rattle.mcap_model.proofs.PlacesApart.{scan_rises}
-use Rattle.mcap_model.proofs.Flat.{at_mapped, good_lists_are_scanned}
-use Rattle.time_player.specs.Keeping.{kept_in}
+use Rattle.mcap_model.proofs.Flat.{at_mapped}
 use Rattle.mcap_merge.specs.declared.input.Input.{Input}
-use Rattle.mcap_merge.specs.declared.turns.Turn.{Turn}
-use Rattle.mcap_model.specs.Merged.{Sent, IsFrom, MergesBefore, AreInTurn, CommonProfile, MergeOf}
-use Rattle.mcap_merge.specs.Uses.{Use, history_of, AreUses}
-use Rattle.mcap_merge.specs.Inputs.{Read, tops_of, extra_tops, HoldsInput, HoldInputs}
-use Rattle.mcap_merge.specs.Turns.{kept_lists, TurnsOf, IsTurnOf, AreTurnsOf}
+use Rattle.mcap_merge.specs.Inputs.{Read, tops_of, HoldInputs}
 use Rattle.mcap_merge.specs.Writing.{extras_of}
-use Rattle.mcap_merge.proofs.Ordered.{turn, IsListed, TurnBefore, strict_pairs, listed_is, listed_has}
-use Rattle.mcap_merge.proofs.Merging.{merges_all, flat_kinds}
+use Rattle.mcap_merge.proofs.Inserted.{in_order}
+use Rattle.mcap_merge.proofs.Sources.{AreScanned, from_read, sent, message_from}
 
--- ---- each turn is one message's
+-- ---- the order
 
-abbrev sent : ℕ → Seen → Sent
-sent input seen = record { input = input; seen = seen }
+place_next : (p q r : Place) → PlaceBefore p q → PlaceBefore q r → PlaceBefore p r
+place_next p q r (inl a) (inl b) = inl (omega (arith, a, b))
+place_next p q r (inl a) (inr b) = inl (omega (arith, a, b.0))
+place_next p q r (inr a) (inl b) = inl (omega (arith, a.0, b))
+place_next p q r (inr a) (inr b) = inr (a.0 ∙ b.0, omega (arith, a.1, b.1))
 
-zip_from : {A B : Type 0} (R : A → B → Type 0) (xs : List A) → Each (λ x. (y : B) × R x y) xs → (ys : List B) × AllZip R xs ys
-zip_from R [] each = ([], tt)
-zip_from R (x ∷ xs) each =
-    let one = each 0 x refl in
-    let rest = zip_from R xs (λ n y at. each (suc n) y at) in
-    (one.0 ∷ rest.0, (one.1, rest.1))
+-- of messages of one time
+abbrev Later : Sent → Sent → Type 0
+Later a b = (a.input < b.input) ⊎ ((a.input ≡ b.input) × PlaceBefore a.seen.place b.seen.place)
 
-one_turn : (reads : List Read) (inputs : List Input) (t : Turn) → HoldInputs reads inputs → IsListed (kept_lists inputs) 0 t → (m : Sent) × IsTurnOf reads t m
-one_turn reads inputs t hold is =
-    let number : t.input ≡ is.number = omega (arith, is.input) in
-    let i = unmapped (λ (x : Input). kept_in x.kept) inputs is.number is.shown is.list in
-    let r = zip_back HoldsInput reads inputs is.number i.0 hold i.1 in
-    let holds = r.2 in
-    let there : At (map shown_as r.0.messages) t.at is.message = subst (λ (l : List Shown). At l t.at is.message) (sym i.2 ∙ holds.kept_are) is.at in
-    let s = unmapped shown_as r.0.messages t.at is.message there in (
-      record { input = t.input; seen = s.0 },
-      record {
-        input = refl;
-        source = r.0;
-        at = subst (λ (n : ℕ). At reads n r.0) (sym number) r.1;
-        there = s.1;
-        time = is.time ∙ sym (ap (λ (x : Shown). x.log_time) s.2);
-      },
-    )
+later_next : (a b c : Sent) → Later a b → Later b c → Later a c
+later_next a b c (inl p) (inl q) = inl (omega (arith, p, q))
+later_next a b c (inl p) (inr q) = inl (omega (arith, p, q.0))
+later_next a b c (inr p) (inl q) = inl (omega (arith, p.0, q))
+later_next a b c (inr p) (inr q) = inr (p.0 ∙ q.0, place_next a.seen.place b.seen.place c.seen.place p.1 q.1)
 
-pub turns_are : (reads : List Read) (inputs : List Input) (turns : List Turn) → HoldInputs reads inputs → TurnsOf (kept_lists inputs) turns → (messages : List Sent) × AreTurnsOf reads turns messages
-turns_are reads inputs turns hold are = zip_from (IsTurnOf reads) turns (λ k t at. one_turn reads inputs t hold (listed_is (kept_lists inputs) turns are k t at))
+merges_next : (a b c : Sent) → MergesBefore a b → MergesBefore b c → MergesBefore a c
+merges_next a b c (inl p) (inl q) = inl (omega (arith, p, q))
+merges_next a b c (inl p) (inr q) = inl (omega (arith, p, q.0))
+merges_next a b c (inr p) (inl q) = inl (omega (arith, p.0, q))
+merges_next a b c (inr p) (inr q) = inr (p.0 ∙ q.0, later_next a b c p.1 q.1)
 
--- ---- they stand in their order
+not_before : (p q : Place) → p.top ≡ q.top → p.inner ≡ q.inner → PlaceBefore p q → ⊥
+not_before p q top inner (inl less) = omega (arith, top, less)
+not_before p q top inner (inr (same, less)) = omega (arith, inner, less)
 
-merges_before : (reads : List Read) (inputs : List Input) (t u : Turn) (m n : Sent) → HoldInputs reads inputs → IsTurnOf reads t m → IsTurnOf reads u n → TurnBefore t u → MergesBefore m n
-merges_before reads inputs t u m n hold one other (inl less) = inl (omega (arith, less, one.time, other.time))
-merges_before reads inputs t u m n hold one other (inr (e, inl less)) = inr (sym one.time ∙ e ∙ other.time, inl (omega (arith, less, one.input, other.input)))
-merges_before reads inputs t u m n hold one other (inr (e, inr (same, less))) =
-    let there : At reads u.input one.source = subst (λ (k : ℕ). At reads k one.source) same one.at in
-    let source : other.source ≡ one.source = at_one reads u.input other.source one.source other.at there in
-    let second : At one.source.messages u.at n.seen = subst (λ (r : Read). At r.messages u.at n.seen) source other.there in
-    let holds = (zip_front HoldsInput reads inputs t.input one.source hold one.at).2 in
-    let before = pairs_at (λ (s : Seen) (r : Seen). PlaceBefore s.place r.place) one.source.messages (scan_rises one.source.tops one.source.messages holds.told.scan) t.at u.at m.seen n.seen less one.there second in
-    inr (sym one.time ∙ e ∙ other.time, inr (one.input ∙ same ∙ sym other.input, before))
+-- two messages of a file that stand at one place are one
+seen_once : (r : Read) (i j : ℕ) (s t : Seen) → Scan r.tops r.messages → At r.messages i s → At r.messages j t → s.place.top ≡ t.place.top → s.place.inner ≡ t.place.inner → s ≡ t
+seen_once r i j s t scan at_s at_t top inner =
+    let rises = scan_rises r.tops r.messages scan in
+    elim (cases_order i j) [
+      | inl same ↦ at_one r.messages j s t (subst (λ (n : ℕ). At r.messages n s) same at_s) at_t
+      | inr (inl less) ↦ absurd (not_before s.place t.place top inner (pairs_at (λ (x : Seen) (y : Seen). PlaceBefore x.place y.place) r.messages rises i j s t less at_s at_t))
+      | inr (inr less) ↦ absurd (not_before t.place s.place (sym top) (sym inner) (pairs_at (λ (x : Seen) (y : Seen). PlaceBefore x.place y.place) r.messages rises j i t s less at_t at_s))
+    ]
 
 sent_one : (m n : Sent) → m.input ≡ n.input → m.seen ≡ n.seen → m ≡ n
 sent_one m n input seen = ap (λ (k : ℕ). sent k m.seen) input ∙ ap (sent n.input) seen
 
-pub in_turn : (reads : List Read) (inputs : List Input) (turns : List Turn) (messages : List Sent) → HoldInputs reads inputs → TurnsOf (kept_lists inputs) turns → AreTurnsOf reads turns messages → AreInTurn (tops_of reads) messages
-in_turn reads inputs turns messages hold are zip = record {
-  rise = pairs_from MergesBefore messages (λ i j m n less at_m at_n.
-      let one = zip_back (IsTurnOf reads) turns messages i m zip at_m in
-      let other = zip_back (IsTurnOf reads) turns messages j n zip at_n in
-      merges_before reads inputs one.0 other.0 m n hold one.2 other.2 (pairs_at TurnBefore turns (strict_pairs (kept_lists inputs) turns are) i j one.0 other.0 less one.1 other.1));
-  are = λ m has.
-      let (t, at, is) = zip_back (IsTurnOf reads) turns messages has.0 m zip has.1 in
-      let holds = (zip_front HoldsInput reads inputs t.input is.source hold is.at).2 in
+module _ (reads : List Read) (scanned : AreScanned reads) where
+  pub one_message : (m n : Sent) → IsFrom (tops_of reads) m → IsFrom (tops_of reads) n → m.input ≡ n.input → m.seen.place.top ≡ n.seen.place.top → m.seen.place.inner ≡ n.seen.place.inner → m ≡ n
+  one_message m n from_m from_n input top inner =
+      let a = from_read reads m scanned from_m in
+      let b = from_read reads n scanned from_n in
+      let same : b.read ≡ a.read = at_one reads n.input b.read a.read b.at (subst (λ (k : ℕ). At reads k a.read) input a.at) in
+      let there : At a.read.messages b.has.0 n.seen = subst (λ (r : Read). At r.messages b.has.0 n.seen) same b.has.1 in
+      sent_one m n input (seen_once a.read a.has.0 b.has.0 m.seen n.seen (scanned m.input a.read a.at).1 a.has.1 there top inner)
+
+  abbrev Decided : Sent → Sent → Type 0
+  Decided m n = (m ≡ n) ⊎ (MergesBefore m n ⊎ MergesBefore n m)
+
+  by_inner : (m n : Sent) → IsFrom (tops_of reads) m → IsFrom (tops_of reads) n → m.seen.message.log_time ≡ n.seen.message.log_time → m.input ≡ n.input → m.seen.place.top ≡ n.seen.place.top → Decided m n
+  by_inner m n from_m from_n time input top = elim (cases_order m.seen.place.inner n.seen.place.inner) [
+    | inl same ↦ inl (one_message m n from_m from_n input top same)
+    | inr (inl less) ↦ inr (inl (inr (time, inr (input, inr (top, less)))))
+    | inr (inr less) ↦ inr (inr (inr (sym time, inr (sym input, inr (sym top, less)))))
+  ]
+
+  by_top : (m n : Sent) → IsFrom (tops_of reads) m → IsFrom (tops_of reads) n → m.seen.message.log_time ≡ n.seen.message.log_time → m.input ≡ n.input → Decided m n
+  by_top m n from_m from_n time input = elim (cases_order m.seen.place.top n.seen.place.top) [
+    | inl same ↦ by_inner m n from_m from_n time input same
+    | inr (inl less) ↦ inr (inl (inr (time, inr (input, inl less))))
+    | inr (inr less) ↦ inr (inr (inr (sym time, inr (sym input, inl less))))
+  ]
+
+  by_input : (m n : Sent) → IsFrom (tops_of reads) m → IsFrom (tops_of reads) n → m.seen.message.log_time ≡ n.seen.message.log_time → Decided m n
+  by_input m n from_m from_n time = elim (cases_order m.input n.input) [
+    | inl same ↦ by_top m n from_m from_n time same
+    | inr (inl less) ↦ inr (inl (inr (time, inl less)))
+    | inr (inr less) ↦ inr (inr (inr (sym time, inl less)))
+  ]
+
+  merges_either : (m n : Sent) → IsFrom (tops_of reads) m → IsFrom (tops_of reads) n → Decided m n
+  merges_either m n from_m from_n = elim (cases_order m.seen.message.log_time n.seen.message.log_time) [
+    | inl same ↦ by_input m n from_m from_n same
+    | inr (inl less) ↦ inr (inl (inl less))
+    | inr (inr less) ↦ inr (inr (inl less))
+  ]
+
+-- ---- all messages
+
+-- those of the inputs from a number on
+abbrev sents_from : ℕ → List Read → List Sent
+sents_from number [] = []
+sents_from number (r ∷ rs) = map (sent number) r.messages ++ sents_from (suc number) rs
+
+-- it is a message of one of them
+record IsListed (number : ℕ) (reads : List Read) (m : Sent) : Type 0 where
+  place : ℕ
+  read : Read
+  at : At reads place read
+  input : m.input ≡ number + place
+  has : Has read.messages m.seen
+
+listed : (number : ℕ) (reads : List Read) (k : ℕ) (m : Sent) → At (sents_from number reads) k m → IsListed number reads m
+listed number [] k m at = absurd (at_none k m at)
+listed number (r ∷ rs) k m at = elim (at_either (map (sent number) r.messages) (sents_from (suc number) rs) k m at) [
+  | inl here ↦
+      let (s, there, same) = unmapped (sent number) r.messages k m here in
       record {
-        tops = is.source.tops;
-        at = subst (λ (k : ℕ). At (tops_of reads) k is.source.tops) (sym is.input) (at_mapped (λ (x : Read). x.tops) reads t.input is.source is.at);
-        messages = is.source.messages;
-        scan = holds.told.scan;
-        has = (t.at, is.there);
-      };
-  all = λ m from.
-      let (r, at, same) = unmapped (λ (x : Read). x.tops) reads m.input from.tops from.at in
-      let (input, here, holds) = zip_front HoldsInput reads inputs m.input r hold at in
-      let found = good_lists_are_scanned reading_limits r.tops holds.told.good in
-      let only = found.2 in
-      let scan : Scan r.tops from.messages = subst (λ (l : List Top). Scan l from.messages) (sym same) from.scan in
-      let equal : from.messages ≡ r.messages = only from.messages scan ∙ sym (only r.messages holds.told.scan) in
-      let there : At r.messages from.has.0 m.seen = subst (λ (l : List Seen). At l from.has.0 m.seen) equal from.has.1 in
-      let list : At (kept_lists inputs) m.input (kept_in input.kept) = at_mapped (λ (x : Input). kept_in x.kept) inputs m.input input here in
-      let kept : At (kept_in input.kept) from.has.0 (shown_as m.seen) = subst (λ (l : List Shown). At l from.has.0 (shown_as m.seen)) (sym holds.kept_are) (at_mapped shown_as r.messages from.has.0 m.seen there) in
-      let (k, place) = listed_has (kept_lists inputs) turns are m.input from.has.0 (kept_in input.kept) (shown_as m.seen) list kept in
-      let (n, at_n, is) = zip_front (IsTurnOf reads) turns messages k (turn m.seen.message.log_time m.input from.has.0) zip place in
-      let source : is.source ≡ r = at_one reads m.input is.source r is.at at in
-      let seen : n.seen ≡ m.seen = at_one r.messages from.has.0 n.seen m.seen (subst (λ (x : Read). At x.messages from.has.0 n.seen) source is.there) there in
-      (k, subst (λ (x : Sent). At messages k x) (sent_one n m is.input seen) at_n);
-}
+        place = 0;
+        read = r;
+        at = refl;
+        input = let is : number ≡ m.input = ap (λ (x : Sent). x.input) same in omega (arith, is);
+        has = (k, subst (At r.messages k) (ap (λ (x : Sent). x.seen) same) there);
+      }
+  | inr (j, is, later) ↦
+      let found = listed (suc number) rs j m later in
+      record { place = suc found.place; read = found.read; at = found.at; input = omega (arith, found.input); has = found.has }
+]
+
+lists : (number : ℕ) (reads : List Read) (place : ℕ) (r : Read) (s : Seen) → At reads place r → Has r.messages s → Has (sents_from number reads) (sent (number + place) s)
+lists number [] place r s at has = absurd (at_none place r at)
+lists number (x ∷ rs) zero r s at has =
+    let same : x ≡ r = at_one (x ∷ rs) zero x r refl at in
+    let here : Has (map (sent number) x.messages) (sent number s) = (has.0, at_mapped (sent number) x.messages has.0 s (subst (λ (y : Read). At y.messages has.0 s) (sym same) has.1)) in
+    let is : number ≡ number + 0 = omega arith in
+    subst (λ (n : ℕ). Has (sents_from number (x ∷ rs)) (sent n s)) is (has_kept (map (sent number) x.messages) (sents_from (suc number) rs) (sent number s) here)
+lists number (x ∷ rs) (suc place) r s at has =
+    let is : suc number + place ≡ number + suc place = omega arith in
+    subst (λ (n : ℕ). Has (sents_from number (x ∷ rs)) (sent n s)) is (has_second (map (sent number) x.messages) (sents_from (suc number) rs) (sent (suc number + place) s) (lists (suc number) rs place r s at has))
+
+listed_from : (reads : List Read) → AreScanned reads → (k : ℕ) (m : Sent) → At (sents_from 0 reads) k m → IsFrom (tops_of reads) m
+listed_from reads scanned k m at =
+    let is = listed 0 reads k m at in
+    let number : is.place ≡ m.input = omega (arith, is.input) in
+    message_from reads m.input is.read m.seen (subst (λ (n : ℕ). At reads n is.read) number is.at) (scanned is.place is.read is.at).1 is.has
+
+-- they can be put in order
+pub messages_there : (reads : List Read) → AreScanned reads → (messages : List Sent) × AreInTurn (tops_of reads) messages
+messages_there reads scanned =
+    let all = sents_from 0 reads in
+    let (messages, is) = in_order MergesBefore (IsFrom (tops_of reads)) merges_next (merges_either reads scanned) all (listed_from reads scanned) in
+    let are = is.are in
+    let kept = is.all in (
+      messages,
+      record {
+        rise = is.rise;
+        are = λ m has. let old = are m has in listed_from reads scanned old.0 m old.1;
+        all = λ m from.
+            let r = from_read reads m scanned from in
+            let same : 0 + m.input ≡ m.input = omega arith in
+            kept m (subst (λ (n : ℕ). Has all (sent n m.seen)) same (lists 0 reads m.input r.read m.seen r.at r.has));
+      },
+    )
 
 -- ---- extras
 
@@ -116,20 +179,3 @@ extras_are (r ∷ rs) [] hold = absurd hold
 extras_are (r ∷ rs) (i ∷ is) hold =
     let first = hold.0 in
     ap (λ (l : List Top). l ++ extras_of is) first.extras_are ∙ ap (λ (l : List Top). filter is_extra r.tops ++ l) (extras_are rs is hold.1)
-
--- ---- the merge
-
-pub merge_of : (reads : List Read) (inputs : List Input) (turns : List Turn) (messages : List Sent) (uses : List Use) (profile : List ℕ) → HoldInputs reads inputs → TurnsOf (kept_lists inputs) turns → AreTurnsOf reads turns messages → AreUses (tops_of reads) messages uses
-    → CommonProfile (tops_of reads) profile → MergeOf (tops_of reads) profile (extras_of inputs) (history_of uses)
-merge_of reads inputs turns messages uses profile hold are zip used common =
-    let merges = merges_all (tops_of reads) messages uses used in
-    record {
-      profile_is = common;
-      extras_are = extras_are reads inputs hold;
-      flat_kinds = flat_kinds (history_of uses);
-      numbered = merges.numbered;
-      messages = messages;
-      in_turn = in_turn reads inputs turns messages hold are zip;
-      merged = merges.merged;
-      placed = merges.placed;
-    }

@@ -1,10 +1,10 @@
 -- Which id a channel of an input gets behind a history.
-use Rattle.std.proofs.Common.{◌≡◌, ◌⊎◌, ℕ, zero, suc, ◌+◌, ◌-◌, ◌*◌, ◌<◌, ◌≤◌, List, [], ◌∷◌, ◌++◌, length, map, set, Option, Some, None, refl, sym, ap, subst, inl, inr, ◌∙◌, append-nil, arith}
+use Rattle.std.proofs.Common.{◌≡◌, ◌⊎◌, ℕ, zero, suc, ◌+◌, ◌-◌, ◌*◌, ◌<◌, List, [], ◌∷◌, ◌++◌, length, set, Option, Some, None, refl, sym, ap, subst, inl, inr, ◌∙◌, append-nil, arith}
 use Rattle.mcap_model.specs.Places.{At}
 use Rattle.mcap_model.specs.Tops.{Top, flat}
 use Rattle.mcap_model.specs.Fields.{SchemaFields, ChannelFields, MessageFields}
-use Rattle.mcap_model.specs.History.{channel_of, message_of}
-use Rattle.mcap_model.proofs.Places.{at_none, at_within, at_kept, at_last, at_one}
+use Rattle.mcap_model.specs.History.{message_of}
+use Rattle.mcap_model.proofs.Places.{at_none, at_kept, at_last, at_one}
 use Rattle.rec_data.specs.declared.owned.Rec.{Rec}
 use Rattle.rec_data.specs.declared.schema.SchemaDef.{SchemaDef}
 use Rattle.rec_data.specs.declared.channel.ChannelDef.{ChannelDef}
@@ -19,9 +19,8 @@ use Rattle.record_core.proofs.Searches.{schemas_more, channels_more}
 use Rattle.record_core.proofs.TableIds.{id_found, channel_missed}
 use Rattle.record_core.proofs.Giving.{given_id, given_records}
 use Rattle.mcap_merge.specs.declared.joining.Joiner.{Joiner}
-use Rattle.mcap_merge.specs.declared.joining.Declared.{Declared}
 use Rattle.mcap_model.specs.Merged.{IsContent}
-use Rattle.mcap_merge.specs.Joining.{IsGiven, JoinerStands, IsChosen, declared_records}
+use Rattle.mcap_merge.specs.Joining.{IsGiven, JoinerStands, IsChosen}
 
 -- ---- ids of histories
 

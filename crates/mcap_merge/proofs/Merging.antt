@@ -1,19 +1,18 @@
 -- The history of messages with the contents of their channels is a merge.
-use Rattle.std.proofs.Common.{◌≡◌, ◌⊎◌, ℕ, zero, suc, ◌+◌, ◌<◌, ◌≤◌, Bool, true, false, List, [], ◌∷◌, ◌++◌, length, take, fold, map, Option, Some, None, refl, sym, ap, subst, inl, inr, ◌∙◌, append_assoc, append-nil, arith}
+use Rattle.std.proofs.Common.{◌≡◌, ◌⊎◌, ℕ, zero, suc, ◌+◌, true, List, [], ◌∷◌, ◌++◌, length, take, fold, Option, Some, None, refl, sym, ap, subst, inl, inr, ◌∙◌, append_assoc, append-nil, arith}
 use Rattle.std.specs.Prelude.{filter}
 use Rattle.std.specs.List.{AllZip}
 use Rattle.std.proofs.lemmas.List.Elements.{filter-append}
-use Rattle.mcap_wire.specs.Maps.{KeysAscend}
 use Rattle.rec_data.specs.declared.owned.Rec.{Rec}
 use Rattle.rec_data.specs.declared.owned.Rec.TheVariants.{Schema, Channel, Message}
 use Rattle.rec_data.specs.declared.schema.SchemaDef.{SchemaDef}
 use Rattle.rec_data.specs.declared.channel.ChannelDef.{ChannelDef}
 use Rattle.rec_data.specs.Owned.{def_fields}
-use Rattle.mcap_model.specs.Places.{At, Has, Each}
+use Rattle.mcap_model.specs.Places.{At, Each}
 use Rattle.mcap_model.specs.Tops.{Top, is_flat_kind, flat}
 use Rattle.mcap_model.specs.Fields.{SchemaFields, ChannelFields, MessageFields}
 use Rattle.mcap_model.specs.History.{schema_of, channel_of, message_of, is_message, rec_top, ChannelFollows, MessageFollows, Follows, Numbered}
-use Rattle.mcap_model.specs.Written.{SameSchema, SchemaIs, IsWrittenAs}
+use Rattle.mcap_model.specs.Written.{SchemaIs}
 use Rattle.mcap_model.proofs.Places.{at_none, at_one, at_kept, at_last, each_more}
 use Rattle.mcap_model.proofs.Lists.{at_either, at_second, has_taken}
 use Rattle.mcap_model.proofs.OneMore.{zip_push}
@@ -21,7 +20,7 @@ use Rattle.mcap_model.proofs.ReadBack.{schema_id_below}
 use Rattle.record_core.specs.Ids.{Ids, ids_of, schemas_in, channels_in, same_schema, same_channel, fields_of_schema, fields_of_channel, schema_place, id_at, schema_id, channel_place, channel_id, new_schema_at, new_schema, new_at, new_records}
 use Rattle.record_core.proofs.Searches.{found, schema_same, channel_same, schemas_counted}
 use Rattle.record_core.proofs.Numbering.{schema_at, channel_at, declared_numbered}
-use Rattle.mcap_model.specs.Merged.{Sent, IsMerged, HasThatSchema, IsOnChannel, IsUseOf, StandBeforeUse, SchemaContent, IsContent}
+use Rattle.mcap_model.specs.Merged.{Sent, IsMerged, IsUseOf, StandBeforeUse, SchemaContent}
 use Rattle.mcap_merge.specs.Uses.{Use, added_by, with_use, history_of, IsUse, AreUses}
 
 -- ---- where contents stand
@@ -86,7 +85,7 @@ schema_spot h d None s None numbered e there is =
 -- ---- what is added
 
 -- no message is declared
-no_message : (ids : Ids) (d : ChannelDef) (place : Option ℕ) → filter is_message (new_at place ids d) ≡ []
+pub no_message : (ids : Ids) (d : ChannelDef) (place : Option ℕ) → filter is_message (new_at place ids d) ≡ []
 no_message ids d (Some k) = refl
 no_message ids d None = filter-append is_message (new_schema ids d.schema) _ ∙ ap (λ (l : List Rec). l ++ []) (none_first d.schema)
   where
@@ -182,7 +181,7 @@ merged_more inputs h more m r is =
       is = is.is;
     }
 
-zip_weaker : {A B : Type 0} (R S : A → B → Type 0) (xs : List A) (ys : List B) → ((a : A) (b : B) → R a b → S a b) → AllZip R xs ys → AllZip S xs ys
+pub zip_weaker : {A B : Type 0} (R S : A → B → Type 0) (xs : List A) (ys : List B) → ((a : A) (b : B) → R a b → S a b) → AllZip R xs ys → AllZip S xs ys
 zip_weaker R S [] [] each zip = tt
 zip_weaker R S [] (y ∷ ys) each zip = absurd zip
 zip_weaker R S (x ∷ xs) [] each zip = absurd zip

@@ -1,19 +1,16 @@
 -- Profiles and extras of inputs.
-use Rattle.std.proofs.Common.{◌≡◌, ◌⊎◌, ℕ, zero, suc, ◌+◌, ◌<◌, Bool, true, false, inl, inr, List, [], ◌∷◌, ◌++◌, length, take, map, refl, sym, ap, subst, ◌∙◌, append_assoc, append-nil, arith}
+use Rattle.std.proofs.Common.{◌≡◌, ◌⊎◌, ℕ, suc, ◌+◌, Bool, true, false, inl, inr, List, [], ◌∷◌, ◌++◌, length, take, refl, sym, ap, subst, ◌∙◌, append_assoc, append-nil}
 use Rattle.std.specs.Prelude.{filter, ◌||◌, ◌==◌}
-use Rattle.std.specs.List.{AllZip, flat_map}
+use Rattle.std.specs.List.{AllZip}
 use Rattle.std.proofs.lemmas.Bool.{eqb-true, both_ways}
-use Rattle.std.proofs.lemmas.List.{length-map}
 use Rattle.std.proofs.lemmas.Grind.{flat_map-append}
 use Rattle.mcap_wire.proofs.Contents.{shows_decided}
 use Rattle.rec_data.specs.Records.{header_kinds, header_values}
 use Rattle.mcap_model.specs.Places.{At, Each}
 use Rattle.mcap_model.specs.Tops.{Top}
-use Rattle.mcap_model.specs.Fields.{IsHeader}
 use Rattle.mcap_model.specs.Kept.{reading_limits, Good}
 use Rattle.mcap_model.specs.Laws.{IsExtra}
 use Rattle.mcap_model.specs.Repaired.{is_extra, ProfileIs}
-use Rattle.mcap_model.proofs.Places.{at_none, at_one, at_within}
 use Rattle.mcap_model.proofs.Lists.{cut_at, filter_passed}
 use Rattle.mcap_model.proofs.NamedTopics.{zip_front, zip_back, unmapped}
 use Rattle.mcap_model.proofs.Flat.{at_mapped, map-append}
@@ -25,7 +22,13 @@ use Rattle.mcap_merge.specs.Inputs.{Read, tops_of, extra_top, extra_tops, HoldsI
 use Rattle.mcap_io.specs.Stores.{StoreState}
 use Rattle.mcap_merge.specs.Reading.{IsReadOf, AreHeld}
 use Rattle.mcap_merge.specs.Writing.{ExtrasMeet, extras_of}
-use Rattle.mcap_merge.proofs.Written.{zip_length}
+
+-- lists that stand beside each other are as long
+pub zip_length : {A B : Type 0} (R : A → B → Type 0) (xs : List A) (ys : List B) → AllZip R xs ys → length xs ≡ length ys
+zip_length R [] [] zip = refl
+zip_length R [] (y ∷ ys) zip = absurd zip
+zip_length R (x ∷ xs) [] zip = absurd zip
+zip_length R (x ∷ xs) (y ∷ ys) zip = ap suc (zip_length R xs ys zip.1)
 
 -- ---- profiles
 
@@ -94,7 +97,7 @@ extra_meets tops n t good at =
 pub meet_all : (reads : List Read) (inputs : List Input) → HoldInputs reads inputs → ExtrasMeet inputs
 meet_all reads inputs hold k i at n e there =
     let (r, here, holds) = zip_back HoldsInput reads inputs k i hold at in
-    extra_meets r.tops n (extra_top e) holds.told.good (subst (λ (l : List Top). At l n (extra_top e)) holds.extras_are (at_mapped extra_top i.extras.items n e there))
+    extra_meets r.tops n (extra_top e) holds.good (subst (λ (l : List Top). At l n (extra_top e)) holds.extras_are (at_mapped extra_top i.extras.items n e there))
 
 -- they are as many as the stores
 pub held_length : (stores : List StoreState) (inputs : List Input) → AreHeld stores inputs → length inputs ≡ length stores

@@ -1,9 +1,8 @@
 -- The records of a merge are read back as themselves.
-use Rattle.std.proofs.Common.{◌≡◌, ℕ, ◌<◌, List, [], ◌∷◌, ◌++◌, Option, Some, None, refl, sym, subst, arith}
+use Rattle.std.proofs.Common.{◌≡◌, ℕ, ◌<◌, List, [], ◌∷◌, Option, Some, None, subst, arith}
 use Rattle.std.specs.Prelude.{filter, ◌^◌}
 use Rattle.rec_data.specs.declared.owned.Rec.{Rec}
 use Rattle.rec_data.specs.declared.schema.SchemaDef.{SchemaDef}
-use Rattle.rec_data.specs.declared.channel.ChannelDef.{ChannelDef}
 use Rattle.rec_data.specs.Owned.{RecFits}
 use Rattle.rec_data.specs.Records.{ShowsMessage}
 use Rattle.rec_data.proofs.OwnedReading.{rec_shown}
@@ -22,6 +21,7 @@ use Rattle.record_core.specs.Ids.{fields_of_schema, fields_with}
 use Rattle.record_core.specs.Tables.{number_of, id_of, schema_with}
 use Rattle.mcap_merge.specs.declared.joining.Declared.{Declared}
 use Rattle.mcap_merge.specs.Joining.{records_of}
+use Rattle.mcap_merge.specs.Contents.{SchemaFitsUnder}
 
 pub none_back : Each IsReadBack []
 none_back n r at = absurd (at_none n r at)
@@ -31,18 +31,13 @@ one_back r fits = each_cons IsReadBack r [] (rec_shown r fits) none_back
 
 -- ---- what is declared
 
--- its Schema's numbers and texts fit
-abbrev pub SchemaSeen : Option SchemaDef → ℕ → Type 0
-SchemaSeen None id = Unit {0}
-SchemaSeen (Some s) id = RecFits (schema_of id (fields_of_schema s))
-
-schema_back : (s : Option SchemaDef) (given : Option Given) (id : ℕ) → id ≡ id_of given → SchemaSeen s id → Each IsReadBack (schema_with s given)
+schema_back : (s : Option SchemaDef) (given : Option Given) (id : ℕ) → id ≡ id_of given → SchemaFitsUnder s id → Each IsReadBack (schema_with s given)
 schema_back None given id is seen = none_back
 schema_back (Some s) None id is seen = none_back
 schema_back (Some s) (Some (Known other)) id is seen = none_back
 schema_back (Some s) (Some (New other)) id is seen = one_back (schema_of other (fields_of_schema s)) (subst (λ (n : ℕ). RecFits (schema_of n (fields_of_schema s))) is seen)
 
-pub records_back : (d : Declared) (id schema : ℕ) → id ≡ number_of d.ids.channel → schema ≡ id_of d.ids.schema → RecFits (channel_of id (fields_with d.content schema)) → SchemaSeen d.content.schema schema → Each IsReadBack (records_of d)
+pub records_back : (d : Declared) (id schema : ℕ) → id ≡ number_of d.ids.channel → schema ≡ id_of d.ids.schema → RecFits (channel_of id (fields_with d.content schema)) → SchemaFitsUnder d.content.schema schema → Each IsReadBack (records_of d)
 records_back d id schema is schema_is channel seen =
     let named : RecFits (channel_of (number_of d.ids.channel) (fields_with d.content schema)) = subst (λ (n : ℕ). RecFits (channel_of n (fields_with d.content schema))) is channel in
     let last = subst (λ (n : ℕ). RecFits (channel_of (number_of d.ids.channel) (fields_with d.content n))) schema_is named in

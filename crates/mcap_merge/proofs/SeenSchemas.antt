@@ -1,5 +1,5 @@
 -- The schemas that messages use, gone through one by one.
-use Rattle.std.proofs.Common.{◌≡◌, ◌⊎◌, ℕ, ◌+◌, ◌-◌, ◌≤◌, List, [], ◌∷◌, ◌++◌, length, take, map, Option, Some, None, refl, sym, ap, subst, inl, inr, ◌∙◌, arith}
+use Rattle.std.proofs.Common.{◌≡◌, ℕ, ◌+◌, ◌-◌, ◌*◌, ◌<◌, ◌≤◌, true, false, List, [], ◌∷◌, ◌++◌, length, map, Option, Some, None, refl, sym, ap, subst, inl, inr, ◌∙◌, arith}
 use Rattle.std.proofs.lemmas.List.{length-map}
 use Rattle.std.proofs.lemmas.Option.{same_Some}
 use Rattle.std.specs.Prelude.{IsPermutation}
@@ -10,30 +10,26 @@ use Rattle.rec_data.specs.declared.channel.ChannelDef.{ChannelDef}
 use Rattle.mcap_model.specs.Places.{At, Has, Each}
 use Rattle.mcap_model.specs.Tops.{Top, flat}
 use Rattle.mcap_model.specs.Declarations.{TablesOf}
-use Rattle.mcap_model.specs.Merged.{Sent, AreInTurn, IsContent, IsUsed, SchemaIsUsed, AtMost, MoreThan}
-use Rattle.mcap_model.proofs.Places.{at_none, at_kept, at_last, at_more, at_one}
+use Rattle.mcap_model.specs.Merged.{Sent, IsFrom, IsContent, IsUsed, SchemaIsUsed, AtMost}
+use Rattle.mcap_model.proofs.Places.{at_none, at_kept, at_last, at_one}
 use Rattle.mcap_model.proofs.NamedTopics.{unmapped}
 use Rattle.mcap_model.proofs.Flat.{at_mapped, map-append}
-use Rattle.mcap_model.proofs.OneMore.{each_last, taken_more}
+use Rattle.mcap_model.proofs.OneMore.{each_last}
 use Rattle.id_table.specs.Ids as tables
-use Rattle.id_table.specs.Given.{Lacks, EachOnce, Offers, OffersTo, with_given, with_given_to, Declares, Refuses}
+use Rattle.id_table.specs.Given.{EachOnce, Offers, OffersTo, with_given, with_given_to, Declares, Refuses}
 use Rattle.id_table.specs.declared.given.Given.{Given}
 use Rattle.id_table.specs.declared.given.Given.TheVariants.{Known, New}
 use Rattle.id_table.specs.declared.given.GivenIds.{GivenIds}
 use Rattle.id_table.specs.declared.given.IdRefused.{IdRefused}
 use Rattle.id_table.specs.declared.given.IdRefused.TheVariants.{TooManySchemas, TooManyChannels, Memory}
-use Rattle.time_player.specs.declared.lent.Lent.{Lent}
-use Rattle.time_player.specs.Keeping.{kept_in}
-use Rattle.time_player.specs.Lent.{shown_of}
 use Rattle.mcap_merge.specs.declared.input.Input.{Input}
-use Rattle.mcap_merge.specs.declared.turns.Turn.{Turn}
 use Rattle.mcap_merge.specs.Inputs.{Read, tops_of, HoldInputs}
-use Rattle.mcap_merge.specs.Turns.{AreTurnsOf}
 use Rattle.mcap_merge.specs.Joining.{IsAskedFor, WhyLacks}
 use Rattle.mcap_merge.specs.Schemas.{bare, AreBare, Enters, EntersOf, LacksPlace, LacksPlaceOf, LacksSchemas}
 use Rattle.mcap_merge.proofs.Contents.{content_once}
 use Rattle.mcap_merge.proofs.Used.{content_used, more_than}
-use Rattle.mcap_merge.proofs.Written.{asked_for}
+use Rattle.mcap_merge.specs.Contents.{id_place}
+use Rattle.mcap_merge.proofs.Sources.{place_within, either_place, is_there, asked_at, not_there}
 
 -- ---- a channel that has nothing but a schema
 
@@ -105,63 +101,73 @@ enters_has : (old new : List SchemaDef) (s : SchemaDef) → Enters old s new →
 enters_has old new s (inl (has, is)) = subst (λ (l : List SchemaDef). Has l s) (sym is) has
 enters_has old new s (inr is) = subst (λ (l : List SchemaDef). Has l s) (sym is) (length old, at_last old s [])
 
--- ---- the messages so far
+-- ---- the channels so far
 
--- these are the schemas that these messages use
-pub record SchemasSeen (inputs : List (List Top)) (messages : List Sent) (schemas : List SchemaDef) : Type 0 where
+-- these are the schemas of the channels before that place that have messages
+pub record SchemasSeen (inputs : List (List Top)) (place : ℕ) (schemas : List SchemaDef) : Type 0 where
   pub used : Each (SchemaIsUsed inputs) schemas
-  pub all : (n : ℕ) (m : Sent) (tops : List Top) (d : ChannelDef) (s : SchemaDef) → At messages n m → At inputs m.input tops → IsContent (flat tops) m.seen.channel d → d.schema ≡ Some s → Has schemas s
+  pub all : (m : Sent) → IsFrom inputs m → id_place m < place → (tops : List Top) (d : ChannelDef) (s : SchemaDef) → At inputs m.input tops → IsContent (flat tops) m.seen.channel d → d.schema ≡ Some s → Has schemas s
 
-pub seen_none : (inputs : List (List Top)) (schemas : List SchemaDef) → schemas ≡ [] → SchemasSeen inputs [] schemas
+pub seen_none : (inputs : List (List Top)) (schemas : List SchemaDef) → schemas ≡ [] → SchemasSeen inputs 0 schemas
 seen_none inputs schemas none = record {
   used = subst (Each (SchemaIsUsed inputs)) (sym none) (λ n s at. absurd (at_none n s at));
-  all = λ n m tops d s at. absurd (at_none n m at);
+  all = λ m from less. absurd (omega (arith, less));
 }
 
-pub seen_more : (reads : List Read) (messages : List Sent) (inputs : List Input) (turns : List Turn) (k : ℕ) (turn : Turn) (input : Input) (lent : Lent) (old new : List SchemaDef) → HoldInputs reads inputs → AreTurnsOf reads turns messages → At turns k turn → At inputs turn.input input
-    → At (kept_in input.kept) turn.at (shown_of lent) → SchemasSeen (tops_of reads) (take k messages) old
-    → ((records : List Top) → TablesOf records input.tables → (d : ChannelDef) × IsContent records lent.channel d × EntersOf old d.schema new) → SchemasSeen (tops_of reads) (take (k + 1) messages) new
-seen_more reads messages inputs turns k turn input lent old new hold are at here shown was entered =
-    let (m, there, asked) = asked_for reads messages inputs turns k turn input lent hold are at here shown in
+-- one that has messages
+pub seen_more : (reads : List Read) (inputs : List Input) (place number source : ℕ) (input : Input) (old new : List SchemaDef) → HoldInputs reads inputs → place ≡ number * 65536 + source → source < 65536 → At inputs number input → At input.used.items source true
+    → SchemasSeen (tops_of reads) place old → ((records : List Top) → TablesOf records input.tables → (d : ChannelDef) × IsContent records source d × EntersOf old d.schema new) → SchemasSeen (tops_of reads) (place + 1) new
+seen_more reads inputs place number source input old new hold place_is small here marked was entered =
+    let (m, number_is, asked) = asked_at reads inputs number source input hold here marked in
     let (d, is, enter) = entered (flat asked.tops) asked.tables_are in
-    let used : IsUsed (tops_of reads) d = content_used (tops_of reads) m lent.channel input.tables d asked is in
+    let used : IsUsed (tops_of reads) d = content_used (tops_of reads) m source input.tables d asked is in
     let before = was.all in
     record {
       used = enters_each (SchemaIsUsed (tops_of reads)) old new d.schema enter was.used (λ s some. (d, used, some));
-      all = λ n w tops e s at_w at_in is_e some. elim (at_more (take k messages) m n w (subst (λ (l : List Sent). At l n w) (taken_more messages k m there) at_w)) [
-        | inl first ↦ enters_keeps old new d.schema s enter (before n w tops e s first at_in is_e some)
-        | inr last ↦
-            let in_m : At (tops_of reads) m.input tops = subst (λ (x : Sent). At (tops_of reads) x.input tops) last.1 at_in in
-            let same_tops : tops ≡ asked.tops = at_one (tops_of reads) m.input tops asked.tops in_m asked.at in
-            let on : IsContent (flat tops) m.seen.channel e = subst (λ (x : Sent). IsContent (flat tops) x.seen.channel e) last.1 is_e in
-            let there_e : IsContent (flat asked.tops) lent.channel e = subst (λ (c : ℕ). IsContent (flat asked.tops) c e) asked.on (subst (λ (l : List Top). IsContent (flat l) m.seen.channel e) same_tops on) in
-            let same : e ≡ d = content_once (flat asked.tops) input.tables lent.channel e d asked.tables_are there_e is in
-            let has : d.schema ≡ Some s = sym (ap (λ (c : ChannelDef). c.schema) same) ∙ some in
+      all = λ w from less tops e s at_w is_e some. elim (either_place w place less) [
+        | inl early ↦ enters_keeps old new d.schema s enter (before w from early tops e s at_w is_e some)
+        | inr same ↦
+            let there = is_there reads inputs w place number source hold from place_is small same in
+            let at_m : At (tops_of reads) m.input tops = subst (λ (n : ℕ). At (tops_of reads) n tops) (there.input ∙ sym number_is) at_w in
+            let same_tops : tops ≡ asked.tops = at_one (tops_of reads) m.input tops asked.tops at_m asked.at in
+            let there_e : IsContent (flat asked.tops) source e = subst (λ (c : ℕ). IsContent (flat asked.tops) c e) there.channel (subst (λ (l : List Top). IsContent (flat l) w.seen.channel e) same_tops is_e) in
+            let one : e ≡ d = content_once (flat asked.tops) input.tables source e d asked.tables_are there_e is in
+            let has : d.schema ≡ Some s = sym (ap (λ (c : ChannelDef). c.schema) one) ∙ some in
             enters_has old new s (subst (λ (o : Option SchemaDef). EntersOf old o new) has enter)
       ];
     }
 
-pub seen_all : (inputs : List (List Top)) (messages : List Sent) (schemas : List SchemaDef) → SchemasSeen inputs messages schemas → AreInTurn inputs messages → length schemas ≤ 65535 → AtMost 65535 (SchemaIsUsed inputs)
-seen_all inputs messages schemas seen turn few = (
+-- one that has none
+pub seen_same : (reads : List Read) (inputs : List Input) (place number source : ℕ) (input : Input) (schemas : List SchemaDef) → HoldInputs reads inputs → place ≡ number * 65536 + source → source < 65536 → At inputs number input → At input.used.items source false
+    → SchemasSeen (tops_of reads) place schemas → SchemasSeen (tops_of reads) (place + 1) schemas
+seen_same reads inputs place number source input schemas hold place_is small here unmarked was = record {
+  used = was.used;
+  all = λ w from less. let before = was.all in elim (either_place w place less) [
+    | inl early ↦ before w from early
+    | inr same ↦ absurd (not_there reads inputs w number source input hold from here unmarked (is_there reads inputs w place number source hold from place_is small same))
+  ];
+}
+
+pub seen_all : (reads : List Read) (inputs : List Input) (place : ℕ) (schemas : List SchemaDef) → HoldInputs reads inputs → SchemasSeen (tops_of reads) place schemas → length inputs * 65536 ≤ place → length schemas ≤ 65535 → AtMost 65535 (SchemaIsUsed (tops_of reads))
+seen_all reads inputs place schemas hold seen all_places few = (
   schemas,
   few,
   λ s uses.
       let used = uses.1 in
-      let has = turn.all used.message used.from in
       let all = seen.all in
-      all has.0 used.message used.tops uses.0 s has.1 used.at used.is uses.2,
+      all used.message used.from (place_within reads inputs used.message place hold used.from all_places) used.tops uses.0 s used.at used.is uses.2,
 )
 
--- no place is left for the schema of that message
-pub seen_lacks : (reads : List Read) (messages : List Sent) (inputs : List Input) (turns : List Turn) (k : ℕ) (turn : Turn) (input : Input) (lent : Lent) (old : List SchemaDef) (why : IdRefused) → HoldInputs reads inputs → AreTurnsOf reads turns messages → At turns k turn → At inputs turn.input input
-    → At (kept_in input.kept) turn.at (shown_of lent) → SchemasSeen (tops_of reads) (take k messages) old → ((records : List Top) → TablesOf records input.tables → LacksPlaceOf records lent.channel old why) → LacksSchemas (tops_of reads) why
-seen_lacks reads messages inputs turns k turn input lent old why hold are at here shown was lacks =
-    let (m, there, asked) = asked_for reads messages inputs turns k turn input lent hold are at here shown in
+-- no place is left for the schema of that channel
+pub seen_lacks : (reads : List Read) (inputs : List Input) (place number source : ℕ) (input : Input) (old : List SchemaDef) (why : IdRefused) → HoldInputs reads inputs → At inputs number input → At input.used.items source true → SchemasSeen (tops_of reads) place old
+    → ((records : List Top) → TablesOf records input.tables → LacksPlaceOf records source old why) → LacksSchemas (tops_of reads) why
+seen_lacks reads inputs place number source input old why hold here marked was lacks =
+    let (m, number_is, asked) = asked_at reads inputs number source input hold here marked in
     by m asked why (lacks (flat asked.tops) asked.tables_are)
   where
-    by : (m : Sent) (asked : IsAskedFor (tops_of reads) m lent.channel input.tables) (w : IdRefused) → LacksPlaceOf (flat asked.tops) lent.channel old w → LacksSchemas (tops_of reads) w
+    by : (m : Sent) (asked : IsAskedFor (tops_of reads) m source input.tables) (w : IdRefused) → LacksPlaceOf (flat asked.tops) source old w → LacksSchemas (tops_of reads) w
     by m asked TooManySchemas (d, s, is, some, ((lacks_s, many), once, few)) =
-        more_than (SchemaIsUsed (tops_of reads)) old s 65535 (let size : length old ≡ 65535 = omega (arith, few, many) in size) once lacks_s was.used (d, content_used (tops_of reads) m lent.channel input.tables d asked is, some)
+        more_than (SchemaIsUsed (tops_of reads)) old s 65535 (let size : length old ≡ 65535 = omega (arith, few, many) in size) once lacks_s was.used (d, content_used (tops_of reads) m source input.tables d asked is, some)
     by m asked TooManyChannels none = none
     by m asked Memory it = tt
 

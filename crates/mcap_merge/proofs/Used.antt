@@ -1,13 +1,12 @@
 -- The contents of the table are used, and where no id is left more are used than there are ids.
-use Rattle.std.proofs.Common.{◌≡◌, ◌⊎◌, ℕ, suc, ◌+◌, ◌<◌, ◌≤◌, Bool, true, false, List, [], ◌∷◌, ◌++◌, length, map, Option, Some, None, refl, sym, ap, subst, inl, inr, ◌∙◌, arith}
-use Rattle.std.specs.Prelude.{AllPairs, nat_lt, nat_le, ◌&&◌, if◌then◌else◌, Result, Ok, Err}
-use Rattle.std.proofs.lemmas.Bool.{leb-true, and_parts, both_ways}
+use Rattle.std.proofs.Common.{◌≡◌, ℕ, suc, ◌≤◌, Bool, true, false, List, [], ◌∷◌, ◌++◌, length, map, Option, Some, None, refl, sym, ap, subst, inl, inr, ◌∙◌, arith}
+use Rattle.std.specs.Prelude.{nat_lt, nat_le, ◌&&◌, if◌then◌else◌, Err}
+use Rattle.std.proofs.lemmas.Bool.{leb-true, both_ways}
 use Rattle.std.proofs.lemmas.List.{length-append, length-map}
 use Rattle.rec_data.specs.declared.schema.SchemaDef.{SchemaDef}
 use Rattle.rec_data.specs.declared.channel.ChannelDef.{ChannelDef}
 use Rattle.mcap_model.specs.Places.{At, Each}
 use Rattle.mcap_model.specs.Tops.{Top, flat}
-use Rattle.mcap_model.specs.Fields.{SchemaFields}
 use Rattle.mcap_model.specs.declared.tables.Tables.{Tables}
 use Rattle.mcap_model.proofs.Places.{at_none, at_within, at_more}
 use Rattle.mcap_model.proofs.Lists.{pairs_from}
@@ -21,7 +20,7 @@ use Rattle.id_table.specs.declared.given.IdRefused.{IdRefused}
 use Rattle.id_table.specs.declared.given.IdRefused.TheVariants.{TooManySchemas, TooManyChannels, Memory}
 use Rattle.record_core.specs.declared.answers.DeclareRefused.{DeclareRefused}
 use Rattle.record_core.specs.declared.answers.DeclareRefused.TheVariants as declaring
-use Rattle.record_core.specs.Ids.{Ids, fields_of_schema, schema_place, new_schema_at, new_schema, channel_place}
+use Rattle.record_core.specs.Ids.{Ids, fields_of_schema, schema_place, new_schema_at, channel_place}
 use Rattle.record_core.specs.Tables.{content_in, ids_in, schemas_lack, ids_lack, IdsDeclared}
 use Rattle.record_core.proofs.TableIds.{schema_missed, channel_missed}
 use Rattle.mcap_model.specs.Merged.{Sent, IsContent, IsUsed, SchemaIsUsed, MoreThan}

@@ -1,6 +1,6 @@
 -- What a merge comes to.
-use Rattle.std.specs.Prelude.{◌≡◌, ◌⊎◌, ℕ, List, ◌++◌, length, filter, Some, Result, Ok, Err}
-use Rattle.std.specs.List.{AllZip}
+use Rattle.std.specs.Prelude.{◌≡◌, ◌⊎◌, ℕ, ◌*◌, ◌+◌, ◌<◌, ◌≤◌, List, length, filter, Some, Result, Ok, Err}
+use Rattle.std.specs.List.{AllZip, flat_map}
 use Rattle.rec_data.specs.declared.owned.Rec.{Rec}
 use Rattle.mcap_io.specs.Outside.{LiveState, Adds}
 use Rattle.mcap_io.specs.Stores.{StoreState}
@@ -8,33 +8,41 @@ use Rattle.mcap_model.specs.declared.options.FileOptions.{FileOptions}
 use Rattle.mcap_model.specs.declared.ends.Stop.{Stop}
 use Rattle.mcap_model.specs.declared.ends.Stop.TheVariants as stops
 use Rattle.mcap_model.specs.Tops.{Top}
-use Rattle.mcap_model.specs.Places.{Each}
+use Rattle.mcap_model.specs.Places.{At, Each}
 use Rattle.mcap_model.specs.Blocks.{pieces_of, blocks_in}
 use Rattle.mcap_model.specs.Kept.{Good, reading_limits}
 use Rattle.mcap_model.specs.File.{file_of}
 use Rattle.mcap_model.specs.History.{is_message}
-use Rattle.mcap_model.specs.Laws.{IsReadBack}
+use Rattle.mcap_model.specs.Merged.{MergeOf, CommonProfile}
+use Rattle.mcap_model.specs.Repaired.{is_extra}
 use Rattle.chunk_writer.specs.Limits.{Holds}
 use Rattle.chunk_writer.specs.Stops.{StopsAt, StopCause}
 use Rattle.mcap_merge.specs.declared.answers.MergeRefused.{MergeRefused}
 use Rattle.mcap_merge.specs.declared.answers.MergeRefused.TheVariants as merges
 use Rattle.mcap_merge.specs.declared.answers.Merged.{Merged}
-use Rattle.mcap_model.specs.Merged.{MergeOf}
 use Rattle.mcap_merge.specs.Inputs.{Read, tops_of}
-use Rattle.mcap_merge.specs.Reading.{IsReadOf, CountStands}
+use Rattle.mcap_merge.specs.Reading.{IsReadOf, CountStands, OneRose}
 use Rattle.mcap_merge.specs.Gathering.{GatherRefused}
+use Rattle.mcap_merge.specs.Sound.{IsSound}
+use Rattle.mcap_merge.specs.Overlap.{IsPeak}
 
 abbrev pub merged_options : List ℕ → ℕ → FileOptions
 merged_options profile chunk = record { profile = profile; chunk = Some chunk }
 
--- The merge of stores: where they tell, they are read to their Data Ends, and this is made of their records, which are good
--- lists. Each record of it is read back as itself, so its ids fit their two bytes.
+-- each store tells its bytes
+abbrev pub AllTell : List StoreState → Type 0
+AllTell stores = Each (λ s. (bytes : List ℕ) × (s.bytes ≡ Some bytes)) stores
+
+-- The merge of stores, which were read to their Data Ends and had these records, good lists: the profile and the extras are
+-- theirs. Whatever the stores give when they are read again, the history is sound; where all tell, it is made of these records.
 pub record MergeIs (stores : List StoreState) (profile : List ℕ) (extras : List Top) (history : List Rec) : Type 0 where
   pub reads : List Read
   pub are : AllZip IsReadOf stores reads
   pub good : Each (Good reading_limits) (tops_of reads)
-  pub merge : MergeOf (tops_of reads) profile extras history
-  pub back : Each IsReadBack history
+  pub profile_is : CommonProfile (tops_of reads) profile
+  pub extras_are : extras ≡ flat_map (filter is_extra) (tops_of reads)
+  pub sound : IsSound extras history
+  pub of : AllTell stores → MergeOf (tops_of reads) profile extras history
 
 -- the file of the merge stands behind what the store held, within the limits on files, and all of it is with the system; the
 -- counts are those of its records; no store failed
@@ -45,6 +53,7 @@ pub record MergesInto (stores news : List StoreState) (opened now : LiveState) (
   pub is : MergeIs stores profile extras history
   pub messages : m.messages ≡ length (filter is_message history)
   pub records : m.records ≡ length history
+  pub peak : IsPeak (tops_of is.reads) m.peak
   pub file : Adds opened.held now.held (file_of (merged_options profile chunk) extras history)
   pub within : Holds (length (blocks_in (pieces_of (Some chunk) history))) (length (file_of (merged_options profile chunk) extras history))
   pub inputs_still : AllZip CountStands stores news
@@ -75,6 +84,36 @@ pub record MergeStops (stores : List StoreState) (opened now : LiveState) (chunk
   pub stands : FileStands (merged_options profile chunk) extras history opened now (Err stop)
   pub cause : StopCause opened.faults now.faults stop
 
--- nothing was written, or the writer stopped behind inputs that were read whole
+-- the store of that number doesn't tell its bytes
+abbrev pub TellsNot : List StoreState → ℕ → Type 0
+TellsNot stores number = (s : StoreState) → At stores number s → (bytes : List ℕ) → s.bytes ≡ Some bytes → ⊥
+
+-- Why an input couldn't be read again as it was: it failed; that one gave other bytes, which one that tells doesn't; or memory
+-- lacked.
+abbrev pub IsCutBy : List StoreState → List StoreState → MergeRefused → Type 0
+IsCutBy olds news (merges.Fault faults) = OneRose olds news faults
+IsCutBy olds news (merges.Grammar input offset) = (input < length olds) × AllZip CountStands olds news × TellsNot olds input
+IsCutBy olds news (merges.Compressed input offset name) = ⊥
+IsCutBy olds news (merges.Limit input offset) = ⊥
+IsCutBy olds news merges.TooManySchemas = ⊥
+IsCutBy olds news merges.TooManyChannels = ⊥
+IsCutBy olds news (merges.FileLimit blocks bytes) = ⊥
+IsCutBy olds news merges.Memory = AllZip CountStands olds news
+
+-- so the writer was stopped at a piece of the file of the merge, where it lacked nothing itself
+pub record MergeIsCut (stores news : List StoreState) (opened now : LiveState) (chunk : ℕ) (why : MergeRefused) : Type 0 where
+  pub profile : List ℕ
+  pub extras : List Top
+  pub history : List Rec
+  pub is : MergeIs stores profile extras history
+  pub stands : FileStands (merged_options profile chunk) extras history opened now (Err stops.Memory)
+  pub still : now.faults ≡ opened.faults
+  pub cause : IsCutBy stores news why
+
+-- nothing was written; or the writer stopped behind inputs that were read whole; or one of them couldn't be read again
 abbrev pub MergeFails : List StoreState → List StoreState → LiveState → LiveState → ℕ → MergeRefused → Type 0
-MergeFails olds news opened now chunk why = ((now ≡ opened) × GatherRefused olds news why) ⊎ (AllZip CountStands olds news × MergeStops olds opened now chunk why)
+MergeFails olds news opened now chunk why = ((now ≡ opened) × GatherRefused olds news why) ⊎ ((AllZip CountStands olds news × MergeStops olds opened now chunk why) ⊎ MergeIsCut olds news opened now chunk why)
+
+-- no store was asked for more bytes than twice the length that it has answered
+pub record AsksTwice (old new : StoreState) : Type 0 where
+  pub twice : new.asked ≤ old.asked + 2 * new.known

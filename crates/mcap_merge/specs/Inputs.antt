@@ -1,25 +1,22 @@
 -- What is held of inputs.
-use Rattle.std.specs.Prelude.{◌≡◌, ℕ, ◌++◌, ◌∷◌, [], List, map, filter, Option, Some, None, Result, Ok, Err}
+use Rattle.std.specs.Prelude.{◌≡◌, ℕ, ◌++◌, ◌∷◌, [], List, map, filter, Result, Ok, Err}
 use Rattle.std.specs.List.{AllZip}
 use Rattle.mcap_wire.specs.declared.faults.Memory.{Memory}
-use Rattle.rec_data.specs.Fields.{HeaderFields}
 use Rattle.rec_data.specs.Records.{ShowsHeader}
 use Rattle.mcap_io.specs.Outside.{SourceState}
-use Rattle.mcap_model.specs.declared.replay.Range.{Range}
 use Rattle.mcap_model.specs.declared.tables.Tables.{Tables}
-use Rattle.mcap_model.specs.Tops.{Top}
-use Rattle.mcap_model.specs.Kept.{at_end}
-use Rattle.mcap_model.specs.Scan.{Seen}
-use Rattle.mcap_model.specs.Showing.{shown_as}
+use Rattle.mcap_model.specs.Tops.{Top, opened, flat}
+use Rattle.mcap_model.specs.Kept.{reading_limits, Good, at_end}
+use Rattle.mcap_model.specs.Scan.{Seen, Scan}
+use Rattle.mcap_model.specs.Declarations.{TablesOf}
 use Rattle.mcap_model.specs.Repaired.{is_extra, ProfileIs}
 use Rattle.mcap_scan.specs.declared.answers.ScanRefused.{ScanRefused}
 use Rattle.mcap_scan.specs.Scanning.{HaltsSo, RefusalStands}
-use Rattle.time_player.specs.Asking.{KeepsRecord}
-use Rattle.time_player.specs.Keeping.{kept_in}
-use Rattle.time_player.specs.Replaying.{IsTold}
+use Rattle.chunk_survey.specs.Spans.{spans_one, spans_of}
 use Rattle.mcap_merge.specs.declared.input.Extra.{Extra}
 use Rattle.mcap_merge.specs.declared.input.Holding.{Holding}
 use Rattle.mcap_merge.specs.declared.input.Input.{Input}
+use Rattle.mcap_merge.specs.Marks.{channels_of, with_marks, AreUnmarked, AreMarked}
 
 abbrev pub extra_top : Extra → Top
 extra_top e = record { op = e.op; content = e.content }
@@ -41,23 +38,22 @@ pub record KeepsProfile (offset : ℕ) (content old new : List ℕ) : Type 0 whe
   pub first : offset ≡ 8 → (library : List ℕ) × ShowsHeader content (record { profile = new; library = library })
   pub later : (offset ≡ 8 → ⊥) → new ≡ old
 
--- all times
-abbrev pub whole : Range
-whole = record { start = 0; end = None }
-
 -- a record more is held, which stands at that offset
-pub record HoldsRecord (tables : Tables) (offset : ℕ) (t : Top) (old new : Holding) : Type 0 where
-  pub kept : KeepsRecord whole None tables offset t (kept_in old.kept) (kept_in new.kept)
+pub record HoldsRecord (offset : ℕ) (t : Top) (old new : Holding) : Type 0 where
+  pub spans : new.spans.items ≡ old.spans.items ++ spans_one offset t
+  pub used : new.used.items ≡ with_marks old.used.items (channels_of (opened t))
   pub extra : KeepsExtra t old.extras.items new.extras.items
   pub profile : KeepsProfile offset t.content old.profile new.profile
 
 pub record HoldsNothing (h : Holding) : Type 0 where
-  pub kept : kept_in h.kept ≡ []
+  pub spans : h.spans.items ≡ []
+  pub used : AreUnmarked h.used.items
   pub extras : h.extras.items ≡ []
   pub profile : h.profile ≡ []
 
 pub record IsInputOf (h : Holding) (tables : Tables) (i : Input) : Type 0 where
-  pub kept : i.kept ≡ h.kept
+  pub spans : i.spans ≡ h.spans
+  pub used : i.used ≡ h.used
   pub extras : i.extras ≡ h.extras
   pub profile : i.profile ≡ h.profile
   pub tables_are : i.tables ≡ tables
@@ -70,10 +66,14 @@ pub record Read : Type 0 where
 abbrev pub tops_of : List Read → List (List Top)
 tops_of reads = map (λ r. r.tops) reads
 
--- what is held are the profile, the declarations, the extras and the messages of these records
+-- these records are good, and what is held are their profile, their declarations, their extras, where their messages stand, and
+-- which channels have some
 pub record HoldsInput (r : Read) (i : Input) : Type 0 where
-  pub told : IsTold r.tops i.tables r.messages
-  pub kept_are : kept_in i.kept ≡ map shown_as r.messages
+  pub good : Good reading_limits r.tops
+  pub scan : Scan r.tops r.messages
+  pub tables_are : TablesOf (flat r.tops) i.tables
+  pub spans_are : i.spans.items ≡ spans_of r.tops
+  pub used_are : AreMarked i.used.items r.messages
   pub extras_are : extra_tops i.extras.items ≡ filter is_extra r.tops
   pub profile_is : ProfileIs r.tops i.profile
 

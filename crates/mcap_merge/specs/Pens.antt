@@ -1,5 +1,5 @@
 -- For which extras and histories a scribe stands, over its calls.
-use Rattle.std.specs.Prelude.{◌≡◌, ℕ, List, [], ◌∷◌, ◌++◌, Result}
+use Rattle.std.specs.Prelude.{◌≡◌, List, [], ◌++◌, Result}
 use Rattle.std.proofs.Common.{sym, subst, ◌∙◌, append-nil, append_assoc}
 use Rattle.rec_data.specs.declared.owned.Rec.{Rec}
 use Rattle.mcap_io.specs.Outside.{LiveState}
@@ -10,7 +10,7 @@ use Rattle.chunk_writer.specs.declared.phase.Phase.TheVariants as phases
 use Rattle.chunk_writer.specs.declared.scribe.Scribe.{Scribe}
 use Rattle.chunk_writer.specs.Stops.{StopsBehind}
 use Rattle.chunk_writer.specs.Limits.{Holds}
-use Rattle.chunk_writer.specs.Scribes.{ScribeStands, Writes, EndsFile, phase_of}
+use Rattle.chunk_writer.specs.Scribes.{Writes, EndsFile, phase_of}
 use Rattle.chunk_writer.specs.declared.tape.Written.{Written}
 
 -- of whatever extras and history the first scribe stands, the second stands for these with those behind them

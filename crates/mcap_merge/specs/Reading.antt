@@ -1,25 +1,60 @@
 -- Inputs that are read.
-use Rattle.std.specs.Prelude.{◌≡◌, ◌⊎◌, ℕ, ◌<◌, ◌≤◌, List, length, map, Option, Some, Result, Ok, Err}
+use Rattle.std.specs.Prelude.{◌≡◌, ℕ, ◌+◌, ◌<◌, ◌≤◌, List, length, Option, Some, None, Result, Ok, Err}
 use Rattle.std.specs.List.{AllZip}
 use Rattle.mcap_io.specs.Outside.{SourceState, RisesOnce}
 use Rattle.mcap_io.specs.Stores.{StoreState}
 use Rattle.mcap_io.specs.StoreSources.{front_left}
-use Rattle.mcap_model.specs.Places.{At}
+use Rattle.store_front.specs.Fronts.{WasRead}
+use Rattle.mcap_model.specs.Places.{At, Has, Each}
 use Rattle.mcap_model.specs.Tops.{Top}
 use Rattle.mcap_model.specs.Kept.{reading_limits, Halts, at_end, grammar, compressed, beyond}
 use Rattle.mcap_scan.specs.declared.answers.ScanRefused.{ScanRefused}
 use Rattle.mcap_scan.specs.declared.answers.ScanRefused.TheVariants as refusals
+use Rattle.chunk_survey.specs.declared.spans.Span.{Span}
 use Rattle.mcap_merge.specs.declared.answers.MergeRefused.{MergeRefused}
 use Rattle.mcap_merge.specs.declared.answers.MergeRefused.TheVariants as merges
 use Rattle.mcap_merge.specs.declared.input.Input.{Input}
-use Rattle.mcap_merge.specs.Inputs.{Read, tops_of, HoldsInput, HoldInputs, ReadsInput}
+use Rattle.mcap_merge.specs.Inputs.{Read, HoldsInput, HoldInputs, ReadsInput}
 
+-- a source over the front of a store, which counts its own failures
 abbrev pub front_of : StoreState → ℕ → SourceState
-front_of store len = record { left = front_left store.bytes 0 len; faults = store.faults }
+front_of store len = record { left = front_left store.bytes 0 len; faults = 0 }
 
--- the first so many bytes of a store were read
-abbrev pub StoreReads : StoreState → ℕ → StoreState → Result Input ScanRefused → Type 0
-StoreReads old len new result = (now : SourceState) × (now.faults ≡ new.faults) × ReadsInput (front_of old len) now result
+-- the first so many bytes of a store were read, none twice
+pub record FrontReads (old : StoreState) (len : ℕ) (new : StoreState) (result : Result Input ScanRefused) : Type 0 where
+  pub next : ℕ
+  pub now : SourceState
+  pub was : WasRead old new next len now.faults
+  pub reads : ReadsInput (front_of old len) now result
+
+-- where the store tells, its bytes are as many
+abbrev pub HasLength : StoreState → ℕ → Type 0
+HasLength store len = (bytes : List ℕ) → store.bytes ≡ Some bytes → len ≡ length bytes
+
+-- a fault is told with that count
+abbrev pub IsCounted : ℕ → ScanRefused → ScanRefused → Type 0
+IsCounted count (refusals.Fault faults) result = result ≡ refusals.Fault count
+IsCounted count (refusals.Grammar offset rule) result = result ≡ refusals.Grammar offset rule
+IsCounted count (refusals.Compressed offset name) result = result ≡ refusals.Compressed offset name
+IsCounted count (refusals.Limit offset) result = result ≡ refusals.Limit offset
+IsCounted count refusals.Memory result = result ≡ refusals.Memory
+
+-- each of these spans ends within so many bytes
+abbrev pub EndWithin : ℕ → List Span → Type 0
+EndWithin len spans = Each (λ x. x.at + x.length ≤ len) spans
+
+-- or that of the record at this offset ends behind them
+abbrev pub FindsOutside : List Span → ℕ → Option ℕ → Type 0
+FindsOutside spans len None = EndWithin len spans
+FindsOutside spans len (Some offset) = (s : Span) × Has spans s × (offset ≡ s.offset) × (len < s.at + s.length)
+
+-- each span of the input lies within the length that its store has answered
+abbrev pub SpansFit : StoreState → Input → Type 0
+SpansFit s i = Each (λ x. x.at + x.length ≤ s.known) i.spans.items
+
+-- no more bytes were asked for than the length that it has answered
+pub record AsksOnce (old new : StoreState) : Type 0 where
+  pub once : new.asked ≤ old.asked + new.known
 
 -- the store tells the same bytes, and its count hasn't fallen
 pub record StoreKeeps (old new : StoreState) : Type 0 where

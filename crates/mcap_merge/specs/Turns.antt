@@ -1,54 +1,135 @@
--- The messages of all inputs, listed and put in order.
-use Rattle.std.specs.Prelude.{◌≡◌, ◌⊎◌, ℕ, suc, ◌+◌, ◌<◌, ◌≤◌, List, [], ◌∷◌, ◌++◌, length, map, slice_index_or, IsPermutation}
+-- The messages as they are loaded again, and what is put of them.
+use Rattle.std.specs.Prelude.{◌≡◌, ◌⊎◌, ℕ, List, [], ◌++◌, length, true, Option, Some, None, Result, Ok, Err}
 use Rattle.std.specs.List.{AllZip}
-use Rattle.mcap_model.specs.declared.replay.Shown.{Shown}
-use Rattle.mcap_model.specs.Places.{At}
+use Rattle.rec_data.specs.declared.owned.Rec.{Rec}
+use Rattle.rec_data.specs.declared.message.Message.{Message}
+use Rattle.rec_data.specs.Fields.{MessageFields}
+use Rattle.rec_data.specs.Parsed.{message_fields}
+use Rattle.rec_data.specs.Records.{ShowsMessage}
+use Rattle.mcap_io.specs.Stores.{StoreState}
+use Rattle.mcap_model.specs.declared.ends.Stop.{Stop}
+use Rattle.mcap_model.specs.declared.ends.Stop.TheVariants as stops
+use Rattle.mcap_model.specs.Places.{At, Has}
 use Rattle.mcap_model.specs.Tops.{Top}
-use Rattle.mcap_model.specs.Scan.{Seen, Scan}
-use Rattle.mcap_model.specs.Showing.{shown_as}
-use Rattle.time_player.specs.Keeping.{kept_in}
+use Rattle.mcap_model.specs.Merged.{Sent, IsFrom}
+use Rattle.chunk_writer.specs.Stops.{StopCause}
+use Rattle.chunk_walk.specs.declared.answers.Turn.{Turn}
+use Rattle.chunk_walk.specs.declared.answers.WalkRefused.{WalkRefused}
+use Rattle.chunk_walk.specs.declared.answers.WalkRefused.TheVariants as walks
+use Rattle.chunk_walk.specs.declared.pieces.Piece.{Piece}
+use Rattle.chunk_walk.specs.declared.walk.Walk.{Walk}
+use Rattle.chunk_walk.specs.Pieces.{Files}
+use Rattle.chunk_walk.specs.Stores.{CountsStand, RefusedCounts}
+use Rattle.chunk_walk.specs.Walks.{Text, turns_in, pieces_in, pieces_loaded, IsTextOf, IsMessageAt, IsRefused, WalkStands, AllGiven}
 use Rattle.mcap_merge.specs.declared.input.Input.{Input}
-use Rattle.mcap_merge.specs.declared.turns.Turn.{Turn}
-use Rattle.mcap_model.specs.Merged.{Sent}
-use Rattle.mcap_merge.specs.Inputs.{Read}
+use Rattle.mcap_merge.specs.declared.turns.PutRefused.{PutRefused}
+use Rattle.mcap_merge.specs.declared.turns.PutRefused.TheVariants as puts
+use Rattle.mcap_merge.specs.declared.joining.Joiner.{Joiner}
+use Rattle.mcap_merge.specs.Uses.{Use, history_of}
+use Rattle.mcap_merge.specs.Contents.{HasContent, IdsSuffice}
+use Rattle.mcap_merge.specs.Joining.{JoinerStands}
+use Rattle.mcap_merge.specs.Inputs.{Read, tops_of, HoldInputs}
 
--- what is kept of each input
-abbrev pub kept_lists : List Input → List (List Shown)
-kept_lists inputs = map (λ i. kept_in i.kept) inputs
+-- ---- one message
 
--- the messages of an input from a place on
-abbrev pub turns_in : ℕ → ℕ → List Shown → List Turn
-turns_in input at [] = []
-turns_in input at (s ∷ ss) = record { log_time = s.log_time; input = input; at = at } ∷ turns_in input (suc at) ss
+-- a content is no Message on a channel of the input that has messages
+abbrev pub IsNoMessageOn : Input → List ℕ → Type 0
+IsNoMessageOn input content = (channel : ℕ) (m : MessageFields) → ShowsMessage content channel m → At input.used.items channel true → ⊥
 
--- those of the inputs from a number on
-abbrev pub turns_from : ℕ → List (List Shown) → List Turn
-turns_from input [] = []
-turns_from input (shown ∷ others) = turns_in input 0 shown ++ turns_from (suc input) others
+-- or it is this one
+abbrev pub IsMessageOn : Input → List ℕ → Option Message → Type 0
+IsMessageOn input content (Some m) = ShowsMessage content m.channel_id (message_fields m) × At input.used.items m.channel_id true
+IsMessageOn input content None = IsNoMessageOn input content
 
-abbrev pub turns_of : List (List Shown) → List Turn
-turns_of lists = turns_from 0 lists
+-- the record of a turn is this message, whose channel has messages, and a content, in what was read first
+pub record IsUseOfTurn (inputs : List (List Top)) (texts : List Text) (t : Turn) (u : Use) : Type 0 where
+  pub text : Text
+  pub among : Has texts text
+  pub has : Has (turns_in text) t
+  pub top : Top
+  pub there : IsMessageAt text t top
+  pub channel : ℕ
+  pub shows : ShowsMessage top.content channel u.message
+  pub sent : Sent
+  pub input : sent.input ≡ t.input
+  pub on : sent.seen.channel ≡ channel
+  pub from : IsFrom inputs sent
+  pub content : HasContent inputs sent u.content
 
--- a message doesn't come behind another
-abbrev pub TurnNotBehind : Turn → Turn → Type 0
-TurnNotBehind t u = (t.log_time < u.log_time) ⊎ ((t.log_time ≡ u.log_time) × ((t.input < u.input) ⊎ ((t.input ≡ u.input) × (t.at ≤ u.at))))
+-- ---- all
 
--- none comes behind the next
-abbrev pub InTurn : List Turn → Type 0
-InTurn turns = (k : ℕ) (d : Turn) → k + 1 < length turns → TurnNotBehind (slice_index_or turns k d) (slice_index_or turns (k + 1) d)
+-- of the inputs as they were read first, these are the uses of the turns, and so it is with them
+abbrev pub UsesOf : List Input → List Text → List Turn → (List (List Top) → List Use → Type 0) → Type 0
+UsesOf inputs texts given is = (reads : List Read) → HoldInputs reads inputs → IdsSuffice (tops_of reads) → (uses : List Use) × AllZip (IsUseOfTurn (tops_of reads) texts) given uses × is (tops_of reads) uses
 
--- all messages that are kept, in their order
-pub record TurnsOf (lists : List (List Shown)) (turns : List Turn) : Type 0 where
-  pub same : IsPermutation (turns_of lists) turns
-  pub order : InTurn turns
+-- what the stores tell, and the inputs as they were read of them
+pub record Sources : Type 0 where
+  pub files : Files
+  pub inputs : List Input
 
--- which message of the inputs it is
-pub record IsTurnOf (reads : List Read) (t : Turn) (m : Sent) : Type 0 where
-  pub input : m.input ≡ t.input
-  pub source : Read
-  pub at : At reads t.input source
-  pub there : At source.messages t.at m.seen
-  pub time : t.log_time ≡ m.seen.message.log_time
+abbrev pub sources : Files → List Input → Sources
+sources files inputs = record { files = files; inputs = inputs }
 
-abbrev pub AreTurnsOf : List Read → List Turn → List Sent → Type 0
-AreTurnsOf reads turns messages = AllZip (IsTurnOf reads) turns messages
+-- so many turns were given by the walk, and their records were put
+pub record PutSoFar {P : Type 0} (adds : P → P → List Top → List Rec → Type 0) (from : Sources) (w : Walk) (count : ℕ) (j : Joiner) (old now : P) : Type 0 where
+  pub texts : List Text
+  pub given : List Turn
+  pub stands : WalkStands from.files w texts given
+  pub size : length given ≡ count
+  pub uses : UsesOf from.inputs texts given (λ all uses. JoinerStands all (history_of uses) j × adds old now [] (history_of uses))
+
+-- all were given, and all their records were put
+pub record PutAll {P : Type 0} (adds : P → P → List Top → List Rec → Type 0) (from : Sources) (w : Walk) (count : ℕ) (j : Joiner) (old now : P) : Type 0 where
+  pub put : PutSoFar adds from w count j old now
+  pub all : AllGiven from.files w.pieces.items put.texts put.given
+  pub loaded : pieces_loaded w ≡ pieces_in w
+
+-- of a walk through the same pieces the records of some turns were put, and the pen stands for whatever would have come
+pub record PutSome {P : Type 0} (adds : P → P → List Top → List Rec → Type 0) (files : Files) (inputs : List Input) (start : Walk) (old now : P) : Type 0 where
+  pub walk : Walk
+  pub pieces : walk.pieces ≡ start.pieces
+  pub texts : List Text
+  pub given : List Turn
+  pub stands : WalkStands files walk texts given
+  pub uses : UsesOf inputs texts given (λ all uses. (more : List Rec) → adds old now [] (history_of uses ++ more))
+
+-- a record that was loaded again for one of the pieces is no Message on a channel that has messages
+pub record IsOther (files : Files) (pieces : List Piece) (inputs : List Input) (input offset : ℕ) : Type 0 where
+  pub text : Text
+  pub among : Has pieces text.piece
+  pub of : IsTextOf files text.piece text
+  pub turn : Turn
+  pub has : Has (turns_in text) turn
+  pub top : Top
+  pub there : IsMessageAt text turn top
+  pub held : Input
+  pub at : At inputs turn.input held
+  pub none : IsNoMessageOn held top.content
+  pub input_is : input ≡ turn.input
+  pub offset_is : offset ≡ turn.offset
+
+-- ---- why not all
+
+-- a piece isn't what it was: the walk through the pieces found it so, or a record of it is another
+abbrev pub IsChanged : Files → Walk → List Input → ℕ → ℕ → Type 0
+IsChanged files start inputs input offset = ((w : Walk) × (pieces_in w ≡ pieces_in start) × IsRefused files w (walks.Changed input offset)) ⊎ IsOther files (pieces_in start) inputs input offset
+
+abbrev pub WhyUnread : Files → Walk → List Input → WalkRefused → Type 0
+WhyUnread files start inputs (walks.Fault faults) = Unit {0}
+WhyUnread files start inputs (walks.Changed input offset) = IsChanged files start inputs input offset
+WhyUnread files start inputs walks.Memory = Unit {0}
+
+abbrev pub WhyNotAll : Files → Walk → List Input → PutRefused → Type 0
+WhyNotAll files start inputs (puts.Stopped stop) = Unit {0}
+WhyNotAll files start inputs (puts.Unread why) = WhyUnread files start inputs why
+
+-- what the pen stopped at: where an input wasn't read again, it was made to
+abbrev pub stop_of : PutRefused → Stop
+stop_of (puts.Stopped stop) = stop
+stop_of (puts.Unread why) = stops.Memory
+
+-- The counts of the stores and of the pen: one rises, and only where its failure is what is answered.
+abbrev pub PutCounts : {X : Type 0} → List StoreState → List StoreState → ℕ → ℕ → Result X PutRefused → Type 0
+PutCounts olds news before now (Ok it) = CountsStand olds news × (now ≡ before)
+PutCounts olds news before now (Err (puts.Stopped stop)) = CountsStand olds news × StopCause before now stop
+PutCounts olds news before now (Err (puts.Unread why)) = RefusedCounts olds news why × (now ≡ before)

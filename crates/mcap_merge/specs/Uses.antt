@@ -1,14 +1,13 @@
 -- A history that grows message by message: in front of a message stands what its channel's declaration adds.
-use Rattle.std.specs.Prelude.{◌≡◌, ℕ, ◌+◌, List, [], ◌∷◌, ◌++◌, fold, length}
+use Rattle.std.specs.Prelude.{◌≡◌, ℕ, ◌+◌, List, [], ◌∷◌, ◌++◌, fold}
 use Rattle.std.specs.List.{AllZip}
 use Rattle.rec_data.specs.declared.owned.Rec.{Rec}
 use Rattle.rec_data.specs.declared.channel.ChannelDef.{ChannelDef}
-use Rattle.mcap_model.specs.Places.{At, Each}
+use Rattle.mcap_model.specs.Places.{At}
 use Rattle.mcap_model.specs.Tops.{Top, flat}
 use Rattle.mcap_model.specs.Fields.{MessageFields}
 use Rattle.mcap_model.specs.History.{message_of}
-use Rattle.mcap_model.specs.Laws.{IsReadBack}
-use Rattle.record_core.specs.Ids.{ids_of, schemas_in, channels_in, channel_id, new_records}
+use Rattle.record_core.specs.Ids.{ids_of, channel_id, new_records}
 use Rattle.mcap_model.specs.Merged.{Sent, IsContent}
 
 -- a message, and the content of its channel
@@ -36,15 +35,3 @@ pub record IsUse (inputs : List (List Top)) (m : Sent) (u : Use) : Type 0 where
 
 abbrev pub AreUses : List (List Top) → List Sent → List Use → Type 0
 AreUses inputs messages uses = AllZip (IsUse inputs) messages uses
-
--- so many Schemas and Channels are declared for them
-abbrev pub DeclaresSoMany : List Use → ℕ → Type 0
-DeclaresSoMany uses declared = declared ≡ length (schemas_in (history_of uses)) + length (channels_in (history_of uses))
-
--- All messages have contents, for which so many Schemas and Channels are declared, and each record of their history is read
--- back as itself: so the ids fit their two bytes.
-pub record AreJoined (inputs : List (List Top)) (messages : List Sent) (declared : ℕ) : Type 0 where
-  pub uses : List Use
-  pub used : AreUses inputs messages uses
-  pub declares : DeclaresSoMany uses declared
-  pub back : Each IsReadBack (history_of uses)

@@ -1,45 +1,76 @@
-//! Whether there are ids for all channels that are used, before anything is written.
-ghost use Rattle.std.specs.Prelude.{◌≡◌, ◌≤◌, ◌*◌, List, [], length, IfOk, IfErr};
+//! Whether there are ids for the channels of all messages, before anything is written.
+ghost use Rattle.std.specs.Prelude.{◌≡◌, ◌≤◌, ◌<◌, ◌*◌, ◌+◌, ◌/◌, List, length, IfErr, OnOk};
+ghost use Rattle.mcap_model.specs.Places.{At};
 ghost use Rattle.mcap_model.specs.Tops.{Top};
-ghost use Rattle.record_core.specs.Tables.{HasSchemas};
-ghost use Rattle.mcap_model.specs.Merged.{Sent};
-ghost use Rattle.mcap_merge.specs.Uses.{AreJoined};
+ghost use Rattle.mcap_model.specs.Declarations.{TablesOf};
 ghost use Rattle.mcap_merge.specs.Inputs.{Read, tops_of, HoldInputs};
-ghost use Rattle.mcap_merge.specs.Turns.{AreTurnsOf};
-ghost use Rattle.mcap_merge.specs.Joining.{JoinerStands, LackMet};
-ghost use Rattle.mcap_merge.specs.Writing.{AreReady};
+ghost use Rattle.mcap_merge.specs.Joining.{LackMet};
+ghost use Rattle.mcap_merge.specs.Contents.{TakesOf, LacksIdsOf, IsIdTable, IdsSuffice};
 
 use crate::input::Input;
-use crate::joining::Joiner;
-use crate::turns::{Turn, turn_at};
-use id_table::IdRefused;
+use crate::joining::content_of;
+use id_table::{IdRefused, IdTable};
+use mcap_model::Tables;
 use std::alloc::Global;
 
-/// Gives ids to the channels of all messages in their order, as the writing will, and counts what is declared for them.
-pub(crate) fn check_ids(
-    alloc: Global,
-    joiner: &mut Joiner,
-    inputs: &[Input],
-    turns: &[Turn],
-) -> Result<u64, IdRefused>
+/// How many ids there are, with 0.
+pub(crate) const ID_COUNT: usize = 65_536;
+
+/// The input and the id of the channel at a place, where all ids of the first input stand first.
+pub(crate) fn channel_at(inputs: &[Input], place: usize) -> (&Input, u16)
     requires few { length inputs.now ≤ 64 }
-    requires sized { length joiner.old.given.items ≡ length inputs.now * 65536 }
-    requires schemas { HasSchemas joiner.old.table }
-    requires none { (all : List (List Top)) → JoinerStands all [] joiner.old }
-    requires empty { (joiner.old.table.schemas ≡ []) × (joiner.old.table.channels ≡ []) }
-    requires ready { AreReady inputs.now turns.now }
-    ensures used { IfOk result (λ declared. (reads : List Read) (messages : List Sent) → HoldInputs reads inputs.now → AreTurnsOf reads turns.now messages
-        → AreJoined (tops_of reads) messages declared) }
-    ensures refused { IfErr result (λ why. (reads : List Read) (messages : List Sent) → HoldInputs reads inputs.now → AreTurnsOf reads turns.now messages → LackMet (tops_of reads) why) }
-    ensures few { IfOk result (λ declared. declared ≤ 131070) }
+    requires within { place < length inputs.now * 65536 }
+    ensures input { At inputs.now (place / 65536) result.0.now }
+    ensures place { place ≡ place / 65536 * 65536 + result.1 }
+    ensures short { result.1 < 65536 }
 {
-    'turns: for k in 0..turns.len() {
-        let (input, turn) = turn_at(inputs, turns, k);
-        let source = input.kept.get(turn.at).channel;
-        match joiner.choose(alloc, input, turn.input, source) {
-            Ok(_) => {}
-            Err(refused) => return Err(refused),
+    (&inputs[place / ID_COUNT], (place % ID_COUNT) as u16)
+}
+
+// Enters the content of the channel of that id, where it isn't there yet.
+fn enter_channel(
+    alloc: Global,
+    table: &mut IdTable,
+    tables: &Tables,
+    source: u16,
+) -> Result<(), IdRefused>
+    ensures entered { OnOk result ((records : List Top) → TablesOf records tables.now → TakesOf records source table.old table.new) }
+    ensures table { IsIdTable table.old }
+    ensures refused { IfErr result (λ why. (records : List Top) → TablesOf records tables.now → LacksIdsOf records source table.old why) }
+{
+    let _schemas = table.schemas();
+    let _channels = table.channels();
+    let content = match content_of(alloc, tables, source) {
+        Ok(content) => content,
+        Err(_) => return Err(IdRefused::Memory),
+    };
+    match table.declare(&content) {
+        Ok(_) => return Ok(()),
+        Err(refused) => return Err(refused),
+    }
+}
+
+/// Sees that there are ids for all channels that have messages, and for their schemas.
+pub(crate) fn check_ids(alloc: Global, inputs: &[Input]) -> Result<(), IdRefused>
+    requires few { length inputs.now ≤ 64 }
+    requires held { (reads : List Read) × HoldInputs reads inputs.now }
+    ensures suffice { OnOk result ((reads : List Read) → HoldInputs reads inputs.now → IdsSuffice (tops_of reads)) }
+    ensures refused { IfErr result (λ why. (reads : List Read) → HoldInputs reads inputs.now → LackMet (tops_of reads) why) }
+{
+    let mut table = match IdTable::new(alloc) {
+        Ok(table) => table,
+        Err(_) => return Err(IdRefused::Memory),
+    };
+    'channels: for place in 0..inputs.len() * ID_COUNT {
+        let (input, source) = channel_at(inputs, place);
+        if input.used[source as usize] {
+            match enter_channel(alloc, &mut table, &input.tables, source) {
+                Ok(()) => {}
+                Err(refused) => return Err(refused),
+            }
         }
     }
-    return Ok(joiner.declared());
+    let _schemas = table.schemas();
+    let _channels = table.channels();
+    return Ok(());
 }

@@ -2,14 +2,13 @@
 ghost use Rattle.std.specs.Prelude.{◌≡◌, Some, OnOk};
 ghost use Rattle.mcap_model.specs.History.{schema_of, channel_of, message_of};
 ghost use Rattle.rec_data.specs.Owned.{RecFits};
+ghost use Rattle.rec_data.specs.Parsed.{message_fields};
 ghost use Rattle.chunk_build.specs.Chunker.{AreFramed};
 ghost use Rattle.record_core.specs.Ids.{fields_of_schema, fields_with};
 ghost use Rattle.record_core.specs.Sights.{SchemaFits, DefFits};
-ghost use Rattle.mcap_merge.specs.Writing.{message_fields_of};
 
 use mcap_wire::{Memory, PairsRef};
 use rec_data::{Channel, ChannelDef, Message, Schema, SchemaDef};
-use time_player::Lent;
 
 /// The Schema of that content, in place of what the vector held.
 pub(crate) fn frame_schema(framed: &mut Vec<u8>, schema: &SchemaDef, id: u16) -> Result<(), Memory>
@@ -47,22 +46,22 @@ pub(crate) fn frame_channel(
     .frame(framed)
 }
 
-/// The message on that channel, in place of what the vector held.
+/// The message on another channel, in place of what the vector held.
 #[inline(always)]
 pub(crate) fn frame_message(
     framed: &mut Vec<u8>,
     channel: u16,
-    lent: &Lent<'_>,
+    message: &Message<'_>,
 ) -> Result<(), Memory>
-    ensures { OnOk result (AreFramed framed.new.items (message_of channel (message_fields_of lent.now))) }
+    ensures { OnOk result (AreFramed framed.new.items (message_of channel (message_fields message.now))) }
 {
     framed.clear();
     Message {
         channel_id: channel,
-        sequence: lent.sequence,
-        log_time: lent.log_time,
-        publish_time: lent.publish_time,
-        payload: lent.payload,
+        sequence: message.sequence,
+        log_time: message.log_time,
+        publish_time: message.publish_time,
+        payload: message.payload,
     }
     .frame(framed)
 }

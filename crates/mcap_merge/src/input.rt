@@ -1,25 +1,20 @@
-//! What is held of an input: its profile, its declarations, its Attachments and Metadata, and its messages.
-ghost use Rattle.std.specs.Prelude.{◌≡◌, ◌++◌, ◌∷◌, [], List, map, OnOk, IfOk};
-ghost use Rattle.mcap_model.specs.Tops.{Top};
+//! What is held of an input: its profile, its declarations, its Attachments and Metadata, where its messages stand, and which
+//! channels have some.
+ghost use Rattle.std.specs.Prelude.{◌≡◌, length, OnOk, IfOk};
 ghost use Rattle.mcap_model.specs.Made.{top};
 ghost use Rattle.mcap_scan.specs.declared.answers.ScanRefused.{ScanRefused as Refusal};
 ghost use Rattle.mcap_scan.specs.declared.reader.Stage.TheVariants as stages;
 ghost use Rattle.mcap_scan.specs.Scanning.{content_of, tables_of};
 ghost use Rattle.mcap_merge.specs.Inputs.{extra_top, extra_tops, ReadsInput, KeepsExtra, ReadsProfile, KeepsProfile, HoldsRecord, HoldsNothing, IsInputOf};
 
+use crate::marks::{mark_channels, no_marks};
+use chunk_survey::{Span, note_spans};
 use mcap_io::Source;
-use mcap_model::{Range, Tables};
+use mcap_model::Tables;
 use mcap_scan::{Reader, ScanRefused, Step};
 use mcap_wire::{Bytes, Memory, Text};
 use rec_data::{ATTACHMENT, Header, METADATA};
 use std::alloc::Global;
-use time_player::{Kept, keep_messages};
-
-// All times.
-const WHOLE: Range = Range {
-    start: 0,
-    end: None,
-};
 
 /// An Attachment or a Metadata, as it stands in a file.
 #[derive(Drop)]
@@ -34,7 +29,9 @@ pub(crate) struct Input {
     pub profile: Text,
     pub tables: Tables,
     pub extras: Vec<Extra>,
-    pub kept: Kept,
+    pub spans: Vec<Span>,
+    // At each id whether a message is on the channel.
+    pub used: Vec<bool>,
 }
 
 // Keeps the record, if it is an Attachment or a Metadata.
@@ -80,7 +77,8 @@ fn refusal_of(reader: Reader) -> ScanRefused
 struct Holding {
     profile: Text,
     extras: Vec<Extra>,
-    kept: Kept,
+    spans: Vec<Span>,
+    used: Vec<bool>,
 }
 
 // Keeps the profile of the first record.
@@ -112,9 +110,15 @@ fn hold(
     op: u8,
     offset: u64,
 ) -> Result<(), Memory>
-    ensures { OnOk result (HoldsRecord (tables_of reader.now) offset (top op (content_of reader.now)) held.old held.new) }
+    requires { length held.old.used.items ≡ 65536 }
+    ensures holds { OnOk result (HoldsRecord offset (top op (content_of reader.now)) held.old held.new) }
+    ensures sized { length held.new.used.items ≡ 65536 }
 {
-    match keep_messages(&mut held.kept, reader, WHOLE, None, op, offset) {
+    match note_spans(&mut held.spans, op, offset, reader.content()) {
+        Ok(()) => {}
+        Err(memory) => return Err(memory),
+    }
+    match mark_channels(&mut held.used, op, reader.content()) {
         Ok(()) => {}
         Err(memory) => return Err(memory),
     }
@@ -132,12 +136,17 @@ fn hold(
 fn hold_nothing(alloc: Global) -> Result<Holding, Memory>
     ensures { IfOk result HoldsNothing }
 {
-    match Text::copied(alloc, "") {
-        Ok(profile) => {
+    let profile = match Text::copied(alloc, "") {
+        Ok(profile) => profile,
+        Err(memory) => return Err(memory),
+    };
+    match no_marks(alloc) {
+        Ok(used) => {
             return Ok(Holding {
                 profile,
                 extras: Vec::new(alloc),
-                kept: Kept::new(alloc),
+                spans: Vec::new(alloc),
+                used,
             });
         }
         Err(memory) => return Err(memory),
@@ -151,13 +160,15 @@ fn input_of(held: Holding, reader: Reader) -> Input
     let Holding {
         profile,
         extras,
-        kept,
+        spans,
+        used,
     } = held;
     Input {
         profile,
         tables: reader.into_tables(),
         extras,
-        kept,
+        spans,
+        used,
     }
 }
 

@@ -11,6 +11,7 @@ ghost use Rattle.record_core.specs.Ids.{fields_of_schema, fields_with};
 ghost use Rattle.record_core.specs.Tables.{HasSchemas};
 ghost use Rattle.record_core.specs.Sights.{SchemaFits, DefFits};
 ghost use Rattle.mcap_model.specs.Merged.{Sent, IsContent};
+ghost use Rattle.mcap_merge.specs.Contents.{FitsUnderIds};
 ghost use Rattle.mcap_merge.specs.Joining.{JoinerStands, IsChosen, FitsChoice, IsSized, TableIsUsed, IsAskedFor, AfterChoice, declared_records, records_of};
 
 use crate::input::Input;
@@ -47,13 +48,27 @@ pub(crate) struct Choice {
 pub(crate) fn content_of(alloc: Global, tables: &Tables, source: u16) -> Result<ChannelDef, Memory>
     ensures is { IfOk result (λ d. (records : List Top) → TablesOf records tables.now → IsContent records source d) }
     ensures fits { IfOk result DefFits }
+    ensures under { IfOk result FitsUnderIds }
 {
     match definition(alloc, tables, source) {
         Ok(content) => {
             let _pairs = content.metadata.as_slice();
+            see_content(&content);
             return Ok(content);
         }
         Err(memory) => return Err(memory),
+    }
+}
+
+// Reads what the types say of a content, whatever ids it gets.
+fn see_content(content: &ChannelDef)
+    requires { DefFits content.now }
+    ensures { FitsUnderIds content.now }
+{
+    see_channel(content, 0, 0);
+    match &content.schema {
+        Some(schema) => return see_schema(schema, 0),
+        None => return,
     }
 }
 

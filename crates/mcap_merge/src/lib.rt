@@ -8,12 +8,16 @@ mod framing;
 mod gathering;
 mod input;
 mod joining;
+mod marks;
+mod merge_file;
 mod merge_stores;
 mod pen;
+mod pieces;
 mod profile;
 mod reading;
 mod schemas;
 mod scribe_pen;
+mod starting;
 mod turns;
 mod writing;
 

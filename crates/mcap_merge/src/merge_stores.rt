@@ -1,26 +1,39 @@
 //! Merging stores into a live store.
-ghost use Rattle.std.specs.Prelude.{◌≡◌, ◌<◌, ◌≤◌, ℕ, List, Some, length, map, IfOk, IfErr};
+ghost use Rattle.std.specs.Prelude.{◌≡◌, ◌<◌, ◌≤◌, ℕ, List, Some, Ok, length, map, IfOk, IfErr};
 ghost use Rattle.std.specs.List.{AllZip};
 ghost use Rattle.mcap_wire.specs.Layout.{content_limit};
 ghost use Rattle.mcap_wire.specs.Limits.{chunk_size_limit};
-ghost use Rattle.chunk_writer.specs.Stops.{Cause};
-ghost use Rattle.mcap_model.specs.Merged.{Sent};
-ghost use Rattle.mcap_merge.specs.Uses.{Use, history_of, AreUses};
-ghost use Rattle.mcap_merge.specs.Inputs.{Read, tops_of, HoldInputs};
-ghost use Rattle.mcap_merge.specs.Turns.{AreTurnsOf};
-ghost use Rattle.mcap_merge.specs.Writing.{AreReady, ExtrasMeet, extras_of};
-ghost use Rattle.mcap_merge.specs.Reading.{StoreKeeps};
-ghost use Rattle.mcap_merge.specs.Gathering.{IsGathered};
-ghost use Rattle.mcap_merge.specs.Filed.{merged_options, FileStands, MergesInto, MergeFails, MergeStops, IsWriterRefusal};
+ghost use Rattle.chunk_walk.specs.Stores.{files_of, StoresFit, StoresStay, AskedWithin, unasked, none_left};
+ghost use Rattle.chunk_walk.specs.Walks.{pieces_in};
+ghost use Rattle.mcap_merge.specs.Inputs.{Read, HoldInputs};
+ghost use Rattle.mcap_merge.specs.Writing.{ExtrasMeet};
+ghost use Rattle.mcap_merge.specs.Reading.{StoreKeeps, AsksOnce};
+ghost use Rattle.mcap_merge.specs.Gathering.{GatherRefused};
+ghost use Rattle.mcap_merge.specs.Turns.{WhyNotAll, PutCounts};
+ghost use Rattle.mcap_merge.specs.Putting.{IsBegun, WholeStands};
+ghost use Rattle.mcap_merge.specs.Filed.{merged_options, MergesInto, MergeFails, IsWriterRefusal, AsksTwice};
+ghost use Rattle.mcap_merge.specs.Filing.{IsReady, FilesAs, FileStops, IsPutRefusal};
 
 use crate::answers::{MergeRefused, Merged};
 use crate::gathering::{Gathered, gather};
-use crate::writing::write_all;
+use crate::input::Input;
+use crate::merge_file::write_all;
+use crate::starting::{Begun, begin};
+use crate::turns::PutRefused;
+use chunk_walk::WalkRefused;
 use chunk_writer::Scribe;
 use mcap_io::{LiveStore, Store};
 use mcap_model::{FileOptions, Stop};
 use mcap_wire::{CONTENT_LIMIT, Memory, Text};
 use std::alloc::Global;
+
+/// What a merge writes, and how.
+#[derive(Drop)]
+pub(crate) struct Ready {
+    pub(crate) gathered: Gathered,
+    pub(crate) options: FileOptions,
+    pub(crate) begun: Begun,
+}
 
 // Why the writer stopped, as a merge answers it.
 fn refused_by(stop: Stop) -> MergeRefused
@@ -30,6 +43,24 @@ fn refused_by(stop: Stop) -> MergeRefused
         Stop::Fault { faults } => return MergeRefused::Fault { faults },
         Stop::Limit { blocks, bytes } => return MergeRefused::FileLimit { blocks, bytes },
         Stop::Memory => return MergeRefused::Memory,
+    }
+}
+
+// Why not all was written, as a merge answers it.
+fn refusal_of(why: PutRefused) -> MergeRefused
+    ensures { IsPutRefusal why result }
+{
+    match why {
+        PutRefused::Stopped { stop } => return refused_by(stop),
+        PutRefused::Unread {
+            why: WalkRefused::Fault { faults },
+        } => return MergeRefused::Fault { faults },
+        PutRefused::Unread {
+            why: WalkRefused::Changed { input, offset },
+        } => return MergeRefused::Grammar { input, offset },
+        PutRefused::Unread {
+            why: WalkRefused::Memory,
+        } => return MergeRefused::Memory,
     }
 }
 
@@ -51,34 +82,76 @@ fn options_of(alloc: Global, profile: &Text, chunk: u64) -> Result<FileOptions, 
     }
 }
 
-// Writes what was gathered into a live store.
-fn write_file<L: LiveStore>(
+// Reads all stores, and gets ready what the writing needs.
+fn make_ready<T: Store>(
     alloc: Global,
-    gathered: &Gathered,
-    live: L,
+    stores: &mut Vec<T>,
+    chunk: u64,
+) -> Result<Ready, MergeRefused>
+    requires some { 0 < length stores.old.items }
+    requires few { length stores.old.items ≤ 64 }
+    ensures ready { IfOk result (λ r. IsReady (map (λ s. T.state s) stores.old.items) (map (λ s. T.state s) stores.new.items) chunk r) }
+    ensures refused { IfErr result (λ why. GatherRefused (map (λ s. T.state s) stores.old.items) (map (λ s. T.state s) stores.new.items) why) }
+    ensures keeps { AllZip StoreKeeps (map (λ s. T.state s) stores.old.items) (map (λ s. T.state s) stores.new.items) }
+    ensures asked { AllZip AsksOnce (map (λ s. T.state s) stores.old.items) (map (λ s. T.state s) stores.new.items) }
+{
+    let gathered = match gather(alloc, stores) {
+        Ok(gathered) => gathered,
+        Err(why) => return Err(why),
+    };
+    let options = match options_of(alloc, &gathered.profile, chunk) {
+        Ok(options) => options,
+        Err(_) => return Err(MergeRefused::Memory),
+    };
+    match begin(alloc, gathered.inputs.as_slice()) {
+        Ok(begun) => return Ok(Ready {
+            gathered,
+            options,
+            begun,
+        }),
+        Err(_) => return Err(MergeRefused::Memory),
+    }
+}
+
+// Writes the file of the inputs into a live store.
+fn write_file<T: Store, L: LiveStore>(
+    alloc: Global,
+    inputs: &[Input],
+    stores: &mut Vec<T>,
+    begun: Begun,
     options: &FileOptions,
-) -> (L, Result<(), Stop>)
-    requires few { length gathered.now.inputs.items ≤ 64 }
-    requires ready { AreReady gathered.now.inputs.items gathered.now.order.turns.items }
-    requires meet { ExtrasMeet gathered.now.inputs.items }
+    live: L,
+) -> (L, Result<Merged, PutRefused>)
+    requires few { length inputs.now ≤ 64 }
+    requires held { (reads : List Read) × HoldInputs reads inputs.now }
+    requires meet { ExtrasMeet inputs.now }
+    requires many { length stores.old.items ≡ length inputs.now }
+    requires ready { IsBegun inputs.now begun }
+    requires fits { StoresFit (map (λ s. T.state s) stores.old.items) (pieces_in begun.walk) }
     requires size { (n : ℕ) → options.now.chunk ≡ Some n → (1 ≤ n) × (n ≤ chunk_size_limit) }
     requires profile { length options.now.profile ≤ content_limit }
-    ensures file { (reads : List Read) (messages : List Sent) (uses : List Use) → HoldInputs reads gathered.now.inputs.items → AreTurnsOf reads gathered.now.order.turns.items messages
-        → AreUses (tops_of reads) messages uses → FileStands options.now (extras_of gathered.now.inputs.items) (history_of uses) (L.state live) (L.state result.0) result.1 }
-    ensures cause { Cause (L.state live).faults (L.state result.0).faults result.1 }
+    ensures written { IfOk result.1 (λ m. WholeStands (FilesAs options.now (Ok tt)) (record { files = files_of (map (λ s. T.state s) stores.old.items); inputs = inputs.now; walk = begun.walk }) (L.state live) (L.state result.0) m) }
+    ensures stopped { IfErr result.1 (λ why. FileStops options.now (record { files = files_of (map (λ s. T.state s) stores.old.items); inputs = inputs.now; walk = begun.walk }) (L.state live) (L.state result.0) why) }
+    ensures why { IfErr result.1 (λ why. WhyNotAll (files_of (map (λ s. T.state s) stores.old.items)) begun.walk inputs.now why) }
+    ensures stay { StoresStay (map (λ s. T.state s) stores.old.items) (map (λ s. T.state s) stores.new.items) }
+    ensures counts { PutCounts (map (λ s. T.state s) stores.old.items) (map (λ s. T.state s) stores.new.items) (L.state live).faults (L.state result.0).faults result.1 }
+    ensures asked { AskedWithin (map (λ s. T.state s) stores.old.items) (map (λ s. T.state s) stores.new.items) (unasked begun.walk) none_left }
 {
     match Scribe::open(alloc, live, options) {
         Ok(scribe) => {
             let mut pen = scribe;
-            let end = write_all(alloc, gathered, &mut pen);
+            let end = write_all(alloc, inputs, stores, begun, &mut pen);
             return (pen.into_store(), end);
         }
-        Err((live, stop)) => return (live, Err(stop)),
+        Err((live, stop)) => return (live, Err(PutRefused::Stopped { stop })),
     }
 }
 
 /// Merges the stores, which hold whole files, into the live store, behind what it holds, which is nothing where the file is to be
-/// read back. Each is read whole before anything is appended.
+/// read back. Each is read whole before anything is appended; then its chunks and messages are loaded again, each when its
+/// first message may be next. The counts of what was merged are given, with the most bytes that were held of these at one time.
+/// A refusal for what an input is leaves the live store as it was; one for a fault, the limits on files, a want of memory, or an
+/// input that changed may leave a first part of the file.
 pub fn merge<T: Store, L: LiveStore>(
     alloc: Global,
     stores: &mut Vec<T>,
@@ -91,18 +164,21 @@ pub fn merge<T: Store, L: LiveStore>(
     ensures merged { IfOk result.1 (λ m. MergesInto (map (λ s. T.state s) stores.old.items) (map (λ s. T.state s) stores.new.items) (L.state live) (L.state result.0) chunk m) }
     ensures refused { IfErr result.1 (λ why. MergeFails (map (λ s. T.state s) stores.old.items) (map (λ s. T.state s) stores.new.items) (L.state live) (L.state result.0) chunk why) }
     ensures keeps { AllZip StoreKeeps (map (λ s. T.state s) stores.old.items) (map (λ s. T.state s) stores.new.items) }
+    ensures asked { AllZip AsksTwice (map (λ s. T.state s) stores.old.items) (map (λ s. T.state s) stores.new.items) }
 {
-    let gathered = match gather(alloc, stores) {
-        Ok(gathered) => gathered,
+    let ready = match make_ready(alloc, stores, chunk) {
+        Ok(ready) => ready,
         Err(why) => return (live, Err(why)),
     };
-    let options = match options_of(alloc, gathered.profile(), chunk) {
-        Ok(options) => options,
-        Err(_) => return (live, Err(MergeRefused::Memory)),
-    };
-    let (live, end) = write_file(alloc, &gathered, live, &options);
+    let Ready {
+        gathered,
+        options,
+        begun,
+    } = ready;
+    let inputs = gathered.inputs.as_slice();
+    let (live, end) = write_file(alloc, inputs, stores, begun, &options, live);
     match end {
-        Ok(()) => return (live, Ok(gathered.merged())),
-        Err(stop) => return (live, Err(refused_by(stop))),
+        Ok(merged) => return (live, Ok(merged)),
+        Err(why) => return (live, Err(refusal_of(why))),
     }
 }

@@ -1,28 +1,83 @@
 //! Reading the inputs of a merge, each whole.
-ghost use Rattle.std.specs.Prelude.{◌≡◌, ◌≤◌, List, map, length, IfOk, IfErr, OnOk};
+ghost use Rattle.std.specs.Prelude.{◌≡◌, ◌+◌, ◌≤◌, List, map, length, IfOk, IfErr, OnOk};
 ghost use Rattle.std.specs.List.{AllZip};
-ghost use Rattle.mcap_merge.specs.Reading.{StoreReads, StoreKeeps, CountStands, ReadsWhole, IsRefusalAt, AreHeld, InputRefused};
+ghost use Rattle.mcap_io.specs.Stores.{StoreStays};
+ghost use Rattle.mcap_merge.specs.Reading.{FrontReads, HasLength, StoreKeeps, CountStands, ReadsWhole, IsCounted, FindsOutside, EndWithin, SpansFit, AsksOnce, IsRefusalAt, AreHeld, InputRefused};
 
 use crate::answers::MergeRefused;
 use crate::input::{Input, read_input};
-use mcap_io::{Failed, Store, StoreSource};
+use chunk_survey::Span;
+use mcap_io::{Failed, Store};
 use mcap_scan::ScanRefused;
 use std::alloc::Global;
+use store_front::StoreFront;
 
-// Reads the front of a store.
+// Reads the first bytes of a store, by a source that counts its own failures.
 fn read_front<T: Store>(alloc: Global, store: &mut T, len: u64) -> Result<Input, ScanRefused>
     requires { len ≤ (T.state store.old).known }
-    ensures reads { StoreReads (T.state store.old) len (T.state store.new) result }
-    ensures keeps { StoreKeeps (T.state store.old) (T.state store.new) }
+    ensures { FrontReads (T.state store.old) len (T.state store.new) result }
 {
-    let mut source = StoreSource::new(store, len);
+    let mut source = StoreFront::new(store, len);
     read_input(alloc, &mut source)
+}
+
+// A refusal with the count of the store.
+fn counted<T: Store>(store: &T, why: ScanRefused) -> ScanRefused
+    ensures { IsCounted (T.state store.now).faults why result }
+{
+    match why {
+        ScanRefused::Fault { faults: _ } => {
+            return ScanRefused::Fault {
+                faults: store.faults(),
+            };
+        }
+        ScanRefused::Grammar { offset, rule } => return ScanRefused::Grammar { offset, rule },
+        ScanRefused::Compressed { offset, name } => {
+            return ScanRefused::Compressed { offset, name };
+        }
+        ScanRefused::Limit { offset } => return ScanRefused::Limit { offset },
+        ScanRefused::Memory => return ScanRefused::Memory,
+    }
+}
+
+// The offset of a span that ends behind so many bytes.
+fn first_outside(spans: &[Span], len: u64) -> Option<u64>
+    ensures { FindsOutside spans.now len result }
+{
+    'spans: for i in 0..spans.len() {
+        let span = spans[i];
+        if span.at > len || span.length > len - span.at {
+            return Some(span.offset);
+        }
+    }
+    return None;
+}
+
+// Reads a store of that length. One that gives other bytes than it has may show a record that ends behind them: it is cut short.
+fn read_known<T: Store>(alloc: Global, store: &mut T, len: u64) -> Result<Input, ScanRefused>
+    requires known { len ≤ (T.state store.old).known }
+    requires whole { HasLength (T.state store.old) len }
+    ensures reads { ReadsWhole (T.state store.old) (T.state store.new) result }
+    ensures keeps { StoreStays (T.state store.old) (T.state store.new) }
+    ensures fits { IfOk result (λ input. EndWithin len input.spans.items) }
+    ensures asked { (T.state store.new).asked ≤ (T.state store.old).asked + len }
+{
+    let input = match read_front(alloc, store, len) {
+        Ok(input) => input,
+        Err(why) => return Err(counted(store, why)),
+    };
+    match first_outside(input.spans.as_slice(), len) {
+        None => return Ok(input),
+        Some(offset) => return Err(ScanRefused::Grammar { offset, rule: 4 }),
+    }
 }
 
 // Reads a store whole.
 fn read_store<T: Store>(alloc: Global, store: &mut T) -> Result<Input, ScanRefused>
     ensures reads { ReadsWhole (T.state store.old) (T.state store.new) result }
     ensures keeps { StoreKeeps (T.state store.old) (T.state store.new) }
+    ensures fits { IfOk result (λ input. SpansFit (T.state store.new) input) }
+    ensures asked { AsksOnce (T.state store.old) (T.state store.new) }
 {
     let len = match store.len() {
         Ok(len) => len,
@@ -30,7 +85,7 @@ fn read_store<T: Store>(alloc: Global, store: &mut T) -> Result<Input, ScanRefus
             faults: store.faults(),
         }),
     };
-    read_front(alloc, store, len)
+    read_known(alloc, store, len)
 }
 
 // Why files aren't merged, where the input of that number wasn't read to its Data End.
@@ -62,6 +117,8 @@ pub(crate) fn read_inputs<T: Store>(
     ensures still { OnOk result (AllZip CountStands (map (λ s. T.state s) stores.old.items) (map (λ s. T.state s) stores.new.items)) }
     ensures refused { IfErr result (λ why. InputRefused (map (λ s. T.state s) stores.old.items) (map (λ s. T.state s) stores.new.items) why) }
     ensures keeps { AllZip StoreKeeps (map (λ s. T.state s) stores.old.items) (map (λ s. T.state s) stores.new.items) }
+    ensures fits { IfOk result (λ inputs. AllZip SpansFit (map (λ s. T.state s) stores.new.items) inputs.items) }
+    ensures asked { AllZip AsksOnce (map (λ s. T.state s) stores.old.items) (map (λ s. T.state s) stores.new.items) }
 {
     let mut inputs = Vec::new(alloc);
     'inputs: for i in 0..stores.len() {

@@ -1,19 +1,17 @@
-//! Whether more schemas are used than there are ids, where some channel already lacks one: all messages are gone through for their
-//! schemas alone.
-ghost use Rattle.std.specs.Prelude.{◌≡◌, ◌≤◌, List, map, length, IfOk, IfErr, OnOk};
+//! Whether more schemas are used than there are ids, where some channel already lacks one: all channels that have messages are gone
+//! through for their schemas alone.
+ghost use Rattle.std.specs.Prelude.{◌≡◌, ◌≤◌, ◌*◌, List, map, length, IfOk, IfErr, OnOk};
 ghost use Rattle.rec_data.specs.declared.channel.ChannelDef.{ChannelDef as Content};
 ghost use Rattle.mcap_wire.specs.Limits.{id_limit};
 ghost use Rattle.mcap_model.specs.Tops.{Top};
 ghost use Rattle.mcap_model.specs.Declarations.{TablesOf};
-ghost use Rattle.mcap_model.specs.Merged.{Sent, IsContent, AreInTurn, SchemaIsUsed, AtMost};
+ghost use Rattle.mcap_model.specs.Merged.{IsContent, SchemaIsUsed, AtMost};
 ghost use Rattle.mcap_merge.specs.Inputs.{Read, tops_of, HoldInputs};
-ghost use Rattle.mcap_merge.specs.Turns.{AreTurnsOf};
-ghost use Rattle.mcap_merge.specs.Writing.{AreReady};
 ghost use Rattle.mcap_merge.specs.Schemas.{bare, AreBare, Enters, EntersOf, LacksPlace, LacksPlaceOf, LacksSchemas};
 
+use crate::checking::{ID_COUNT, channel_at};
 use crate::input::Input;
 use crate::joining::content_of;
-use crate::turns::{Turn, turn_at};
 use id_table::{IdRefused, IdTable};
 use mcap_model::Tables;
 use mcap_wire::{Memory, Pairs, PairsRef, Text};
@@ -91,23 +89,23 @@ fn enter_of(
 }
 
 /// Sees that the messages use no more schemas than there are ids.
-pub(crate) fn see_schemas(alloc: Global, inputs: &[Input], turns: &[Turn]) -> Result<(), IdRefused>
+pub(crate) fn see_schemas(alloc: Global, inputs: &[Input]) -> Result<(), IdRefused>
     requires few { length inputs.now ≤ 64 }
-    requires ready { AreReady inputs.now turns.now }
-    ensures few { OnOk result ((reads : List Read) (messages : List Sent) → HoldInputs reads inputs.now → AreTurnsOf reads turns.now messages
-        → AreInTurn (tops_of reads) messages → AtMost id_limit (SchemaIsUsed (tops_of reads))) }
-    ensures refused { IfErr result (λ why. (reads : List Read) (messages : List Sent) → HoldInputs reads inputs.now → AreTurnsOf reads turns.now messages → LacksSchemas (tops_of reads) why) }
+    requires held { (reads : List Read) × HoldInputs reads inputs.now }
+    ensures few { OnOk result ((reads : List Read) → HoldInputs reads inputs.now → AtMost id_limit (SchemaIsUsed (tops_of reads))) }
+    ensures refused { IfErr result (λ why. (reads : List Read) → HoldInputs reads inputs.now → LacksSchemas (tops_of reads) why) }
 {
     let mut table = match IdTable::new(alloc) {
         Ok(table) => table,
         Err(_) => return Err(IdRefused::Memory),
     };
-    'turns: for k in 0..turns.len() {
-        let (input, turn) = turn_at(inputs, turns, k);
-        let source = input.kept.get(turn.at).channel;
-        match enter_of(alloc, &mut table, &input.tables, source) {
-            Ok(()) => {}
-            Err(refused) => return Err(refused),
+    'channels: for place in 0..inputs.len() * ID_COUNT {
+        let (input, source) = channel_at(inputs, place);
+        if input.used[source as usize] {
+            match enter_of(alloc, &mut table, &input.tables, source) {
+                Ok(()) => {}
+                Err(refused) => return Err(refused),
+            }
         }
     }
     let _count = table.schemas();

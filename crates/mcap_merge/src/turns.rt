@@ -1,87 +1,112 @@
-//! The messages of all inputs in their order.
-ghost use Rattle.std.specs.Prelude.{◌≡◌, ◌<◌, ◌≤◌, ◌++◌, length, IfOk, OnOk, IsPermutation};
-ghost use Rattle.time_player.specs.Keeping.{kept_in};
-ghost use Rattle.mcap_model.specs.Places.{At};
-ghost use Rattle.mcap_merge.specs.Turns.{turns_of, turns_in, kept_lists, InTurn, TurnsOf};
-ghost use Rattle.mcap_merge.specs.Writing.{AreReady};
+//! Putting the messages of all inputs in their order, as they are loaded again.
+ghost use Rattle.std.specs.Prelude.{◌≡◌, ◌≤◌, ◌*◌, List, map, length, IfOk, IfErr, OnOk};
+ghost use Rattle.mcap_io.specs.Stores.{StoreState};
+ghost use Rattle.chunk_writer.specs.declared.phase.Phase.TheVariants as phases;
+ghost use Rattle.record_core.specs.Tables.{HasSchemas};
+ghost use Rattle.chunk_walk.specs.declared.answers.WalkRefused.TheVariants as walks;
+ghost use Rattle.mcap_merge.specs.declared.turns.PutRefused.TheVariants as puts;
+ghost use Rattle.chunk_walk.specs.Stores.{files_of, StoresFit, StoresStay, AskedWithin, unasked, none_left};
+ghost use Rattle.chunk_walk.specs.Walks.{pieces_in};
+ghost use Rattle.mcap_merge.specs.Inputs.{Read, HoldInputs};
+ghost use Rattle.mcap_merge.specs.Turns.{IsMessageOn, sources, PutSoFar, PutAll, PutSome, WhyNotAll, stop_of, PutCounts};
 
 use crate::input::Input;
-use mcap_wire::Memory;
+use crate::joining::Joiner;
+use crate::pen::Pen;
+use crate::writing::write_message;
+use chunk_walk::{Turn, Walk, WalkRefused};
+use mcap_io::Store;
+use mcap_model::Stop;
+use rec_data::Message;
 use std::alloc::Global;
-use time_player::Kept;
 
-/// A message of an input: when it was logged, the number of the input, and its place among those that are kept of it.
-#[derive(Clone, Copy)]
-pub(crate) struct Turn {
-    pub log_time: u64,
-    pub input: usize,
-    pub at: usize,
+/// Why not all messages were put.
+#[derive(Drop)]
+pub(crate) enum PutRefused {
+    /// The pen stopped.
+    Stopped { stop: Stop },
+    /// An input wasn't read again.
+    Unread { why: WalkRefused },
 }
 
-// Lists the messages of an input.
-fn list_input(turns: &mut Vec<Turn>, kept: &Kept, input: usize) -> Result<(), Memory>
-    ensures { OnOk result (turns.new.items ≡ turns.old.items ++ turns_in input 0 (kept_in kept.now)) }
+// The Message of that content, where it is one on a channel of the input that has messages.
+fn message_in<'a>(input: &Input, content: &'a [u8]) -> Option<Message<'a>>
+    requires { length input.now.used.items ≡ 65536 }
+    ensures { IsMessageOn input.now content.now result }
 {
-    'messages: for at in 0..kept.len() {
-        let log_time = kept.get(at).log_time;
-        match turns.push(Turn {
-            log_time,
-            input,
-            at,
-        }) {
-            Ok(()) => {}
-            Err(_) => return Err(Memory),
-        }
+    let message = match Message::parse(content) {
+        Ok(message) => message,
+        Err(_) => return None,
+    };
+    if input.used[message.channel_id as usize] {
+        return Some(message);
     }
-    return Ok(());
+    return None;
 }
 
-// Lists the messages of all inputs.
-fn list_all(alloc: Global, inputs: &[Input]) -> Result<Vec<Turn>, Memory>
-    ensures { IfOk result (λ turns. turns.items ≡ turns_of (kept_lists inputs.now)) }
+// The record of a turn isn't what it was.
+fn changed(turn: &Turn) -> PutRefused
+    ensures { result ≡ puts.Unread (walks.Changed turn.now.input turn.now.offset) }
 {
-    let mut turns = Vec::new(alloc);
-    'inputs: for i in 0..inputs.len() {
-        match list_input(&mut turns, &inputs[i].kept, i) {
-            Ok(()) => {}
-            Err(memory) => return Err(memory),
-        }
-    }
-    return Ok(turns);
-}
-
-// Puts them in order of log time, input and place.
-fn put_in_order(turns: &mut [Turn])
-    ensures same { IsPermutation turns.old turns.new }
-    ensures order { InTurn turns.new }
-{
-    turns.sort_unstable_by_key(|t| (t.log_time, t.input, t.at));
-}
-
-/// The messages of all inputs, in the order of log time, input and place.
-pub(crate) fn turns_of_all(alloc: Global, inputs: &[Input]) -> Result<Vec<Turn>, Memory>
-    ensures { IfOk result (λ turns. TurnsOf (kept_lists inputs.now) turns.items) }
-{
-    match list_all(alloc, inputs) {
-        Ok(turns) => {
-            let mut turns = turns;
-            put_in_order(&mut turns);
-            return Ok(turns);
-        }
-        Err(memory) => return Err(memory),
+    PutRefused::Unread {
+        why: WalkRefused::Changed {
+            input: turn.input,
+            offset: turn.offset,
+        },
     }
 }
 
-/// The message whose turn is the k-th, and the input that it is of.
-pub(crate) fn turn_at<'a>(inputs: &'a [Input], turns: &[Turn], k: usize) -> (&'a Input, Turn)
+/// Puts the messages that the walk gives, with what is declared for them, and counts them.
+pub(crate) fn put_turns<T: Store, P: Pen>(
+    alloc: Global,
+    inputs: &[Input],
+    stores: &mut Vec<T>,
+    walk: &mut Walk,
+    joiner: &mut Joiner,
+    framed: &mut Vec<u8>,
+    pen: &mut P,
+) -> Result<u64, PutRefused>
     requires few { length inputs.now ≤ 64 }
-    requires within { k < length turns.now }
-    requires ready { AreReady inputs.now turns.now }
-    ensures turn { At turns.now k result.1 }
-    ensures input { At inputs.now result.1.input result.0.now }
-    ensures number { result.1.input < length inputs.now }
-    ensures there { result.1.at < length (kept_in result.0.now.kept) }
+    requires held { (reads : List Read) × HoldInputs reads inputs.now }
+    requires many { length stores.old.items ≡ length inputs.now }
+    requires sized { length joiner.old.given.items ≡ length inputs.now * 65536 }
+    requires schemas { HasSchemas joiner.old.table }
+    requires begun { PutSoFar P.adds (sources (files_of (map (λ s. T.state s) stores.old.items)) inputs.now) walk.old 0 joiner.old pen.old pen.old }
+    requires fits { StoresFit (map (λ s. T.state s) stores.old.items) (pieces_in walk.old) }
+    requires going { P.phase pen.old ≡ phases.Going }
+    ensures all { IfOk result (λ count. PutAll P.adds (sources (files_of (map (λ s. T.state s) stores.old.items)) inputs.now) walk.new count joiner.new pen.old pen.new) }
+    ensures some { IfErr result (λ why. PutSome P.adds (files_of (map (λ s. T.state s) stores.old.items)) inputs.now walk.old pen.old pen.new) }
+    ensures pieces { OnOk result (pieces_in walk.new ≡ pieces_in walk.old) }
+    ensures stay { StoresStay (map (λ s. T.state s) stores.old.items) (map (λ s. T.state s) stores.new.items) }
+    ensures goes_on { OnOk result (P.phase pen.new ≡ phases.Going) }
+    ensures stopped { IfErr result (λ why. P.phase pen.new ≡ phases.Stopped (stop_of why)) }
+    ensures why { IfErr result (λ why. WhyNotAll (files_of (map (λ s. T.state s) stores.old.items)) walk.old inputs.now why) }
+    ensures counts { PutCounts (map (λ s. T.state s) stores.old.items) (map (λ s. T.state s) stores.new.items) (P.failures pen.old) (P.failures pen.new) result }
+    ensures asked { AskedWithin (map (λ s. T.state s) stores.old.items) (map (λ s. T.state s) stores.new.items) (unasked walk.old) none_left }
 {
-    let turn = turns[k];
-    (&inputs[turn.input], turn)
+    'turns: for count in 0..u64::MAX {
+        let turn = match walk.advance(stores) {
+            Ok(Some(turn)) => turn,
+            Ok(None) => return Ok(count),
+            Err(why) => {
+                let _stop = pen.lack();
+                return Err(PutRefused::Unread { why });
+            }
+        };
+        let number = turn.input as usize;
+        let input = &inputs[number];
+        let record = walk.message(&turn);
+        let message = match message_in(input, record.content) {
+            Some(message) => message,
+            None => {
+                let _stop = pen.lack();
+                return Err(changed(&turn));
+            }
+        };
+        match write_message(alloc, joiner, framed, input, number, &message, pen) {
+            Ok(()) => {}
+            Err(stop) => return Err(PutRefused::Stopped { stop }),
+        }
+    }
+    return Err(PutRefused::Stopped { stop: pen.lack() });
 }

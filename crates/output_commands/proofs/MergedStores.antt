@@ -1,5 +1,5 @@
 -- What a merge of stores says of the bytes that they tell: what its output holds, which input halts, and what it decides.
-use Rattle.std.proofs.Common.{◌≡◌, ◌⊎◌, ℕ, zero, suc, Bool, true, false, ◌||◌, List, [], ◌∷◌, length, map, Some, Result, Ok, Err, refl, sym, ap, subst, inl, inr, ◌∙◌, arith}
+use Rattle.std.proofs.Common.{◌≡◌, ◌⊎◌, ◌<◌, ℕ, zero, suc, Bool, true, false, ◌||◌, List, [], ◌∷◌, length, map, Some, Result, Ok, Err, refl, sym, ap, subst, inl, inr, ◌∙◌, arith}
 use Rattle.std.specs.Prelude.{IfOk, IfErr}
 use Rattle.std.specs.List.{AllZip}
 use Rattle.std.proofs.lemmas.Option.{same_Some}
@@ -22,15 +22,15 @@ use Rattle.mcap_merge.specs.declared.answers.Merged.{Merged}
 use Rattle.mcap_merge.specs.declared.answers.MergeRefused.{MergeRefused}
 use Rattle.mcap_merge.specs.declared.answers.MergeRefused.TheVariants as merges
 use Rattle.mcap_merge.specs.Inputs.{Read, tops_of}
-use Rattle.mcap_merge.specs.Reading.{IsReadOf, HaltsFirst}
-use Rattle.mcap_merge.specs.Filed.{merged_options, MergeIs, IsWriterRefusal, MergeStops, MergesInto, MergeFails}
+use Rattle.mcap_merge.specs.Reading.{IsReadOf, CountStands, HaltsFirst, OneRose}
+use Rattle.mcap_merge.specs.Filed.{merged_options, AllTell, TellsNot, MergeIs, FileStands, IsWriterRefusal, MergeStops, MergeIsCut, MergesInto, MergeFails}
 use Rattle.command_base.specs.Texts.{Trouble, grammar, compressed, limit, asked_status}
 use Rattle.command_base.specs.Ran.{failed_so, has_failed}
 use Rattle.command_base.proofs.Counting.{failed_often}
 use Rattle.output_commands.specs.declared.merging.Merging.{Merging}
 use Rattle.output_commands.specs.SomeInputs.{InputKept, entry_of, back_stores}
 use Rattle.output_commands.specs.SomeOutput.{halted, failing, ending_status, HaltsWell, some_failed}
-use Rattle.output_commands.specs.Merge.{HoldsBytes, HoldsFirst, HoldsNothing, OutputHolds, MergesStores, unopened_so, some_refused, merging_of, IsMerging, name_at, ending_of, FirstHalts, Decides}
+use Rattle.output_commands.specs.Merge.{HoldsBytes, HoldsFirst, HoldsNothing, OutputHolds, MergesStores, unopened_so, some_refused, merging_of, IsMerging, name_at, ending_of, FirstHalts, OfRead, Decides}
 use Rattle.output_commands.proofs.Recoveries.{placed_so}
 
 -- what the library answers, by its clauses
@@ -61,8 +61,29 @@ are_read (s ∷ ss) [] rs told are = absurd told
 are_read (s ∷ ss) (f ∷ fs) [] told are = absurd are
 are_read (s ∷ ss) (f ∷ fs) (r ∷ rs) told are = (are.0 f told.0, are_read ss fs rs told.1 are.1)
 
+all_tell : (given : List StoreState) (files : List (List ℕ)) → AllZip TellsBytes given files → AllTell given
+all_tell given files told n s at = let (bytes, there, is) = zip_front TellsBytes given files n s told at in (bytes, is)
+
+some_at : {X : Type 0} (xs : List X) (n : ℕ) → n < length xs → (x : X) × At xs n x
+some_at [] n less = absurd (omega (arith, less))
+some_at (x ∷ xs) zero less = (x, refl)
+some_at (x ∷ xs) (suc n) less = some_at xs n (omega (arith, less))
+
+-- no input that tells is found changed
+told_changes : {A : Type 0} (given : List StoreState) (files : List (List ℕ)) (input : ℕ) → AllZip TellsBytes given files → input < length given → TellsNot given input → A
+told_changes given files input told within none =
+    let (s, at) = some_at given input within in
+    let (bytes, is) = all_tell given files told input s at in
+    absurd (none s at bytes is)
+
 merges_to : (given : List StoreState) (files : List (List ℕ)) (profile : List ℕ) (extras : List Top) (history : List Rec) → AllZip TellsBytes given files → MergeIs given profile extras history → MergesTo files profile extras history
-merges_to given files profile extras history told is = record { inputs = tops_of is.reads; read = are_read given files is.reads told is.are; merge = is.merge }
+merges_to given files profile extras history told is =
+    let of = is.of in
+    record { inputs = tops_of is.reads; read = are_read given files is.reads told is.are; merge = of (all_tell given files told) }
+
+-- so they were read
+were_read : (given : List StoreState) (files : List (List ℕ)) (profile : List ℕ) (extras : List Top) (history : List Rec) → AllZip TellsBytes given files → MergeIs given profile extras history → OfRead files (λ inputs. Unit {0})
+were_read given files profile extras history told is = let it = merges_to given files profile extras history told is in (it.inputs, it.read, tt)
 
 -- ---- why a writer stops
 
@@ -99,22 +120,26 @@ module _ (chunk : ℕ) (given : List StoreState) (live stored : LiveState) (file
   nothing_placed : stored ≡ live → HoldsNothing (went_well result) (all out) (now out)
   nothing_placed same = placed_so [] all now out result (placed [] (ap (λ (l : LiveState). l.held) same ∙ none))
 
-  -- where the writer stopped
-  first_placed : (why : MergeRefused) → MergeStops given live stored chunk why → HoldsFirst chunk files (went_well result) (all out) (now out)
-  first_placed why it =
-      let options = merged_options it.profile chunk in
-      let (blocks, bytes, stops_at) = it.stands in
+  -- where the writer stopped, or was stopped
+  first_placed : (profile : List ℕ) (extras : List Top) (history : List Rec) (stop : Stop) → MergeIs given profile extras history → FileStands (merged_options profile chunk) extras history live stored (Err stop)
+      → HoldsFirst chunk files (went_well result) (all out) (now out)
+  first_placed profile extras history stop is (blocks, bytes, stops_at) =
+      let options = merged_options profile chunk in
       let (text, held, stopped) = stops_at.took [] none in
-      let prefix = stops_leave_prefixes (file_pieces options it.extras it.history) stops_at.place it.stop text bytes stopped in
+      let prefix = stops_leave_prefixes (file_pieces options extras history) stops_at.place stop text bytes stopped in
       record {
-        profile = it.profile;
-        extras = it.extras;
-        history = it.history;
-        merges = merges_to given files it.profile it.extras it.history told it.is;
+        profile = profile;
+        extras = extras;
+        history = history;
+        merges = merges_to given files profile extras history told is;
         text = text;
-        part = (prefix.0, prefix.1 ∙ pieces_make_files options it.extras it.history);
+        part = (prefix.0, prefix.1 ∙ pieces_make_files options extras history);
         placed = placed_so text all now out result (placed text held);
       }
+
+  some_placed : (back : List StoreState) (why : MergeRefused) → (AllZip CountStands given back × MergeStops given live stored chunk why) ⊎ MergeIsCut given back live stored chunk why → HoldsFirst chunk files (went_well result) (all out) (now out)
+  some_placed back why (inl (still, it)) = first_placed it.profile it.extras it.history it.stop it.is it.stands
+  some_placed back why (inr it) = first_placed it.profile it.extras it.history stops.Memory it.is it.stands
 
 pub output_holds : (chunk : ℕ) (given back : List StoreState) (live stored : LiveState) (answer : Result Merged MergeRefused) (files : List (List ℕ)) (out : List ℕ) (all now : Names) (result : Result Unit Failed) → MergesStores given back live stored chunk answer
     → AllZip TellsBytes given files → live.held ≡ Some [] → ((text : List ℕ) → stored.held ≡ Some text → Placed all now out text result) → OutputHolds chunk files answer (went_well result) (all out) (now out)
@@ -123,51 +148,63 @@ output_holds chunk given back live stored (Ok m) files out all now result it tol
   extras = it.extras;
   history = it.history;
   merges = merges_to given files it.profile it.extras it.history told it.is;
-  back = it.is.back;
+  back = it.is.sound.back;
   messages = it.messages;
   records = it.records;
   within = it.within;
   placed = placed_so (file_of (merged_options it.profile chunk) it.extras it.history) all now out result (placed (file_of (merged_options it.profile chunk) it.extras it.history) (it.file [] none));
 }
 output_holds chunk given back live stored (Err (merges.Fault faults)) files out all now result (inl nothing) told none placed = inl (nothing_placed chunk given live stored files out all now result told none placed nothing.0)
-output_holds chunk given back live stored (Err (merges.Fault faults)) files out all now result (inr some) told none placed = inr (first_placed chunk given live stored files out all now result told none placed (merges.Fault faults) some.1)
+output_holds chunk given back live stored (Err (merges.Fault faults)) files out all now result (inr some) told none placed = inr (some_placed chunk given live stored files out all now result told none placed back (merges.Fault faults) some)
 output_holds chunk given back live stored (Err (merges.Grammar input offset)) files out all now result (inl nothing) told none placed = nothing_placed chunk given live stored files out all now result told none placed nothing.0
-output_holds chunk given back live stored (Err (merges.Grammar input offset)) files out all now result (inr some) told none placed = not_grammar some.1.stop input offset _ some.1.answer
+output_holds chunk given back live stored (Err (merges.Grammar input offset)) files out all now result (inr (inl (still, it))) told none placed = not_grammar it.stop input offset _ it.answer
+output_holds chunk given back live stored (Err (merges.Grammar input offset)) files out all now result (inr (inr it)) told none placed = told_changes given files input told it.cause.0 it.cause.2
 output_holds chunk given back live stored (Err (merges.Compressed input offset name)) files out all now result (inl nothing) told none placed = nothing_placed chunk given live stored files out all now result told none placed nothing.0
-output_holds chunk given back live stored (Err (merges.Compressed input offset name)) files out all now result (inr some) told none placed = not_compressed some.1.stop input offset name _ some.1.answer
+output_holds chunk given back live stored (Err (merges.Compressed input offset name)) files out all now result (inr (inl (still, it))) told none placed = not_compressed it.stop input offset name _ it.answer
+output_holds chunk given back live stored (Err (merges.Compressed input offset name)) files out all now result (inr (inr it)) told none placed = absurd it.cause
 output_holds chunk given back live stored (Err (merges.Limit input offset)) files out all now result (inl nothing) told none placed = nothing_placed chunk given live stored files out all now result told none placed nothing.0
-output_holds chunk given back live stored (Err (merges.Limit input offset)) files out all now result (inr some) told none placed = not_limit some.1.stop input offset _ some.1.answer
+output_holds chunk given back live stored (Err (merges.Limit input offset)) files out all now result (inr (inl (still, it))) told none placed = not_limit it.stop input offset _ it.answer
+output_holds chunk given back live stored (Err (merges.Limit input offset)) files out all now result (inr (inr it)) told none placed = absurd it.cause
 output_holds chunk given back live stored (Err merges.TooManySchemas) files out all now result (inl nothing) told none placed = nothing_placed chunk given live stored files out all now result told none placed nothing.0
-output_holds chunk given back live stored (Err merges.TooManySchemas) files out all now result (inr some) told none placed = not_schemas some.1.stop _ some.1.answer
+output_holds chunk given back live stored (Err merges.TooManySchemas) files out all now result (inr (inl (still, it))) told none placed = not_schemas it.stop _ it.answer
+output_holds chunk given back live stored (Err merges.TooManySchemas) files out all now result (inr (inr it)) told none placed = absurd it.cause
 output_holds chunk given back live stored (Err merges.TooManyChannels) files out all now result (inl nothing) told none placed = nothing_placed chunk given live stored files out all now result told none placed nothing.0
-output_holds chunk given back live stored (Err merges.TooManyChannels) files out all now result (inr some) told none placed = not_channels some.1.stop _ some.1.answer
+output_holds chunk given back live stored (Err merges.TooManyChannels) files out all now result (inr (inl (still, it))) told none placed = not_channels it.stop _ it.answer
+output_holds chunk given back live stored (Err merges.TooManyChannels) files out all now result (inr (inr it)) told none placed = absurd it.cause
 output_holds chunk given back live stored (Err (merges.FileLimit blocks bytes)) files out all now result (inl nothing) told none placed = elim nothing.1 [ inl never ↦ absurd never | inr (still, reads, are, never) ↦ absurd never ]
-output_holds chunk given back live stored (Err (merges.FileLimit blocks bytes)) files out all now result (inr some) told none placed = first_placed chunk given live stored files out all now result told none placed (merges.FileLimit blocks bytes) some.1
+output_holds chunk given back live stored (Err (merges.FileLimit blocks bytes)) files out all now result (inr some) told none placed = some_placed chunk given live stored files out all now result told none placed back (merges.FileLimit blocks bytes) some
 output_holds chunk given back live stored (Err merges.Memory) files out all now result (inl nothing) told none placed = inl (nothing_placed chunk given live stored files out all now result told none placed nothing.0)
-output_holds chunk given back live stored (Err merges.Memory) files out all now result (inr some) told none placed = inr (first_placed chunk given live stored files out all now result told none placed merges.Memory some.1)
+output_holds chunk given back live stored (Err merges.Memory) files out all now result (inr some) told none placed = inr (some_placed chunk given live stored files out all now result told none placed back merges.Memory some)
 
 -- ---- which input halts
 
 -- the trouble of an input that halts, and its number
-halted_so : (inputs : List (List ℕ)) (given : List StoreState) (k : ℕ) (trouble : Trouble) (P : List ℕ → Type 0) → length inputs ≡ length given → HaltsFirst given k P → (asked_status trouble ≡ 1) ⊎ (asked_status trouble ≡ 4) → HaltsWell inputs (halted k trouble)
-halted_so inputs given k trouble P long (before, s, at, so) asked n other e =
+halts_within : (inputs : List (List ℕ)) (k : ℕ) (trouble : Trouble) → k < length inputs → (asked_status trouble ≡ 1) ⊎ (asked_status trouble ≡ 4) → HaltsWell inputs (halted k trouble)
+halts_within inputs k trouble within asked n other e =
     let number : k ≡ n = cc in
     let same : trouble ≡ other = cc in
+    (omega (arith, number, within), subst (λ (t : Trouble). (asked_status t ≡ 1) ⊎ (asked_status t ≡ 4)) same asked)
+
+halted_so : (inputs : List (List ℕ)) (given : List StoreState) (k : ℕ) (trouble : Trouble) (P : List ℕ → Type 0) → length inputs ≡ length given → HaltsFirst given k P → (asked_status trouble ≡ 1) ⊎ (asked_status trouble ≡ 4) → HaltsWell inputs (halted k trouble)
+halted_so inputs given k trouble P long (before, s, at, so) asked =
     let within = at_within given k s at in
-    (omega (arith, number, within, long), subst (λ (t : Trouble). (asked_status t ≡ 1) ⊎ (asked_status t ≡ 4)) same asked)
+    halts_within inputs k trouble (omega (arith, within, long)) asked
 
 pub merges_well : (inputs : List (List ℕ)) (chunk : ℕ) (given back : List StoreState) (live stored : LiveState) (answer : Result Merged MergeRefused) → length inputs ≡ length given → MergesStores given back live stored chunk answer → HaltsWell inputs (ending_of inputs (merging_of answer))
 merges_well inputs chunk given back live stored (Ok m) long it n trouble e = absurd cc
 merges_well inputs chunk given back live stored (Err (merges.Fault faults)) long it n trouble e = absurd cc
 merges_well inputs chunk given back live stored (Err (merges.Grammar input offset)) long (inl (same, inl (still, first))) n trouble e = halted_so inputs given input (grammar (name_at inputs input) offset) _ long first (inl refl) n trouble e
 merges_well inputs chunk given back live stored (Err (merges.Grammar input offset)) long (inl (same, inr (still, reads, are, never))) n trouble e = absurd never
-merges_well inputs chunk given back live stored (Err (merges.Grammar input offset)) long (inr some) n trouble e = not_grammar some.1.stop input offset _ some.1.answer
+merges_well inputs chunk given back live stored (Err (merges.Grammar input offset)) long (inr (inl (still, it))) n trouble e = not_grammar it.stop input offset _ it.answer
+merges_well inputs chunk given back live stored (Err (merges.Grammar input offset)) long (inr (inr it)) n trouble e = halts_within inputs input (grammar (name_at inputs input) offset) (omega (arith, long, (let within = it.cause.0 in within))) (inl refl) n trouble e
 merges_well inputs chunk given back live stored (Err (merges.Compressed input offset name)) long (inl (same, inl (still, first))) n trouble e = halted_so inputs given input (compressed (name_at inputs input) name offset) _ long first (inl refl) n trouble e
 merges_well inputs chunk given back live stored (Err (merges.Compressed input offset name)) long (inl (same, inr (still, reads, are, never))) n trouble e = absurd never
-merges_well inputs chunk given back live stored (Err (merges.Compressed input offset name)) long (inr some) n trouble e = not_compressed some.1.stop input offset name _ some.1.answer
+merges_well inputs chunk given back live stored (Err (merges.Compressed input offset name)) long (inr (inl (still, it))) n trouble e = not_compressed it.stop input offset name _ it.answer
+merges_well inputs chunk given back live stored (Err (merges.Compressed input offset name)) long (inr (inr it)) n trouble e = absurd it.cause
 merges_well inputs chunk given back live stored (Err (merges.Limit input offset)) long (inl (same, inl (still, first))) n trouble e = halted_so inputs given input (limit (name_at inputs input) offset) _ long first (inr refl) n trouble e
 merges_well inputs chunk given back live stored (Err (merges.Limit input offset)) long (inl (same, inr (still, reads, are, never))) n trouble e = absurd never
-merges_well inputs chunk given back live stored (Err (merges.Limit input offset)) long (inr some) n trouble e = not_limit some.1.stop input offset _ some.1.answer
+merges_well inputs chunk given back live stored (Err (merges.Limit input offset)) long (inr (inl (still, it))) n trouble e = not_limit it.stop input offset _ it.answer
+merges_well inputs chunk given back live stored (Err (merges.Limit input offset)) long (inr (inr it)) n trouble e = absurd it.cause
 merges_well inputs chunk given back live stored (Err merges.TooManySchemas) long it n trouble e = absurd cc
 merges_well inputs chunk given back live stored (Err merges.TooManyChannels) long it n trouble e = absurd cc
 merges_well inputs chunk given back live stored (Err (merges.FileLimit blocks bytes)) long it n trouble e = absurd cc
@@ -194,15 +231,19 @@ stop_shows (stops.Fault count) faults before now well is cause new = failed_ofte
 stop_shows (stops.Limit blocks bytes) faults before now well is cause new = absurd cc
 stop_shows stops.Memory faults before now well is cause new = absurd cc
 
+one_shows : (given : List StoreState) (ks : List InputKept) (faults : ℕ) → Each IsUnused given → OneRose given (back_stores ks) faults → some_failed (map (λ (k : InputKept). has_failed (entry_of k)) ks) ≡ true
+one_shows given ks faults unused (k, was, now, at_was, at_now, rises, count, others) =
+    let none = (unused k was at_was).faults in
+    flag_at ks k now at_now (λ zero_is. omega (arith, rises.once, none, zero_is))
+
 -- where the merge failed, a store did
 pub fault_shows : (inputs : List (List ℕ)) (chunk : ℕ) (given : List StoreState) (live stored : LiveState) (well : Bool) (ks : List InputKept) (answer : Result Merged MergeRefused) → MergesStores given (back_stores ks) live stored chunk answer → Each IsUnused given → live.faults ≡ 0
     → ending_of inputs (merging_of answer) ≡ failing → (some_failed (map (λ (k : InputKept). has_failed (entry_of k)) ks) ≡ true) ⊎ (failed_so well stored.faults ≡ true)
 fault_shows inputs chunk given live stored well ks (Ok m) it unused new e = absurd cc
-fault_shows inputs chunk given live stored well ks (Err (merges.Fault faults)) (inl (same, inl (k, was, now, at_was, at_now, rises, count, others))) unused new e =
-    let none = (unused k was at_was).faults in
-    inl (flag_at ks k now at_now (λ zero_is. omega (arith, rises.once, none, zero_is)))
+fault_shows inputs chunk given live stored well ks (Err (merges.Fault faults)) (inl (same, inl rose)) unused new e = inl (one_shows given ks faults unused rose)
 fault_shows inputs chunk given live stored well ks (Err (merges.Fault faults)) (inl (same, inr (still, reads, are, never))) unused new e = absurd never
-fault_shows inputs chunk given live stored well ks (Err (merges.Fault faults)) (inr (still, it)) unused new e = inr (stop_shows it.stop faults live.faults stored.faults well it.answer it.cause new)
+fault_shows inputs chunk given live stored well ks (Err (merges.Fault faults)) (inr (inl (still, it))) unused new e = inr (stop_shows it.stop faults live.faults stored.faults well it.answer it.cause new)
+fault_shows inputs chunk given live stored well ks (Err (merges.Fault faults)) (inr (inr it)) unused new e = inl (one_shows given ks faults unused it.cause)
 fault_shows inputs chunk given live stored well ks (Err (merges.Grammar input offset)) it unused new e = absurd cc
 fault_shows inputs chunk given live stored well ks (Err (merges.Compressed input offset name)) it unused new e = absurd cc
 fault_shows inputs chunk given live stored well ks (Err (merges.Limit input offset)) it unused new e = absurd cc
@@ -229,26 +270,32 @@ first_halts given files n P told (before, s, at, so) =
 
 merge_decides : (inputs : List (List ℕ)) (chunk : ℕ) (given back : List StoreState) (live stored : LiveState) (answer : Result Merged MergeRefused) (files : List (List ℕ)) (status : ℕ) → MergesStores given back live stored chunk answer → AllZip TellsBytes given files
     → (ending_of inputs (merging_of answer) ≡ failing → ⊥) → status ≡ ending_status (ending_of inputs (merging_of answer)) → Decides files (merging_of answer) status
-merge_decides inputs chunk given back live stored (Ok m) files status it told other is = ((tops_of it.is.reads, are_read given files it.is.reads told it.is.are, tt), is)
+merge_decides inputs chunk given back live stored (Ok m) files status it told other is = (were_read given files it.profile it.extras it.history told it.is, is)
 merge_decides inputs chunk given back live stored (Err (merges.Fault faults)) files status it told other is = absurd (other refl)
 merge_decides inputs chunk given back live stored (Err (merges.Grammar input offset)) files status (inl (same, inl (still, first))) told other is = (first_halts given files input _ told first, is)
 merge_decides inputs chunk given back live stored (Err (merges.Grammar input offset)) files status (inl (same, inr (still, reads, are, never))) told other is = absurd never
-merge_decides inputs chunk given back live stored (Err (merges.Grammar input offset)) files status (inr some) told other is = not_grammar some.1.stop input offset _ some.1.answer
+merge_decides inputs chunk given back live stored (Err (merges.Grammar input offset)) files status (inr (inl (still, it))) told other is = not_grammar it.stop input offset _ it.answer
+merge_decides inputs chunk given back live stored (Err (merges.Grammar input offset)) files status (inr (inr it)) told other is = told_changes given files input told it.cause.0 it.cause.2
 merge_decides inputs chunk given back live stored (Err (merges.Compressed input offset name)) files status (inl (same, inl (still, first))) told other is = (first_halts given files input _ told first, is)
 merge_decides inputs chunk given back live stored (Err (merges.Compressed input offset name)) files status (inl (same, inr (still, reads, are, never))) told other is = absurd never
-merge_decides inputs chunk given back live stored (Err (merges.Compressed input offset name)) files status (inr some) told other is = not_compressed some.1.stop input offset name _ some.1.answer
+merge_decides inputs chunk given back live stored (Err (merges.Compressed input offset name)) files status (inr (inl (still, it))) told other is = not_compressed it.stop input offset name _ it.answer
+merge_decides inputs chunk given back live stored (Err (merges.Compressed input offset name)) files status (inr (inr it)) told other is = absurd it.cause
 merge_decides inputs chunk given back live stored (Err (merges.Limit input offset)) files status (inl (same, inl (still, first))) told other is = (first_halts given files input _ told first, is)
 merge_decides inputs chunk given back live stored (Err (merges.Limit input offset)) files status (inl (same, inr (still, reads, are, never))) told other is = absurd never
-merge_decides inputs chunk given back live stored (Err (merges.Limit input offset)) files status (inr some) told other is = not_limit some.1.stop input offset _ some.1.answer
+merge_decides inputs chunk given back live stored (Err (merges.Limit input offset)) files status (inr (inl (still, it))) told other is = not_limit it.stop input offset _ it.answer
+merge_decides inputs chunk given back live stored (Err (merges.Limit input offset)) files status (inr (inr it)) told other is = absurd it.cause
 merge_decides inputs chunk given back live stored (Err merges.TooManySchemas) files status (inl (same, inl never)) told other is = absurd never
 merge_decides inputs chunk given back live stored (Err merges.TooManySchemas) files status (inl (same, inr (still, reads, are, many))) told other is = ((tops_of reads, are_read given files reads told are, many), is)
-merge_decides inputs chunk given back live stored (Err merges.TooManySchemas) files status (inr some) told other is = not_schemas some.1.stop _ some.1.answer
+merge_decides inputs chunk given back live stored (Err merges.TooManySchemas) files status (inr (inl (still, it))) told other is = not_schemas it.stop _ it.answer
+merge_decides inputs chunk given back live stored (Err merges.TooManySchemas) files status (inr (inr it)) told other is = absurd it.cause
 merge_decides inputs chunk given back live stored (Err merges.TooManyChannels) files status (inl (same, inl never)) told other is = absurd never
 merge_decides inputs chunk given back live stored (Err merges.TooManyChannels) files status (inl (same, inr (still, reads, are, many))) told other is = ((tops_of reads, are_read given files reads told are, many), is)
-merge_decides inputs chunk given back live stored (Err merges.TooManyChannels) files status (inr some) told other is = not_channels some.1.stop _ some.1.answer
+merge_decides inputs chunk given back live stored (Err merges.TooManyChannels) files status (inr (inl (still, it))) told other is = not_channels it.stop _ it.answer
+merge_decides inputs chunk given back live stored (Err merges.TooManyChannels) files status (inr (inr it)) told other is = absurd it.cause
 merge_decides inputs chunk given back live stored (Err (merges.FileLimit blocks bytes)) files status (inl (same, inl never)) told other is = absurd never
 merge_decides inputs chunk given back live stored (Err (merges.FileLimit blocks bytes)) files status (inl (same, inr (still, reads, are, never))) told other is = absurd never
-merge_decides inputs chunk given back live stored (Err (merges.FileLimit blocks bytes)) files status (inr (still, it)) told other is = ((tops_of it.is.reads, are_read given files it.is.reads told it.is.are, tt), is)
+merge_decides inputs chunk given back live stored (Err (merges.FileLimit blocks bytes)) files status (inr (inl (still, it))) told other is = (were_read given files it.profile it.extras it.history told it.is, is)
+merge_decides inputs chunk given back live stored (Err (merges.FileLimit blocks bytes)) files status (inr (inr it)) told other is = absurd it.cause
 merge_decides inputs chunk given back live stored (Err merges.Memory) files status it told other is = is
 
 -- an opening that was refused failed, or memory lacked for it

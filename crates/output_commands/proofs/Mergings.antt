@@ -1,6 +1,6 @@
 -- What the openings, the merge and the keepings of all names come to, and what is promised of the command.
 use Rattle.std.proofs.Common.{◌≡◌, ◌⊎◌, ℕ, zero, suc, ◌+◌, ◌^◌, ◌<◌, ◌≤◌, Bool, true, false, ◌||◌, List, [], ◌∷◌, ◌++◌, length, map, take, append_assoc, length-append, Some, None, Result, Err, refl, sym, ap, subst, inl, inr, ◌∙◌, arith}
-use Rattle.std.specs.List.{list_any}
+use Rattle.std.specs.List.{AllZip, list_any}
 use Rattle.std.specs.Option.{option_map}
 use Rattle.std.proofs.lemmas.Option.{same_Some}
 use Rattle.std.proofs.lemmas.List.{append-nil, map-append, length-map}
@@ -25,6 +25,7 @@ use Rattle.output_commands.specs.declared.merging.Outcome.{Outcome}
 use Rattle.output_commands.specs.SomeInputs.{InputKept, entry_of, store_keeping, names_kept, back_stores, given, with_openings, InputsOpened, InputRefused, NoStoreOut, InputsKept, flags_with}
 use Rattle.mcap_merge.specs.declared.answers.Merged.{Merged}
 use Rattle.mcap_merge.specs.declared.answers.MergeRefused.{MergeRefused}
+use Rattle.mcap_merge.specs.Filed.{AsksTwice}
 use Rattle.output_commands.specs.SomeOutput.{failing, files_of, failed_of, some_failed, HaltsWell, NamesKept, IsUnasked}
 use Rattle.output_commands.specs.Merge.{MergesStores, Reached, merging_of, unopened_so, some_refused, ending_of, NamesMerged}
 use Rattle.output_commands.proofs.Entries.{AreKind, world_faults-append, input_faults-append, output_faults-append, names_kept_by}
@@ -501,8 +502,8 @@ module _ (out : List ℕ) (inputs : List (List ℕ)) (w0 w1 w2 w3 w4 : WorldStat
       b.world_fits b.inputs_fit b.outputs_fit
 
   -- the output's name holds what was merged of the bytes under the inputs' names
-  all_reached : (chunk : ℕ) (answer : Result Merged MergeRefused) → MergesStores ss ss_now live live_now chunk answer → Reached chunk inputs out w0 w4 all_entries answer
-  all_reached chunk answer made = record {
+  all_reached : (chunk : ℕ) (answer : Result Merged MergeRefused) → MergesStores ss ss_now live live_now chunk answer → AllZip AsksTwice ss ss_now → Reached chunk inputs out w0 w4 all_entries answer
+  all_reached chunk answer made asked = record {
     given = ss;
     kept_inputs = ks;
     names_are = b.keeps.names_are;
@@ -510,6 +511,7 @@ module _ (out : List ℕ) (inputs : List (List ℕ)) (w0 w1 w2 w3 w4 : WorldStat
     stored = live_now;
     live_kept = went_well live_kept;
     merges = subst (λ (l : List StoreState). MergesStores ss l live live_now chunk answer) b.keeps.stores_are made;
+    asked = subst (AllZip AsksTwice ss) b.keeps.stores_are asked;
     tells = b.opens.tells;
     unused = b.opens.unused;
     live_unused = b.new;
@@ -518,11 +520,11 @@ module _ (out : List ℕ) (inputs : List (List ℕ)) (w0 w1 w2 w3 w4 : WorldStat
     kept_are = refl;
   }
 
-  pub all_merged : (chunk : ℕ) (outcome : Outcome) (answer : Result Merged MergeRefused) → MergesStores ss ss_now live live_now chunk answer → outcome.merging ≡ merging_of answer → outcome.inputs_failed.items ≡ flags
+  pub all_merged : (chunk : ℕ) (outcome : Outcome) (answer : Result Merged MergeRefused) → MergesStores ss ss_now live live_now chunk answer → AllZip AsksTwice ss ss_now → outcome.merging ≡ merging_of answer → outcome.inputs_failed.items ≡ flags
       → outcome.out_failed ≡ failed_so (went_well live_kept) live_now.faults → NamesMerged chunk inputs out w0 w4 outcome
-  all_merged chunk outcome answer made is flags_are out_is = record {
+  all_merged chunk outcome answer made asked is flags_are out_is = record {
     entries = all_entries;
-    comes = inr (answer, is, all_reached chunk answer made);
+    comes = inr (answer, is, all_reached chunk answer made asked);
     names = all_kept outcome.inputs_failed.items outcome.out_failed flags_are out_is;
     well = subst (λ (m : Merging). HaltsWell inputs (ending_of inputs m)) (sym is) (merges_well inputs chunk ss ss_now live live_now answer (zip_long (TellsStore w0) inputs ss b.opens.tells) made);
     sure = λ e. elim (fault_shows inputs chunk ss live live_now (went_well live_kept) ks answer (subst (λ (l : List StoreState). MergesStores ss l live live_now chunk answer) b.keeps.stores_are made) b.opens.unused b.new (ap (ending_of inputs) (sym is) ∙ e)) [

@@ -18,7 +18,7 @@ use Rattle.chunk_writer.specs.Limits.{Holds}
 use Rattle.mcap_merge.specs.declared.answers.Merged.{Merged}
 use Rattle.mcap_merge.specs.declared.answers.MergeRefused.{MergeRefused}
 use Rattle.mcap_merge.specs.declared.answers.MergeRefused.TheVariants as merges
-use Rattle.mcap_merge.specs.Filed.{merged_options, MergesInto, MergeFails}
+use Rattle.mcap_merge.specs.Filed.{merged_options, MergesInto, MergeFails, AsksTwice}
 use Rattle.command_base.specs.Texts.{grammar, compressed, limit}
 use Rattle.command_base.specs.Ran.{Scene, counts_in, AnyRose, kept}
 use Rattle.output_commands.specs.declared.merging.Merging.{Merging}
@@ -62,7 +62,8 @@ pub record HoldsFirst (chunk : ℕ) (files : List (List ℕ)) (well : Bool) (bef
 abbrev pub HoldsNothing : Bool → Option (List ℕ) → Option (List ℕ) → Type 0
 HoldsNothing well before now = IsPlaced [] well before now
 
--- of these files, by what a merge answered
+-- Of these files, by what a merge answered. An input may fail, or memory lack, before anything is written, or while the inputs are read
+-- again for what is written.
 abbrev pub OutputHolds : ℕ → List (List ℕ) → Result Merged MergeRefused → Bool → Option (List ℕ) → Option (List ℕ) → Type 0
 OutputHolds chunk files (Ok m) well before now = HoldsMerged chunk files m well before now
 OutputHolds chunk files (Err (merges.Fault faults)) well before now = HoldsNothing well before now ⊎ HoldsFirst chunk files well before now
@@ -91,6 +92,8 @@ pub record Reached (chunk : ℕ) (inputs : List (List ℕ)) (out : List ℕ) (ol
   pub stored : LiveState
   pub live_kept : Bool
   pub merges : MergesStores given (back_stores kept_inputs) live stored chunk result
+  -- no input was asked for more than all of its bytes twice
+  pub asked : AllZip AsksTwice given (back_stores kept_inputs)
   -- each store told the bytes under its input's name, which is there, where the world tells
   pub tells : AllZip (TellsStore old) inputs given
   pub unused : Each IsUnused given

@@ -1,45 +1,49 @@
-use Rattle.std.proofs.Common.{ℕ, ◌≡◌, ◌+◌, ◌*◌, ◌<◌, ◌≤◌, List, [], length, take, refl, sym, subst, ◌∙◌, arith}
-use Rattle.mcap_model.proofs.NamedTopics.{take_past}
-use Rattle.mcap_model.specs.Merged.{Sent}
-use Rattle.mcap_merge.specs.Uses.{history_of, AreUses}
-use Rattle.mcap_merge.specs.Inputs.{Read, tops_of, HoldInputs}
-use Rattle.mcap_merge.specs.Turns.{IsTurnOf, AreTurnsOf}
-use Rattle.mcap_merge.proofs.ReadBack.{none_back}
-use Rattle.mcap_merge.proofs.Used.{used_none}
-use Rattle.mcap_merge.proofs.Written.{zip_length, use_more, declared_are, asked_for}
+use Rattle.std.proofs.Common.{◌+◌, ◌/◌, true, false, sym, subst, arith}
+use Rattle.mcap_model.specs.Places.{At}
+use Rattle.id_table.specs.Ids as tables
+use Rattle.mcap_merge.specs.Inputs.{tops_of}
+use Rattle.mcap_merge.proofs.Sources.{used_sized, mark_read}
+use Rattle.mcap_merge.proofs.SeenContents.{ContentsSeen, contents_none, contents_more, contents_same, contents_all, contents_lack}
 use Rattle.mcap_merge.proofs.checking.check_ids.Goals as goal
+use Rattle.mcap_merge.proofs.checking.check_ids.Goals.{then-index+in-Ok-enter_channel, else-index}
 
-pub turns-init : goal.turns-init
-turns-init c = (c.requires.schemas, c.requires.sized, λ reads messages hold are. let none = c.requires.none in ([], tt, none (tops_of reads), none_back), λ reads messages hold are. used_none (tops_of reads) c.args.joiner.now.table c.requires.empty.0 c.requires.empty.1)
+pub channels-init : goal.channels-init
+channels-init c = λ reads hold. contents_none (tops_of reads) c.in-Ok.table c.in-Ok.ensures.0 c.in-Ok.ensures.1
 
-pub choose-requires-clause-within : goal.choose-requires-clause-within
-choose-requires-clause-within c = omega (arith, c.turn_at.ensures.number, c.turns.invariant.1)
+pub index-requires : goal.index-requires
+index-requires c =
+    let input = c.channel_at-source.result.0.now in
+    let size = used_sized c.args.inputs.now (c.channels.place / 65536) input c.requires.held c.channel_at-source.ensures.input in
+    omega (arith, size, c.channel_at-source.ensures.short, input.used.ok.0)
 
-pub turns-preserved : goal.turns-preserved
-turns-preserved c = (
-  c.in-Ok.ensures.schemas,
-  c.in-Ok.ensures.sized ∙ c.turns.invariant.1,
-  λ reads messages hold are.
-      let was = c.turns.invariant.2 reads messages hold are in
-      let chosen = c.in-Ok.ensures.chosen in
-      use_more reads messages c.args.inputs.now c.args.turns.now c.turns.k c.turn_at.result.1 c.turn_at.result.0.now was.0 c.turns.joiner c.choose.new.self c.get-source.result _ hold are c.turn_at.ensures.turn c.turn_at.ensures.input c.get-source.ensures was.1 was.2 was.3 c.in-Ok.ensures.short c.in-Ok.ensures.back (λ tops. chosen (tops_of reads) tops),
-  λ reads messages hold are.
-      let asked = asked_for reads messages c.args.inputs.now c.args.turns.now c.turns.k c.turn_at.result.1 c.turn_at.result.0.now c.get-source.result hold are c.turn_at.ensures.turn c.turn_at.ensures.input c.get-source.ensures in
-      c.in-Ok.ensures.used (tops_of reads) asked.0 asked.2 (c.turns.invariant.3 reads messages hold are),
-)
+pub returns-in-Err-enter_channel-clause-refused : goal.returns-in-Err-enter_channel-clause-refused
+returns-in-Err-enter_channel-clause-refused c = λ reads hold.
+    let number = c.channels.place / 65536 in
+    let input = c.channel_at-source.result.0.now in
+    let source = c.channel_at-source.result.1 in
+    let there = c.channel_at-source.ensures in
+    let size = used_sized c.args.inputs.now number input c.requires.held there.input in
+    let marked : At input.used.items source true = mark_read input.used.items source c.index.result.now true size there.short c.index.ensures c.if-index.true in
+    contents_lack reads c.args.inputs.now c.channels.place number source input c.channels.table c.in-Err-enter_channel.refused hold there.input marked c.in-Err-enter_channel.ensures.table (c.channels.invariant reads hold) c.in-Err-enter_channel.ensures.refused
 
-pub returns-in-Err-clause-refused : goal.returns-in-Err-clause-refused
-returns-in-Err-clause-refused c = λ reads messages hold are.
-    let asked = asked_for reads messages c.args.inputs.now c.args.turns.now c.turns.k c.turn_at.result.1 c.turn_at.result.0.now c.get-source.result hold are c.turn_at.ensures.turn c.turn_at.ensures.input c.get-source.ensures in
-    c.in-Err.ensures.used (tops_of reads) asked.0 asked.2 (c.turns.invariant.3 reads messages hold are)
+pub channels-preserved : goal.channels-preserved
+channels-preserved c = λ reads hold.
+    let number = c.channels.place / 65536 in
+    let input = c.channel_at-source.result.0.now in
+    let source = c.channel_at-source.result.1 in
+    let there = c.channel_at-source.ensures in
+    let size = used_sized c.args.inputs.now number input c.requires.held there.input in
+    elim c.if-index.branch [
+      | then-index+in-Ok-enter_channel w ↦
+          let marked : At input.used.items source true = mark_read input.used.items source c.index.result.now true size there.short c.index.ensures w.if-index.true in
+          subst (λ (t : tables.Ids). ContentsSeen (tops_of reads) (c.channels.place + 1) t) (sym w.table-is)
+          (contents_more reads c.args.inputs.now c.channels.place number source input c.channels.table w.enter_channel.new.table hold there.place there.short there.input marked (c.channels.invariant reads hold) w.in-Ok-enter_channel.ensures.entered)
+      | else-index w ↦
+          let unmarked : At input.used.items source false = mark_read input.used.items source c.index.result.now false size there.short c.index.ensures w.if-index.false in
+          subst (λ (t : tables.Ids). ContentsSeen (tops_of reads) (c.channels.place + 1) t) (sym w.table-is)
+          (contents_same reads c.args.inputs.now c.channels.place number source input c.channels.table hold there.place there.short there.input unmarked (c.channels.invariant reads hold))
+    ]
 
-pub returns-clause-used : goal.returns-clause-used
-returns-clause-used c = λ reads messages hold are.
-    let was = c.turns.invariant.2 reads messages hold are in
-    let many : length messages ≤ c.turns.k = omega (arith, zip_length (IsTurnOf reads) c.args.turns.now messages are) in
-    record {
-      uses = was.0;
-      used = subst (λ (l : List Sent). AreUses (tops_of reads) l was.0) (take_past c.turns.k messages many) was.1;
-      declares = c.declared.ensures.count ∙ declared_are c.turns.joiner (history_of was.0) was.2.ids_are;
-      back = was.3;
-    }
+pub returns-clause-suffice : goal.returns-clause-suffice
+returns-clause-suffice c = λ reads hold.
+    contents_all reads c.args.inputs.now c.channels.place c.channels.table hold (c.channels.invariant reads hold) (omega arith) (omega (arith, c.schemas-schemas.ensures.count, c.schemas-schemas.ensures.few)) (omega (arith, c.channels-channels.ensures.count, c.channels-channels.ensures.few))

@@ -5,10 +5,10 @@ use Rattle.mcap_merge.proofs.SeenSchemas.{told_lack}
 use Rattle.mcap_merge.proofs.gathering.first_refusal.Goals as goal
 
 pub returns-in-TooManySchemas : goal.returns-in-TooManySchemas
-returns-in-TooManySchemas c = λ reads messages hold are turn lack. subst (LackMet (tops_of reads)) c.in-TooManySchemas.is lack
+returns-in-TooManySchemas c = λ reads hold lack. subst (LackMet (tops_of reads)) c.in-TooManySchemas.is lack
 
 pub returns-in-Ok : goal.returns-in-Ok
-returns-in-Ok c = λ reads messages hold are turn lack. (subst (LackMet (tops_of reads)) c.in-TooManyChannels.is lack, c.in-Ok.ensures.few reads messages hold are turn)
+returns-in-Ok c = λ reads hold lack. (subst (LackMet (tops_of reads)) c.in-TooManyChannels.is lack, c.in-Ok.ensures.few reads hold)
 
 pub returns-in-Err : goal.returns-in-Err
-returns-in-Err c = λ reads messages hold are turn lack. told_lack (tops_of reads) c.in-Err.refused (c.in-Err.ensures.refused reads messages hold are)
+returns-in-Err c = λ reads hold lack. told_lack (tops_of reads) c.in-Err.refused (c.in-Err.ensures.refused reads hold)

@@ -1,9 +1,10 @@
-use Rattle.std.proofs.Common.{ℕ, ◌≡◌, ◌<◌, ◌≤◌, List, length, map, sym, ap, subst, ◌∙◌, arith}
+use Rattle.std.proofs.Common.{List, length, map, sym, ap, subst, ◌∙◌, arith}
 use Rattle.std.proofs.lemmas.List.{length-map}
 use Rattle.mcap_io.specs.Stores.{StoreState}
 use Rattle.mcap_merge.specs.declared.input.Input.{Input}
 use Rattle.mcap_merge.specs.Inputs.{HoldInputs}
 use Rattle.mcap_merge.specs.Gathering.{IsPrepared}
+use Rattle.mcap_merge.specs.Writing.{extras_of}
 use Rattle.mcap_merge.proofs.Profiles.{meet_all, held_length}
 use Rattle.mcap_merge.proofs.gathering.gather.Goals as goal
 
@@ -32,5 +33,5 @@ returns-in-Ok-prepare-clause-gathered g c =
       hold = hold;
       few = omega (arith, c.requires.few, same);
       meet = meet_all reads inputs hold;
-      prepared = subst (λ (l : List Input). IsPrepared reads l c.in-Ok-prepare.order) c.as_slice.ensures.value (prepared reads (subst (HoldInputs reads) (sym c.as_slice.ensures.value) hold));
+      prepared = subst (λ (l : List Input). IsPrepared reads c.in-Ok-prepare.profile (extras_of l)) c.as_slice.ensures.value (prepared reads (subst (HoldInputs reads) (sym c.as_slice.ensures.value) hold));
     }

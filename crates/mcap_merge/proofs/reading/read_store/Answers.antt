@@ -1,5 +1,8 @@
-use Rattle.mcap_merge.proofs.Stores.{reads_whole}
+use Rattle.mcap_merge.proofs.Stores.{measured, measured_keeps}
 use Rattle.mcap_merge.proofs.reading.read_store.Goals as goal
 
 pub returns-clause-reads : goal.returns-clause-reads
-returns-clause-reads g c = reads_whole (g.T.Store.state c.args.store.now) (g.T.Store.state c.len.new.self) (g.T.Store.state c.read_front.new.store) c.in-Ok.len c.read_front.result c.in-Ok.ensures c.read_front.ensures.reads
+returns-clause-reads g c = measured (g.T.Store.state c.args.store.now) (g.T.Store.state c.len.new.self) (g.T.Store.state c.read_known.new.store) c.in-Ok.len c.read_known.result c.in-Ok.ensures c.read_known.ensures.reads
+
+pub returns-clause-keeps : goal.returns-clause-keeps
+returns-clause-keeps g c = measured_keeps (g.T.Store.state c.args.store.now) (g.T.Store.state c.len.new.self) (g.T.Store.state c.read_known.new.store) c.in-Ok.len c.read_known.result c.in-Ok.ensures c.read_known.ensures.reads c.read_known.ensures.keeps

@@ -35,5 +35,5 @@ returns g c = λ before opened world_fits inputs_fit outputs_fit.
       world_fits = world_fits;
       inputs_fit = inputs_fit;
       outputs_fit = outputs_fit;
-    }) c.args.chunk _ c.merge-live.result.1 (merges_so ss ss_now live stored c.args.chunk c.merge-live.result.1 c.merge-live.ensures.merged c.merge-live.ensures.refused) c.merging_of.ensures refl
+    }) c.args.chunk _ c.merge-live.result.1 (merges_so ss ss_now live stored c.args.chunk c.merge-live.result.1 c.merge-live.ensures.merged c.merge-live.ensures.refused) c.merge-live.ensures.asked c.merging_of.ensures refl
     (c.has_failed.ensures ∙ ap (failed_so (went_well c.keep_live-live_kept.result)) c.faults-live_faults.ensures)

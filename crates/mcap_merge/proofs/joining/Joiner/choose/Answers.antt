@@ -1,4 +1,4 @@
-use Rattle.std.proofs.Common.{ℕ, ◌+◌, ◌*◌, ◌<◌, refl, sym, subst, arith}
+use Rattle.std.proofs.Common.{◌+◌, ◌*◌, refl, sym, subst, arith}
 use Rattle.mcap_model.specs.Places.{At}
 use Rattle.mcap_model.proofs.Places.{at_read}
 use Rattle.record_core.proofs.TableIds.{id_found}

@@ -1,0 +1,183 @@
+-- Which channels are marked.
+use Rattle.std.proofs.Common.{◌≡◌, ◌⊎◌, ℕ, zero, suc, ◌<◌, Bool, true, false, List, [], ◌∷◌, ◌++◌, length, take, map, set, cond, Some, refl, sym, ap, subst, inl, inr, ◌∙◌, append-nil, arith}
+use Rattle.std.specs.Prelude.{filter, ◌^◌}
+use Rattle.std.specs.List.{AllZip}
+use Rattle.std.proofs.lemmas.Bool.{eqb-true}
+use Rattle.std.proofs.lemmas.List.{length-set, take_at}
+use Rattle.std.proofs.lemmas.List.Elements.{filter-append}
+use Rattle.std.proofs.lemmas.List.Sums.{fold-append}
+use Rattle.std.proofs.lemmas.Grind.{flat_map-append}
+use Rattle.mcap_wire.specs.Layout.{number, le}
+use Rattle.mcap_wire.proofs.Numbers.{length-le, number-le}
+use Rattle.rec_data.specs.Records.{ShowsMessage}
+use Rattle.mcap_model.specs.Places.{At, Has}
+use Rattle.mcap_model.specs.Fields.{MessageFields}
+use Rattle.mcap_model.specs.Made.{top}
+use Rattle.mcap_model.specs.Tops.{Top, Placed, opened, records_in, is_flat_kind, flattened, flat, placed}
+use Rattle.mcap_model.specs.Scan.{Seen, IsSeen, Scan, is_message_top, tops_of}
+use Rattle.mcap_model.proofs.Places.{at_none, at_one, at_set, at_set_same}
+use Rattle.mcap_model.proofs.NamedTopics.{unmapped, zip_back}
+use Rattle.mcap_model.proofs.Flat.{placed_tops, at_mapped, map-append}
+use Rattle.mcap_model.proofs.Unpacking.{chunks_are_opened}
+use Rattle.mcap_model.specs.Fields.{ChunkFields, IsChunk}
+use Rattle.mcap_merge.specs.Marks.{channel_in, channels_of, channels_under, with_mark, with_marks, AreUnmarked, AreMarked}
+
+-- ---- marks
+
+pub length_marks : (marks : List Bool) (ids : List ℕ) → length (with_marks marks ids) ≡ length marks
+length_marks marks [] = refl
+length_marks marks (i ∷ is) = length_marks (set marks i true) is ∙ length-set marks i true
+
+mark_stays : (marks : List Bool) (i n : ℕ) → At marks n true → At (set marks i true) n true
+mark_stays [] i n at = absurd (at_none n true at)
+mark_stays (m ∷ ms) zero zero at = refl
+mark_stays (m ∷ ms) zero (suc n) at = at
+mark_stays (m ∷ ms) (suc i) zero at = at
+mark_stays (m ∷ ms) (suc i) (suc n) at = mark_stays ms i n at
+
+marks_stay : (marks : List Bool) (ids : List ℕ) (n : ℕ) → At marks n true → At (with_marks marks ids) n true
+marks_stay marks [] n at = at
+marks_stay marks (i ∷ is) n at = marks_stay (set marks i true) is n (mark_stays marks i n at)
+
+marks_there : (marks : List Bool) (ids : List ℕ) (k id : ℕ) → At ids k id → id < length marks → At (with_marks marks ids) id true
+marks_there marks [] k id at within = absurd (at_none k id at)
+marks_there marks (i ∷ is) zero id at within =
+    let same : i ≡ id = at_one (i ∷ is) zero i id refl at in
+    marks_stay (set marks i true) is id (subst (λ (n : ℕ). At (set marks i true) n true) same (at_set_same marks i true (let less : i < length marks = omega (arith, same, within) in less)))
+marks_there marks (i ∷ is) (suc k) id at within = marks_there (set marks i true) is k id at (let long = length-set marks i true in omega (arith, within, long))
+
+marks_back : (marks : List Bool) (ids : List ℕ) (n : ℕ) → At (with_marks marks ids) n true → At marks n true ⊎ Has ids n
+marks_back marks [] n at = inl at
+marks_back marks (i ∷ is) n at = elim (marks_back (set marks i true) is n at) [
+  | inl early ↦ elim (at_set marks i n true true early) [
+    | inl here ↦ inr (0, ap (λ (x : ℕ). Some x) (sym here.0))
+    | inr there ↦ inl there.1
+  ]
+  | inr (k, later) ↦ inr (suc k, later)
+]
+
+-- ---- the channels of records
+
+-- the channel that a Message's content shows stands at its front
+pub channel_shown : (content : List ℕ) (channel : ℕ) (m : MessageFields) → ShowsMessage content channel m → channel_in content ≡ channel
+channel_shown content channel m shows =
+    let front : take 2 content ≡ le 2 channel = ap (take 2) shows.spelled_there ∙ take_at (le 2 channel) _ 2 (length-le 2 channel) in
+    ap number front ∙ number-le 2 channel shows.fit.0
+
+zip_channels : (records : List Top) (ps : List Placed) (messages : List Seen) → AllZip (IsSeen records) ps messages → map (λ s. s.channel) messages ≡ map (λ p. channel_in p.top.content) ps
+zip_channels records [] [] zip = refl
+zip_channels records [] (m ∷ ms) zip = absurd zip
+zip_channels records (p ∷ ps) [] zip = absurd zip
+zip_channels records (p ∷ ps) (m ∷ ms) zip =
+    ap (λ (l : List ℕ). m.channel ∷ l) (zip_channels records ps ms zip.1)
+    ∙ ap (λ (n : ℕ). n ∷ map (λ (q : Placed). channel_in q.top.content) ps) (sym (channel_shown p.top.content m.channel m.message zip.0.is.layout))
+
+of_placed : (ps : List Placed) → map (λ p. channel_in p.top.content) (filter (λ p. is_message_top p.top) ps) ≡ channels_of (tops_of ps)
+of_placed [] = refl
+of_placed (p ∷ ps) = by (is_message_top p.top) (of_placed ps)
+  where
+    by : (b : Bool) → map (λ (q : Placed). channel_in q.top.content) (filter (λ q. is_message_top q.top) ps) ≡ channels_of (tops_of ps)
+        → map (λ (q : Placed). channel_in q.top.content) (cond b (p ∷ filter (λ q. is_message_top q.top) ps) (filter (λ q. is_message_top q.top) ps)) ≡ map (λ (t : Top). channel_in t.content) (cond b (p.top ∷ filter is_message_top (tops_of ps)) (filter is_message_top (tops_of ps)))
+    by true rest = ap (λ (l : List ℕ). channel_in p.top.content ∷ l) rest
+    by false rest = rest
+
+channels_joined : (xs ys : List Top) → channels_of (xs ++ ys) ≡ channels_of xs ++ channels_of ys
+channels_joined xs ys = ap (map (λ (t : Top). channel_in t.content)) (filter-append is_message_top xs ys) ∙ map-append (λ (t : Top). channel_in t.content) (filter is_message_top xs) (filter is_message_top ys)
+
+-- a Message is of a flat kind
+pub messages_flat : (ts : List Top) → filter is_message_top (filter is_flat_kind ts) ≡ filter is_message_top ts
+messages_flat [] = refl
+messages_flat (t ∷ ts) = by (is_message_top t) refl (messages_flat ts)
+  where
+    kept : (op : ℕ) (content : List ℕ) → op ≡ 5 → is_flat_kind (top op content) ≡ true
+    kept op content is = subst (λ (n : ℕ). is_flat_kind (top n content) ≡ true) (sym is) refl
+
+    left : (b : Bool) → is_message_top t ≡ false → filter is_message_top (filter is_flat_kind ts) ≡ filter is_message_top ts
+        → filter is_message_top (cond b (t ∷ filter is_flat_kind ts) (filter is_flat_kind ts)) ≡ filter is_message_top ts
+    left true other rest = ap (λ (c : Bool). cond c (t ∷ filter is_message_top (filter is_flat_kind ts)) (filter is_message_top (filter is_flat_kind ts))) other ∙ rest
+    left false other rest = rest
+
+    by : (b : Bool) → is_message_top t ≡ b → filter is_message_top (filter is_flat_kind ts) ≡ filter is_message_top ts
+        → filter is_message_top (filter is_flat_kind (t ∷ ts)) ≡ filter is_message_top (t ∷ ts)
+    by true is rest =
+        ap (λ (c : Bool). filter is_message_top (cond c (t ∷ filter is_flat_kind ts) (filter is_flat_kind ts))) (kept t.op t.content (eqb-true t.op 5 is))
+        ∙ ap (λ (c : Bool). cond c (t ∷ filter is_message_top (filter is_flat_kind ts)) (filter is_message_top (filter is_flat_kind ts))) is
+        ∙ ap (λ (l : List Top). t ∷ l) rest
+        ∙ sym (ap (λ (c : Bool). cond c (t ∷ filter is_message_top ts) (filter is_message_top ts)) is)
+    by false other rest =
+        left (is_flat_kind t) other rest
+        ∙ sym (ap (λ (c : Bool). cond c (t ∷ filter is_message_top ts) (filter is_message_top ts)) other)
+
+channels_flat : (tops : List Top) → channels_of (flat tops) ≡ channels_under tops
+channels_flat [] = refl
+channels_flat (t ∷ ts) =
+    channels_joined (flattened t) (flat ts)
+    ∙ ap (λ (l : List ℕ). l ++ channels_of (flat ts)) (ap (map (λ (u : Top). channel_in u.content)) (messages_flat (opened t)))
+    ∙ ap (λ (l : List ℕ). channels_of (opened t) ++ l) (channels_flat ts)
+
+-- those of a scan
+scan_channels : (tops : List Top) (messages : List Seen) → Scan tops messages → map (λ s. s.channel) messages ≡ channels_under tops
+scan_channels tops messages scan =
+    zip_channels (tops_of (placed tops)) (filter (λ p. is_message_top p.top) (placed tops)) messages scan
+    ∙ of_placed (placed tops)
+    ∙ ap channels_of (placed_tops 8 tops)
+    ∙ channels_flat tops
+
+pub are_marked : (tops : List Top) (messages : List Seen) (blank marks : List Bool) → AreUnmarked blank → marks ≡ with_marks blank (channels_under tops) → Scan tops messages → AreMarked marks messages
+are_marked tops messages blank marks none is scan =
+    let same = scan_channels tops messages scan in
+    record {
+      size = ap length is ∙ length_marks blank (channels_under tops) ∙ none.size;
+      are = λ id at. elim (marks_back blank (channels_under tops) id (subst (λ (l : List Bool). At l id true) is at)) [
+        | inl blank_there ↦ let unmarked = none.none in absurd (true_false (unmarked id true blank_there))
+        | inr (k, there) ↦
+            let (m, at_m, on) = unmapped (λ (s : Seen). s.channel) messages k id (subst (λ (l : List ℕ). At l k id) (sym same) there) in
+            (m, (k, at_m), on)
+      ];
+      all = λ m has.
+          let there : At (channels_under tops) has.0 m.channel = subst (λ (l : List ℕ). At l has.0 m.channel) same (at_mapped (λ (s : Seen). s.channel) messages has.0 m has.1) in
+          let (p, at_p, seen) = zip_back (IsSeen (tops_of (placed tops))) (filter (λ q. is_message_top q.top) (placed tops)) messages has.0 m scan has.1 in
+          let small : m.channel < 256 ^ 2 = seen.is.layout.fit.0 in
+          let within : m.channel < length blank = omega (arith, small, none.size) in
+          subst (λ (l : List Bool). At l m.channel true) (sym is) (marks_there blank (channels_under tops) has.0 m.channel there within);
+    }
+  where
+    true_false : true ≡ false → ⊥
+    true_false e = cc
+
+-- a chunk's records are those of the chunk that is parsed
+pub chunk_channels : (op : ℕ) (content : List ℕ) (f : ChunkFields) → op ≡ 6 → IsChunk (top 6 content) f → channels_of (records_in f.records) ≡ channels_of (opened (top op content))
+chunk_channels op content f is shows =
+    ap (λ (l : List ℕ). channels_of (records_in l)) (sym (chunks_are_opened (top 6 content) f shows)) ∙ ap (λ (n : ℕ). channels_of (opened (top n content))) (sym is)
+
+-- ---- one record more
+
+pub marks_more : (blank old new : List Bool) (tops : List Top) (t : Top) → old ≡ with_marks blank (channels_under tops) → new ≡ with_marks old (channels_of (opened t)) → new ≡ with_marks blank (channels_under (tops ++ t ∷ []))
+marks_more blank old new tops t was grown =
+    grown
+    ∙ ap (λ (l : List Bool). with_marks l (channels_of (opened t))) was
+    ∙ sym (fold-append with_mark blank (channels_under tops) (channels_of (opened t)))
+    ∙ sym (ap (with_marks blank) (flat_map-append (λ (u : Top). channels_of (opened u)) tops (t ∷ []) ∙ ap (λ (l : List ℕ). channels_under tops ++ l) (append-nil (channels_of (opened t)))))
+
+-- ---- what a walk marks
+
+channels_one : (t : Top) (b : Bool) → is_message_top t ≡ b → channels_of (t ∷ []) ≡ cond b (channel_in t.content ∷ []) []
+channels_one t b is = ap (λ (c : Bool). map (λ (u : Top). channel_in u.content) (cond c (t ∷ []) [])) is ∙ by b
+  where
+    by : (c : Bool) → map (λ (u : Top). channel_in u.content) (cond c (t ∷ []) []) ≡ cond c (channel_in t.content ∷ []) []
+    by true = refl
+    by false = refl
+
+channels_with : (done : List Top) (t : Top) → is_message_top t ≡ true → channels_of (done ++ t ∷ []) ≡ channels_of done ++ channel_in t.content ∷ []
+channels_with done t is = channels_joined done (t ∷ []) ∙ ap (λ (l : List ℕ). channels_of done ++ l) (channels_one t true is)
+
+pub mark_more : (blank old new : List Bool) (done : List Top) (t : Top) → old ≡ with_marks blank (channels_of done) → is_message_top t ≡ true → new ≡ with_mark old (channel_in t.content) → new ≡ with_marks blank (channels_of (done ++ t ∷ []))
+mark_more blank old new done t was is grown =
+    grown
+    ∙ ap (λ (l : List Bool). with_mark l (channel_in t.content)) was
+    ∙ sym (fold-append with_mark blank (channels_of done) (channel_in t.content ∷ []))
+    ∙ sym (ap (with_marks blank) (channels_with done t is))
+
+pub mark_same : (blank old : List Bool) (done : List Top) (t : Top) → old ≡ with_marks blank (channels_of done) → is_message_top t ≡ false → old ≡ with_marks blank (channels_of (done ++ t ∷ []))
+mark_same blank old done t was is =
+    was ∙ sym (ap (with_marks blank) (channels_joined done (t ∷ []) ∙ ap (λ (l : List ℕ). channels_of done ++ l) (channels_one t false is) ∙ append-nil (channels_of done)))

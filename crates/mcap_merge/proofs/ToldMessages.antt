@@ -1,0 +1,180 @@
+-- The messages of a file, as the bytes of its spans have them.
+use Rattle.std.proofs.Common.{◌≡◌, ℕ, ◌+◌, ◌≤◌, Bool, true, false, eqb, List, [], ◌∷◌, ◌++◌, length, take, cond, refl, sym, ap, subst, ◌∙◌, arith}
+use Rattle.std.specs.Prelude.{filter, slice_get, if◌then◌else◌}
+use Rattle.std.specs.List.{list_any}
+use Rattle.std.proofs.lemmas.Bool.{eqb-true}
+use Rattle.mcap_model.specs.declared.replay.Place.{Place}
+use Rattle.mcap_model.specs.Places.{At, Has}
+use Rattle.mcap_model.specs.Tops.{Top, spelled, offset_behind, is_chunk, inner_tops, opened, records_in, is_flat_kind, Placed, placed_inside, placed_one, placed_from, placed}
+use Rattle.mcap_model.specs.Fields.{IsMessage}
+use Rattle.mcap_model.specs.Scan.{Seen, IsSeen, Scan, is_message_top, tops_of}
+use Rattle.mcap_model.proofs.Places.{at_none, at_last}
+use Rattle.mcap_model.proofs.Lists.{cut_at, filter_passed, filter_has}
+use Rattle.mcap_model.proofs.Members.{has_one}
+use Rattle.mcap_model.proofs.NamedTopics.{zip_front, zip_back, unmapped}
+use Rattle.mcap_model.proofs.Flat.{at_mapped}
+use Rattle.mcap_model.proofs.OpenedChunks.{placed_at}
+use Rattle.chunk_survey.specs.declared.spans.Span.{Span}
+use Rattle.chunk_survey.specs.Times.{time_in, times_of, TimesAre}
+use Rattle.chunk_survey.specs.Spans.{spans_one}
+use Rattle.chunk_survey.proofs.Telling.{silent_records_have_none}
+use Rattle.chunk_walk.specs.declared.entries.Entry.{Entry}
+use Rattle.chunk_walk.specs.Entries.{entry, entries_one, entries_from, FitsSpan}
+use Rattle.mcap_merge.proofs.Sound.{time_shown}
+use Rattle.mcap_merge.proofs.Laid.{laid, lies}
+
+-- ---- entries and times
+
+-- an entry is that of a message
+is_entry : (at : ℕ) (t : Top) (e : Entry) → Has (entries_one at t) e → (is_message_top t ≡ true) × (e ≡ entry (time_in t.content) at)
+is_entry at t e has = by (is_message_top t) refl has
+  where
+    by : (b : Bool) → is_message_top t ≡ b → Has (cond b (entry (time_in t.content) at ∷ []) []) e → (is_message_top t ≡ true) × (e ≡ entry (time_in t.content) at)
+    by true is there = (is, has_one (entry (time_in t.content) at) e there)
+    by false is there = absurd (at_none there.0 e there.1)
+
+entry_there : (records : List Top) (inside : List Top) (r : Top) (behind : List Top) → records ≡ inside ++ r ∷ behind → is_message_top r ≡ true → Has (entries_from 0 records) (entry (time_in r.content) (length (spelled inside)))
+entry_there records inside r behind split is =
+    let at = 0 + length (spelled inside) in
+    let one : Has (entries_one at r) (entry (time_in r.content) at) = (0, ap (λ (b : Bool). slice_get (cond b (entry (time_in r.content) at ∷ []) []) 0) is) in
+    let all = lies entries_one entries_from (λ n. refl) (λ n t ts. refl) 0 inside r behind (entry (time_in r.content) at) one in
+    let place : 0 + length (spelled inside) ≡ length (spelled inside) = omega arith in
+    subst (λ (l : List Top). Has (entries_from 0 l) (entry (time_in r.content) (length (spelled inside)))) (sym split) (subst (λ (n : ℕ). Has (entries_from 0 (inside ++ r ∷ behind)) (entry (time_in r.content) n)) place all)
+
+time_there : (records : List Top) (r : Top) → Has records r → is_message_top r ≡ true → Has (times_of records) (time_in r.content)
+time_there records r has is =
+    let kept = filter_has is_message_top records has.0 r has.1 is in
+    (kept.0, at_mapped (λ (t : Top). time_in t.content) (filter is_message_top records) kept.0 r kept.1)
+
+middle_there : (records inside : List Top) (r : Top) (behind : List Top) → records ≡ inside ++ r ∷ behind → Has records r
+middle_there records inside r behind split = (length inside, subst (λ (l : List Top). At l (length inside) r) (sym split) (at_last inside r behind))
+
+-- bytes whose messages were logged when a span says can be those of the span
+pub fits_there : (s : Span) (bytes : List ℕ) → TimesAre (times_of (records_in bytes)) s.least s.greatest s.in_order → FitsSpan s bytes
+fits_there s bytes are = record {
+  some = λ none.
+      let has = are.least_there in
+      let (r, at, time) = unmapped (λ (t : Top). time_in t.content) (filter is_message_top (records_in bytes)) has.0 s.least has.1 in
+      let (there, is) = filter_passed is_message_top (records_in bytes) has.0 r at in
+      let (behind, split) = cut_at (records_in bytes) there.0 r there.1 in
+      let e = entry_there (records_in bytes) (take there.0 (records_in bytes)) r behind split is in
+      at_none e.0 (entry (time_in r.content) (length (spelled (take there.0 (records_in bytes))))) (subst (λ (l : List Entry). At l e.0 (entry (time_in r.content) (length (spelled (take there.0 (records_in bytes)))))) none e.1);
+  within = λ n e at.
+      let f = laid entries_one entries_from (λ k. refl) (λ k t ts. refl) 0 (records_in bytes) e (n, at) in
+      let (is, same) = is_entry (0 + length (spelled f.front)) f.top e f.has in
+      let has = time_there (records_in bytes) f.top (middle_there (records_in bytes) f.front f.top f.back f.split) is in
+      let within = are.within in
+      let time : time_in f.top.content ≡ e.time = sym (ap (λ (x : Entry). x.time) same) in
+      subst (λ (t : ℕ). (s.least ≤ t) × (t ≤ s.greatest)) time (within has.0 (time_in f.top.content) has.1);
+}
+
+-- ---- places
+
+message_flat : (t : Top) → is_message_top t ≡ true → is_flat_kind t ≡ true
+message_flat t is = subst (λ (n : ℕ). list_any (λ kind. eqb kind n) (3 ∷ 4 ∷ 5 ∷ []) ≡ true) (sym (eqb-true t.op 5 is)) refl
+
+placed_opened : (at : ℕ) (t : Top) → placed_one at t ≡ filter (λ p. is_flat_kind p.top) (placed_inside at 0 (opened t))
+placed_opened at t = by (is_chunk t)
+  where
+    by : (b : Bool) → filter (λ p. is_flat_kind p.top) (if b then placed_inside at 0 (inner_tops t) else placed_at at 0 t ∷ []) ≡ filter (λ p. is_flat_kind p.top) (placed_inside at 0 (if b then inner_tops t else t ∷ []))
+    by true = refl
+    by false = refl
+
+same_top : (p q : Place) → p ≡ q → p.top ≡ q.top
+same_top p q same = ap (λ (r : Place). r.top) same
+
+same_inner : (p q : Place) → p ≡ q → p.inner ≡ q.inner
+same_inner p q same = ap (λ (r : Place). r.inner) same
+
+-- the message that a record of a span is
+pub record SpanMessage (messages : List Seen) (offset inner : ℕ) (r : Top) : Type 0 where
+  pub seen : Seen
+  pub has : Has messages seen
+  pub top : seen.place.top ≡ offset
+  pub inside : seen.place.inner ≡ inner
+  pub is : IsMessage r seen.channel seen.message
+
+seen_there : (tops : List Top) (p : Placed) (messages : List Seen) (offset inner : ℕ) (r : Top) → p ≡ placed_at offset inner r → Scan tops messages → Has (placed tops) p → is_message_top p.top ≡ true → SpanMessage messages offset inner r
+seen_there tops p messages offset inner r same scan there is =
+    let message = filter_has (λ (q : Placed). is_message_top q.top) (placed tops) there.0 p there.1 is in
+    let (seen, at, shows) = zip_front (IsSeen (tops_of (placed tops))) (filter (λ q. is_message_top q.top) (placed tops)) messages message.0 p scan message.1 in
+    let place : seen.place ≡ (placed_at offset inner r).place = sym shows.place ∙ ap (λ (q : Placed). q.place) same in
+    record {
+      seen = seen;
+      has = (message.0, at);
+      top = same_top seen.place (placed_at offset inner r).place place;
+      inside = same_inner seen.place (placed_at offset inner r).place place;
+      is = subst (λ (q : Placed). IsMessage q.top seen.channel seen.message) same shows.is;
+    }
+
+pub span_message : (tops front : List Top) (t : Top) (back : List Top) (messages : List Seen) (inside : List Top) (r : Top) (behind : List Top) → tops ≡ front ++ t ∷ back → Scan tops messages → opened t ≡ inside ++ r ∷ behind → is_message_top r ≡ true
+    → SpanMessage messages (offset_behind front) (length (spelled inside)) r
+span_message tops front t back messages inside r behind cut scan split is =
+    let offset = offset_behind front in
+    let p = placed_at offset (0 + length (spelled inside)) r in
+    let here : Has (placed_inside offset 0 (inside ++ r ∷ behind)) p = lies (λ n u. placed_at offset n u ∷ []) (placed_inside offset) (λ n. refl) (λ n u us. refl) 0 inside r behind p (0, refl) in
+    let held : Has (placed_inside offset 0 (opened t)) p = subst (λ (l : List Top). Has (placed_inside offset 0 l) p) (sym split) here in
+    let kept = filter_has (λ (q : Placed). is_flat_kind q.top) (placed_inside offset 0 (opened t)) held.0 p held.1 (message_flat r is) in
+    let one : Has (placed_one offset t) p = subst (λ (l : List Placed). Has l p) (sym (placed_opened offset t)) kept in
+    let all : Has (placed (front ++ t ∷ back)) p = lies placed_one placed_from (λ n. refl) (λ n u us. refl) 8 front t back p one in
+    let there : Has (placed tops) p = subst (λ (l : List Top). Has (placed l) p) (sym cut) all in
+    let place : 0 + length (spelled inside) ≡ length (spelled inside) = omega arith in
+    seen_there tops p messages offset (length (spelled inside)) r (ap (λ (n : ℕ). placed_at offset n r) place) scan there is
+
+-- ---- messages
+
+-- the span of a record has a message
+pub record SpanHas (offset : ℕ) (t : Top) (m : Seen) : Type 0 where
+  pub offset_is : m.place.top ≡ offset
+  pub span : Span
+  pub has : Has (spans_one offset t) span
+  pub entry : Has (entries_from 0 (opened t)) (entry m.message.log_time m.place.inner)
+
+span_there : (offset : ℕ) (t : Top) (time : ℕ) → Has (times_of (opened t)) time → (s : Span) × Has (spans_one offset t) s
+span_there offset t time has = by (spans_one offset t) refl
+  where
+    by : (l : List Span) → spans_one offset t ≡ l → (s : Span) × Has (spans_one offset t) s
+    by [] none = absurd (at_none has.0 time (subst (λ (l : List ℕ). At l has.0 time) (silent_records_have_none offset t none) has.1))
+    by (s ∷ ss) is = (s, (0, ap (λ (l : List Span). slice_get l 0) is))
+
+-- the message is this record among those that the record is or holds
+inside_has : (offset : ℕ) (t : Top) (m : Seen) (inside : List Top) (r : Top) (behind : List Top) (inner : ℕ) → opened t ≡ inside ++ r ∷ behind → inner ≡ 0 + length (spelled inside) → m.place ≡ (placed_at offset inner r).place → is_message_top r ≡ true → IsMessage r m.channel m.message
+    → SpanHas offset t m
+inside_has offset t m inside r behind inner split is place kind message =
+    let time : time_in r.content ≡ m.message.log_time = time_shown r.content m.channel m.message message.layout in
+    let there : length (spelled inside) ≡ m.place.inner = omega (arith, is, same_inner m.place (placed_at offset inner r).place place) in
+    let e = entry_there (opened t) inside r behind split kind in
+    let (s, has) = span_there offset t (time_in r.content) (time_there (opened t) r (middle_there (opened t) inside r behind split) kind) in
+    record {
+      offset_is = same_top m.place (placed_at offset inner r).place place;
+      span = s;
+      has = has;
+      entry = subst (λ (n : ℕ). Has (entries_from 0 (opened t)) (entry n m.place.inner)) time (subst (λ (n : ℕ). Has (entries_from 0 (opened t)) (entry (time_in r.content) n)) there e);
+    }
+
+placed_has : (offset : ℕ) (t : Top) (p : Placed) (m : Seen) → Has (placed_one offset t) p → is_message_top p.top ≡ true → p.place ≡ m.place → IsMessage p.top m.channel m.message → SpanHas offset t m
+placed_has offset t p m has is place message =
+    let one = subst (λ (l : List Placed). Has l p) (placed_opened offset t) has in
+    let (held, flat) = filter_passed (λ (q : Placed). is_flat_kind q.top) (placed_inside offset 0 (opened t)) one.0 p one.1 in
+    let g = laid (λ n u. placed_at offset n u ∷ []) (placed_inside offset) (λ n. refl) (λ n u us. refl) 0 (opened t) p held in
+    by g.front g.top g.back g.split (has_one (placed_at offset (0 + length (spelled g.front)) g.top) p g.has)
+  where
+    by : (inside : List Top) (r : Top) (behind : List Top) → opened t ≡ inside ++ r ∷ behind → p ≡ placed_at offset (0 + length (spelled inside)) r → SpanHas offset t m
+    by inside r behind split same =
+        let here = sym place ∙ ap (λ (q : Placed). q.place) same in
+        inside_has offset t m inside r behind (0 + length (spelled inside)) split refl here (subst (λ (q : Placed). is_message_top q.top ≡ true) same is) (subst (λ (q : Placed). IsMessage q.top m.channel m.message) same message)
+
+-- a message is in the span of a record of its file
+pub record MessageSpan (tops : List Top) (m : Seen) : Type 0 where
+  pub front : List Top
+  pub top : Top
+  pub back : List Top
+  pub split : tops ≡ front ++ top ∷ back
+  pub span_has : SpanHas (offset_behind front) top m
+
+pub message_span : (tops : List Top) (messages : List Seen) (m : Seen) → Scan tops messages → Has messages m → MessageSpan tops m
+message_span tops messages m scan has =
+    let (p, at, shows) = zip_back (IsSeen (tops_of (placed tops))) (filter (λ q. is_message_top q.top) (placed tops)) messages has.0 m scan has.1 in
+    let (there, is) = filter_passed (λ (q : Placed). is_message_top q.top) (placed tops) has.0 p at in
+    let f = laid placed_one placed_from (λ n. refl) (λ n u us. refl) 8 tops p there in
+    record { front = f.front; top = f.top; back = f.back; split = f.split; span_has = placed_has (offset_behind f.front) f.top p m f.has is shows.place shows.is }

@@ -1,0 +1,328 @@
+use Rattle.std.proofs.Common.{◌≡◌, ◌∙◌, ℕ, ◌<◌, [], ◌∷◌, ◌++◌, length, map, refl, sym, ap, subst, Err, arith}
+use Rattle.std.proofs.lemmas.List.{length-map}
+use Rattle.mcap_io.specs.Stores.{StoreState}
+use Rattle.rec_data.specs.Parsed.{message_fields}
+use Rattle.mcap_model.specs.Places.{At}
+use Rattle.mcap_model.specs.Walk.{inner_top}
+use Rattle.mcap_model.proofs.Places.{at_read}
+use Rattle.chunk_walk.specs.Pieces.{Files}
+use Rattle.chunk_walk.specs.Stores.{files_of, StoresFit, unasked}
+use Rattle.chunk_walk.specs.Walks.{WalkStands}
+use Rattle.chunk_walk.proofs.Stayed.{stay_on, fit_on, files_stay, leaves_so, leaves_on}
+use Rattle.mcap_merge.proofs.Sources.{used_sized}
+use Rattle.mcap_merge.proofs.Putting.{turn_given, none_given, store_count, input_there, put_more, put_all, stopped_at, stopped_before, leaves_more, asked_in_all, why_refused, why_other}
+use Rattle.mcap_model.specs.declared.ends.Stop.{Stop}
+use Rattle.chunk_writer.specs.declared.phase.Phase.TheVariants as phases
+use Rattle.chunk_writer.specs.Stops.{StopCause}
+use Rattle.mcap_merge.specs.declared.turns.PutRefused.{PutRefused}
+use Rattle.mcap_merge.specs.Turns.{WhyNotAll, PutCounts, stop_of}
+use Rattle.mcap_merge.proofs.turns.put_turns.Goals as goal
+
+pub turns-init : goal.turns-init
+turns-init g c =
+    let state : g.row.T.Denot → StoreState = λ s. g.T.Store.state s in
+    (c.requires.begun, refl, c.requires.fits, leaves_so (map state c.args.stores.now.items) c.args.walk.now c.args.walk.now tt refl refl, c.requires.schemas, c.requires.sized, c.requires.going, refl)
+
+pub advance-requires-clause-stands : goal.advance-requires-clause-stands
+advance-requires-clause-stands g c =
+    let state : g.row.T.Denot → StoreState = λ s. g.T.Store.state s in
+    let olds = map state c.args.stores.now.items in
+    let nows = map state c.turns.stores.items in
+    let files = files_of olds in
+    let was = c.turns.invariant.0 in
+    let is = files_stay olds nows c.turns.invariant.3.stay in
+    (was.texts, was.given, subst (λ (f : Files). WalkStands f c.turns.walk was.texts was.given) (sym is) was.stands)
+
+pub returns-in-Ok-None-clause-all : goal.returns-in-Ok-None-clause-all
+returns-in-Ok-None-clause-all g c =
+    let state : g.row.T.Denot → StoreState = λ s. g.T.Store.state s in
+    let olds = map state c.args.stores.now.items in
+    let nows = map state c.turns.stores.items in
+    let files = files_of olds in
+    let was = c.turns.invariant.0 in
+    let is = files_stay olds nows c.turns.invariant.3.stay in
+    put_all g.P.Pen.adds g.P.Pen.adds_on files c.args.inputs.now c.turns.walk c.advance.new.self c.turns.count c.turns.joiner c.args.pen.now c.turns.pen was
+    (none_given files (files_of nows) c.turns.walk c.advance.new.self c.in-Ok-None.field-0 is c.in-Ok-None.field-0-is c.in-Ok-None.ensures.advances)
+
+pub returns-in-Ok-None-clause-stay : goal.returns-in-Ok-None-clause-stay
+returns-in-Ok-None-clause-stay g c =
+    let state : g.row.T.Denot → StoreState = λ s. g.T.Store.state s in
+    stay_on (map state c.args.stores.now.items) (map state c.turns.stores.items) (map state c.advance.new.stores.items) c.turns.invariant.3.stay c.in-Ok-None.ensures.stores.stay
+
+pub returns-in-Err-clause-some : goal.returns-in-Err-clause-some
+returns-in-Err-clause-some g c =
+    let state : g.row.T.Denot → StoreState = λ s. g.T.Store.state s in
+    let olds = map state c.args.stores.now.items in
+    let nows = map state c.turns.stores.items in
+    let files = files_of olds in
+    let was = c.turns.invariant.0 in
+    let is = files_stay olds nows c.turns.invariant.3.stay in
+    stopped_before g.P.Pen.adds g.P.Pen.adds_on files c.args.inputs.now c.args.walk.now c.turns.walk c.turns.count c.turns.joiner c.args.pen.now c.turns.pen c.lack-stop.new.self was c.turns.invariant.1 (λ records. c.lack-stop.ensures.adds [] records)
+
+pub returns-in-Err-clause-stay : goal.returns-in-Err-clause-stay
+returns-in-Err-clause-stay g c =
+    let state : g.row.T.Denot → StoreState = λ s. g.T.Store.state s in
+    stay_on (map state c.args.stores.now.items) (map state c.turns.stores.items) (map state c.advance.new.stores.items) c.turns.invariant.3.stay c.in-Err.ensures.stores.stay
+
+pub bounds-inputs-number : goal.bounds-inputs-number
+bounds-inputs-number g c =
+    let state : g.row.T.Denot → StoreState = λ s. g.T.Store.state s in
+    let olds = map state c.args.stores.now.items in
+    let nows = map state c.turns.stores.items in
+    let files = files_of olds in
+    let was = c.turns.invariant.0 in
+    let is = files_stay olds nows c.turns.invariant.3.stay in
+    let t = c.in-Ok-Some.turn in
+    let (more, stands, held, same) = turn_given files (files_of nows) c.turns.walk c.advance.new.self t c.in-Ok-Some.field-0 was.texts was.given is c.in-Ok-Some.field-0-is c.in-Ok-Some.ensures.advances was.stands in
+    let fit : StoresFit nows c.advance.new.self.pieces.items = subst (λ v. StoresFit nows v.items) (sym same) c.turns.invariant.2 in
+    let count : length nows ≡ length c.args.inputs.now = store_count olds nows c.turns.invariant.3.stay ∙ length-map c.args.stores.now.items state ∙ c.requires.many in
+    let within : t.input < length c.args.inputs.now = input_there files nows c.advance.new.self (was.texts ++ more) (was.given ++ t ∷ []) t (length c.args.inputs.now) stands held fit count in
+    within
+
+pub message-record-requires : goal.message-record-requires
+message-record-requires g c =
+    let state : g.row.T.Denot → StoreState = λ s. g.T.Store.state s in
+    let olds = map state c.args.stores.now.items in
+    let nows = map state c.turns.stores.items in
+    let files = files_of olds in
+    let was = c.turns.invariant.0 in
+    let is = files_stay olds nows c.turns.invariant.3.stay in
+    let t = c.in-Ok-Some.turn in
+    let (more, stands, held, same) = turn_given files (files_of nows) c.turns.walk c.advance.new.self t c.in-Ok-Some.field-0 was.texts was.given is c.in-Ok-Some.field-0-is c.in-Ok-Some.ensures.advances was.stands in
+    (held.text, held.held, held.has)
+
+pub message_in-requires : goal.message_in-requires
+message_in-requires g c =
+    let state : g.row.T.Denot → StoreState = λ s. g.T.Store.state s in
+    let olds = map state c.args.stores.now.items in
+    let nows = map state c.turns.stores.items in
+    let files = files_of olds in
+    let was = c.turns.invariant.0 in
+    let is = files_stay olds nows c.turns.invariant.3.stay in
+    let t = c.in-Ok-Some.turn in
+    let (more, stands, held, same) = turn_given files (files_of nows) c.turns.walk c.advance.new.self t c.in-Ok-Some.field-0 was.texts was.given is c.in-Ok-Some.field-0-is c.in-Ok-Some.ensures.advances was.stands in
+    let fit : StoresFit nows c.advance.new.self.pieces.items = subst (λ v. StoresFit nows v.items) (sym same) c.turns.invariant.2 in
+    let count : length nows ≡ length c.args.inputs.now = store_count olds nows c.turns.invariant.3.stay ∙ length-map c.args.stores.now.items state ∙ c.requires.many in
+    let within : t.input < length c.args.inputs.now = input_there files nows c.advance.new.self (was.texts ++ more) (was.given ++ t ∷ []) t (length c.args.inputs.now) stands held fit count in
+    let input = c.index-inputs-number.result in
+    let here : At c.args.inputs.now t.input input = subst (At c.args.inputs.now t.input) (sym c.index-inputs-number.is) (at_read c.args.inputs.now t.input input within) in
+    used_sized c.args.inputs.now t.input input c.requires.held here
+
+pub returns-in-None-clause-some : goal.returns-in-None-clause-some
+returns-in-None-clause-some g c =
+    let state : g.row.T.Denot → StoreState = λ s. g.T.Store.state s in
+    let olds = map state c.args.stores.now.items in
+    let nows = map state c.turns.stores.items in
+    let files = files_of olds in
+    let was = c.turns.invariant.0 in
+    let is = files_stay olds nows c.turns.invariant.3.stay in
+    stopped_before g.P.Pen.adds g.P.Pen.adds_on files c.args.inputs.now c.args.walk.now c.turns.walk c.turns.count c.turns.joiner c.args.pen.now c.turns.pen c.lack-stop-in-None.new.self was c.turns.invariant.1 (λ records. c.lack-stop-in-None.ensures.adds [] records)
+
+pub returns-in-None-clause-stay : goal.returns-in-None-clause-stay
+returns-in-None-clause-stay g c =
+    let state : g.row.T.Denot → StoreState = λ s. g.T.Store.state s in
+    stay_on (map state c.args.stores.now.items) (map state c.turns.stores.items) (map state c.advance.new.stores.items) c.turns.invariant.3.stay c.in-Ok-Some.ensures.stores.stay
+
+pub write_message-requires-clause-within : goal.write_message-requires-clause-within
+write_message-requires-clause-within g c =
+    let state : g.row.T.Denot → StoreState = λ s. g.T.Store.state s in
+    let olds = map state c.args.stores.now.items in
+    let nows = map state c.turns.stores.items in
+    let files = files_of olds in
+    let was = c.turns.invariant.0 in
+    let is = files_stay olds nows c.turns.invariant.3.stay in
+    let t = c.in-Ok-Some.turn in
+    let (more, stands, held, same) = turn_given files (files_of nows) c.turns.walk c.advance.new.self t c.in-Ok-Some.field-0 was.texts was.given is c.in-Ok-Some.field-0-is c.in-Ok-Some.ensures.advances was.stands in
+    let fit : StoresFit nows c.advance.new.self.pieces.items = subst (λ v. StoresFit nows v.items) (sym same) c.turns.invariant.2 in
+    let count : length nows ≡ length c.args.inputs.now = store_count olds nows c.turns.invariant.3.stay ∙ length-map c.args.stores.now.items state ∙ c.requires.many in
+    let within : t.input < length c.args.inputs.now = input_there files nows c.advance.new.self (was.texts ++ more) (was.given ++ t ∷ []) t (length c.args.inputs.now) stands held fit count in
+    omega (arith, within, c.turns.invariant.5)
+
+pub returns-in-Err-write_message-clause-some : goal.returns-in-Err-write_message-clause-some
+returns-in-Err-write_message-clause-some g c =
+    let state : g.row.T.Denot → StoreState = λ s. g.T.Store.state s in
+    let olds = map state c.args.stores.now.items in
+    let nows = map state c.turns.stores.items in
+    let files = files_of olds in
+    let was = c.turns.invariant.0 in
+    let is = files_stay olds nows c.turns.invariant.3.stay in
+    let t = c.in-Ok-Some.turn in
+    let (more, stands, held, same) = turn_given files (files_of nows) c.turns.walk c.advance.new.self t c.in-Ok-Some.field-0 was.texts was.given is c.in-Ok-Some.field-0-is c.in-Ok-Some.ensures.advances was.stands in
+    let fit : StoresFit nows c.advance.new.self.pieces.items = subst (λ v. StoresFit nows v.items) (sym same) c.turns.invariant.2 in
+    let count : length nows ≡ length c.args.inputs.now = store_count olds nows c.turns.invariant.3.stay ∙ length-map c.args.stores.now.items state ∙ c.requires.many in
+    let within : t.input < length c.args.inputs.now = input_there files nows c.advance.new.self (was.texts ++ more) (was.given ++ t ∷ []) t (length c.args.inputs.now) stands held fit count in
+    let input = c.index-inputs-number.result in
+    let here : At c.args.inputs.now t.input input = subst (At c.args.inputs.now t.input) (sym c.index-inputs-number.is) (at_read c.args.inputs.now t.input input within) in
+    let message = c.in-Some.message in
+    let m = message_fields message in
+    let there = c.message-record.ensures.message held.text held.held held.has in
+    let (shows, marked) = c.in-Some.ensures in
+    stopped_at g.P.Pen.adds g.P.Pen.adds_on files c.args.inputs.now c.args.walk.now c.turns.walk c.advance.new.self c.turns.count t input message.channel_id m held.text (inner_top c.message-record.result) c.turns.joiner c.args.pen.now c.turns.pen c.write_message.new.pen was more
+    (same ∙ c.turns.invariant.1) stands here marked held.among held.has there shows c.in-Err-write_message.ensures.adds
+    (λ records. g.P.Pen.adds_all c.write_message.new.pen c.in-Err-write_message.stop [] records c.in-Err-write_message.ensures.stopped)
+
+pub returns-in-Err-write_message-clause-stay : goal.returns-in-Err-write_message-clause-stay
+returns-in-Err-write_message-clause-stay g c =
+    let state : g.row.T.Denot → StoreState = λ s. g.T.Store.state s in
+    stay_on (map state c.args.stores.now.items) (map state c.turns.stores.items) (map state c.advance.new.stores.items) c.turns.invariant.3.stay c.in-Ok-Some.ensures.stores.stay
+
+pub turns-preserved : goal.turns-preserved
+turns-preserved g c =
+    let state : g.row.T.Denot → StoreState = λ s. g.T.Store.state s in
+    let olds = map state c.args.stores.now.items in
+    let nows = map state c.turns.stores.items in
+    let files = files_of olds in
+    let was = c.turns.invariant.0 in
+    let is = files_stay olds nows c.turns.invariant.3.stay in
+    let t = c.in-Ok-Some.turn in
+    let (more, stands, held, same) = turn_given files (files_of nows) c.turns.walk c.advance.new.self t c.in-Ok-Some.field-0 was.texts was.given is c.in-Ok-Some.field-0-is c.in-Ok-Some.ensures.advances was.stands in
+    let fit : StoresFit nows c.advance.new.self.pieces.items = subst (λ v. StoresFit nows v.items) (sym same) c.turns.invariant.2 in
+    let count : length nows ≡ length c.args.inputs.now = store_count olds nows c.turns.invariant.3.stay ∙ length-map c.args.stores.now.items state ∙ c.requires.many in
+    let within : t.input < length c.args.inputs.now = input_there files nows c.advance.new.self (was.texts ++ more) (was.given ++ t ∷ []) t (length c.args.inputs.now) stands held fit count in
+    let input = c.index-inputs-number.result in
+    let here : At c.args.inputs.now t.input input = subst (At c.args.inputs.now t.input) (sym c.index-inputs-number.is) (at_read c.args.inputs.now t.input input within) in
+    let message = c.in-Some.message in
+    let m = message_fields message in
+    let there = c.message-record.ensures.message held.text held.held held.has in
+    let (shows, marked) = c.in-Some.ensures in
+    let news = map state c.advance.new.stores.items in
+    let stay = c.in-Ok-Some.ensures.stores.stay in (
+      put_more g.P.Pen.adds g.P.Pen.adds_on files c.args.inputs.now c.turns.walk c.advance.new.self c.turns.count t input message.channel_id m held.text (inner_top c.message-record.result) c.turns.joiner c.write_message.new.joiner c.args.pen.now c.turns.pen c.write_message.new.pen was more
+          stands here marked held.among held.has there shows c.in-Ok.ensures.adds c.in-Ok.ensures.stands,
+      same ∙ c.turns.invariant.1,
+      fit_on nows news c.advance.new.self.pieces.items fit stay,
+      leaves_more olds nows news c.args.walk.now c.turns.walk c.advance.new.self tt c.in-Ok-Some.field-0 c.turns.invariant.3 c.in-Ok-Some.ensures.stores,
+      c.in-Ok.ensures.schemas,
+      c.in-Ok.ensures.sized ∙ c.turns.invariant.5,
+      c.in-Ok.ensures.goes_on,
+      c.in-Ok.ensures.cause ∙ c.turns.invariant.7,
+    )
+
+pub returns-clause-some : goal.returns-clause-some
+returns-clause-some g c =
+    let state : g.row.T.Denot → StoreState = λ s. g.T.Store.state s in
+    let olds = map state c.args.stores.now.items in
+    let nows = map state c.turns.stores.items in
+    let files = files_of olds in
+    let was = c.turns.invariant.0 in
+    let is = files_stay olds nows c.turns.invariant.3.stay in
+    stopped_before g.P.Pen.adds g.P.Pen.adds_on files c.args.inputs.now c.args.walk.now c.turns.walk c.turns.count c.turns.joiner c.args.pen.now c.turns.pen c.lack.new.self was c.turns.invariant.1 (λ records. c.lack.ensures.adds [] records)
+
+pub returns-in-Ok-None-clause-counts : goal.returns-in-Ok-None-clause-counts
+returns-in-Ok-None-clause-counts g c =
+    let state : g.row.T.Denot → StoreState = λ s. g.T.Store.state s in
+    let olds = map state c.args.stores.now.items in
+    let nows = map state c.turns.stores.items in
+    let news = map state c.advance.new.stores.items in
+    let all = leaves_more olds nows news c.args.walk.now c.turns.walk c.advance.new.self tt c.in-Ok-None.field-0 c.turns.invariant.3 c.in-Ok-None.ensures.stores in
+    (all.counts, c.turns.invariant.7)
+
+pub returns-in-Ok-None-clause-asked : goal.returns-in-Ok-None-clause-asked
+returns-in-Ok-None-clause-asked g c =
+    let state : g.row.T.Denot → StoreState = λ s. g.T.Store.state s in
+    let olds = map state c.args.stores.now.items in
+    let nows = map state c.turns.stores.items in
+    let news = map state c.advance.new.stores.items in
+    let all = leaves_more olds nows news c.args.walk.now c.turns.walk c.advance.new.self tt c.in-Ok-None.field-0 c.turns.invariant.3 c.in-Ok-None.ensures.stores in
+    asked_in_all olds news (unasked c.args.walk.now) (unasked c.advance.new.self) all.asked
+
+pub returns-in-Err-clause-why : goal.returns-in-Err-clause-why
+returns-in-Err-clause-why g c =
+    let state : g.row.T.Denot → StoreState = λ s. g.T.Store.state s in
+    let olds = map state c.args.stores.now.items in
+    let nows = map state c.turns.stores.items in
+    let news = map state c.advance.new.stores.items in
+    let is = files_stay olds nows c.turns.invariant.3.stay in
+    why_refused (files_of olds) (files_of nows) c.args.walk.now c.turns.walk c.args.inputs.now c.in-Err.why is c.turns.invariant.1 c.in-Err.ensures.advances
+
+pub returns-in-Err-clause-counts : goal.returns-in-Err-clause-counts
+returns-in-Err-clause-counts g c =
+    let state : g.row.T.Denot → StoreState = λ s. g.T.Store.state s in
+    let olds = map state c.args.stores.now.items in
+    let nows = map state c.turns.stores.items in
+    let news = map state c.advance.new.stores.items in
+    let all = leaves_on olds nows news c.args.walk.now c.turns.walk c.advance.new.self tt (Err c.in-Err.why) c.turns.invariant.3 c.in-Err.ensures.stores in
+    (all.counts, c.lack-stop.ensures.still ∙ c.turns.invariant.7)
+
+pub returns-in-Err-clause-asked : goal.returns-in-Err-clause-asked
+returns-in-Err-clause-asked g c =
+    let state : g.row.T.Denot → StoreState = λ s. g.T.Store.state s in
+    let olds = map state c.args.stores.now.items in
+    let nows = map state c.turns.stores.items in
+    let news = map state c.advance.new.stores.items in
+    let all = leaves_on olds nows news c.args.walk.now c.turns.walk c.advance.new.self tt (Err c.in-Err.why) c.turns.invariant.3 c.in-Err.ensures.stores in
+    all.asked
+
+pub returns-in-None-clause-why : goal.returns-in-None-clause-why
+returns-in-None-clause-why g c =
+    let state : g.row.T.Denot → StoreState = λ s. g.T.Store.state s in
+    let olds = map state c.args.stores.now.items in
+    let nows = map state c.turns.stores.items in
+    let news = map state c.advance.new.stores.items in
+    let files = files_of olds in
+    let was = c.turns.invariant.0 in
+    let is = files_stay olds nows c.turns.invariant.3.stay in
+    let t = c.in-Ok-Some.turn in
+    let (more, stands, held, same) = turn_given files (files_of nows) c.turns.walk c.advance.new.self t c.in-Ok-Some.field-0 was.texts was.given is c.in-Ok-Some.field-0-is c.in-Ok-Some.ensures.advances was.stands in
+    let fit : StoresFit nows c.advance.new.self.pieces.items = subst (λ v. StoresFit nows v.items) (sym same) c.turns.invariant.2 in
+    let count : length nows ≡ length c.args.inputs.now = store_count olds nows c.turns.invariant.3.stay ∙ length-map c.args.stores.now.items state ∙ c.requires.many in
+    let within : t.input < length c.args.inputs.now = input_there files nows c.advance.new.self (was.texts ++ more) (was.given ++ t ∷ []) t (length c.args.inputs.now) stands held fit count in
+    let input = c.index-inputs-number.result in
+    let here : At c.args.inputs.now t.input input = subst (At c.args.inputs.now t.input) (sym c.index-inputs-number.is) (at_read c.args.inputs.now t.input input within) in
+    let there = c.message-record.ensures.message held.text held.held held.has in
+    subst (λ (r : PutRefused). WhyNotAll files c.args.walk.now c.args.inputs.now r) (sym c.changed.ensures)
+    (why_other files c.args.walk.now c.advance.new.self c.args.inputs.now (was.texts ++ more) (was.given ++ t ∷ []) t input (inner_top c.message-record.result) stands held (same ∙ c.turns.invariant.1) here there c.in-None.ensures)
+
+pub returns-in-None-clause-counts : goal.returns-in-None-clause-counts
+returns-in-None-clause-counts g c =
+    let state : g.row.T.Denot → StoreState = λ s. g.T.Store.state s in
+    let olds = map state c.args.stores.now.items in
+    let nows = map state c.turns.stores.items in
+    let news = map state c.advance.new.stores.items in
+    let all = leaves_more olds nows news c.args.walk.now c.turns.walk c.advance.new.self tt c.in-Ok-Some.field-0 c.turns.invariant.3 c.in-Ok-Some.ensures.stores in
+    subst (λ (r : PutRefused). PutCounts {X = ℕ} olds news (g.P.Pen.failures c.args.pen.now) (g.P.Pen.failures c.lack-stop-in-None.new.self) (Err r)) (sym c.changed.ensures) (all.counts, c.lack-stop-in-None.ensures.still ∙ c.turns.invariant.7)
+
+pub returns-in-None-clause-asked : goal.returns-in-None-clause-asked
+returns-in-None-clause-asked g c =
+    let state : g.row.T.Denot → StoreState = λ s. g.T.Store.state s in
+    let olds = map state c.args.stores.now.items in
+    let nows = map state c.turns.stores.items in
+    let news = map state c.advance.new.stores.items in
+    let all = leaves_more olds nows news c.args.walk.now c.turns.walk c.advance.new.self tt c.in-Ok-Some.field-0 c.turns.invariant.3 c.in-Ok-Some.ensures.stores in
+    asked_in_all olds news (unasked c.args.walk.now) (unasked c.advance.new.self) all.asked
+
+pub returns-in-None-clause-stopped : goal.returns-in-None-clause-stopped
+returns-in-None-clause-stopped g c =
+    subst (λ (r : PutRefused). g.P.Pen.phase c.lack-stop-in-None.new.self ≡ phases.Stopped (stop_of r)) (sym c.changed.ensures) (c.lack-stop-in-None.ensures.stopped ∙ ap (λ (w : Stop). phases.Stopped w) c.lack-stop-in-None.ensures.why)
+
+pub returns-in-Err-write_message-clause-counts : goal.returns-in-Err-write_message-clause-counts
+returns-in-Err-write_message-clause-counts g c =
+    let state : g.row.T.Denot → StoreState = λ s. g.T.Store.state s in
+    let olds = map state c.args.stores.now.items in
+    let nows = map state c.turns.stores.items in
+    let news = map state c.advance.new.stores.items in
+    let all = leaves_more olds nows news c.args.walk.now c.turns.walk c.advance.new.self tt c.in-Ok-Some.field-0 c.turns.invariant.3 c.in-Ok-Some.ensures.stores in
+    (all.counts, subst (λ (n : ℕ). StopCause n (g.P.Pen.failures c.write_message.new.pen) c.in-Err-write_message.stop) c.turns.invariant.7 c.in-Err-write_message.ensures.cause)
+
+pub returns-in-Err-write_message-clause-asked : goal.returns-in-Err-write_message-clause-asked
+returns-in-Err-write_message-clause-asked g c =
+    let state : g.row.T.Denot → StoreState = λ s. g.T.Store.state s in
+    let olds = map state c.args.stores.now.items in
+    let nows = map state c.turns.stores.items in
+    let news = map state c.advance.new.stores.items in
+    let all = leaves_more olds nows news c.args.walk.now c.turns.walk c.advance.new.self tt c.in-Ok-Some.field-0 c.turns.invariant.3 c.in-Ok-Some.ensures.stores in
+    asked_in_all olds news (unasked c.args.walk.now) (unasked c.advance.new.self) all.asked
+
+pub returns-clause-counts : goal.returns-clause-counts
+returns-clause-counts g c =
+    let state : g.row.T.Denot → StoreState = λ s. g.T.Store.state s in
+    let olds = map state c.args.stores.now.items in
+    let nows = map state c.turns.stores.items in
+    (c.turns.invariant.3.counts, subst (λ (w : Stop). StopCause (g.P.Pen.failures c.args.pen.now) (g.P.Pen.failures c.lack.new.self) w) (sym c.lack.ensures.why) (c.lack.ensures.still ∙ c.turns.invariant.7))
+
+pub returns-clause-asked : goal.returns-clause-asked
+returns-clause-asked g c =
+    let state : g.row.T.Denot → StoreState = λ s. g.T.Store.state s in
+    let olds = map state c.args.stores.now.items in
+    let nows = map state c.turns.stores.items in
+    asked_in_all olds nows (unasked c.args.walk.now) (unasked c.turns.walk) c.turns.invariant.3.asked

@@ -1,0 +1,37 @@
+-- The channels of an input that have messages, as marks at their ids.
+use Rattle.std.specs.Prelude.{◌≡◌, ℕ, List, length, take, map, fold, filter, set, Bool, true, false}
+use Rattle.std.specs.List.{flat_map}
+use Rattle.mcap_wire.specs.Layout.{number}
+use Rattle.mcap_model.specs.Places.{At, Has}
+use Rattle.mcap_model.specs.Tops.{Top, opened}
+use Rattle.mcap_model.specs.Scan.{Seen, is_message_top}
+
+-- the channel in a Message's content, at its front
+abbrev pub channel_in : List ℕ → ℕ
+channel_in content = number (take 2 content)
+
+-- those of the Messages among some records
+abbrev pub channels_of : List Top → List ℕ
+channels_of records = map (λ t. channel_in t.content) (filter is_message_top records)
+
+-- those of the Messages of a file, inside its chunks too
+abbrev pub channels_under : List Top → List ℕ
+channels_under tops = flat_map (λ t. channels_of (opened t)) tops
+
+-- an id more is marked
+abbrev pub with_mark : List Bool → ℕ → List Bool
+with_mark marks id = set marks id true
+
+abbrev pub with_marks : List Bool → List ℕ → List Bool
+with_marks marks ids = fold with_mark marks ids
+
+-- a place for each id, and no mark
+pub record AreUnmarked (marks : List Bool) : Type 0 where
+  pub size : length marks ≡ 65536
+  pub none : (id : ℕ) (mark : Bool) → At marks id mark → mark ≡ false
+
+-- just the channels of these messages are marked
+pub record AreMarked (marks : List Bool) (messages : List Seen) : Type 0 where
+  pub size : length marks ≡ 65536
+  pub are : (id : ℕ) → At marks id true → (m : Seen) × Has messages m × (m.channel ≡ id)
+  pub all : (m : Seen) → Has messages m → At marks m.channel true
