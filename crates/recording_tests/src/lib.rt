@@ -18,6 +18,8 @@ mod lanes;
 #[cfg(test)]
 mod merges;
 #[cfg(test)]
+mod overlaps;
+#[cfg(test)]
 mod passes;
 #[cfg(test)]
 mod recordings;

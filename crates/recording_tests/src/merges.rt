@@ -11,7 +11,7 @@ use std::alloc::Global;
 use std::test::Fail;
 
 // Channel 1 of topic /a, and messages on it, the first at 10.
-const CHANNEL_A: &[u8] = b"\x04\x12\0\0\0\0\0\0\0\x01\0\0\0\x02\0\0\0/a\0\0\0\0\0\0\0\0";
+pub(crate) const CHANNEL_A: &[u8] = b"\x04\x12\0\0\0\0\0\0\0\x01\0\0\0\x02\0\0\0/a\0\0\0\0\0\0\0\0";
 
 const MESSAGE_A: &[u8] =
     b"\x05\x17\0\0\0\0\0\0\0\x01\0\x01\0\0\0\x0a\0\0\0\0\0\0\0\x09\0\0\0\0\0\0\0\xaa";
@@ -32,8 +32,8 @@ const MESSAGE_C: &[u8] =
 const CHANNEL_D: &[u8] =
     b"\x04\x1c\0\0\0\0\0\0\0\x01\0\0\0\x02\0\0\0/a\0\0\0\0\x0a\0\0\0\x01\0\0\0k\x01\0\0\0v";
 
-// What stands in a merged file in front of its first record: the magic, a Header without profile, and the head of the Chunk.
-const FIRST: usize = 83;
+/// What stands in a merged file in front of its first record: the magic, a Header without profile, and the head of the Chunk.
+pub(crate) const FIRST: usize = 83;
 
 // A file of that profile and these records.
 fn source(alloc: Global, profile: &str, records: &[&[u8]]) -> Result<QuietStore, Fail>
@@ -78,16 +78,16 @@ fn merged(
     Ok((result, live.into_bytes()))
 }
 
-// Whether it is merged, with so many messages and records.
-fn counts(found: &Result<Merged, MergeRefused>, messages: u64, records: u64) -> bool {
+/// Whether it is merged, with so many messages and records.
+pub(crate) fn counts(found: &Result<Merged, MergeRefused>, messages: u64, records: u64) -> bool {
     match found {
-        Ok(merged) => *merged == Merged { messages, records },
+        Ok(merged) => (merged.messages, merged.records) == (messages, records),
         Err(_) => false,
     }
 }
 
-// Whether these records follow one another from the place on.
-fn stand(bytes: &[u8], at: usize, records: &[&[u8]]) -> bool {
+/// Whether these records follow one another from the place on.
+pub(crate) fn stand(bytes: &[u8], at: usize, records: &[&[u8]]) -> bool {
     let mut at = at;
     for record in records {
         match bytes.get(at..at.saturating_add(record.len())) {

@@ -89,15 +89,16 @@ fn put(
     }
 }
 
-// Writes the three records and the end of their file.
+// Writes the records and the end of their file.
 fn write_all(
     alloc: Global,
     scribe: &mut Scribe<MemoryLive>,
+    records: &[&[u8]],
     entries: &mut Vec<Entry<Piece>>,
 ) -> Result<(), Fail> {
-    put(alloc, scribe, channel(), entries)?;
-    put(alloc, scribe, first(), entries)?;
-    put(alloc, scribe, second(), entries)?;
+    for record in records {
+        put(alloc, scribe, record, entries)?;
+    }
     keep(end_file(scribe), entries)
 }
 
@@ -115,16 +116,26 @@ fn open(alloc: Global, chunk: Option<u64>) -> Result<Scribe<MemoryLive>, Fail>
     }
 }
 
-// Writes a file of the three records.
-fn write(alloc: Global, chunk: Option<u64>) -> Result<Outcome, Fail>
+// Writes a file of the records.
+fn write(alloc: Global, chunk: Option<u64>, records: &[&[u8]]) -> Result<Outcome, Fail>
     requires { (n : ℕ) → chunk ≡ Some n → (1 ≤ n) × (n ≤ chunk_size_limit) }
 {
     let mut scribe = open(alloc, chunk)?;
     let mut entries = Vec::new(alloc);
-    let written = write_all(alloc, &mut scribe, &mut entries);
+    let written = write_all(alloc, &mut scribe, records, &mut entries);
     let text = scribe.into_store().into_bytes();
     match written {
         Ok(()) => Ok(Outcome { text, entries }),
+        Err(fail) => Err(fail),
+    }
+}
+
+/// A file of the records in chunks of that size in bytes.
+pub(crate) fn chunked(alloc: Global, chunk: u64, records: &[&[u8]]) -> Result<Vec<u8>, Fail>
+    requires { (1 ≤ chunk) × (chunk ≤ chunk_size_limit) }
+{
+    match write(alloc, Some(chunk), records) {
+        Ok(outcome) => Ok(outcome.text),
         Err(fail) => Err(fail),
     }
 }
@@ -154,14 +165,14 @@ fn all_tell(file: &Outcome) -> bool {
 
 #[test]
 fn an_entry_tells_of_its_block(rt: HostRuntime) -> Result<(), Fail> {
-    let file = write(rt.alloc(), Some(59))?;
+    let file = write(rt.alloc(), Some(59), &[channel(), first(), second()])?;
     holds(&rt, all_tell(&file));
     Ok(())
 }
 
 #[test]
 fn records_that_are_put_plain_stand_one_behind_the_other(rt: HostRuntime) -> Result<(), Fail> {
-    let file = write(rt.alloc(), None)?;
+    let file = write(rt.alloc(), None, &[channel(), first(), second()])?;
     holds(
         &rt,
         file.text.as_slice() == plain_file() && file.entries.is_empty(),
