@@ -23,7 +23,7 @@ use Rattle.feed_lane.specs.Pass.{PassState, Finds, with_found}
 use Rattle.buffer_swap.specs.Posts.{Post}
 use Rattle.buffer_swap.specs.Calls.{stopped_at}
 use Rattle.recorder.specs.Recorded.{answer_of}
-use Rattle.recorder.specs.Writing.{MayWrite, Continues, StopsWith, StopsIntake, WritesOn}
+use Rattle.recorder.specs.Writing.{MayWrite, Continues, StopsWith, StopsIntake, SeenTape, WritesOn}
 use Rattle.recorder.specs.Onto.{phase_at}
 
 -- ---- phases
@@ -157,10 +157,10 @@ module _ {T : Type 0} (phase : T → Phase) (failures : T → ℕ) (limit_met : 
   pub stops_later : (halt : Option Stop) → StopsWith halt (phase tape) → ((stop : Stop) → phase tape ≡ phases.Stopped stop → later ≡ tape) → StopsWith halt (phase later)
   stops_later halt was kept = λ stop is. ap phase (kept stop (was stop is)) ∙ was stop is
 
-module _ {T X : Type 0} (grows : T → T → List Rec → List (Entry X) → Type 0) (phase : T → Phase) (failures : T → ℕ) (limit_met : T → ℕ → ℕ → Type 0) where
+module _ {T X : Type 0} (seen : SeenTape T X) where
   -- nothing was taken
-  pub writes_none : ((t : T) → grows t t [] []) → (t : T) (before : List Rec) (post : Post) → post.taken ≡ before → MayWrite (phase t) → StopsWith post.stop (phase t)
-      → WritesOn grows phase failures limit_met t t before post
+  pub writes_none : ((t : T) → seen.grows t t [] []) → (t : T) (before : List Rec) (post : Post) → post.taken ≡ before → MayWrite (seen.phase t) → StopsWith post.stop (seen.phase t)
+      → WritesOn seen t t before post
   writes_none none t before post same may stops = record {
     more = [];
     entries = [];
@@ -169,28 +169,28 @@ module _ {T X : Type 0} (grows : T → T → List Rec → List (Entry X) → Typ
     records = λ k d lt. absurd (omega (arith, lt));
     may = may;
     stops = stops;
-    goes = continues_same (limit_met t) (phase t) (failures t);
+    goes = continues_same (seen.limit_met t) (seen.phase t) (seen.failures t);
     kept = λ stop is. refl;
   }
 
   -- a buffer was taken
-  pub writes_one : (t u : T) (before records : List Rec) (entries : List (Entry X)) (post : Post) → post.taken ≡ before ++ records → grows t u records entries → All IsKept records → MayWrite (phase t)
-      → (phase t ≡ phases.Going → Continues (limit_met u) (phase u) (failures t) (failures u)) → ((stop : Stop) → phase t ≡ phases.Stopped stop → u ≡ t) → StopsWith post.stop (phase u)
-      → WritesOn grows phase failures limit_met t u before post
+  pub writes_one : (t u : T) (before records : List Rec) (entries : List (Entry X)) (post : Post) → post.taken ≡ before ++ records → seen.grows t u records entries → All IsKept records → MayWrite (seen.phase t)
+      → (seen.phase t ≡ phases.Going → Continues (seen.limit_met u) (seen.phase u) (seen.failures t) (seen.failures u)) → ((stop : Stop) → seen.phase t ≡ phases.Stopped stop → u ≡ t) → StopsWith post.stop (seen.phase u)
+      → WritesOn seen t u before post
   writes_one t u before records entries post is more all may goes kept stops = record {
     more = records;
     entries = entries;
     taken = is;
     grown = more;
     records = all;
-    may = may_later phase failures limit_met t u (phase t) refl may goes kept;
+    may = may_later seen.phase seen.failures seen.limit_met t u (seen.phase t) refl may goes kept;
     stops = stops;
     goes = goes;
     kept = kept;
   }
 
-  pub writes_on : ((t u v : T) (before behind : List Rec) (one other : List (Entry X)) → grows t u before one → grows u v behind other → grows t v (before ++ behind) (one ++ other)) → (t u v : T) (a : List Rec) (one other : Post)
-      → WritesOn grows phase failures limit_met t u a one → WritesOn grows phase failures limit_met u v one.taken other → WritesOn grows phase failures limit_met t v a other
+  pub writes_on : ((t u v : T) (before behind : List Rec) (one other : List (Entry X)) → seen.grows t u before one → seen.grows u v behind other → seen.grows t v (before ++ behind) (one ++ other)) → (t u v : T) (a : List Rec) (one other : Post)
+      → WritesOn seen t u a one → WritesOn seen u v one.taken other → WritesOn seen t v a other
   writes_on on t u v a one other first second = record {
     more = first.more ++ second.more;
     entries = first.entries ++ second.entries;
@@ -199,8 +199,8 @@ module _ {T X : Type 0} (grows : T → T → List Rec → List (Entry X) → Typ
     records = All-append IsKept first.more second.more first.records second.records;
     may = second.may;
     stops = second.stops;
-    goes = λ going. continues_on phase failures limit_met u v (failures t) (phase u) refl (first.goes going) second.goes second.kept;
-    kept = λ stop is. let same = first.kept stop is in second.kept stop (ap phase same ∙ is) ∙ same;
+    goes = λ going. continues_on seen.phase seen.failures seen.limit_met u v (seen.failures t) (seen.phase u) refl (first.goes going) second.goes second.kept;
+    kept = λ stop is. let same = first.kept stop is in second.kept stop (ap seen.phase same ∙ is) ∙ same;
   }
 
 -- ---- what a tape took since it was new

@@ -7,11 +7,9 @@ use Rattle.mcap_model.specs.declared.ends.End.TheVariants as ends
 use Rattle.mcap_model.specs.declared.ends.Stop.{Stop}
 use Rattle.mcap_model.specs.Places.{Each}
 use Rattle.mcap_model.proofs.Places.{at_none}
-use Rattle.live_entry.specs.declared.entry.Entry.{Entry}
 use Rattle.chunk_writer.specs.declared.phase.Phase.{Phase}
 use Rattle.chunk_writer.specs.declared.phase.Phase.TheVariants as phases
 use Rattle.chunk_writer.specs.declared.scribe.Scribe.{Scribe}
-use Rattle.chunk_writer.specs.declared.tape.Written.{Written}
 use Rattle.chunk_writer.specs.Stops.{StopsAt, StopCause, Cause}
 use Rattle.chunk_writer.specs.Scribes.{Writes, store_of, phase_of, blocks_of, bytes_of}
 use Rattle.chunk_writer.specs.Tapes.{KeepsCause, TakesOn, EndsOn, MeetsLimit}
@@ -21,7 +19,8 @@ use Rattle.recorder.specs.declared.options.RecordOptions.{RecordOptions}
 use Rattle.recorder.specs.declared.report.Report.{Report}
 use Rattle.recorder.specs.declared.report.WriterReport.{WriterReport}
 use Rattle.recorder.specs.Recorded.{answer_of, Sides, sides, WriterRecorded, Recorded}
-use Rattle.recorder.specs.Onto.{IsWritten, IsAll, IsReported, RecordedOnto}
+use Rattle.recorder.specs.Writing.{SeenTape, seen_tape}
+use Rattle.recorder.specs.Onto.{IsWritten, IsAll, IsReported, tape_sides, RecordedOnto}
 
 pub same_report : {a b : Report} → Some a ≡ Some b → a ≡ b
 same_report e = cc
@@ -56,11 +55,11 @@ zip_same R same (x ∷ xs) = (same x, zip_same R same xs)
 
 -- ---- what a tape took
 
-module _ {T X : Type 0} (grows : T → T → List Rec → List (Entry X) → Type 0) (end_so : T → T → Option (Entry X) → Written → Result Unit Stop → Type 0) (phase : T → Phase) (numbers : T → Written) (failures : T → ℕ) (limit_met : T → ℕ → ℕ → Type 0) where
+module _ {T X : Type 0} (seen : SeenTape T X) where
   pub onto_so : (l limit : ℕ) (b lossless : Bool) (s sources now : List SourceState) (first last : T) (report r : Report) → Some report ≡ Some r → l ≡ limit → b ≡ lossless → s ≡ sources
-      → RecordedOnto grows end_so phase numbers failures limit_met l b s now first last report → RecordedOnto grows end_so phase numbers failures limit_met limit lossless sources now first last r
+      → RecordedOnto seen l b (tape_sides s first) (tape_sides now last) report → RecordedOnto seen limit lossless (tape_sides sources first) (tape_sides now last) r
   onto_so l limit b lossless s sources now first last report r is limits losses same it =
-      subst (λ (x : Report). RecordedOnto grows end_so phase numbers failures limit_met limit lossless sources now first last x) (same_report is) (record {
+      subst (λ (x : Report). RecordedOnto seen limit lossless (tape_sides sources first) (tape_sides now last) x) (same_report is) (record {
         history = it.history;
         reported = reported_so l limit b lossless s sources now it.history report limits losses same it.reported;
         written = it.written;
@@ -84,8 +83,8 @@ module _ {L X : Type 0} (state : L → LiveState) (tells : X → Option (List �
   -- onto a scribe
   pub onto_scribe : (live : LiveState) (first last : Scribe L) (store : L) (history : List Rec) (report r : Report) → Some report ≡ Some r → store ≡ store_of last
       → Writes state options.file [] live [] first → phase_of first ≡ phases.Going → (state (store_of first)).faults ≡ live.faults → IsReported options.limit options.lossless sources now history report
-      → IsWritten (λ before after records entries. TakesOn state tells size before after records entries) (λ before after closing written end. EndsOn state tells size before after closing written end)
-      (λ s. phase_of s) (λ s. record { blocks = blocks_of s; bytes = bytes_of s }) (λ s. (state (store_of s)).faults) (λ s blocks bytes. MeetsLimit state s blocks bytes) first last history report.writer
+      → IsWritten (seen_tape (λ before after records entries. TakesOn state tells size before after records entries) (λ before after closing written end. EndsOn state tells size before after closing written end)
+      (λ s blocks bytes. MeetsLimit state s blocks bytes) (λ s. phase_of s) (λ s. record { blocks = blocks_of s; bytes = bytes_of s }) (λ s. (state (store_of s)).faults)) first last history report.writer
       → IsAll history report.writer → Recorded options (sides sources live) (sides now (state store)) r
   onto_scribe live first last store history report r is stored stands going still reported written all =
       let before = sides sources live in

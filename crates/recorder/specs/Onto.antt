@@ -1,10 +1,9 @@
 -- What a recording came to beside its tape.
-use Rattle.std.specs.Prelude.{◌≡◌, ℕ, List, [], length, map, Bool, true, Option, Result}
+use Rattle.std.specs.Prelude.{◌≡◌, ℕ, List, [], length, map, Bool, true, Option}
 use Rattle.rec_data.specs.declared.owned.Rec.{Rec}
 use Rattle.mcap_io.specs.Outside.{SourceState}
 use Rattle.mcap_model.specs.declared.ends.End.{End}
 use Rattle.mcap_model.specs.declared.ends.End.TheVariants as ends
-use Rattle.mcap_model.specs.declared.ends.Stop.{Stop}
 use Rattle.mcap_model.specs.Places.{Each}
 use Rattle.record_cache.specs.Buffers.{IsKept}
 use Rattle.live_entry.specs.declared.entry.Entry.{Entry}
@@ -16,6 +15,7 @@ use Rattle.recorder.specs.declared.report.Report.{Report}
 use Rattle.recorder.specs.declared.report.WriterReport.{WriterReport}
 use Rattle.recorder.specs.Assembled.{Assembled}
 use Rattle.recorder.specs.Recorded.{FeedRecorded, lane_of, AreFeeds, answer_of}
+use Rattle.recorder.specs.Writing.{SeenTape}
 
 -- how far a tape has come where a writer ended so
 abbrev pub phase_at : End → Phase
@@ -28,16 +28,15 @@ numbers_of w = record { blocks = w.blocks; bytes = w.bytes }
 
 -- The tape grew by the history, with the entries of the blocks that were appended, and came to the end that is told, with the
 -- numbers that are told: where the writer closed the tape has ended, else it keeps the refusal.
-pub record IsWritten {T X : Type 0} (grows : T → T → List Rec → List (Entry X) → Type 0) (end_so : T → T → Option (Entry X) → Written → Result Unit Stop → Type 0) (phase : T → Phase) (numbers : T → Written) (failures : T → ℕ) (limit_met : T → ℕ → ℕ → Type 0)
-    (first last : T) (history : List Rec) (w : WriterReport) : Type 0 where
+pub record IsWritten {T X : Type 0} (seen : SeenTape T X) (first last : T) (history : List Rec) (w : WriterReport) : Type 0 where
   pub mid : T
   pub entries : List (Entry X)
   pub closing : Option (Entry X)
-  pub grown : grows first mid history entries
-  pub ended : end_so mid last closing (numbers_of w) (answer_of w.end)
-  pub phase_is : phase last ≡ phase_at w.end
-  pub numbers_are : numbers last ≡ numbers_of w
-  pub cause : EndsFor (failures first) (failures last) (limit_met last) (answer_of w.end)
+  pub grown : seen.grows first mid history entries
+  pub ended : seen.ends mid last closing (numbers_of w) (answer_of w.end)
+  pub phase_is : seen.phase last ≡ phase_at w.end
+  pub numbers_are : seen.numbers last ≡ numbers_of w
+  pub cause : EndsFor (seen.failures first) (seen.failures last) (seen.limit_met last) (answer_of w.end)
 
 -- as many records are told as the history has, and each can be framed and is read back
 pub record IsAll (history : List Rec) (w : WriterReport) : Type 0 where
@@ -51,11 +50,18 @@ pub record IsReported (limit : ℕ) (lossless : Bool) (before now : List SourceS
   pub assembled : Assembled limit (map lane_of feeds) history r.writer.end
   pub unfull : lossless ≡ true → Each (λ f. f.pass.fulls ≡ []) feeds
 
+-- what is seen of the sources of a recording, and its tape
+pub record TapeSides (T : Type 0) : Type 0 where
+  pub sources : List SourceState
+  pub tape : T
+
+abbrev pub tape_sides : {T : Type 0} → List SourceState → T → TapeSides T
+tape_sides sources tape = record { sources = sources; tape = tape }
+
 -- What a recording onto a tape came to: what its lanes read and showed, and the history, which its report describes and by
--- which the tape grew. What is seen of a tape is handed in.
-pub record RecordedOnto {T X : Type 0} (grows : T → T → List Rec → List (Entry X) → Type 0) (end_so : T → T → Option (Entry X) → Written → Result Unit Stop → Type 0) (phase : T → Phase) (numbers : T → Written) (failures : T → ℕ) (limit_met : T → ℕ → ℕ → Type 0)
-    (limit : ℕ) (lossless : Bool) (before now : List SourceState) (first last : T) (r : Report) : Type 0 where
+-- which the tape grew.
+pub record RecordedOnto {T X : Type 0} (seen : SeenTape T X) (limit : ℕ) (lossless : Bool) (before now : TapeSides T) (r : Report) : Type 0 where
   pub history : List Rec
-  pub reported : IsReported limit lossless before now history r
-  pub written : IsWritten grows end_so phase numbers failures limit_met first last history r.writer
+  pub reported : IsReported limit lossless before.sources now.sources history r
+  pub written : IsWritten seen before.tape now.tape history r.writer
   pub all : IsAll history r.writer

@@ -1,5 +1,5 @@
 -- A tape beside a drain: how far the steps of a writer have come.
-use Rattle.std.specs.Prelude.{◌≡◌, ◌⊎◌, ℕ, ◌≤◌, List, [], ◌++◌, All, Option, Some}
+use Rattle.std.specs.Prelude.{◌≡◌, ◌⊎◌, ℕ, ◌≤◌, List, [], ◌++◌, All, Option, Some, Result}
 use Rattle.rec_data.specs.declared.owned.Rec.{Rec}
 use Rattle.mcap_model.specs.declared.ends.End.{End}
 use Rattle.mcap_model.specs.declared.ends.Stop.{Stop}
@@ -9,6 +9,7 @@ use Rattle.record_core.specs.declared.answers.Found.{Found}
 use Rattle.live_entry.specs.declared.entry.Entry.{Entry}
 use Rattle.chunk_writer.specs.declared.phase.Phase.{Phase}
 use Rattle.chunk_writer.specs.declared.phase.Phase.TheVariants as phases
+use Rattle.chunk_writer.specs.declared.tape.Written.{Written}
 use Rattle.chunk_writer.specs.Tapes.{StopsFor}
 use Rattle.feed_lane.specs.Pass.{PassState}
 use Rattle.buffer_swap.specs.Posts.{Post}
@@ -42,15 +43,28 @@ pub record HasFoundEnd (pass : PassState) : Type 0 where
 abbrev pub StopsIntake : PassState → Post → Phase → Type 0
 StopsIntake pass post phase = (stop : Stop) → phase ≡ phases.Stopped stop → (post.stop ≡ Some stop) ⊎ HasFoundEnd pass
 
+-- What is seen of a tape: how it takes records and how it ends, where its own limit is met, how far it has come, how many
+-- blocks and bytes it took, and how often it failed.
+pub record SeenTape (T X : Type 0) : Type 1 where
+  pub grows : T → T → List Rec → List (Entry X) → Type 0
+  pub ends : T → T → Option (Entry X) → Written → Result Unit Stop → Type 0
+  pub limit_met : T → ℕ → ℕ → Type 0
+  pub phase : T → Phase
+  pub numbers : T → Written
+  pub failures : T → ℕ
+
+abbrev pub seen_tape : {T X : Type 0} → (T → T → List Rec → List (Entry X) → Type 0) → (T → T → Option (Entry X) → Written → Result Unit Stop → Type 0) → (T → ℕ → ℕ → Type 0) → (T → Phase) → (T → Written) → (T → ℕ) → SeenTape T X
+seen_tape grows ends limit_met phase numbers failures = record { grows = grows; ends = ends; limit_met = limit_met; phase = phase; numbers = numbers; failures = failures }
+
 -- The tape, which was the first one, got the records by which what the drain took has grown, and no others, and gave these
--- entries. What is seen of a tape is handed in.
-pub record WritesOn {T X : Type 0} (grows : T → T → List Rec → List (Entry X) → Type 0) (phase : T → Phase) (failures : T → ℕ) (limit_met : T → ℕ → ℕ → Type 0) (first now : T) (before : List Rec) (post : Post) : Type 0 where
+-- entries.
+pub record WritesOn {T X : Type 0} (seen : SeenTape T X) (first now : T) (before : List Rec) (post : Post) : Type 0 where
   pub more : List Rec
   pub entries : List (Entry X)
   pub taken : post.taken ≡ before ++ more
-  pub grown : grows first now more entries
+  pub grown : seen.grows first now more entries
   pub records : All IsKept more
-  pub may : MayWrite (phase now)
-  pub stops : StopsWith post.stop (phase now)
-  pub goes : phase first ≡ phases.Going → Continues (limit_met now) (phase now) (failures first) (failures now)
-  pub kept : (stop : Stop) → phase first ≡ phases.Stopped stop → now ≡ first
+  pub may : MayWrite (seen.phase now)
+  pub stops : StopsWith post.stop (seen.phase now)
+  pub goes : seen.phase first ≡ phases.Going → Continues (seen.limit_met now) (seen.phase now) (seen.failures first) (seen.failures now)
+  pub kept : (stop : Stop) → seen.phase first ≡ phases.Stopped stop → now ≡ first

@@ -13,9 +13,9 @@ ghost use Rattle.record_core.specs.Desk.{IsCause};
 ghost use Rattle.feed_lane.specs.Pass.{no_calls};
 ghost use Rattle.feed_lane.specs.Feeds.{ListsMessages};
 ghost use Rattle.buffer_swap.specs.Calls.{first_limit, IsNewTurn, IsOver};
-ghost use Rattle.recorder.specs.Writing.{empty_buffer};
+ghost use Rattle.recorder.specs.Writing.{empty_buffer, seen_tape};
 ghost use Rattle.recorder.specs.Lanes.{IsFresh, AreReady, LanesRan};
-ghost use Rattle.recorder.specs.Onto.{IsWritten, IsAll, IsReported, RecordedOnto};
+ghost use Rattle.recorder.specs.Onto.{IsWritten, IsAll, IsReported, tape_sides, RecordedOnto};
 ghost use Rattle.recorder.specs.Recorded.{sides, Recorded};
 
 use crate::lanes::{Lane, Lanes};
@@ -213,8 +213,8 @@ fn run_beside<R: Threads + Wait + Sync, S: Source + Drop + Send, T: Tape<X: Send
     requires unstopped { writer.drain.seat.me.0.post.stop ≡ None }
     requires going { T.phase writer.tape ≡ phases.Going }
     requires unused { T.is_new writer.tape }
-    ensures recorded { RecordedOnto T.grows T.ends T.phase T.numbers T.failures T.limit_met lanes.entry.control.seat.me.0.pass.limit lanes.entry.lossless
-        (map (λ lane. S.state lane.source) lanes.entry.lanes.items) (map S.state result.feeds.items) writer.entry.tape result.tape result.report }
+    ensures recorded { RecordedOnto (seen_tape T.grows T.ends T.limit_met T.phase T.numbers T.failures) lanes.entry.control.seat.me.0.pass.limit lanes.entry.lossless
+        (tape_sides (map (λ lane. S.state lane.source) lanes.entry.lanes.items) writer.entry.tape) (tape_sides (map S.state result.feeds.items) result.tape) result.report }
     ensures listed { Each (λ f. ListsMessages f listed) result.report.feeds.items }
     ensures stays { AllZip S.stays (map (λ lane. lane.source) lanes.entry.lanes.items) result.feeds.items }
 {
@@ -228,7 +228,7 @@ fn run_beside<R: Threads + Wait + Sync, S: Source + Drop + Send, T: Tape<X: Send
             requires unused { T.is_new writer.tape }
             ensures turn { result.drain.seat.table_id ≡ writer.entry.drain.seat.table_id }
             ensures over { (end : Last) × IsOver result.drain.seat.me.0.pass result.drain.seat.me.0.post end }
-            ensures written { IsWritten T.grows T.ends T.phase T.numbers T.failures T.limit_met writer.entry.tape result.tape result.drain.seat.me.0.post.taken result.report }
+            ensures written { IsWritten (seen_tape T.grows T.ends T.limit_met T.phase T.numbers T.failures) writer.entry.tape result.tape result.drain.seat.me.0.post.taken result.report }
             ensures all { IsAll result.drain.seat.me.0.post.taken result.report }
             ensures stops { (stop : Why) → result.drain.seat.me.0.post.stop ≡ Some stop → result.report.end ≡ Stopped stop }
         { writer.run(rt, spare) },
@@ -287,8 +287,8 @@ impl<'t, R: Threads + Wait + Sync, S: Source + Drop + Send> Ready<'t, R, S> {
         requires going { T.phase tape ≡ phases.Going }
         requires unused { T.is_new tape }
         ensures stays { AllZip S.stays feeds.items result.feeds.items }
-        ensures recorded { RecordedOnto T.grows T.ends T.phase T.numbers T.failures T.limit_met self.entry.lanes.control.seat.me.0.pass.limit self.entry.lanes.lossless
-            (map S.state feeds.items) (map S.state result.feeds.items) tape result.tape result.report }
+        ensures recorded { RecordedOnto (seen_tape T.grows T.ends T.limit_met T.phase T.numbers T.failures) self.entry.lanes.control.seat.me.0.pass.limit self.entry.lanes.lossless
+            (tape_sides (map S.state feeds.items) tape) (tape_sides (map S.state result.feeds.items) result.tape) result.report }
         ensures listed { Each (λ f. ListsMessages f listed) result.report.feeds.items }
     {
         let Ready {
@@ -354,7 +354,8 @@ pub fn record_onto<
     requires unused { T.is_new tape }
     ensures refused { result.report ≡ None → (result.feeds.items ≡ feeds.items) × (result.tape ≡ tape) }
     ensures stays { AllZip S.stays feeds.items result.feeds.items }
-    ensures recorded { (r : _) → result.report ≡ Some r → RecordedOnto T.grows T.ends T.phase T.numbers T.failures T.limit_met options.now.limit options.now.lossless (map S.state feeds.items) (map S.state result.feeds.items) tape result.tape r }
+    ensures recorded { (r : _) → result.report ≡ Some r → RecordedOnto (seen_tape T.grows T.ends T.limit_met T.phase T.numbers T.failures) options.now.limit options.now.lossless
+        (tape_sides (map S.state feeds.items) tape) (tape_sides (map S.state result.feeds.items) result.tape) r }
     ensures listed { (r : _) → result.report ≡ Some r → Each (λ f. ListsMessages f listed) r.feeds.items }
 {
     let Room {

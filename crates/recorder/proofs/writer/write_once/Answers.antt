@@ -5,7 +5,7 @@ use Rattle.feed_lane.specs.Pass.{PassState}
 use Rattle.buffer_swap.specs.Posts.{Post}
 use Rattle.mcap_model.specs.History.{Numbered}
 use Rattle.chunk_writer.specs.Tapes.{HasTaken}
-use Rattle.recorder.specs.Writing.{StopsWith}
+use Rattle.recorder.specs.Writing.{StopsWith, seen_tape}
 use Rattle.recorder.proofs.Draining.{if_some, stopped_taken, stopped_with, may_later, stops_later, writes_none, writes_one, may_take, has_more, halts_later, halts_going, halts_stopped}
 use Rattle.recorder.proofs.writer.write_once.Goals as goal
 
@@ -13,7 +13,7 @@ pub returns-in-Err-clause-writes : goal.returns-in-Err-clause-writes
 returns-in-Err-clause-writes g c =
     let members = g.T.Tape in
     let same = c.in-Err.ensures.swapped.6 in
-    writes_none members.grows members.phase members.failures members.limit_met members.grows_none c.args.tape.now c.args.drain.now.seat.me.0.post.taken _
+    writes_none (seen_tape members.grows members.ends members.limit_met members.phase members.numbers members.failures) members.grows_none c.args.tape.now c.args.drain.now.seat.me.0.post.taken _
     (ap (λ (p : Post). p.taken) same) c.requires.may (λ stop is. c.requires.stops stop (ap (λ (p : Post). p.stop) (sym same) ∙ is))
 
 pub returns-in-Err-clause-over : goal.returns-in-Err-clause-over
@@ -37,7 +37,7 @@ returns-in-Ok-end-clause-writes g c =
     let take = c.take-taken.ensures in
     let kept : (stop : Stop) → members.phase c.args.tape.now ≡ phases.Stopped stop → c.take-taken.new.self ≡ c.args.tape.now = λ stop stopped. (take.kept stop stopped).2 in
     let stops : StopsWith c.swap.new.self.seat.me.0.post.stop (members.phase c.args.tape.now) = λ stop is. c.requires.stops stop (ap (λ (p : Post). p.stop) (sym now) ∙ is) in
-    writes_one members.grows members.phase members.failures members.limit_met c.args.tape.now c.take-taken.new.self c.args.drain.now.seat.me.0.post.taken c.in-Ok.full.records c.take-taken.result.entries.items _
+    writes_one (seen_tape members.grows members.ends members.limit_met members.phase members.numbers members.failures) c.args.tape.now c.take-taken.new.self c.args.drain.now.seat.me.0.post.taken c.in-Ok.full.records c.take-taken.result.entries.items _
     (ap (λ (p : Post). p.taken) now) take.grows c.held-held.ensures.kept c.requires.may
     (λ going. let on = rw c.in-Ok-end.is at take.goes_on in rw on.1 (rw c.in-Ok-end.is at (take.cause going)))
     kept (stops_later members.phase members.failures members.limit_met c.args.tape.now c.take-taken.new.self _ stops kept)
@@ -59,7 +59,7 @@ returns-in-Err-end-clause-writes g c =
     let stopped = rw c.in-Err-end.is at take.stopped in
     let by = c.stop.ensures.stopped in
     let post = c.swap.new.self.seat.me.0.post in
-    writes_one members.grows members.phase members.failures members.limit_met c.args.tape.now c.take-taken.new.self c.args.drain.now.seat.me.0.post.taken c.in-Ok.full.records c.take-taken.result.entries.items _
+    writes_one (seen_tape members.grows members.ends members.limit_met members.phase members.numbers members.failures) c.args.tape.now c.take-taken.new.self c.args.drain.now.seat.me.0.post.taken c.in-Ok.full.records c.take-taken.result.entries.items _
     (ap (λ (p : Post). p.taken) by.stopped ∙ stopped_taken by.found.end c.in-Err-end.stop post ∙ ap (λ (p : Post). p.taken) now) take.grows c.held-held.ensures.kept c.requires.may
     (λ going. rw stopped (rw c.in-Err-end.is at (take.cause going)))
     kept
