@@ -48,7 +48,7 @@ use Rattle.mcap_recover.specs.declared.answers.Why.TheVariants as whys
 use Rattle.mcap_recover.specs.declared.answers.RecoverRefused.{RecoverRefused}
 use Rattle.mcap_recover.specs.declared.answers.RecoverRefused.TheVariants as refusals
 use Rattle.mcap_recover.specs.Keeping.{Keeps, counted}
-use Rattle.mcap_recover.specs.Readings.{HasMagic, RefusedBy, GrammarTold, RefusalTold, HaltTold, OverSo, KeepsNone, Repairing, IsOver, IsStopped, Begun}
+use Rattle.mcap_recover.specs.Readings.{HasMagic, RefusedBy, GrammarTold, RefusalTold, HaltTold, OverSo, KeepsNone, Repairing, origin, IsOver, IsStopped, Begun}
 use Rattle.mcap_recover.specs.Recovering.{recovered_options, TellsHalt, OfRead, OfBoth, OfRepaired, StandsPart, LacksMagic, FaultRose, FaultsStill, Finishes, Recovers}
 
 -- ---- the first ones of some records
@@ -226,7 +226,7 @@ begun_recovers chunk before now opened reader refusals.Memory still = nothing_re
 
 -- the reading failed behind records that were kept
 pub over_recovers : {L : Type 0} (seen : L → LiveState) (chunk : ℕ) (profile : List ℕ) (before now : SourceState) (opened : LiveState) (reader : Reader) (k : Keeping L) (over : Over) (refusal : RecoverRefused)
-    → IsOver seen (recovered_options profile chunk) before now opened reader k over → HaltTold reader over (Err refusal) → phase_of k.scribe ≡ phases.Going → (seen k.scribe.store).faults ≡ opened.faults
+    → IsOver seen (origin (recovered_options profile chunk) before opened) now reader k over → HaltTold reader over (Err refusal) → phase_of k.scribe ≡ phases.Going → (seen k.scribe.store).faults ≡ opened.faults
     → Recovers chunk before now opened (seen k.scribe.store) (Err refusal)
 over_recovers seen chunk profile before now opened reader k over refusal it told going still = by over it.over_so told
   where
@@ -391,7 +391,7 @@ of_exact chunk before tops extras profile history holds good keeps repairs it = 
 }
 
 pub finish_recovers : {L : Type 0} (seen : L → LiveState) (chunk : ℕ) (profile : List ℕ) (before now : SourceState) (opened stored : LiveState) (reader : Reader) (k : Keeping L) (over : Over) (at : ℕ) (why : Why) (result : Result Recovered RecoverRefused)
-    → IsOver seen (recovered_options profile chunk) before now opened reader k over → HaltTold reader over (Ok (at, why)) → (seen k.scribe.store).faults ≡ opened.faults → Finishes seen k stored at why result
+    → IsOver seen (origin (recovered_options profile chunk) before opened) now reader k over → HaltTold reader over (Ok (at, why)) → (seen k.scribe.store).faults ≡ opened.faults → Finishes seen k stored at why result
     → Recovers chunk before now opened stored result
 finish_recovers seen chunk profile before now opened stored reader k over at why (Ok r) it told still finishes =
     let was = it.repairing in

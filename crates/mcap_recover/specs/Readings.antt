@@ -82,10 +82,19 @@ pub record Repairing {L : Type 0} (seen : L → LiveState) (options : FileOption
   pub repairs : Repairs tops options.profile extras history
   pub keeps : Keeps seen options extras opened history k
 
+-- how the new file is written, and the states of the source and of the store before
+pub record Origin : Type 0 where
+  pub options : FileOptions
+  pub before : SourceState
+  pub opened : LiveState
+
+abbrev pub origin : FileOptions → SourceState → LiveState → Origin
+origin options before opened = record { options = options; before = before; opened = opened }
+
 -- the reading came to its end
-pub record IsOver {L : Type 0} (seen : L → LiveState) (options : FileOptions) (before now : SourceState) (opened : LiveState) (reader : Reader) (k : Keeping L) (over : Over) : Type 0 where
-  pub repairing : Repairing seen options before now opened reader k
-  pub over_so : OverSo reader before now repairing.tops over
+pub record IsOver {L : Type 0} (seen : L → LiveState) (from : Origin) (now : SourceState) (reader : Reader) (k : Keeping L) (over : Over) : Type 0 where
+  pub repairing : Repairing seen from.options from.before now from.opened reader k
+  pub over_so : OverSo reader from.before now repairing.tops over
 
 -- the writer stopped at what the last of these records shows
 pub record IsStopped {L : Type 0} (seen : L → LiveState) (options : FileOptions) (before now : SourceState) (opened : LiveState) (k : Keeping L) (stop : Stop) : Type 0 where
@@ -100,9 +109,9 @@ pub record IsStopped {L : Type 0} (seen : L → LiveState) (options : FileOption
   pub keeps : Keeps seen options extras opened history k
   pub stopped : phase_of k.scribe ≡ phases.Stopped stop
 
-abbrev pub ReadsOn : {L : Type 0} → (L → LiveState) → FileOptions → SourceState → SourceState → LiveState → Reader → Keeping L → Result Over Stop → Type 0
-ReadsOn seen options before now opened reader k (Ok over) = IsOver seen options before now opened reader k over
-ReadsOn seen options before now opened reader k (Err stop) = IsStopped seen options before now opened k stop
+abbrev pub ReadsOn : {L : Type 0} → (L → LiveState) → Origin → SourceState → Reader → Keeping L → Result Over Stop → Type 0
+ReadsOn seen from now reader k (Ok over) = IsOver seen from now reader k over
+ReadsOn seen from now reader k (Err stop) = IsStopped seen from.options from.before now from.opened k stop
 
 -- ---- the first record
 

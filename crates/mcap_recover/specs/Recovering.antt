@@ -62,16 +62,25 @@ pub record IsRecovered (chunk : ℕ) (before now : SourceState) (opened stored :
 abbrev pub AnswersSo : List Top → List Rec → ℕ → Why → Recovered → Type 0
 AnswersSo extras history at why r = (r.at ≡ at) × (r.why ≡ why) × (r.messages ≡ counted (length (filter is_message history))) × (r.records ≡ counted (length history)) × (r.extras ≡ counted (length extras))
 
-abbrev pub Finished : LiveState → FileOptions → List Top → LiveState → List Rec → LiveState → ℕ → Why → Result Recovered RecoverRefused → Type 0
-Finished last options extras opened history stored at why (Ok r) = Adds opened.held stored.held (file_of options extras history) × AnswersSo extras history at why r
-    × Holds (length (blocks_in (pieces_of options.chunk history))) (length (file_of options extras history)) × (stored.faults ≡ last.faults) × (stored.waiting ≡ 0)
-Finished last options extras opened history stored at why (Err refusal) = (stop : Stop) × (blocks : ℕ) × (bytes : ℕ) × RefusedBy stop refusal × StopsAt options extras history opened.held stored.held stop blocks bytes
+-- what the new file is made of
+pub record Repair : Type 0 where
+  pub options : FileOptions
+  pub extras : List Top
+  pub history : List Rec
+
+abbrev pub repair : FileOptions → List Top → List Rec → Repair
+repair options extras history = record { options = options; extras = extras; history = history }
+
+abbrev pub Finished : LiveState → Repair → LiveState → LiveState → ℕ → Why → Result Recovered RecoverRefused → Type 0
+Finished last new opened stored at why (Ok r) = Adds opened.held stored.held (file_of new.options new.extras new.history) × AnswersSo new.extras new.history at why r
+    × Holds (length (blocks_in (pieces_of new.options.chunk new.history))) (length (file_of new.options new.extras new.history)) × (stored.faults ≡ last.faults) × (stored.waiting ≡ 0)
+Finished last new opened stored at why (Err refusal) = (stop : Stop) × (blocks : ℕ) × (bytes : ℕ) × RefusedBy stop refusal × StopsAt new.options new.extras new.history opened.held stored.held stop blocks bytes
     × StopCause last.faults stored.faults stop
 
 -- The new file was ended behind extras and a history for which the writer stands, and this is answered; or the writer stopped.
 abbrev pub Finishes : {L : Type 0} → (L → LiveState) → Keeping L → LiveState → ℕ → Why → Result Recovered RecoverRefused → Type 0
 Finishes seen k stored at why result = (options : FileOptions) (extras : List Top) (opened : LiveState) (history : List Rec) → Keeps seen options extras opened history k
-    → Finished (seen k.scribe.store) options extras opened history stored at why result
+    → Finished (seen k.scribe.store) (repair options extras history) opened stored at why result
 
 -- of each file that repairing makes of the source's bytes: this holds of its options, extras and history
 abbrev pub OfRepaired : ℕ → SourceState → (FileOptions → List Top → List Rec → Type 0) → Type 0

@@ -9,7 +9,7 @@ ghost use Rattle.chunk_writer.specs.declared.phase.Phase.TheVariants as phases;
 ghost use Rattle.chunk_writer.specs.Stops.{Cause};
 ghost use Rattle.chunk_writer.specs.Scribes.{store_of, phase_of};
 ghost use Rattle.mcap_recover.specs.Recovering.{Recovers};
-ghost use Rattle.mcap_recover.specs.Readings.{Begun, StartsSo, GrammarTold, HaltTold, Repairing, ReadsOn, RefusedBy};
+ghost use Rattle.mcap_recover.specs.Readings.{Begun, StartsSo, GrammarTold, HaltTold, Repairing, origin, ReadsOn, RefusedBy};
 ghost use Rattle.mcap_recover.specs.Keeping.{CountsSo};
 ghost use Rattle.mcap_recover.specs.declared.answers.RecoverRefused.TheVariants as refusals;
 ghost use Rattle.mcap_recover.specs.Recovering.{Finishes};
@@ -82,7 +82,7 @@ fn read_on<S: Source, L: LiveStore>(
     requires going { phase_of k.old.scribe ≡ phases.Going }
     requires some { (options : Options) × (before : SourceState) × (opened : LiveState) × Repairing L.state options before (S.state source.old) opened reader.old k.old }
     ensures reads { (options : Options) (before : SourceState) (opened : LiveState) → Repairing L.state options before (S.state source.old) opened reader.old k.old
-        → ReadsOn L.state options before (S.state source.new) opened reader.new k.new result }
+        → ReadsOn L.state (origin options before opened) (S.state source.new) reader.new k.new result }
     ensures goes_on { OnOk result (phase_of k.new.scribe ≡ phases.Going) }
     ensures cause { Cause (L.state (store_of k.old.scribe)).faults (L.state (store_of k.new.scribe)).faults result }
     ensures stays { S.stays source.old source.new }
