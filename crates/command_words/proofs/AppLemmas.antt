@@ -1,21 +1,25 @@
--- Which words the program's command takes, with its four subcommands.
-use Rattle.std.proofs.Common.{◌≡◌, ◌≢◌, ◌⊎◌, ◌==◌, ◌++◌, ℕ, true, false, List, [], ◌∷◌, Option, Some, None, refl, sym, ap, subst, inl, inr, ◌∙◌, codes, arith}
-use Rattle.std.specs.Prelude.{fold, is_some}
-use Rattle.std.specs.Str.{IsUtf8}
+-- Which words the program's command takes, with its subcommands.
+use Rattle.std.proofs.Common.{◌≡◌, ◌≢◌, ◌⊎◌, ◌==◌, ◌&&◌, ◌++◌, ℕ, Bool, true, false, List, [], ◌∷◌, Option, Some, None, refl, sym, ap, subst, inl, inr, ◌∙◌, codes, arith}
+use Rattle.std.specs.Prelude.{find, fold, is_some, map, option_map}
+use Rattle.std.specs.Option.{option_map_or}
+use Rattle.std.specs.Str.{IsUtf8, bytes_eq}
+use Rattle.std.proofs.lemmas.Slice.Eq.{bytes_eq-Decides}
 use Rattle.std.proofs.lemmas.Bool.Decides.{nat_tests}
 use Rattle.clap.specs.Kinds.{Kinds, or_else}
-use Rattle.clap.specs.Walk.{Names, Text, Walk, finished, idle, nothing_held, rows_after, settled, subcommand_met, subcommand_or_other, walk, walk_from, walked}
-use Rattle.clap.specs.Simple.{App, Shape, built, entered, names_of, new_shape, subcommand_of}
-use Rattle.clap.specs.Faults.{check_fault, defaults_fault, entered_fault, fault_of, flags_fault, other_fault, settle_fault, step_fault, is_simple_and_free, turn_fault, walk_fault}
+use Rattle.clap.specs.Walk.{Names, Text, Walk, after_step, answers_to, finished, idle, nothing_held, rows_after, settled, subcommand_met, subcommand_or_other, walk, walk_from, walked}
+use Rattle.clap.specs.Simple.{App, Shape, built, entered, label_of, names_of, new_shape, rows_at, subcommand_of}
+use Rattle.clap.specs.Faults.{check_fault, defaults_fault, entered_fault, fault_of, flags_fault, level_fault, other_fault, settle_fault, step_fault, is_simple_and_free, turn_fault, walk_fault}
 use Rattle.clap.specs.declared.error.kind.ErrorKind.TheVariants.{InvalidSubcommand, UnknownArgument}
 use Rattle.clap.proofs.WalkLemmas.{walk_stopped}
 use Rattle.command_words.specs.Items.{Word, IsFree}
-use Rattle.command_words.specs.Commands.{name_of}
+use Rattle.command_words.specs.Commands.{name_of, synopsis_of, verbs}
 use Rattle.command_words.specs.Matches.{AreFine}
 use Rattle.command_words.specs.CommandLine.{program}
 use Rattle.command_words.specs.declared.verbs.Verb.{Verb}
-use Rattle.command_words.specs.declared.verbs.Verb.TheVariants as verb
-use Rattle.command_words.proofs.RuleLemmas.{is_text, rules_of}
+use Rattle.command_words.proofs.RuleLemmas.{rules_of}
+use Rattle.command_words.proofs.SynopsisLemmas.{is_text, or_false, unlike_text}
+use Rattle.command_words.proofs.EachCommand.{IsListed, listed}
+use Rattle.command_words.proofs.VerbLemmas.{one_name}
 use Rattle.command_words.proofs.TurnLemmas.{both_none, dashes, first_letter, first_none, leaf, no_dash}
 use Rattle.command_words.proofs.WalkLemmas.{fine_first, word_is}
 use Rattle.command_words.proofs.LeafLemmas.{leaf_fault}
@@ -33,11 +37,11 @@ top_built = record (new_shape (codes "mcaprec")) {
   is_built = true;
 }
 
+abbrev leaf_of : Verb → Shape
+leaf_of verb = leaf (name_of verb) (synopsis_of verb)
+
 abbrev built_program : App
-built_program = record {
-  top = top_built;
-  subs = leaf (codes "record") verb.Record ∷ leaf (codes "info") verb.Info ∷ leaf (codes "check") verb.Check ∷ leaf (codes "cat") verb.Cat ∷ leaf (codes "recover") verb.Recover ∷ leaf (codes "merge") verb.Merge ∷ leaf (codes "gen") verb.Generate ∷ [];
-}
+built_program = record { top = top_built; subs = map leaf_of verbs }
 
 program_built : built program ≡ built_program
 program_built = refl
@@ -61,24 +65,51 @@ unfolding walk_fault walked
 stopped_passes name seen [] = refl
 stopped_passes name seen (word ∷ words) = stopped_passes name (seen ++ word ∷ []) words
 
+-- ---- the subcommand of a name
+
+abbrev label : Verb → Text × List Text
+label verb = (name_of verb, [])
+
+-- the first of some commands that answers to the name of one of them
+label_found : (some : List Verb) (verb : Verb) → IsListed some verb → find (answers_to (name_of verb)) (map label some) ≡ Some (label verb)
+label_found [] verb is = absurd is
+label_found (v ∷ some) verb is = elim (is_text (name_of v) (name_of verb)) [
+  | inl same ↦ rw (or_false (bytes_eq (name_of v) (name_of verb)), (bytes_eq-Decides (name_of v) (name_of verb)).1 same) (ap (λ (name : Word). Some (name, [])) same)
+  | inr differ ↦ elim is [
+    | inl same ↦ absurd (unlike_text (name_of v) (name_of verb) differ (ap name_of (sym same)))
+    | inr later ↦ rw (or_false (bytes_eq (name_of v) (name_of verb)), differ) (label_found some verb later)
+  ]
+]
+
+leaf_found : (some : List Verb) (verb : Verb) → IsListed some verb → find (λ s. answers_to (name_of verb) (label_of s)) (map leaf_of some) ≡ Some (leaf_of verb)
+leaf_found [] verb is = absurd is
+leaf_found (v ∷ some) verb is = elim (is_text (name_of v) (name_of verb)) [
+  | inl same ↦ rw (or_false (bytes_eq (name_of v) (name_of verb)), (bytes_eq-Decides (name_of v) (name_of verb)).1 same) (ap (λ (u : Verb). Some (leaf_of u)) (one_name v verb same))
+  | inr differ ↦ elim is [
+    | inl same ↦ absurd (unlike_text (name_of v) (name_of verb) differ (ap name_of (sym same)))
+    | inr later ↦ rw (or_false (bytes_eq (name_of v) (name_of verb)), differ) (leaf_found some verb later)
+  ]
+]
+
+met : (verb : Verb) → subcommand_met program_names idle (name_of verb) ≡ Some (name_of verb)
+met verb = ap (option_map (λ (s : Text × List Text). s.0)) (label_found verbs verb (listed verb))
+
+abbrev walked_met : Word → Option Text → Walk
+walked_met word found = let step = subcommand_or_other [] found idle 1 word nothing_held in after_step [] word (walk_from nothing_held) step.0 step.1
+
+abbrev turned_met : Word → Option Text → Kinds
+turned_met word found = let step = subcommand_or_other [] found idle 1 word nothing_held in or_else (other_fault top_built found word nothing_held) (step_fault top_built 1 step.0 step.1)
+
+and_false : (b : Bool) → (b && false) ≡ false
+and_false true = refl
+and_false false = refl
+
 name_walk : (verb : Verb) → walked [] program_names (walk_from nothing_held) (name_of verb) ≡ entered_at (name_of verb) []
 unfolding walked
-name_walk verb.Record = refl
-name_walk verb.Info = refl
-name_walk verb.Check = refl
-name_walk verb.Cat = refl
-name_walk verb.Recover = refl
-name_walk verb.Merge = refl
-name_walk verb.Generate = refl
+name_walk verb = ap (walked_met (name_of verb)) (met verb)
 
 name_turn : (verb : Verb) → turn_fault top_built program_names (walk_from nothing_held) (name_of verb) ≡ []
-name_turn verb.Record = refl
-name_turn verb.Info = refl
-name_turn verb.Check = refl
-name_turn verb.Cat = refl
-name_turn verb.Recover = refl
-name_turn verb.Merge = refl
-name_turn verb.Generate = refl
+name_turn verb = ap (turned_met (name_of verb)) (met verb) ∙ rw and_false refl
 
 whole_walk : (verb : Verb) (rest : List Word) → walk [] program_names nothing_held (name_of verb ∷ rest) ≡ entered_at (name_of verb) rest
 whole_walk verb rest =
@@ -93,33 +124,25 @@ abbrev at_end : Kinds → Walk → Kinds
 at_end faults w = or_else faults (or_else (entered_fault built_program w.stopped) (or_else (settle_fault [] false w.held)
     (or_else (defaults_fault (settled [] w.held).rows []) (check_fault top_built (finished [] w.held) (is_some (entered built_program w.stopped))))))
 
-verb_end : (verb : Verb) (rest : List Word) → at_end [] (entered_at (name_of verb) rest) ≡ or_else (leaf_fault (name_of verb) verb rest) []
+abbrev end_with : List Word → Option Shape → Kinds
+end_with rest found = or_else (option_map_or (λ s. level_fault s [] nothing_held rest false []) found [])
+    (or_else (defaults_fault [] []) (check_fault top_built [] (is_some (option_map (λ s. rows_at s rest) found))))
+
+verb_end : (verb : Verb) (rest : List Word) → at_end [] (entered_at (name_of verb) rest) ≡ or_else (leaf_fault (name_of verb) (synopsis_of verb) rest) []
 unfolding defaults_fault
-verb_end verb.Record rest = refl
-verb_end verb.Info rest = refl
-verb_end verb.Check rest = refl
-verb_end verb.Cat rest = refl
-verb_end verb.Recover rest = refl
-verb_end verb.Merge rest = refl
-verb_end verb.Generate rest = refl
+verb_end verb rest = ap (end_with rest) (leaf_found verbs verb (listed verb))
 
 -- what is wrong is what the subcommand finds wrong
-pub verb_fault : (verb : Verb) (rest : List Word) → fault_of program (name_of verb ∷ rest) ≡ or_else (leaf_fault (name_of verb) verb rest) []
+pub verb_fault : (verb : Verb) (rest : List Word) → fault_of program (name_of verb ∷ rest) ≡ or_else (leaf_fault (name_of verb) (synopsis_of verb) rest) []
 verb_fault verb rest =
     ap (λ (k : Kinds). at_end k (walk [] program_names nothing_held (name_of verb ∷ rest))) (whole_fault verb rest)
     ∙ ap (at_end []) (whole_walk verb rest) ∙ verb_end verb rest
 
-its_rows : (verb : Verb) (rest : List Word) → entered built_program (Some (name_of verb, rest)) ≡ Some (name_of verb, rows_after (rules_of verb) [] rest)
-its_rows verb.Record rest = refl
-its_rows verb.Info rest = refl
-its_rows verb.Check rest = refl
-its_rows verb.Cat rest = refl
-its_rows verb.Recover rest = refl
-its_rows verb.Merge rest = refl
-its_rows verb.Generate rest = refl
+its_rows : (verb : Verb) (rest : List Word) → entered built_program (Some (name_of verb, rest)) ≡ Some (name_of verb, rows_after (rules_of (synopsis_of verb)) [] rest)
+its_rows verb rest = ap (option_map (λ (s : Shape). rows_at s rest)) (leaf_found verbs verb (listed verb))
 
 -- and what is found is what it finds
-pub verb_rows : (verb : Verb) (rest : List Word) → subcommand_of program (name_of verb ∷ rest) ≡ Some (name_of verb, rows_after (rules_of verb) [] rest)
+pub verb_rows : (verb : Verb) (rest : List Word) → subcommand_of program (name_of verb ∷ rest) ≡ Some (name_of verb, rows_after (rules_of (synopsis_of verb)) [] rest)
 verb_rows verb rest = ap (λ (w : Walk). entered built_program w.stopped) (whole_walk verb rest) ∙ its_rows verb rest
 
 -- ---- words that begin otherwise
@@ -127,28 +150,20 @@ verb_rows verb rest = ap (λ (w : Walk). entered built_program w.stopped) (whole
 abbrev IsName : Word → Type 0
 IsName word = ((verb : Verb) × (word ≡ name_of verb)) ⊎ (subcommand_met program_names idle word ≡ None)
 
-is_name : (word : Word) → IsName word
-is_name word = elim (is_text (codes "record") word) [
-  | inl is ↦ inl (verb.Record, sym is)
-  | inr no1 ↦ elim (is_text (codes "info") word) [
-    | inl is ↦ inl (verb.Info, sym is)
-    | inr no2 ↦ elim (is_text (codes "check") word) [
-      | inl is ↦ inl (verb.Check, sym is)
-      | inr no3 ↦ elim (is_text (codes "cat") word) [
-        | inl is ↦ inl (verb.Cat, sym is)
-        | inr no4 ↦ elim (is_text (codes "recover") word) [
-          | inl is ↦ inl (verb.Recover, sym is)
-          | inr no5 ↦ elim (is_text (codes "merge") word) [
-            | inl is ↦ inl (verb.Merge, sym is)
-            | inr no6 ↦ elim (is_text (codes "gen") word) [
-              | inl is ↦ inl (verb.Generate, sym is)
-              | inr no7 ↦ inr (rw (no1, no2, no3, no4, no5, no6, no7) refl)
-            ]
-          ]
-        ]
-      ]
-    ]
+name_among : (some : List Verb) (word : Word) → ((verb : Verb) × (word ≡ name_of verb)) ⊎ (find (answers_to word) (map label some) ≡ None)
+name_among [] word = inr refl
+name_among (v ∷ some) word = elim (is_text (name_of v) word) [
+  | inl same ↦ inl (v, sym same)
+  | inr differ ↦ elim (name_among some word) [
+    | inl later ↦ inl later
+    | inr none ↦ inr (rw (or_false (bytes_eq (name_of v) word), differ) none)
   ]
+]
+
+is_name : (word : Word) → IsName word
+is_name word = elim (name_among verbs word) [
+  | inl named ↦ inl named
+  | inr none ↦ inr (ap (option_map (λ (s : Text × List Text). s.0)) none)
 ]
 
 -- the faults of a word that is no subcommand

@@ -1,109 +1,28 @@
 -- Which item stands at the front of words.
-use Rattle.std.proofs.Common.{◌≡◌, ◌≢◌, ◌⊎◌, ◌&&◌, ◌==◌, ℕ, zero, suc, Bool, true, false, not, List, [], ◌∷◌, ◌++◌, refl, sym, subst, inl, inr, ◌∙◌, arith, codes}
+use Rattle.std.proofs.Common.{◌≡◌, ◌≢◌, ℕ, suc, List, [], ◌∷◌, ◌++◌, refl, arith, codes}
 use Rattle.std.specs.Prelude.{◌<◌, length, slice_index}
-use Rattle.std.specs.Str.{bytes_eq}
-use Rattle.std.proofs.lemmas.Slice.Eq.{bytes_eq-Decides}
+use Rattle.command_words.specs.Synopses.{Synopsis}
 use Rattle.command_words.specs.Items.{Word, IsBare, IsFlag, IsFree, IsOption}
-use Rattle.command_words.specs.declared.verbs.Verb.{Verb}
-use Rattle.command_words.specs.declared.verbs.Verb.TheVariants as verb
+use Rattle.command_words.proofs.SynopsisLemmas.{flag_bare_in, flag_or_option_in, no_empty_flag_in, no_empty_option_in, option_bare_in}
 
--- ---- texts without `=`
+-- ---- the names of a command
 
-abbrev bare : List ℕ → Bool
-bare [] = true
-bare (c ∷ cs) = not (c == 61) && bare cs
+pub flag_bare : (synopsis : Synopsis) (name : Word) → IsFlag synopsis name → IsBare name
+flag_bare synopsis = flag_bare_in synopsis
 
-bare_head : (c : ℕ) (cs : List ℕ) → bare (c ∷ cs) ≡ true → c ≢ 61
-bare_head c cs is same = let wrong : bare (61 ∷ cs) ≡ true = subst (λ (x : ℕ). bare (x ∷ cs) ≡ true) same is in cc
+pub option_bare : (synopsis : Synopsis) (name : Word) → IsOption synopsis name → IsBare name
+option_bare synopsis = option_bare_in synopsis
 
-bare_tail : (first rest : Bool) → (first && rest) ≡ true → rest ≡ true
-bare_tail true rest is = is
-bare_tail false rest is = cc
+pub flag_or_option : (synopsis : Synopsis) (name : Word) → IsFlag synopsis name → IsOption synopsis name → ⊥
+flag_or_option synopsis = flag_or_option_in synopsis
 
-bare_is : (text : List ℕ) → bare text ≡ true → IsBare text
-bare_is [] is i less = absurd (omega (arith, less))
-bare_is (c ∷ cs) is zero less = bare_head c cs is
-bare_is (c ∷ cs) is (suc i) less = bare_is cs (bare_tail (not (c == 61)) (bare cs) is) i (omega (arith, less))
+pub no_empty_flag : (synopsis : Synopsis) → IsFlag synopsis [] → ⊥
+no_empty_flag synopsis = no_empty_flag_in synopsis
 
-pub flag_bare : (verb : Verb) (name : Word) → IsFlag verb name → IsBare name
-flag_bare verb.Record name (inl is) = subst IsBare (sym is) (bare_is (codes "plain") refl)
-flag_bare verb.Record name (inr is) = subst IsBare (sym is) (bare_is (codes "lossless") refl)
-flag_bare verb.Info name is = absurd is
-flag_bare verb.Check name is = absurd is
-flag_bare verb.Cat name is = subst IsBare (sym is) (bare_is (codes "indexed") refl)
-flag_bare verb.Recover name is = absurd is
-flag_bare verb.Merge name is = absurd is
-flag_bare verb.Generate name is = absurd is
+pub no_empty_option : (synopsis : Synopsis) → IsOption synopsis [] → ⊥
+no_empty_option synopsis = no_empty_option_in synopsis
 
-one_of_bare : (first second third name : Word) → IsBare first → IsBare second → IsBare third → (name ≡ first) ⊎ ((name ≡ second) ⊎ (name ≡ third)) → IsBare name
-one_of_bare first second third name a b c is = elim is [
-  | inl same ↦ subst IsBare (sym same) a
-  | inr (inl same) ↦ subst IsBare (sym same) b
-  | inr (inr same) ↦ subst IsBare (sym same) c
-]
-
-pub option_bare : (verb : Verb) (name : Word) → IsOption verb name → IsBare name
-option_bare verb.Record name (inl is) = subst IsBare (sym is) (bare_is (codes "limit") refl)
-option_bare verb.Record name (inr (inl is)) = subst IsBare (sym is) (bare_is (codes "chunk") refl)
-option_bare verb.Record name (inr (inr (inl is))) = subst IsBare (sym is) (bare_is (codes "profile") refl)
-option_bare verb.Record name (inr (inr (inr (inl is)))) = subst IsBare (sym is) (bare_is (codes "watch") refl)
-option_bare verb.Record name (inr (inr (inr (inr is)))) = subst IsBare (sym is) (bare_is (codes "watchers") refl)
-option_bare verb.Info name is = absurd is
-option_bare verb.Check name is = absurd is
-option_bare verb.Cat name is = one_of_bare (codes "start") (codes "end") (codes "topic") name (bare_is (codes "start") refl) (bare_is (codes "end") refl) (bare_is (codes "topic") refl) is
-option_bare verb.Recover name is = subst IsBare (sym is) (bare_is (codes "chunk") refl)
-option_bare verb.Merge name is = subst IsBare (sym is) (bare_is (codes "chunk") refl)
-option_bare verb.Generate name is = absurd is
-
--- no name is both
-two_names : (one two name : Word) → bytes_eq one two ≡ false → name ≡ one → name ≡ two → ⊥
-two_names one two name unlike is other = let same : bytes_eq one two ≡ true = (bytes_eq-Decides one two).1 (sym is ∙ other) in let wrong : false ≡ true = sym unlike ∙ same in cc
-
-pub flag_or_option : (verb : Verb) (name : Word) → IsFlag verb name → IsOption verb name → ⊥
-flag_or_option verb.Record name (inl is) (inl other) = two_names (codes "plain") (codes "limit") name refl is other
-flag_or_option verb.Record name (inl is) (inr (inl other)) = two_names (codes "plain") (codes "chunk") name refl is other
-flag_or_option verb.Record name (inl is) (inr (inr (inl other))) = two_names (codes "plain") (codes "profile") name refl is other
-flag_or_option verb.Record name (inl is) (inr (inr (inr (inl other)))) = two_names (codes "plain") (codes "watch") name refl is other
-flag_or_option verb.Record name (inl is) (inr (inr (inr (inr other)))) = two_names (codes "plain") (codes "watchers") name refl is other
-flag_or_option verb.Record name (inr is) (inl other) = two_names (codes "lossless") (codes "limit") name refl is other
-flag_or_option verb.Record name (inr is) (inr (inl other)) = two_names (codes "lossless") (codes "chunk") name refl is other
-flag_or_option verb.Record name (inr is) (inr (inr (inl other))) = two_names (codes "lossless") (codes "profile") name refl is other
-flag_or_option verb.Record name (inr is) (inr (inr (inr (inl other)))) = two_names (codes "lossless") (codes "watch") name refl is other
-flag_or_option verb.Record name (inr is) (inr (inr (inr (inr other)))) = two_names (codes "lossless") (codes "watchers") name refl is other
-flag_or_option verb.Info name is other = is
-flag_or_option verb.Check name is other = is
-flag_or_option verb.Cat name is (inl other) = two_names (codes "indexed") (codes "start") name refl is other
-flag_or_option verb.Cat name is (inr (inl other)) = two_names (codes "indexed") (codes "end") name refl is other
-flag_or_option verb.Cat name is (inr (inr other)) = two_names (codes "indexed") (codes "topic") name refl is other
-flag_or_option verb.Recover name is other = is
-flag_or_option verb.Merge name is other = is
-flag_or_option verb.Generate name is other = is
-
--- no name is empty
-pub no_empty_flag : (verb : Verb) → IsFlag verb [] → ⊥
-no_empty_flag verb.Record (inl is) = cc
-no_empty_flag verb.Record (inr is) = cc
-no_empty_flag verb.Info is = is
-no_empty_flag verb.Check is = is
-no_empty_flag verb.Cat is = cc
-no_empty_flag verb.Recover is = is
-no_empty_flag verb.Merge is = is
-no_empty_flag verb.Generate is = is
-
-pub no_empty_option : (verb : Verb) → IsOption verb [] → ⊥
-no_empty_option verb.Record (inl is) = cc
-no_empty_option verb.Record (inr (inl is)) = cc
-no_empty_option verb.Record (inr (inr (inl is))) = cc
-no_empty_option verb.Record (inr (inr (inr (inl is)))) = cc
-no_empty_option verb.Record (inr (inr (inr (inr is)))) = cc
-no_empty_option verb.Info is = is
-no_empty_option verb.Check is = is
-no_empty_option verb.Cat (inl is) = cc
-no_empty_option verb.Cat (inr (inl is)) = cc
-no_empty_option verb.Cat (inr (inr is)) = cc
-no_empty_option verb.Recover is = cc
-no_empty_option verb.Merge is = cc
-no_empty_option verb.Generate is = is
+-- ---- texts cut in one place
 
 -- the text lacks that character
 abbrev pub Lacks : ℕ → List ℕ → Type 0

@@ -1,28 +1,26 @@
 -- What a command that reads these words finds, behind the walk over them.
-use Rattle.std.proofs.Common.{◌≡◌, ◌≢◌, ◌||◌, ◌++◌, Bool, true, false, List, [], ◌∷◌, Option, Some, None, refl, sym, ap, subst, inl, inr, ◌∙◌, codes, option_map}
+use Rattle.std.proofs.Common.{◌≡◌, ◌≢◌, ◌&&◌, ◌++◌, Bool, true, false, not, List, [], ◌∷◌, Option, Some, None, refl, sym, ap, subst, inl, inr, ◌∙◌, codes, option_map}
 use Rattle.std.specs.Prelude.{⊤, find, fold, is_some, map, option_and_then, slice_get, unwrap_or, if◌then◌else◌}
 use Rattle.std.specs.Str.{bytes_eq}
-use Rattle.clap.specs.Kinds.{Kinds}
+use Rattle.clap.specs.Kinds.{Kinds, check_kinds}
 use Rattle.clap.specs.Walk.{Row, Rule, finished, has_row, is_empty, more_values, nothing_held, one_of, row_text, settled, walk, walk_from, idle, with_default}
+use Rattle.clap.specs.Takes.{is_given}
 use Rattle.clap.specs.Values.{bool_text}
+use Rattle.std.specs.List.{list_any}
 use Rattle.std.specs.Option.{option_to_list}
 use Rattle.command_words.proofs.ItemLemmas.{flag_or_option}
 use Rattle.clap.specs.Faults.{check_fault, default_fault, defaults_fault, level_fault, settle_fault, walk_fault}
 use Rattle.clap.specs.declared.builder.value_parser.Reading.TheVariants.{AsWritten}
 use Rattle.clap.specs.declared.parser.matches.ValueSource.TheVariants.{DefaultValue}
-use Rattle.command_words.specs.Items.{Word, Item, IsFlag, IsOption}
+use Rattle.command_words.specs.Synopses.{IsOneOf, Synopsis, are_distinct, places_with}
+use Rattle.command_words.specs.Items.{Word, Item}
 use Rattle.command_words.specs.Matches.{Shows, all_found}
-use Rattle.command_words.specs.declared.verbs.Verb.{Verb}
-use Rattle.command_words.specs.declared.verbs.Verb.TheVariants as verb
-use Rattle.command_words.proofs.RowLemmas.{Gathered, Holds, Said, row, find_more, has_is_some, no_row, no_row_has, none_there, other_text, same_text}
-use Rattle.command_words.proofs.RuleLemmas.{flag_not_place, flag_rule, option_rule, place_rule, places_map, rest_rule, rules_of}
+use Rattle.command_words.proofs.RowLemmas.{Gathered, Holds, Said, row, find_more, has_is_some, no_row, no_row_has, none_there, other_text}
+use Rattle.command_words.proofs.RuleLemmas.{flag_rule, option_rule, place_rule, place_rules, places_map, rest_rule, rest_rules, rules_of}
+use Rattle.command_words.proofs.SynopsisLemmas.{among_left, distinct_rest, flag_or_place_in, names_distinct, not_again, or_true, same_text}
 use Rattle.command_words.proofs.TurnLemmas.{Passes, at, both_none, first_none, leaf, second_none}
 
 -- ---- what is checked behind the walk finds nothing
-
-or_true : (b : Bool) → (b || true) ≡ true
-or_true true = refl
-or_true false = refl
 
 plain_default : (rows : List Row) (a : Rule) → is_empty a.defaults ≡ true → default_fault rows a ≡ []
 plain_default rows a none = rw (none, or_true (has_row a.id rows)) refl
@@ -34,89 +32,66 @@ flag_default rows name = go (has_row name rows) refl
     go true is = rw is refl
     go false is = rw is refl
 
+abbrev Passing : Rule → Type 0
+Passing a = (rows : List Row) → default_fault rows a ≡ []
+
 abbrev AllPass : List Rule → Type 0
 AllPass [] = ⊤
-AllPass (a ∷ rest) = ((rows : List Row) → default_fault rows a ≡ []) × AllPass rest
+AllPass (a ∷ rest) = Passing a × AllPass rest
 
 defaults_pass : (rules : List Rule) (rows : List Row) → AllPass rules → defaults_fault rows rules ≡ []
 unfolding defaults_fault
 defaults_pass [] rows pass = refl
 defaults_pass (a ∷ rest) rows pass = both_none (default_fault rows a) (defaults_fault (with_default rows a) rest) (pass.0 rows) (defaults_pass rest (with_default rows a) pass.1)
 
-all_pass : (verb : Verb) → AllPass (rules_of verb)
-all_pass verb.Record = (
-  λ rows. flag_default rows (codes "plain"),
-  (
-    λ rows. flag_default rows (codes "lossless"),
-    (
-      λ rows. plain_default rows (option_rule (codes "limit")) refl,
-      (
-        λ rows. plain_default rows (option_rule (codes "chunk")) refl,
-        (
-          λ rows. plain_default rows (option_rule (codes "profile")) refl,
-          (
-            λ rows. plain_default rows (option_rule (codes "watch")) refl,
-            (
-              λ rows. plain_default rows (option_rule (codes "watchers")) refl,
-              (λ rows. plain_default rows (place_rule (codes "out") 1) refl, (λ rows. plain_default rows (rest_rule (codes "feed") 2) refl, tt)),
-            ),
-          ),
-        ),
-      ),
-    ),
-  ),
-)
-all_pass verb.Info = (λ rows. plain_default rows (place_rule (codes "file") 1) refl, tt)
-all_pass verb.Check = (λ rows. plain_default rows (place_rule (codes "file") 1) refl, tt)
-all_pass verb.Cat = (
-  λ rows. flag_default rows (codes "indexed"),
-  (
-    λ rows. plain_default rows (option_rule (codes "start")) refl,
-    (
-      λ rows. plain_default rows (option_rule (codes "end")) refl,
-      (
-        λ rows. plain_default rows (option_rule (codes "topic")) refl,
-        (λ rows. plain_default rows (place_rule (codes "file") 1) refl, tt),
-      ),
-    ),
-  ),
-)
-all_pass verb.Recover = (
-  λ rows. plain_default rows (option_rule (codes "chunk")) refl,
-  (λ rows. plain_default rows (place_rule (codes "in") 1) refl, (λ rows. plain_default rows (rest_rule (codes "out") 2) refl, tt)),
-)
-all_pass verb.Merge = (
-  λ rows. plain_default rows (option_rule (codes "chunk")) refl,
-  (λ rows. plain_default rows (place_rule (codes "out") 1) refl, (λ rows. plain_default rows (rest_rule (codes "in") 2) refl, tt)),
-)
-all_pass verb.Generate = (λ rows. plain_default rows (place_rule (codes "seed") 1) refl, (λ rows. plain_default rows (rest_rule (codes "rest") 2) refl, tt))
+each_passes : (make : Word → Rule) → ((name : Word) → Passing (make name)) → (names : List Word) (more : List Rule) → AllPass more → AllPass (map make names ++ more)
+each_passes make pass [] more rest = rest
+each_passes make pass (n ∷ names) more rest = (pass n, each_passes make pass names more rest)
 
-no_defaults_fault : (verb : Verb) (rows : List Row) → defaults_fault rows (rules_of verb) ≡ []
-no_defaults_fault verb rows = defaults_pass (rules_of verb) rows (all_pass verb)
+places_pass : (first : Word) (rest : Option Word) → AllPass (place_rule first 1 ∷ rest_rules rest)
+places_pass first None = (λ rows. plain_default rows (place_rule first 1) refl, tt)
+places_pass first (Some id) = (λ rows. plain_default rows (place_rule first 1) refl, (λ rows. plain_default rows (rest_rule id 2) refl, tt))
 
-no_check_fault : (name : Word) (verb : Verb) (rows : List Row) → check_fault (leaf name verb) rows false ≡ []
-no_check_fault name verb.Record rows = refl
-no_check_fault name verb.Info rows = refl
-no_check_fault name verb.Check rows = refl
-no_check_fault name verb.Cat rows = refl
-no_check_fault name verb.Recover rows = refl
-no_check_fault name verb.Merge rows = refl
-no_check_fault name verb.Generate rows = refl
+all_pass : (synopsis : Synopsis) → AllPass (rules_of synopsis)
+all_pass synopsis =
+    each_passes flag_rule (λ name rows. flag_default rows name) synopsis.flags (map option_rule synopsis.options ++ place_rules synopsis)
+    (each_passes option_rule (λ name rows. plain_default rows (option_rule name) refl) synopsis.options (place_rules synopsis) (places_pass synopsis.first synopsis.rest))
+
+no_defaults_fault : (synopsis : Synopsis) (rows : List Row) → defaults_fault rows (rules_of synopsis) ≡ []
+no_defaults_fault synopsis rows = defaults_pass (rules_of synopsis) rows (all_pass synopsis)
+
+-- no argument must be there
+abbrev is_wanted : List Row → List Rule → Bool
+is_wanted rows rules = list_any (λ a. a.required && not (is_given a.id rows)) rules
+
+each_unwanted : (rows : List Row) (make : Word → Rule) → ((name : Word) → (make name).required ≡ false) → (names : List Word) (more : List Rule) → is_wanted rows (map make names ++ more) ≡ is_wanted rows more
+each_unwanted rows make free [] more = refl
+each_unwanted rows make free (n ∷ names) more = rw (free n) (each_unwanted rows make free names more)
+
+places_unwanted : (rows : List Row) (first : Word) (rest : Option Word) → is_wanted rows (place_rule first 1 ∷ rest_rules rest) ≡ false
+places_unwanted rows first None = refl
+places_unwanted rows first (Some id) = refl
+
+no_check_fault : (name : Word) (synopsis : Synopsis) (rows : List Row) → check_fault (leaf name synopsis) rows false ≡ []
+no_check_fault name synopsis rows =
+    ap (check_kinds false false)
+    (each_unwanted rows flag_rule (λ name. refl) synopsis.flags (map option_rule synopsis.options ++ place_rules synopsis)
+    ∙ each_unwanted rows option_rule (λ name. refl) synopsis.options (place_rules synopsis) ∙ places_unwanted rows synopsis.first synopsis.rest)
 
 -- a command takes the words that its walk lets pass
-abbrev pub leaf_fault : Word → Verb → List Word → Kinds
-leaf_fault name verb words = level_fault (leaf name verb) [] nothing_held words false []
+abbrev pub leaf_fault : Word → Synopsis → List Word → Kinds
+leaf_fault name synopsis words = level_fault (leaf name synopsis) [] nothing_held words false []
 
-pub leaf_passes : (name : Word) (verb : Verb) (words : List Word) → leaf_fault name verb words ≡ [] → Passes name verb (at [] None idle 1 false) words
-leaf_passes name verb words none =
-    let walked : walk_fault (leaf name verb) [] (walk_from nothing_held) words ≡ [] = first_none _ _ none in
-    let end : settle_fault (rules_of verb) false (walk (rules_of verb) [] nothing_held words).held ≡ [] = first_none _ _ (second_none (walk_fault (leaf name verb) [] (walk_from nothing_held) words) _ none) in
+pub leaf_passes : (name : Word) (synopsis : Synopsis) (words : List Word) → leaf_fault name synopsis words ≡ [] → Passes name synopsis (at [] None idle 1 false) words
+leaf_passes name synopsis words none =
+    let walked : walk_fault (leaf name synopsis) [] (walk_from nothing_held) words ≡ [] = first_none _ _ none in
+    let end : settle_fault (rules_of synopsis) false (walk (rules_of synopsis) [] nothing_held words).held ≡ [] = first_none _ _ (second_none (walk_fault (leaf name synopsis) [] (walk_from nothing_held) words) _ none) in
     (walked, end)
 
-pub passes_leaf : (name : Word) (verb : Verb) (words : List Word) → Passes name verb (at [] None idle 1 false) words → leaf_fault name verb words ≡ []
-passes_leaf name verb words passes =
-    let w = walk (rules_of verb) [] nothing_held words in
-    both_none _ _ passes.0 (both_none _ _ passes.1 (both_none _ _ (no_defaults_fault verb (settled (rules_of verb) w.held).rows) (no_check_fault name verb (finished (rules_of verb) w.held))))
+pub passes_leaf : (name : Word) (synopsis : Synopsis) (words : List Word) → Passes name synopsis (at [] None idle 1 false) words → leaf_fault name synopsis words ≡ []
+passes_leaf name synopsis words passes =
+    let w = walk (rules_of synopsis) [] nothing_held words in
+    both_none _ _ passes.0 (both_none _ _ passes.1 (both_none _ _ (no_defaults_fault synopsis (settled (rules_of synopsis) w.held).rows) (no_check_fault name synopsis (finished (rules_of synopsis) w.held))))
 
 -- ---- the rows with those of flags that weren't given
 
@@ -127,40 +102,26 @@ unlisted rows a none = go (has_row a.id rows) refl
     go true is = rw is refl
     go false is = rw (is, none) refl
 
--- the flags of a command
-abbrev flags_of : Verb → List Word
-flags_of verb.Record = codes "plain" ∷ codes "lossless" ∷ []
-flags_of verb.Info = []
-flags_of verb.Check = []
-flags_of verb.Cat = codes "indexed" ∷ []
-flags_of verb.Recover = []
-flags_of verb.Merge = []
-flags_of verb.Generate = []
-
 abbrev flagged : List Word → List Row → List Row
 flagged names rows = fold with_default rows (map flag_rule names)
 
-abbrev NoDefaults : List Rule → Type 0
-NoDefaults [] = ⊤
-NoDefaults (a ∷ rest) = (a.defaults ≡ []) × NoDefaults rest
+flags_first : (names : List Word) (more : List Rule) (rows : List Row) → fold with_default rows (map flag_rule names ++ more) ≡ fold with_default (flagged names rows) more
+flags_first [] more rows = refl
+flags_first (n ∷ names) more rows = flags_first names more (with_default rows (flag_rule n))
 
-unlisted_all : (rules : List Rule) (rows : List Row) → NoDefaults rules → fold with_default rows rules ≡ rows
-unlisted_all [] rows none = refl
-unlisted_all (a ∷ rest) rows none = ap (λ (l : List Row). fold with_default l rest) (unlisted rows a none.0) ∙ unlisted_all rest rows none.1
+options_unlisted : (names : List Word) (more : List Rule) (rows : List Row) → fold with_default rows (map option_rule names ++ more) ≡ fold with_default rows more
+options_unlisted [] more rows = refl
+options_unlisted (n ∷ names) more rows = ap (λ (l : List Row). fold with_default l (map option_rule names ++ more)) (unlisted rows (option_rule n) refl) ∙ options_unlisted names more rows
 
-finished_rows : (verb : Verb) (rows : List Row) → fold with_default rows (rules_of verb) ≡ flagged (flags_of verb) rows
-finished_rows verb.Record rows =
-    unlisted_all
-    (option_rule (codes "limit") ∷ option_rule (codes "chunk") ∷ option_rule (codes "profile") ∷ option_rule (codes "watch") ∷ option_rule (codes "watchers") ∷ place_rule (codes "out") 1 ∷ rest_rule (codes "feed") 2 ∷ [])
-    (flagged (flags_of verb.Record) rows)
-    (refl, (refl, (refl, (refl, (refl, (refl, (refl, tt)))))))
-finished_rows verb.Info rows = unlisted_all (place_rule (codes "file") 1 ∷ []) rows (refl, tt)
-finished_rows verb.Check rows = unlisted_all (place_rule (codes "file") 1 ∷ []) rows (refl, tt)
-finished_rows verb.Cat rows =
-    unlisted_all (option_rule (codes "start") ∷ option_rule (codes "end") ∷ option_rule (codes "topic") ∷ place_rule (codes "file") 1 ∷ []) (flagged (flags_of verb.Cat) rows) (refl, (refl, (refl, (refl, tt))))
-finished_rows verb.Recover rows = unlisted_all (option_rule (codes "chunk") ∷ place_rule (codes "in") 1 ∷ rest_rule (codes "out") 2 ∷ []) rows (refl, (refl, (refl, tt)))
-finished_rows verb.Merge rows = unlisted_all (option_rule (codes "chunk") ∷ place_rule (codes "out") 1 ∷ rest_rule (codes "in") 2 ∷ []) rows (refl, (refl, (refl, tt)))
-finished_rows verb.Generate rows = unlisted_all (place_rule (codes "seed") 1 ∷ rest_rule (codes "rest") 2 ∷ []) rows (refl, (refl, tt))
+places_unlisted : (first : Word) (rest : Option Word) (rows : List Row) → fold with_default rows (place_rule first 1 ∷ rest_rules rest) ≡ rows
+places_unlisted first None rows = unlisted rows (place_rule first 1) refl
+places_unlisted first (Some id) rows = ap (λ (l : List Row). with_default l (rest_rule id 2)) (unlisted rows (place_rule first 1) refl) ∙ unlisted rows (rest_rule id 2) refl
+
+finished_rows : (synopsis : Synopsis) (rows : List Row) → fold with_default rows (rules_of synopsis) ≡ flagged synopsis.flags rows
+finished_rows synopsis rows =
+    let kept = flagged synopsis.flags rows in
+    flags_first synopsis.flags (map option_rule synopsis.options ++ place_rules synopsis) rows ∙ options_unlisted synopsis.options (place_rules synopsis) kept
+    ∙ places_unlisted synopsis.first synopsis.rest kept
 
 abbrev default_row : Word → Row
 default_row id = record {
@@ -200,53 +161,38 @@ flag_shown rows id false said =
     ap (one_of id) (with_false rows id said) ∙ ap (option_and_then row_text) last
 
 -- a name that is no flag is found as it was
-kept_found : (verb : Verb) (name : Word) (rows : List Row) → ((id : Word) → IsFlag verb id → id ≢ name) → find (λ r. bytes_eq r.id name) (flagged (flags_of verb) rows) ≡ find (λ r. bytes_eq r.id name) rows
-kept_found verb.Record name rows unlike =
-    found_other (with_default rows (flag_rule (codes "plain"))) (codes "lossless") name (unlike (codes "lossless") (inr refl)) ∙ found_other rows (codes "plain") name (unlike (codes "plain") (inl refl))
-kept_found verb.Info name rows unlike = refl
-kept_found verb.Check name rows unlike = refl
-kept_found verb.Cat name rows unlike = found_other rows (codes "indexed") name (unlike (codes "indexed") refl)
-kept_found verb.Recover name rows unlike = refl
-kept_found verb.Merge name rows unlike = refl
-kept_found verb.Generate name rows unlike = refl
-
-plain_not_lossless : codes "plain" ≢ codes "lossless"
-plain_not_lossless same = cc
+kept_found : (names : List Word) (name : Word) (rows : List Row) → (IsOneOf names name → ⊥) → find (λ r. bytes_eq r.id name) (flagged names rows) ≡ find (λ r. bytes_eq r.id name) rows
+kept_found [] name rows none = refl
+kept_found (n ∷ names) name rows none =
+    kept_found names name (with_default rows (flag_rule n)) (λ later. none (inr later)) ∙ found_other rows n name (λ same. none (inl (sym same)))
 
 -- and a flag is there or not
-flags_shown : (verb : Verb) (name : Word) (rows : List Row) (is_there : Bool) → IsFlag verb name → Said rows name (if is_there then Some (codes "true") else None) → one_of name (flagged (flags_of verb) rows) ≡ Some (bool_text is_there)
-flags_shown verb.Record name rows is_there (inl is) said =
-    let here : Said rows (codes "plain") (if is_there then Some (codes "true") else None) = subst (λ (n : Word). Said rows n (if is_there then Some (codes "true") else None)) is said in
-    subst (λ (n : Word). one_of n (flagged (flags_of verb.Record) rows) ≡ Some (bool_text is_there)) (sym is)
-    (ap (option_and_then row_text) (found_other (with_default rows (flag_rule (codes "plain"))) (codes "lossless") (codes "plain") (λ same. plain_not_lossless (sym same))) ∙ flag_shown rows (codes "plain") is_there here)
-flags_shown verb.Record name rows is_there (inr is) said =
-    let here : Said rows (codes "lossless") (if is_there then Some (codes "true") else None) = subst (λ (n : Word). Said rows n (if is_there then Some (codes "true") else None)) is said in
-    let kept : Said (with_default rows (flag_rule (codes "plain"))) (codes "lossless") (if is_there then Some (codes "true") else None) = found_other rows (codes "plain") (codes "lossless") plain_not_lossless ∙ here in
-    subst (λ (n : Word). one_of n (flagged (flags_of verb.Record) rows) ≡ Some (bool_text is_there)) (sym is) (flag_shown (with_default rows (flag_rule (codes "plain"))) (codes "lossless") is_there kept)
-flags_shown verb.Info name rows is_there is said = absurd is
-flags_shown verb.Check name rows is_there is said = absurd is
-flags_shown verb.Cat name rows is_there is said =
-    subst (λ (n : Word). one_of n (flagged (flags_of verb.Cat) rows) ≡ Some (bool_text is_there)) (sym is)
-    (flag_shown rows (codes "indexed") is_there (subst (λ (n : Word). Said rows n (if is_there then Some (codes "true") else None)) is said))
-flags_shown verb.Recover name rows is_there is said = absurd is
-flags_shown verb.Merge name rows is_there is said = absurd is
-flags_shown verb.Generate name rows is_there is said = absurd is
+flags_shown : (names more : List Word) (name : Word) (rows : List Row) (is_there : Bool) → are_distinct (names ++ more) ≡ true → IsOneOf names name → Said rows name (if is_there then Some (codes "true") else None)
+    → one_of name (flagged names rows) ≡ Some (bool_text is_there)
+flags_shown [] more name rows is_there distinct is said = absurd is
+flags_shown (n ∷ names) more name rows is_there distinct (inl same) said =
+    let last : IsOneOf names name → ⊥ = λ later. not_again n (names ++ more) distinct (among_left names more n (subst (IsOneOf names) same later)) in
+    ap (option_and_then row_text) (kept_found names name (with_default rows (flag_rule n)) last)
+    ∙ subst (λ (w : Word). one_of name (with_default rows (flag_rule w)) ≡ Some (bool_text is_there)) same (flag_shown rows name is_there said)
+flags_shown (n ∷ names) more name rows is_there distinct (inr later) said =
+    let unlike : n ≢ name = λ same. not_again n (names ++ more) distinct (among_left names more n (subst (IsOneOf names) (sym same) later)) in
+    flags_shown names more name (with_default rows (flag_rule n)) is_there (distinct_rest n (names ++ more) distinct) later (found_other rows n name unlike ∙ said)
 
 gathered_found : (rows : List Row) (id : Word) (values : List Word) → Gathered rows id values → all_found id rows ≡ values
 gathered_found rows id [] there = ap (λ (r : Option Row). unwrap_or (option_map (λ (r : Row). r.values) r) []) there
 gathered_found rows id (v ∷ vs) there = ap (λ (r : Option Row). unwrap_or (option_map (λ (r : Row). r.values) r) []) there
 
-pub holds_shows : (verb : Verb) (items : List Item) (places : List Word) (rows : List Row) → Holds verb items places rows → Shows verb items places (fold with_default rows (rules_of verb))
-holds_shows verb items places rows holds = subst (Shows verb items places) (sym (finished_rows verb rows)) (record {
+pub holds_shows : (synopsis : Synopsis) (items : List Item) (places : List Word) (rows : List Row) → Holds synopsis items places rows → Shows synopsis items places (fold with_default rows (rules_of synopsis))
+holds_shows synopsis items places rows holds = subst (Shows synopsis items places) (sym (finished_rows synopsis rows)) (record {
   options = λ name is.
       let one = holds.options name is in
-      let found = kept_found verb name rows (λ id flag same. flag_or_option verb id flag (subst (IsOption verb) (sym same) is)) ∙ one.2 in
+      let found = kept_found synopsis.flags name rows (λ flag. flag_or_option synopsis name flag is) ∙ one.2 in
       one.1 ∙ sym (ap option_to_list (ap (option_and_then (λ (r : Row). slice_get r.values 0)) found ∙ first_value name one.0));
   flags = λ name is.
       let one = holds.flags name is in
-      (one.0, one.1, flags_shown verb name rows one.0 is one.2);
-  placed = places_map verb places (Gathered rows) (λ id words. all_found id (flagged (flags_of verb) rows) ≡ words)
-      (λ id words place there. gathered_found (flagged (flags_of verb) rows) id words (kept_found verb id rows (λ name flag. flag_not_place verb name id flag place) ∙ there)) holds.placed;
+      (one.0, one.1, flags_shown synopsis.flags (synopsis.options ++ places_with synopsis.first synopsis.rest) name rows one.0 (names_distinct synopsis) is one.2);
+  placed = places_map synopsis places (Gathered rows) (λ id words. all_found id (flagged synopsis.flags rows) ≡ words)
+      (λ id words place there. gathered_found (flagged synopsis.flags rows) id words (kept_found synopsis.flags id rows (λ flag. flag_or_place_in synopsis id flag place) ∙ there)) holds.placed;
   few = holds.few;
 })
   where

@@ -1,3 +1,4 @@
+mod SynopsisLemmas
 mod ItemLemmas
 mod CutLemmas
 mod OneCommand
@@ -10,6 +11,8 @@ mod LeafLemmas
 mod AppLemmas
 mod MatchLemmas
 mod CommandLemmas
+mod EachCommand
+mod VerbLemmas
 mod LineLemmas
 mod OptionLemmas
 pub mod WatchLemmas

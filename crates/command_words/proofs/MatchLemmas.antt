@@ -8,7 +8,7 @@ use Rattle.clap.specs.declared.error.Error.{Error}
 use Rattle.clap.specs.declared.error.kind.ErrorKind.TheVariants.{OutOfMemory}
 use Rattle.clap.specs.declared.parser.matches.ArgMatches.{ArgMatches}
 use Rattle.command_words.specs.Items.{Word, place_of, words_of}
-use Rattle.command_words.specs.Commands.{name_of}
+use Rattle.command_words.specs.Commands.{name_of, synopsis_of}
 use Rattle.command_words.specs.Matches.{AreFine, AreRead, AreUnread, Fits}
 use Rattle.command_words.specs.CommandLine.{IsMade, program}
 use Rattle.command_words.proofs.AppLemmas.{begins, program_simple, verb_fault, verb_rows}
@@ -23,23 +23,23 @@ are_read words fine none =
     let verb = start.0 in
     let rest = start.1 in
     let fault = subst (λ (l : List Word). fault_of program l ≡ []) start.2 none in
-    let passes = leaf_passes (name_of verb) verb rest (first_none _ [] (sym (verb_fault verb rest) ∙ fault)) in
-    let read = back (name_of verb) verb rest (fine_rest (name_of verb) rest (subst AreFine start.2 fine)) passes in
+    let passes = leaf_passes (name_of verb) (synopsis_of verb) rest (first_none _ [] (sym (verb_fault verb rest) ∙ fault)) in
+    let read = back (name_of verb) (synopsis_of verb) rest (fine_rest (name_of verb) rest (subst AreFine start.2 fine)) passes in
     record {
       verb = verb;
       rest = rest;
       form = start.2;
       rows = _;
       found = ap (subcommand_of program) start.2 ∙ verb_rows verb rest;
-      reading = record { items = read.more; behind = read.behind; cut = read.cut; shows = holds_shows verb read.more (flat_map place_of read.more ++ read.behind) _ read.holds };
+      reading = record { items = read.more; behind = read.behind; cut = read.cut; shows = holds_shows (synopsis_of verb) read.more (flat_map place_of read.more ++ read.behind) _ read.holds };
     }
 
 -- and words that fit a command have nothing wrong
 pub are_unread : (words : List Word) → (fault_of program words ≡ [] → ⊥) → AreUnread words
 are_unread words bad verb rest items places form reads fits =
     let cut = reads.cut in
-    let passes = forth (name_of verb) verb items cut.tail reads.behind cut.each cut.ends (subst (Fits verb items) reads.all fits) in
-    let leaf = passes_leaf (name_of verb) verb (flat_map words_of items ++ cut.tail) passes in
+    let passes = forth (name_of verb) (synopsis_of verb) items cut.tail reads.behind cut.each cut.ends (subst (Fits (synopsis_of verb) items) reads.all fits) in
+    let leaf = passes_leaf (name_of verb) (synopsis_of verb) (flat_map words_of items ++ cut.tail) passes in
     let whole = verb_fault verb (flat_map words_of items ++ cut.tail) ∙ both_none _ [] leaf refl in
     bad (ap (fault_of program) (form ∙ ap (λ (l : List Word). name_of verb ∷ l) cut.form) ∙ whole)
 

@@ -1,20 +1,16 @@
--- Words are those of one command at most.
-use Rattle.std.proofs.Common.{◌≡◌, ℕ, Bool, true, false, List, [], ◌∷◌, Option, Some, None, Ok, Err, codes, refl, sym, ap, ap₂, subst, ◌∙◌, arith}
-use Rattle.std.specs.Prelude.{IfOk, unwrap_or}
+-- The words of each command are those of no other of its kind.
+use Rattle.std.proofs.Common.{◌≡◌, ℕ, Bool, true, false, List, [], ◌∷◌, Option, Some, None, codes, refl, sym, ap, ap₂, subst, ◌∙◌, arith}
+use Rattle.std.specs.Prelude.{unwrap_or}
 use Rattle.std.specs.Option.{option_to_list}
-use Rattle.std.specs.Str.{bytes_eq}
 use Rattle.std.specs.Str.Parse.{AllDigits, IsNumeral, digits_value}
-use Rattle.std.specs.declared.result.Result.{Result}
-use Rattle.std.proofs.lemmas.Slice.Eq.{bytes_eq-Decides}
 use Rattle.std.proofs.lemmas.Str.Parse.{not_in_digits, numerals_by_value, tells_digits}
 use Rattle.mcap_model.specs.declared.options.FileOptions.{FileOptions}
 use Rattle.mcap_model.specs.declared.replay.Range.{Range}
+use Rattle.command_words.specs.Synopses.{Synopsis}
 use Rattle.command_words.specs.Items.{Word, Item, given}
-use Rattle.command_words.specs.Commands.{Behind, Derives, Flags, GivesNumber, GivesSpan, HasChunks, HasProfile, HasWatchers, IsCat, IsFileOptions, IsGenerate, IsMerge, IsNumber, IsOfFile, IsOnly, IsRange, IsRecord, IsRecover, IsSpan, SizesChunks, name_of, verb_of, watchers_with, whole_time}
+use Rattle.command_words.specs.Commands.{Flags, GivesNumber, GivesSpan, HasChunks, HasProfile, HasWatchers, IsCat, IsFileOptions, IsGenerate, IsMerge, IsNumber, IsOfFile, IsRange, IsRecord, IsRecover, IsSpan, Recording, SizesChunks, synopsis_of, watchers_with, whole_time}
 use Rattle.command_words.specs.declared.command.Command.{Command}
-use Rattle.command_words.specs.declared.command.Command.TheVariants.{Record, Info, Check, Cat, Recover, Merge, Generate}
-use Rattle.command_words.specs.declared.command.WordsRefused.{WordsRefused}
-use Rattle.command_words.specs.declared.verbs.Verb.{Verb}
+use Rattle.command_words.specs.declared.command.Command.TheVariants.{Record, Cat, Recover, Merge, Generate}
 use Rattle.command_words.specs.declared.verbs.Verb.TheVariants as verb
 use Rattle.command_words.proofs.CutLemmas.{one_reading}
 use Rattle.command_words.proofs.ItemLemmas.{Lacks, marked_once}
@@ -112,45 +108,46 @@ one_watching items range range' count count' is other =
 
 -- ---- commands
 
-module _ (words : List Word) (out : Word) (feeds : List Word) (file : FileOptions) (limit : ℕ) (lossless : Bool) (range : Range) (watchers : ℕ) where
-  one_record : (out' : Word) (feeds' : List Word) (file' : FileOptions) (limit' : ℕ) (lossless' : Bool) (range' : Range) (watchers' : ℕ) → IsRecord words out feeds file limit lossless range watchers
-      → IsRecord words out' feeds' file' limit' lossless' range' watchers' → Record out' feeds' file' limit' lossless' range' watchers' ≡ Record out feeds file limit lossless range watchers
-  one_record out' feeds' file' limit' lossless' range' watchers' is other =
-      let same = one_reading verb.Record words is.items other.items (out ∷ feeds) (out' ∷ feeds') is.reads other.reads in
-      let places : out' ∷ feeds' ≡ out ∷ feeds = same.1 in
-      let flags : lossless' ≡ lossless = one_flag (given (codes "lossless") is.items) lossless lossless' is.flagged (subst (λ (l : List Item). Flags (given (codes "lossless") l) lossless') same.0 other.flagged) in
-      let files : file' ≡ file = one_options is.items file file' is.options (subst (λ (l : List Item). IsFileOptions l file') same.0 other.options) in
-      let size = one_number 1 1073741824 (given (codes "limit") is.items) is.size other.size is.sized (subst (λ (l : List Item). GivesNumber 1 1073741824 (given (codes "limit") l) other.size) same.0 other.sized) in
-      let limits : limit' ≡ limit = other.limited ∙ ap (λ (v : Option ℕ). unwrap_or v 104857600) size ∙ sym is.limited in
-      let watched = one_watching is.items range range' watchers watchers' is.watched (subst (λ (l : List Item). HasWatchers l range' watchers') same.0 other.watched) in
-      let ranges : range' ≡ range = watched.0 in
-      let counts : watchers' ≡ watchers = watched.1 in
-      cc
+abbrev record_with : Word → List Word → Recording → Command
+record_with out feeds told = Record out feeds told.file told.limit told.lossless told.range told.watchers
 
-one_file : (v : Verb) (words : List Word) (file file' : Word) → IsOfFile v words file → IsOfFile v words file' → file' ≡ file
+pub one_record : (words : List Word) (out : Word) (feeds : List Word) (told : Recording) (out' : Word) (feeds' : List Word) (told' : Recording) → IsRecord words out feeds told → IsRecord words out' feeds' told' → record_with out' feeds' told' ≡ record_with out feeds told
+one_record words out feeds told out' feeds' told' is other =
+    let same = one_reading (synopsis_of verb.Record) words is.items other.items (out ∷ feeds) (out' ∷ feeds') is.reads other.reads in
+    let places : out' ∷ feeds' ≡ out ∷ feeds = same.1 in
+    let flags : told'.lossless ≡ told.lossless = one_flag (given (codes "lossless") is.items) told.lossless told'.lossless is.flagged (subst (λ (l : List Item). Flags (given (codes "lossless") l) told'.lossless) same.0 other.flagged) in
+    let files : told'.file ≡ told.file = one_options is.items told.file told'.file is.options (subst (λ (l : List Item). IsFileOptions l told'.file) same.0 other.options) in
+    let size = one_number 1 1073741824 (given (codes "limit") is.items) is.size other.size is.sized (subst (λ (l : List Item). GivesNumber 1 1073741824 (given (codes "limit") l) other.size) same.0 other.sized) in
+    let limits : told'.limit ≡ told.limit = other.limited ∙ ap (λ (v : Option ℕ). unwrap_or v 104857600) size ∙ sym is.limited in
+    let watched = one_watching is.items told.range told'.range told.watchers told'.watchers is.watched (subst (λ (l : List Item). HasWatchers l told'.range told'.watchers) same.0 other.watched) in
+    let ranges : told'.range ≡ told.range = watched.0 in
+    let counts : told'.watchers ≡ told.watchers = watched.1 in
+    cc
+
+pub one_file : (v : Synopsis) (words : List Word) (file file' : Word) → IsOfFile v words file → IsOfFile v words file' → file' ≡ file
 one_file v words file file' is other = let same = one_reading v words is.items other.items (file ∷ []) (file' ∷ []) is.reads other.reads in let places = same.1 in cc
 
-one_cat : (words : List Word) (file : Word) (indexed : Bool) (range : Range) (topic : Option Word) (file' : Word) (indexed' : Bool) (range' : Range) (topic' : Option Word) → IsCat words file indexed range topic → IsCat words file' indexed' range' topic'
+pub one_cat : (words : List Word) (file : Word) (indexed : Bool) (range : Range) (topic : Option Word) (file' : Word) (indexed' : Bool) (range' : Range) (topic' : Option Word) → IsCat words file indexed range topic → IsCat words file' indexed' range' topic'
     → Cat file' indexed' range' topic' ≡ Cat file indexed range topic
 one_cat words file indexed range topic file' indexed' range' topic' is other =
-    let same = one_reading verb.Cat words is.items other.items (file ∷ []) (file' ∷ []) is.reads other.reads in
+    let same = one_reading (synopsis_of verb.Cat) words is.items other.items (file ∷ []) (file' ∷ []) is.reads other.reads in
     let places = same.1 in
     let flags : indexed' ≡ indexed = one_flag (given (codes "indexed") is.items) indexed indexed' is.flagged (subst (λ (l : List Item). Flags (given (codes "indexed") l) indexed') same.0 other.flagged) in
     let ranges : range' ≡ range = one_range is.items range range' is.ranged (subst (λ (l : List Item). IsRange l range') same.0 other.ranged) in
     let topics : topic' ≡ topic = one_value topic topic' (sym is.topical ∙ subst (λ (l : List Item). given (codes "topic") l ≡ option_to_list topic') same.0 other.topical) in
     cc
 
-one_recover : (words : List Word) (input out : Word) (chunk : ℕ) (input' out' : Word) (chunk' : ℕ) → IsRecover words input out chunk → IsRecover words input' out' chunk' → Recover input' out' chunk' ≡ Recover input out chunk
+pub one_recover : (words : List Word) (input out : Word) (chunk : ℕ) (input' out' : Word) (chunk' : ℕ) → IsRecover words input out chunk → IsRecover words input' out' chunk' → Recover input' out' chunk' ≡ Recover input out chunk
 one_recover words input out chunk input' out' chunk' is other =
-    let same = one_reading verb.Recover words is.items other.items (input ∷ out ∷ []) (input' ∷ out' ∷ []) is.reads other.reads in
+    let same = one_reading (synopsis_of verb.Recover) words is.items other.items (input ∷ out ∷ []) (input' ∷ out' ∷ []) is.reads other.reads in
     let places : input' ∷ out' ∷ [] ≡ input ∷ out ∷ [] = same.1 in
     let size = one_number 1 67108864 (given (codes "chunk") is.items) is.size other.size is.sized (subst (λ (l : List Item). GivesNumber 1 67108864 (given (codes "chunk") l) other.size) same.0 other.sized) in
     let chunks : chunk' ≡ chunk = other.chunk_is ∙ ap (λ (v : Option ℕ). unwrap_or v 786432) size ∙ sym is.chunk_is in
     cc
 
-one_merge : (words : List Word) (out : Word) (inputs : List Word) (chunk : ℕ) (out' : Word) (inputs' : List Word) (chunk' : ℕ) → IsMerge words out inputs chunk → IsMerge words out' inputs' chunk' → Merge out' inputs' chunk' ≡ Merge out inputs chunk
+pub one_merge : (words : List Word) (out : Word) (inputs : List Word) (chunk : ℕ) (out' : Word) (inputs' : List Word) (chunk' : ℕ) → IsMerge words out inputs chunk → IsMerge words out' inputs' chunk' → Merge out' inputs' chunk' ≡ Merge out inputs chunk
 one_merge words out inputs chunk out' inputs' chunk' is other =
-    let same = one_reading verb.Merge words is.items other.items (out ∷ inputs) (out' ∷ inputs') is.reads other.reads in
+    let same = one_reading (synopsis_of verb.Merge) words is.items other.items (out ∷ inputs) (out' ∷ inputs') is.reads other.reads in
     let places : out' ∷ inputs' ≡ out ∷ inputs = same.1 in
     let size = one_number 1 67108864 (given (codes "chunk") is.items) is.size other.size is.sized (subst (λ (l : List Item). GivesNumber 1 67108864 (given (codes "chunk") l) other.size) same.0 other.sized) in
     let chunks : chunk' ≡ chunk = other.chunk_is ∙ ap (λ (v : Option ℕ). unwrap_or v 786432) size ∙ sym is.chunk_is in
@@ -159,9 +156,9 @@ one_merge words out inputs chunk out' inputs' chunk' is other =
 number_same : (least most : ℕ) (word word' : Word) (m n : ℕ) → word' ≡ word → IsNumber least most word m → IsNumber least most word' n → n ≡ m
 number_same least most word word' m n same is other = other.value ∙ ap (λ (w : Word). digits_value 10 w) same ∙ sym is.value
 
-one_generate : (words : List Word) (seed feeds messages : ℕ) (out : Word) (seed' feeds' messages' : ℕ) (out' : Word) → IsGenerate words seed feeds messages out → IsGenerate words seed' feeds' messages' out' → Generate seed' feeds' messages' out' ≡ Generate seed feeds messages out
+pub one_generate : (words : List Word) (seed feeds messages : ℕ) (out : Word) (seed' feeds' messages' : ℕ) (out' : Word) → IsGenerate words seed feeds messages out → IsGenerate words seed' feeds' messages' out' → Generate seed' feeds' messages' out' ≡ Generate seed feeds messages out
 one_generate words seed feeds messages out seed' feeds' messages' out' is other =
-    let same = one_reading verb.Generate words is.items other.items (is.seed_word ∷ is.feeds_word ∷ is.messages_word ∷ out ∷ []) (other.seed_word ∷ other.feeds_word ∷ other.messages_word ∷ out' ∷ []) is.reads other.reads in
+    let same = one_reading (synopsis_of verb.Generate) words is.items other.items (is.seed_word ∷ is.feeds_word ∷ is.messages_word ∷ out ∷ []) (other.seed_word ∷ other.feeds_word ∷ other.messages_word ∷ out' ∷ []) is.reads other.reads in
     let places : other.seed_word ∷ other.feeds_word ∷ other.messages_word ∷ out' ∷ [] ≡ is.seed_word ∷ is.feeds_word ∷ is.messages_word ∷ out ∷ [] = same.1 in
     let first : other.seed_word ≡ is.seed_word = cc in
     let second : other.feeds_word ≡ is.feeds_word = cc in
@@ -171,69 +168,3 @@ one_generate words seed feeds messages out seed' feeds' messages' out' is other 
     let counts : feeds' ≡ feeds = number_same 1 64 is.feeds_word other.feeds_word feeds feeds' second is.amounts.feeds_are other.amounts.feeds_are in
     let each : messages' ≡ messages = number_same 0 1000000 is.messages_word other.messages_word messages messages' third is.amounts.messages_are other.amounts.messages_are in
     cc
-
--- the names differ
-two_names : (one two : Word) → bytes_eq one two ≡ false → one ≡ two → ⊥
-two_names one two unlike is = let same : bytes_eq one two ≡ true = (bytes_eq-Decides one two).1 is in let wrong : false ≡ true = sym unlike ∙ same in cc
-
-one_behind : (words : List Word) (a b : Command) → name_of (verb_of a) ≡ name_of (verb_of b) → Behind words a → Behind words b → b ≡ a
-one_behind words (Record out feeds file limit lossless range watchers) (Record out' feeds' file' limit' lossless' range' watchers') names is other = one_record words out feeds file limit lossless range watchers out' feeds' file' limit' lossless' range' watchers' is other
-one_behind words (Record out feeds file limit lossless range watchers) (Info file') names is other = absurd (two_names (codes "record") (codes "info") refl names)
-one_behind words (Record out feeds file limit lossless range watchers) (Check file') names is other = absurd (two_names (codes "record") (codes "check") refl names)
-one_behind words (Record out feeds file limit lossless range watchers) (Cat file' indexed' range' topic') names is other = absurd (two_names (codes "record") (codes "cat") refl names)
-one_behind words (Record out feeds file limit lossless range watchers) (Recover input' out' chunk') names is other = absurd (two_names (codes "record") (codes "recover") refl names)
-one_behind words (Record out feeds file limit lossless range watchers) (Merge out' inputs' chunk') names is other = absurd (two_names (codes "record") (codes "merge") refl names)
-one_behind words (Record out feeds file limit lossless range watchers) (Generate seed' feeds' messages' out') names is other = absurd (two_names (codes "record") (codes "gen") refl names)
-one_behind words (Info file) (Record out' feeds' file' limit' lossless' range' watchers') names is other = absurd (two_names (codes "info") (codes "record") refl names)
-one_behind words (Info file) (Info file') names is other = ap (λ (f : Word). Info f) (one_file verb.Info words file file' is other)
-one_behind words (Info file) (Check file') names is other = absurd (two_names (codes "info") (codes "check") refl names)
-one_behind words (Info file) (Cat file' indexed' range' topic') names is other = absurd (two_names (codes "info") (codes "cat") refl names)
-one_behind words (Info file) (Recover input' out' chunk') names is other = absurd (two_names (codes "info") (codes "recover") refl names)
-one_behind words (Info file) (Merge out' inputs' chunk') names is other = absurd (two_names (codes "info") (codes "merge") refl names)
-one_behind words (Info file) (Generate seed' feeds' messages' out') names is other = absurd (two_names (codes "info") (codes "gen") refl names)
-one_behind words (Check file) (Record out' feeds' file' limit' lossless' range' watchers') names is other = absurd (two_names (codes "check") (codes "record") refl names)
-one_behind words (Check file) (Info file') names is other = absurd (two_names (codes "check") (codes "info") refl names)
-one_behind words (Check file) (Check file') names is other = ap (λ (f : Word). Check f) (one_file verb.Check words file file' is other)
-one_behind words (Check file) (Cat file' indexed' range' topic') names is other = absurd (two_names (codes "check") (codes "cat") refl names)
-one_behind words (Check file) (Recover input' out' chunk') names is other = absurd (two_names (codes "check") (codes "recover") refl names)
-one_behind words (Check file) (Merge out' inputs' chunk') names is other = absurd (two_names (codes "check") (codes "merge") refl names)
-one_behind words (Check file) (Generate seed' feeds' messages' out') names is other = absurd (two_names (codes "check") (codes "gen") refl names)
-one_behind words (Cat file indexed range topic) (Record out' feeds' file' limit' lossless' range' watchers') names is other = absurd (two_names (codes "cat") (codes "record") refl names)
-one_behind words (Cat file indexed range topic) (Info file') names is other = absurd (two_names (codes "cat") (codes "info") refl names)
-one_behind words (Cat file indexed range topic) (Check file') names is other = absurd (two_names (codes "cat") (codes "check") refl names)
-one_behind words (Cat file indexed range topic) (Cat file' indexed' range' topic') names is other = one_cat words file indexed range topic file' indexed' range' topic' is other
-one_behind words (Cat file indexed range topic) (Recover input' out' chunk') names is other = absurd (two_names (codes "cat") (codes "recover") refl names)
-one_behind words (Cat file indexed range topic) (Merge out' inputs' chunk') names is other = absurd (two_names (codes "cat") (codes "merge") refl names)
-one_behind words (Cat file indexed range topic) (Generate seed' feeds' messages' out') names is other = absurd (two_names (codes "cat") (codes "gen") refl names)
-one_behind words (Recover input out chunk) (Record out' feeds' file' limit' lossless' range' watchers') names is other = absurd (two_names (codes "recover") (codes "record") refl names)
-one_behind words (Recover input out chunk) (Info file') names is other = absurd (two_names (codes "recover") (codes "info") refl names)
-one_behind words (Recover input out chunk) (Check file') names is other = absurd (two_names (codes "recover") (codes "check") refl names)
-one_behind words (Recover input out chunk) (Cat file' indexed' range' topic') names is other = absurd (two_names (codes "recover") (codes "cat") refl names)
-one_behind words (Recover input out chunk) (Recover input' out' chunk') names is other = one_recover words input out chunk input' out' chunk' is other
-one_behind words (Recover input out chunk) (Merge out' inputs' chunk') names is other = absurd (two_names (codes "recover") (codes "merge") refl names)
-one_behind words (Recover input out chunk) (Generate seed' feeds' messages' out') names is other = absurd (two_names (codes "recover") (codes "gen") refl names)
-one_behind words (Merge out inputs chunk) (Record out' feeds' file' limit' lossless' range' watchers') names is other = absurd (two_names (codes "merge") (codes "record") refl names)
-one_behind words (Merge out inputs chunk) (Info file') names is other = absurd (two_names (codes "merge") (codes "info") refl names)
-one_behind words (Merge out inputs chunk) (Check file') names is other = absurd (two_names (codes "merge") (codes "check") refl names)
-one_behind words (Merge out inputs chunk) (Cat file' indexed' range' topic') names is other = absurd (two_names (codes "merge") (codes "cat") refl names)
-one_behind words (Merge out inputs chunk) (Recover input' out' chunk') names is other = absurd (two_names (codes "merge") (codes "recover") refl names)
-one_behind words (Merge out inputs chunk) (Merge out' inputs' chunk') names is other = one_merge words out inputs chunk out' inputs' chunk' is other
-one_behind words (Merge out inputs chunk) (Generate seed' feeds' messages' out') names is other = absurd (two_names (codes "merge") (codes "gen") refl names)
-one_behind words (Generate seed feeds messages out) (Record out' feeds' file' limit' lossless' range' watchers') names is other = absurd (two_names (codes "gen") (codes "record") refl names)
-one_behind words (Generate seed feeds messages out) (Info file') names is other = absurd (two_names (codes "gen") (codes "info") refl names)
-one_behind words (Generate seed feeds messages out) (Check file') names is other = absurd (two_names (codes "gen") (codes "check") refl names)
-one_behind words (Generate seed feeds messages out) (Cat file' indexed' range' topic') names is other = absurd (two_names (codes "gen") (codes "cat") refl names)
-one_behind words (Generate seed feeds messages out) (Recover input' out' chunk') names is other = absurd (two_names (codes "gen") (codes "recover") refl names)
-one_behind words (Generate seed feeds messages out) (Merge out' inputs' chunk') names is other = absurd (two_names (codes "gen") (codes "merge") refl names)
-one_behind words (Generate seed feeds messages out) (Generate seed' feeds' messages' out') names is other = one_generate words seed feeds messages out seed' feeds' messages' out' is other
-
-pub one_command : (words : List Word) (a : Command) → Derives words a → IsOnly words a
-one_command words a is b other =
-    let form : name_of (verb_of a) ∷ is.rest ≡ name_of (verb_of b) ∷ other.rest = sym is.form ∙ other.form in
-    let rest : other.rest ≡ is.rest = cc in
-    let names : name_of (verb_of a) ≡ name_of (verb_of b) = cc in
-    one_behind is.rest a b names is.behind (subst (λ (l : List Word). Behind l b) rest other.behind)
-
-pub only_one : (words : List Word) (result : Result Command WordsRefused) → IfOk result (λ command. Derives words command) → IfOk result (λ command. IsOnly words command)
-only_one words (Ok command) is = one_command words command is
-only_one words (Err refused) is = is

@@ -8,10 +8,11 @@ use Rattle.std.proofs.lemmas.Slice.Eq.{bytes_eq-Decides}
 use Rattle.clap.specs.Walk.{Row, at_row, has_row, more_values, with_values, without}
 use Rattle.clap.specs.declared.builder.value_parser.Reading.TheVariants.{AsWritten}
 use Rattle.clap.specs.declared.parser.matches.ValueSource.TheVariants.{CommandLine}
+use Rattle.command_words.specs.Synopses.{Synopsis}
 use Rattle.command_words.specs.Items.{Word, Item, IsFlag, IsOption, given}
 use Rattle.command_words.specs.Commands.{Flags}
 use Rattle.command_words.specs.Matches.{AtPlaces, HasRoom}
-use Rattle.command_words.specs.declared.verbs.Verb.{Verb}
+use Rattle.command_words.proofs.SynopsisLemmas.{same_text}
 
 -- what is found for an argument that was given once
 abbrev pub row : Word → Word → Row
@@ -46,17 +47,14 @@ abbrev pub Gathered : List Row → Word → List Word → Type 0
 Gathered rows id values = find (λ r. bytes_eq r.id id) rows ≡ found_with id values
 
 -- the rows are those of the items and the positionals
-pub record Holds (verb : Verb) (items : List Item) (places : List Word) (rows : List Row) : Type 0 where
-  pub options : (name : Word) → IsOption verb name → (value : Option Word) × (given name items ≡ option_to_list value) × Said rows name value
-  pub flags : (name : Word) → IsFlag verb name → (is_there : Bool) × Flags (given name items) is_there × Said rows name (if is_there then Some (codes "true") else None)
-  pub placed : AtPlaces verb places (Gathered rows)
-  pub few : HasRoom verb (length places)
+pub record Holds (synopsis : Synopsis) (items : List Item) (places : List Word) (rows : List Row) : Type 0 where
+  pub options : (name : Word) → IsOption synopsis name → (value : Option Word) × (given name items ≡ option_to_list value) × Said rows name value
+  pub flags : (name : Word) → IsFlag synopsis name → (is_there : Bool) × Flags (given name items) is_there × Said rows name (if is_there then Some (codes "true") else None)
+  pub placed : AtPlaces synopsis places (Gathered rows)
+  pub few : HasRoom synopsis (length places)
 
 abbrev pub taken : Word → Word → List Row → List Row
 taken id value rows = rows ++ row id value ∷ []
-
-pub same_text : (a : Word) → bytes_eq a a ≡ true
-same_text a = (bytes_eq-Decides a a).1 refl
 
 pub other_text : (a b : Word) → a ≢ b → bytes_eq a b ≡ false
 other_text a b unlike = go (bytes_eq a b) refl

@@ -1,17 +1,19 @@
 -- The arguments of each command, as they are built, and which of them a name or a place leads to.
-use Rattle.std.proofs.Common.{◌≡◌, ◌≢◌, ◌⊎◌, ◌==◌, ℕ, zero, suc, Bool, true, false, List, [], ◌∷◌, Option, Some, None, refl, sym, ap, subst, inl, inr, ◌∙◌, codes, arith, option_map}
-use Rattle.std.specs.Prelude.{◌≤◌, drop, take}
-use Rattle.std.proofs.lemmas.Option.{same_Some}
+use Rattle.std.proofs.Common.{◌≡◌, ◌≢◌, ◌⊎◌, ◌==◌, ◌&&◌, ◌++◌, ℕ, zero, suc, Bool, false, not, List, [], ◌∷◌, Option, Some, None, refl, sym, ap, subst, inl, inr, ◌∙◌, arith, option_map}
+use Rattle.std.specs.Prelude.{◌≤◌, drop, find, is_some, map, take}
+use Rattle.std.specs.Option.{option_map_or, option_to_list}
 use Rattle.std.specs.Str.{bytes_eq}
+use Rattle.std.proofs.lemmas.Option.{same_Some}
 use Rattle.std.proofs.lemmas.Slice.Eq.{bytes_eq-Decides}
 use Rattle.std.proofs.lemmas.Bool.Decides.{nat_tests}
-use Rattle.clap.specs.Walk.{Rule, arg_by_id, arg_by_index, arg_by_long, arg_by_short}
+use Rattle.clap.specs.Walk.{Rule, arg_by_id, arg_by_index, arg_by_long, arg_by_short, has_long, has_short}
 use Rattle.clap.specs.Simple.{filled, new_rule, with_index}
 use Rattle.clap.specs.declared.builder.action.ArgAction.TheVariants.{Append, SetTrue}
+use Rattle.command_words.specs.Synopses.{IsOneOf, Synopsis, places_with}
 use Rattle.command_words.specs.Items.{Word, IsFlag, IsOption}
-use Rattle.command_words.specs.Matches.{AtPlaces, HasRoom}
-use Rattle.command_words.specs.declared.verbs.Verb.{Verb}
-use Rattle.command_words.specs.declared.verbs.Verb.TheVariants as verb
+use Rattle.command_words.specs.Matches.{AtPlaces, AtPlacesIn, HasRoom, HasRoomIn}
+use Rattle.command_words.proofs.ItemLemmas.{flag_or_option}
+use Rattle.command_words.proofs.SynopsisLemmas.{among, flag_or_place_in, is_text, option_or_place_in, or_false, same_text, two_places_in, unlike_text}
 
 abbrev pub flag_rule : Word → Rule
 flag_rule name = filled (record (new_rule name) { long = Some name; action = Some SetTrue })
@@ -25,303 +27,226 @@ place_rule id index = with_index index (filled (new_rule id))
 abbrev pub rest_rule : Word → ℕ → Rule
 rest_rule id index = with_index index (filled (record (new_rule id) { action = Some Append }))
 
--- the arguments of a command
-abbrev pub rules_of : Verb → List Rule
-rules_of verb.Record = flag_rule (codes "plain") ∷ flag_rule (codes "lossless") ∷ option_rule (codes "limit") ∷ option_rule (codes "chunk") ∷ option_rule (codes "profile") ∷ option_rule (codes "watch") ∷ option_rule (codes "watchers") ∷ place_rule (codes "out") 1 ∷ rest_rule (codes "feed") 2 ∷ []
-rules_of verb.Info = place_rule (codes "file") 1 ∷ []
-rules_of verb.Check = place_rule (codes "file") 1 ∷ []
-rules_of verb.Cat = flag_rule (codes "indexed") ∷ option_rule (codes "start") ∷ option_rule (codes "end") ∷ option_rule (codes "topic") ∷ place_rule (codes "file") 1 ∷ []
-rules_of verb.Recover = option_rule (codes "chunk") ∷ place_rule (codes "in") 1 ∷ rest_rule (codes "out") 2 ∷ []
-rules_of verb.Merge = option_rule (codes "chunk") ∷ place_rule (codes "out") 1 ∷ rest_rule (codes "in") 2 ∷ []
-rules_of verb.Generate = place_rule (codes "seed") 1 ∷ rest_rule (codes "rest") 2 ∷ []
+-- the positionals of a command, numbered
+abbrev pub rest_rules : Option Word → List Rule
+rest_rules None = []
+rest_rules (Some id) = rest_rule id 2 ∷ []
 
-pub is_text : (a b : Word) → (a ≡ b) ⊎ (bytes_eq a b ≡ false)
-is_text a b = go (bytes_eq a b) refl
-  where
-    go : (t : Bool) → bytes_eq a b ≡ t → (a ≡ b) ⊎ (bytes_eq a b ≡ false)
-    go true is = inl ((bytes_eq-Decides a b).0 is)
-    go false is = inr is
+abbrev pub place_rules : Synopsis → List Rule
+place_rules synopsis = place_rule synopsis.first 1 ∷ rest_rules synopsis.rest
+
+-- the arguments of a command
+abbrev pub rules_of : Synopsis → List Rule
+rules_of synopsis = map flag_rule synopsis.flags ++ (map option_rule synopsis.options ++ place_rules synopsis)
+
+-- ---- the first argument that a test finds among those of some names
+
+module _ (test : Rule → Bool) (make : Word → Rule) where
+  -- where it finds none of them
+  skipped : (names : List Word) (more : List Rule) → ((n : Word) → test (make n) ≡ false) → find test (map make names ++ more) ≡ find test more
+  skipped [] more tests = refl
+  skipped (n ∷ names) more tests = rw (tests n) (skipped names more tests)
+
+  module _ (name : Word) (tests : (n : Word) → test (make n) ≡ bytes_eq n name) where
+    -- where it asks for one of the names
+    first_named : (names : List Word) (more : List Rule) → IsOneOf names name → find test (map make names ++ more) ≡ Some (make name)
+    first_named [] more is = absurd is
+    first_named (n ∷ names) more is = elim (is_text n name) [
+      | inl same ↦ subst (λ (w : Word). find test (make n ∷ (map make names ++ more)) ≡ Some (make w)) same (rw (tests n, (bytes_eq-Decides n name).1 same) refl)
+      | inr differ ↦ elim is [
+        | inl same ↦ absurd (unlike_text n name differ (sym same))
+        | inr later ↦ rw (tests n, differ) (first_named names more later)
+      ]
+    ]
+
+    none_named : (names : List Word) (more : List Rule) → (IsOneOf names name → ⊥) → find test (map make names ++ more) ≡ find test more
+    none_named [] more none = refl
+    none_named (n ∷ names) more none = elim (is_text n name) [
+      | inl same ↦ absurd (none (inl (sym same)))
+      | inr differ ↦ rw (tests n, differ) (none_named names more (λ later. none (inr later)))
+    ]
+
+abbrev by_long : Word → Rule → Bool
+by_long name a = not (is_some a.index) && has_long a name
+
+abbrev by_short : ℕ → Rule → Bool
+by_short letter a = not (is_some a.index) && has_short a letter
+
+abbrev by_id : Word → Rule → Bool
+by_id id a = bytes_eq a.id id
+
+abbrev by_index : ℕ → Rule → Bool
+by_index i a = option_map_or (λ k. k == i) a.index false
+
+-- ---- flags and options
+
+no_long : (first : Word) (rest : Option Word) (name : Word) → find (by_long name) (place_rule first 1 ∷ rest_rules rest) ≡ None
+no_long first None name = refl
+no_long first (Some id) name = refl
+
+no_letter : (first : Word) (rest : Option Word) (letter : ℕ) → find (by_short letter) (place_rule first 1 ∷ rest_rules rest) ≡ None
+no_letter first None letter = refl
+no_letter first (Some id) letter = refl
 
 -- a name is a flag's, an option's or none
-abbrev pub Named : Verb → Word → Type 0
-Named verb name = IsFlag verb name ⊎ (IsOption verb name ⊎ (arg_by_long (rules_of verb) name ≡ None))
+abbrev pub Named : Synopsis → Word → Type 0
+Named synopsis name = IsFlag synopsis name ⊎ (IsOption synopsis name ⊎ (arg_by_long (rules_of synopsis) name ≡ None))
 
-pub named : (verb : Verb) (name : Word) → Named verb name
-named verb.Record name = elim (is_text (codes "plain") name) [
-  | inl is ↦ inl (inl (sym is))
-  | inr no1 ↦ elim (is_text (codes "lossless") name) [
-    | inl is ↦ inl (inr (sym is))
-    | inr no2 ↦ elim (is_text (codes "limit") name) [
-      | inl is ↦ inr (inl (inl (sym is)))
-      | inr no3 ↦ elim (is_text (codes "chunk") name) [
-        | inl is ↦ inr (inl (inr (inl (sym is))))
-        | inr no4 ↦ elim (is_text (codes "profile") name) [
-          | inl is ↦ inr (inl (inr (inr (inl (sym is)))))
-          | inr no5 ↦ elim (is_text (codes "watch") name) [
-            | inl is ↦ inr (inl (inr (inr (inr (inl (sym is))))))
-            | inr no6 ↦ elim (is_text (codes "watchers") name) [
-              | inl is ↦ inr (inl (inr (inr (inr (inr (sym is))))))
-              | inr no7 ↦ inr (inr (rw (no1, no2, no3, no4, no5, no6, no7) refl))
-            ]
-          ]
-        ]
+pub named : (synopsis : Synopsis) (name : Word) → Named synopsis name
+named synopsis name =
+    let flags = synopsis.flags in
+    let options = synopsis.options in
+    elim (among flags name) [
+      | inl is ↦ inl is
+      | inr no_flag ↦ elim (among options name) [
+        | inl is ↦ inr (inl is)
+        | inr no_option ↦ inr (inr (
+            none_named (by_long name) flag_rule name (λ n. or_false (bytes_eq n name)) flags (map option_rule options ++ place_rules synopsis) no_flag
+            ∙ none_named (by_long name) option_rule name (λ n. or_false (bytes_eq n name)) options (place_rules synopsis) no_option
+            ∙ no_long synopsis.first synopsis.rest name))
       ]
     ]
-  ]
-]
-named verb.Info name = inr (inr refl)
-named verb.Check name = inr (inr refl)
-named verb.Cat name = elim (is_text (codes "indexed") name) [
-  | inl is ↦ inl (sym is)
-  | inr no1 ↦ elim (is_text (codes "start") name) [
-    | inl is ↦ inr (inl (inl (sym is)))
-    | inr no2 ↦ elim (is_text (codes "end") name) [
-      | inl is ↦ inr (inl (inr (inl (sym is))))
-      | inr no3 ↦ elim (is_text (codes "topic") name) [
-        | inl is ↦ inr (inl (inr (inr (sym is))))
-        | inr no4 ↦ inr (inr (rw (no1, no2, no3, no4) refl))
-      ]
-    ]
-  ]
-]
-named verb.Recover name = elim (is_text (codes "chunk") name) [
-  | inl is ↦ inr (inl (sym is))
-  | inr no1 ↦ inr (inr (rw no1 refl))
-]
-named verb.Merge name = elim (is_text (codes "chunk") name) [
-  | inl is ↦ inr (inl (sym is))
-  | inr no1 ↦ inr (inr (rw no1 refl))
-]
-named verb.Generate name = inr (inr refl)
 
 -- by its name and by its id an argument is found
-abbrev pub Found : Verb → Word → Rule → Type 0
-Found verb name rule = (arg_by_long (rules_of verb) name ≡ Some rule) × (arg_by_id (rules_of verb) name ≡ Some rule)
+abbrev pub Found : Synopsis → Word → Rule → Type 0
+Found synopsis name rule = (arg_by_long (rules_of synopsis) name ≡ Some rule) × (arg_by_id (rules_of synopsis) name ≡ Some rule)
 
-pub flag_found : (verb : Verb) (name : Word) → IsFlag verb name → Found verb name (flag_rule name)
-flag_found verb.Record name (inl is) = subst (λ n. Found verb.Record n (flag_rule n)) (sym is) (refl, refl)
-flag_found verb.Record name (inr is) = subst (λ n. Found verb.Record n (flag_rule n)) (sym is) (refl, refl)
-flag_found verb.Info name is = absurd is
-flag_found verb.Check name is = absurd is
-flag_found verb.Cat name is = subst (λ n. Found verb.Cat n (flag_rule n)) (sym is) (refl, refl)
-flag_found verb.Recover name is = absurd is
-flag_found verb.Merge name is = absurd is
-flag_found verb.Generate name is = absurd is
+pub flag_found : (synopsis : Synopsis) (name : Word) → IsFlag synopsis name → Found synopsis name (flag_rule name)
+flag_found synopsis name is =
+    let more = map option_rule synopsis.options ++ place_rules synopsis in (
+      first_named (by_long name) flag_rule name (λ n. or_false (bytes_eq n name)) synopsis.flags more is,
+      first_named (by_id name) flag_rule name (λ n. refl) synopsis.flags more is,
+    )
 
-pub option_found : (verb : Verb) (name : Word) → IsOption verb name → Found verb name (option_rule name)
-option_found verb.Record name (inl is) = subst (λ n. Found verb.Record n (option_rule n)) (sym is) (refl, refl)
-option_found verb.Record name (inr (inl is)) = subst (λ n. Found verb.Record n (option_rule n)) (sym is) (refl, refl)
-option_found verb.Record name (inr (inr (inl is))) = subst (λ n. Found verb.Record n (option_rule n)) (sym is) (refl, refl)
-option_found verb.Record name (inr (inr (inr (inl is)))) = subst (λ n. Found verb.Record n (option_rule n)) (sym is) (refl, refl)
-option_found verb.Record name (inr (inr (inr (inr is)))) = subst (λ n. Found verb.Record n (option_rule n)) (sym is) (refl, refl)
-option_found verb.Info name is = absurd is
-option_found verb.Check name is = absurd is
-option_found verb.Cat name (inl is) = subst (λ n. Found verb.Cat n (option_rule n)) (sym is) (refl, refl)
-option_found verb.Cat name (inr (inl is)) = subst (λ n. Found verb.Cat n (option_rule n)) (sym is) (refl, refl)
-option_found verb.Cat name (inr (inr is)) = subst (λ n. Found verb.Cat n (option_rule n)) (sym is) (refl, refl)
-option_found verb.Recover name is = subst (λ n. Found verb.Recover n (option_rule n)) (sym is) (refl, refl)
-option_found verb.Merge name is = subst (λ n. Found verb.Merge n (option_rule n)) (sym is) (refl, refl)
-option_found verb.Generate name is = absurd is
+pub option_found : (synopsis : Synopsis) (name : Word) → IsOption synopsis name → Found synopsis name (option_rule name)
+option_found synopsis name is =
+    let flags = synopsis.flags in
+    let options = synopsis.options in
+    let more = map option_rule options ++ place_rules synopsis in
+    let no_flag : IsOneOf flags name → ⊥ = λ flag. flag_or_option synopsis name flag is in (
+      none_named (by_long name) flag_rule name (λ n. or_false (bytes_eq n name)) flags more no_flag
+          ∙ first_named (by_long name) option_rule name (λ n. or_false (bytes_eq n name)) options (place_rules synopsis) is,
+      none_named (by_id name) flag_rule name (λ n. refl) flags more no_flag ∙ first_named (by_id name) option_rule name (λ n. refl) options (place_rules synopsis) is,
+    )
 
-pub no_short : (verb : Verb) (letter : ℕ) → arg_by_short (rules_of verb) letter ≡ None
-no_short verb.Record letter = refl
-no_short verb.Info letter = refl
-no_short verb.Check letter = refl
-no_short verb.Cat letter = refl
-no_short verb.Recover letter = refl
-no_short verb.Merge letter = refl
-no_short verb.Generate letter = refl
+pub no_short : (synopsis : Synopsis) (letter : ℕ) → arg_by_short (rules_of synopsis) letter ≡ None
+no_short synopsis letter =
+    skipped (by_short letter) flag_rule synopsis.flags (map option_rule synopsis.options ++ place_rules synopsis) (λ n. refl)
+    ∙ skipped (by_short letter) option_rule synopsis.options (place_rules synopsis) (λ n. refl)
+    ∙ no_letter synopsis.first synopsis.rest letter
+
+-- ---- positionals
+
+abbrev pub IsPlace : Synopsis → Word → Type 0
+IsPlace synopsis id = IsOneOf (places_with synopsis.first synopsis.rest) id
+
+abbrev pub place_in : Word → Option Word → ℕ → Option Word
+place_in first rest zero = Some first
+place_in first rest (suc n) = rest
+
+-- the positional that takes a word behind so many, and where it stands
+abbrev pub place_for : Synopsis → ℕ → Option Word
+place_for synopsis n = place_in synopsis.first synopsis.rest n
+
+abbrev pub later_position : Option Word → ℕ → ℕ
+later_position None n = suc (suc n)
+later_position (Some id) n = 2
+
+abbrev pub position_for : Synopsis → ℕ → ℕ
+position_for synopsis zero = 1
+position_for synopsis (suc zero) = 2
+position_for synopsis (suc (suc n)) = later_position synopsis.rest (suc n)
+
+abbrev pub rule_for : ℕ → Word → Rule
+rule_for zero id = place_rule id 1
+rule_for (suc n) id = rest_rule id 2
+
+-- behind the first positional the place stays the same where there is another
+pub same_position : (synopsis : Synopsis) (n : ℕ) (id : Word) → synopsis.rest ≡ Some id → position_for synopsis (suc n) ≡ 2
+same_position synopsis zero id is = refl
+same_position synopsis (suc n) id is = ap (λ (rest : Option Word). later_position rest (suc n)) is
 
 past_one : (n : ℕ) → (1 == suc (suc n)) ≡ false
 past_one n = grind (arith, nat_tests)
 
--- ---- positionals
+later_found : (first : Word) (rest : Option Word) (n : ℕ) → find (by_index (later_position rest (suc n))) (place_rule first 1 ∷ rest_rules rest) ≡ option_map (rule_for (suc (suc n))) rest
+later_found first None n = rw (past_one (suc n)) refl
+later_found first (Some id) n = refl
 
-abbrev pub IsPlace : Verb → Word → Type 0
-IsPlace verb.Record id = (id ≡ codes "out") ⊎ (id ≡ codes "feed")
-IsPlace verb.Info id = id ≡ codes "file"
-IsPlace verb.Check id = id ≡ codes "file"
-IsPlace verb.Cat id = id ≡ codes "file"
-IsPlace verb.Recover id = (id ≡ codes "in") ⊎ (id ≡ codes "out")
-IsPlace verb.Merge id = (id ≡ codes "out") ⊎ (id ≡ codes "in")
-IsPlace verb.Generate id = (id ≡ codes "seed") ⊎ (id ≡ codes "rest")
+second_found : (first : Word) (rest : Option Word) → find (by_index 2) (place_rule first 1 ∷ rest_rules rest) ≡ option_map (rule_for 1) rest
+second_found first None = refl
+second_found first (Some id) = refl
 
--- the positional that takes a word behind so many, and where it stands
-abbrev pub place_for : Verb → ℕ → Option Word
-place_for verb.Record zero = Some (codes "out")
-place_for verb.Record (suc n) = Some (codes "feed")
-place_for verb.Info zero = Some (codes "file")
-place_for verb.Info (suc n) = None
-place_for verb.Check zero = Some (codes "file")
-place_for verb.Check (suc n) = None
-place_for verb.Cat zero = Some (codes "file")
-place_for verb.Cat (suc n) = None
-place_for verb.Recover zero = Some (codes "in")
-place_for verb.Recover (suc n) = Some (codes "out")
-place_for verb.Merge zero = Some (codes "out")
-place_for verb.Merge (suc n) = Some (codes "in")
-place_for verb.Generate zero = Some (codes "seed")
-place_for verb.Generate (suc n) = Some (codes "rest")
+places_found : (synopsis : Synopsis) (n : ℕ) → find (by_index (position_for synopsis n)) (place_rules synopsis) ≡ option_map (rule_for n) (place_for synopsis n)
+places_found synopsis zero = refl
+places_found synopsis (suc zero) = second_found synopsis.first synopsis.rest
+places_found synopsis (suc (suc n)) = later_found synopsis.first synopsis.rest n
 
-abbrev pub position_for : Verb → ℕ → ℕ
-position_for verb.Record zero = 1
-position_for verb.Record (suc n) = 2
-position_for verb.Info n = suc n
-position_for verb.Check n = suc n
-position_for verb.Cat n = suc n
-position_for verb.Recover zero = 1
-position_for verb.Recover (suc n) = 2
-position_for verb.Merge zero = 1
-position_for verb.Merge (suc n) = 2
-position_for verb.Generate zero = 1
-position_for verb.Generate (suc n) = 2
+pub place_found : (synopsis : Synopsis) (n : ℕ) → arg_by_index (rules_of synopsis) (position_for synopsis n) ≡ option_map (rule_for n) (place_for synopsis n)
+place_found synopsis n =
+    skipped (by_index (position_for synopsis n)) flag_rule synopsis.flags (map option_rule synopsis.options ++ place_rules synopsis) (λ name. refl)
+    ∙ skipped (by_index (position_for synopsis n)) option_rule synopsis.options (place_rules synopsis) (λ name. refl)
+    ∙ places_found synopsis n
 
-abbrev pub rule_for : Verb → ℕ → Word → Rule
-rule_for verb.Record zero id = place_rule id 1
-rule_for verb.Record (suc n) id = rest_rule id 2
-rule_for verb.Info n id = place_rule id 1
-rule_for verb.Check n id = place_rule id 1
-rule_for verb.Cat n id = place_rule id 1
-rule_for verb.Recover zero id = place_rule id 1
-rule_for verb.Recover (suc n) id = rest_rule id 2
-rule_for verb.Merge zero id = place_rule id 1
-rule_for verb.Merge (suc n) id = rest_rule id 2
-rule_for verb.Generate zero id = place_rule id 1
-rule_for verb.Generate (suc n) id = rest_rule id 2
+pub place_is : (synopsis : Synopsis) (n : ℕ) (id : Word) → place_for synopsis n ≡ Some id → IsPlace synopsis id
+place_is synopsis zero id is = inl (sym (same_Some synopsis.first id is))
+place_is synopsis (suc n) id is = inr (subst (λ (rest : Option Word). IsOneOf (option_to_list rest) id) (sym is) (inl refl))
 
-pub place_found : (verb : Verb) (n : ℕ) → arg_by_index (rules_of verb) (position_for verb n) ≡ option_map (rule_for verb n) (place_for verb n)
-place_found verb.Record zero = refl
-place_found verb.Record (suc n) = refl
-place_found verb.Info zero = refl
-place_found verb.Info (suc n) = rw (past_one n) refl
-place_found verb.Check zero = refl
-place_found verb.Check (suc n) = rw (past_one n) refl
-place_found verb.Cat zero = refl
-place_found verb.Cat (suc n) = rw (past_one n) refl
-place_found verb.Recover zero = refl
-place_found verb.Recover (suc n) = refl
-place_found verb.Merge zero = refl
-place_found verb.Merge (suc n) = refl
-place_found verb.Generate zero = refl
-place_found verb.Generate (suc n) = refl
+pub option_not_place : (synopsis : Synopsis) (name id : Word) → IsOption synopsis name → IsPlace synopsis id → name ≢ id
+option_not_place synopsis name id option place same = option_or_place_in synopsis id (subst (IsOption synopsis) same option) place
 
-pub place_by_id : (verb : Verb) (n : ℕ) (id : Word) → place_for verb n ≡ Some id → arg_by_id (rules_of verb) id ≡ Some (rule_for verb n id)
-place_by_id verb.Record zero id is = let same : codes "out" ≡ id = cc in subst (λ i. arg_by_id (rules_of verb.Record) i ≡ Some (place_rule i 1)) same refl
-place_by_id verb.Record (suc n) id is = let same : codes "feed" ≡ id = cc in subst (λ i. arg_by_id (rules_of verb.Record) i ≡ Some (rest_rule i 2)) same refl
-place_by_id verb.Info zero id is = let same : codes "file" ≡ id = cc in subst (λ i. arg_by_id (rules_of verb.Info) i ≡ Some (place_rule i 1)) same refl
-place_by_id verb.Info (suc n) id is = cc
-place_by_id verb.Check zero id is = let same : codes "file" ≡ id = cc in subst (λ i. arg_by_id (rules_of verb.Check) i ≡ Some (place_rule i 1)) same refl
-place_by_id verb.Check (suc n) id is = cc
-place_by_id verb.Cat zero id is = let same : codes "file" ≡ id = cc in subst (λ i. arg_by_id (rules_of verb.Cat) i ≡ Some (place_rule i 1)) same refl
-place_by_id verb.Cat (suc n) id is = cc
-place_by_id verb.Recover zero id is = let same : codes "in" ≡ id = cc in subst (λ i. arg_by_id (rules_of verb.Recover) i ≡ Some (place_rule i 1)) same refl
-place_by_id verb.Recover (suc n) id is = let same : codes "out" ≡ id = cc in subst (λ i. arg_by_id (rules_of verb.Recover) i ≡ Some (rest_rule i 2)) same refl
-place_by_id verb.Merge zero id is = let same : codes "out" ≡ id = cc in subst (λ i. arg_by_id (rules_of verb.Merge) i ≡ Some (place_rule i 1)) same refl
-place_by_id verb.Merge (suc n) id is = let same : codes "in" ≡ id = cc in subst (λ i. arg_by_id (rules_of verb.Merge) i ≡ Some (rest_rule i 2)) same refl
-place_by_id verb.Generate zero id is = let same : codes "seed" ≡ id = cc in subst (λ i. arg_by_id (rules_of verb.Generate) i ≡ Some (place_rule i 1)) same refl
-place_by_id verb.Generate (suc n) id is = let same : codes "rest" ≡ id = cc in subst (λ i. arg_by_id (rules_of verb.Generate) i ≡ Some (rest_rule i 2)) same refl
+pub flag_not_place : (synopsis : Synopsis) (name id : Word) → IsFlag synopsis name → IsPlace synopsis id → name ≢ id
+flag_not_place synopsis name id flag place same = flag_or_place_in synopsis id (subst (IsFlag synopsis) same flag) place
 
-pub place_is : (verb : Verb) (n : ℕ) (id : Word) → place_for verb n ≡ Some id → IsPlace verb id
-place_is verb.Record zero id is = inl (cc)
-place_is verb.Record (suc n) id is = inr (cc)
-place_is verb.Info zero id is = cc
-place_is verb.Info (suc n) id is = cc
-place_is verb.Check zero id is = cc
-place_is verb.Check (suc n) id is = cc
-place_is verb.Cat zero id is = cc
-place_is verb.Cat (suc n) id is = cc
-place_is verb.Recover zero id is = inl (cc)
-place_is verb.Recover (suc n) id is = inr (cc)
-place_is verb.Merge zero id is = inl (cc)
-place_is verb.Merge (suc n) id is = inr (cc)
-place_is verb.Generate zero id is = inl (cc)
-place_is verb.Generate (suc n) id is = inr (cc)
+pub two_places : (synopsis : Synopsis) (id : Word) → synopsis.rest ≡ Some id → synopsis.first ≢ id
+two_places synopsis = two_places_in synopsis
 
--- two arguments have two ids
-abbrev NoLong : Verb → Word → Type 0
-NoLong verb id = (a : Rule) × (arg_by_id (rules_of verb) id ≡ Some a) × (a.long ≡ None)
+last_by_id : (synopsis : Synopsis) (n : ℕ) (id : Word) → place_for synopsis n ≡ Some id → find (by_id id) (place_rules synopsis) ≡ Some (rule_for n id)
+last_by_id synopsis zero id is =
+    let same = same_Some synopsis.first id is in
+    subst (λ (i : Word). find (by_id i) (place_rules synopsis) ≡ Some (place_rule i 1)) same (rw (same_text synopsis.first) refl)
+last_by_id synopsis (suc n) id is = elim (is_text synopsis.first id) [
+  | inl same ↦ absurd (two_places synopsis id is same)
+  | inr differ ↦
+      subst (λ (rest : Option Word). find (by_id id) (place_rule synopsis.first 1 ∷ rest_rules rest) ≡ Some (rest_rule id 2)) (sym is) (rw (differ, same_text id) refl)
+]
 
-place_short : (verb : Verb) (id : Word) → IsPlace verb id → NoLong verb id
-place_short verb.Record id (inl is) = subst (NoLong verb.Record) (sym is) (place_rule (codes "out") 1, refl, refl)
-place_short verb.Record id (inr is) = subst (NoLong verb.Record) (sym is) (rest_rule (codes "feed") 2, refl, refl)
-place_short verb.Info id is = subst (NoLong verb.Info) (sym is) (place_rule (codes "file") 1, refl, refl)
-place_short verb.Check id is = subst (NoLong verb.Check) (sym is) (place_rule (codes "file") 1, refl, refl)
-place_short verb.Cat id is = subst (NoLong verb.Cat) (sym is) (place_rule (codes "file") 1, refl, refl)
-place_short verb.Recover id (inl is) = subst (NoLong verb.Recover) (sym is) (place_rule (codes "in") 1, refl, refl)
-place_short verb.Recover id (inr is) = subst (NoLong verb.Recover) (sym is) (rest_rule (codes "out") 2, refl, refl)
-place_short verb.Merge id (inl is) = subst (NoLong verb.Merge) (sym is) (place_rule (codes "out") 1, refl, refl)
-place_short verb.Merge id (inr is) = subst (NoLong verb.Merge) (sym is) (rest_rule (codes "in") 2, refl, refl)
-place_short verb.Generate id (inl is) = subst (NoLong verb.Generate) (sym is) (place_rule (codes "seed") 1, refl, refl)
-place_short verb.Generate id (inr is) = subst (NoLong verb.Generate) (sym is) (rest_rule (codes "rest") 2, refl, refl)
+pub place_by_id : (synopsis : Synopsis) (n : ℕ) (id : Word) → place_for synopsis n ≡ Some id → arg_by_id (rules_of synopsis) id ≡ Some (rule_for n id)
+place_by_id synopsis n id is =
+    let place = place_is synopsis n id is in
+    none_named (by_id id) flag_rule id (λ name. refl) synopsis.flags (map option_rule synopsis.options ++ place_rules synopsis) (λ flag. flag_or_place_in synopsis id flag place)
+    ∙ none_named (by_id id) option_rule id (λ name. refl) synopsis.options (place_rules synopsis) (λ option. option_or_place_in synopsis id option place)
+    ∙ last_by_id synopsis n id is
 
-long_not_place : (verb : Verb) (name id : Word) (a : Rule) → arg_by_id (rules_of verb) name ≡ Some a → a.long ≡ Some name → IsPlace verb id → name ≢ id
-long_not_place verb name id a found long place same =
-    let short = place_short verb id place in
-    let one : arg_by_id (rules_of verb) id ≡ Some a = subst (λ i. arg_by_id (rules_of verb) i ≡ Some a) same found in
-    let rules : a ≡ short.0 = same_Some a short.0 (sym one ∙ short.1) in
-    let wrong : Some name ≡ None = sym long ∙ ap (λ (r : Rule). r.long) rules ∙ short.2 in
-    cc
-
-pub option_not_place : (verb : Verb) (name id : Word) → IsOption verb name → IsPlace verb id → name ≢ id
-option_not_place verb name id option place = long_not_place verb name id (option_rule name) (option_found verb name option).1 refl place
-
-pub flag_not_place : (verb : Verb) (name id : Word) → IsFlag verb name → IsPlace verb id → name ≢ id
-flag_not_place verb name id flag place = long_not_place verb name id (flag_rule name) (flag_found verb name flag).1 refl place
-
-pub in_not_out : codes "in" ≢ codes "out"
-in_not_out same = cc
-
-pub seed_not_rest : codes "seed" ≢ codes "rest"
-seed_not_rest same = let equal : bytes_eq (codes "seed") (codes "rest") ≡ true = (bytes_eq-Decides (codes "seed") (codes "rest")).1 same in let wrong : false ≡ true = equal in cc
-
-pub out_not_feed : codes "out" ≢ codes "feed"
-out_not_feed same = cc
+places_turned : (first : Word) (rest : Option Word) (words : List Word) (Has Gets : Word → List Word → Type 0) → ((id : Word) (some : List Word) → IsOneOf (places_with first rest) id → Has id some → Gets id some) → AtPlacesIn first rest words Has → AtPlacesIn first rest words Gets
+places_turned first None words Has Gets turn has = turn first words (inl refl) has
+places_turned first (Some rest) words Has Gets turn has = (turn first (take 1 words) (inl refl) has.0, turn rest (drop 1 words) (inr (inl refl)) has.1)
 
 -- what holds of the words of each positional holds as well of the other, where the ids are positionals'
-pub places_map : (verb : Verb) (words : List Word) (Has Gets : Word → List Word → Type 0) → ((id : Word) (some : List Word) → IsPlace verb id → Has id some → Gets id some) → AtPlaces verb words Has → AtPlaces verb words Gets
-places_map verb.Record words Has Gets turn has = (turn (codes "out") (take 1 words) (inl refl) has.0, turn (codes "feed") (drop 1 words) (inr refl) has.1)
-places_map verb.Info words Has Gets turn has = turn (codes "file") words refl has
-places_map verb.Check words Has Gets turn has = turn (codes "file") words refl has
-places_map verb.Cat words Has Gets turn has = turn (codes "file") words refl has
-places_map verb.Recover words Has Gets turn has = (turn (codes "in") (take 1 words) (inl refl) has.0, turn (codes "out") (drop 1 words) (inr refl) has.1)
-places_map verb.Merge words Has Gets turn has = (turn (codes "out") (take 1 words) (inl refl) has.0, turn (codes "in") (drop 1 words) (inr refl) has.1)
-places_map verb.Generate words Has Gets turn has = (turn (codes "seed") (take 1 words) (inl refl) has.0, turn (codes "rest") (drop 1 words) (inr refl) has.1)
+pub places_map : (synopsis : Synopsis) (words : List Word) (Has Gets : Word → List Word → Type 0) → ((id : Word) (some : List Word) → IsPlace synopsis id → Has id some → Gets id some) → AtPlaces synopsis words Has → AtPlaces synopsis words Gets
+places_map synopsis = places_turned synopsis.first synopsis.rest
 
 -- ---- how many
 
-pub room : (verb : Verb) (n : ℕ) → HasRoom verb (suc n) → (id : Word) × (place_for verb n ≡ Some id)
-room verb.Record zero fits = (codes "out", refl)
-room verb.Record (suc n) fits = (codes "feed", refl)
-room verb.Info zero fits = (codes "file", refl)
-room verb.Info (suc n) fits = absurd (omega (arith, fits))
-room verb.Check zero fits = (codes "file", refl)
-room verb.Check (suc n) fits = absurd (omega (arith, fits))
-room verb.Cat zero fits = (codes "file", refl)
-room verb.Cat (suc n) fits = absurd (omega (arith, fits))
-room verb.Recover zero fits = (codes "in", refl)
-room verb.Recover (suc n) fits = (codes "out", refl)
-room verb.Merge zero fits = (codes "out", refl)
-room verb.Merge (suc n) fits = (codes "in", refl)
-room verb.Generate zero fits = (codes "seed", refl)
-room verb.Generate (suc n) fits = (codes "rest", refl)
+room_in : (first : Word) (rest : Option Word) (n : ℕ) → HasRoomIn rest (suc n) → (id : Word) × (place_in first rest n ≡ Some id)
+room_in first rest zero fits = (first, refl)
+room_in first None (suc n) fits = absurd (omega (arith, fits))
+room_in first (Some id) (suc n) fits = (id, refl)
 
-pub has_room : (verb : Verb) (n : ℕ) (id : Word) → place_for verb n ≡ Some id → HasRoom verb (suc n)
-has_room verb.Record n id is = tt
-has_room verb.Info zero id is = omega arith
-has_room verb.Info (suc n) id is = cc
-has_room verb.Check zero id is = omega arith
-has_room verb.Check (suc n) id is = cc
-has_room verb.Cat zero id is = omega arith
-has_room verb.Cat (suc n) id is = cc
-has_room verb.Recover n id is = tt
-has_room verb.Merge n id is = tt
-has_room verb.Generate n id is = tt
+pub room : (synopsis : Synopsis) (n : ℕ) → HasRoom synopsis (suc n) → (id : Word) × (place_for synopsis n ≡ Some id)
+room synopsis = room_in synopsis.first synopsis.rest
 
-pub room_less : (verb : Verb) (m n : ℕ) → m ≤ n → HasRoom verb n → HasRoom verb m
-room_less verb.Record m n less fits = tt
-room_less verb.Info m n less fits = omega (arith, less, fits)
-room_less verb.Check m n less fits = omega (arith, less, fits)
-room_less verb.Cat m n less fits = omega (arith, less, fits)
-room_less verb.Recover m n less fits = tt
-room_less verb.Merge m n less fits = tt
-room_less verb.Generate m n less fits = tt
+has_room_in : (first : Word) (rest : Option Word) (n : ℕ) (id : Word) → place_in first rest n ≡ Some id → HasRoomIn rest (suc n)
+has_room_in first None zero id is = omega arith
+has_room_in first None (suc n) id is = cc
+has_room_in first (Some rest) n id is = tt
+
+pub has_room : (synopsis : Synopsis) (n : ℕ) (id : Word) → place_for synopsis n ≡ Some id → HasRoom synopsis (suc n)
+has_room synopsis = has_room_in synopsis.first synopsis.rest
+
+room_less_in : (rest : Option Word) (m n : ℕ) → m ≤ n → HasRoomIn rest n → HasRoomIn rest m
+room_less_in None m n less fits = omega (arith, less, fits)
+room_less_in (Some id) m n less fits = tt
+
+pub room_less : (synopsis : Synopsis) (m n : ℕ) → m ≤ n → HasRoom synopsis n → HasRoom synopsis m
+room_less synopsis = room_less_in synopsis.rest

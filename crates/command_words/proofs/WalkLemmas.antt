@@ -4,6 +4,7 @@ use Rattle.std.specs.Prelude.{if◌then◌else◌}
 use Rattle.std.specs.List.{All, flat_map}
 use Rattle.std.specs.Option.{option_map_or, option_to_list}
 use Rattle.std.specs.Str.{IsUtf8}
+use Rattle.std.proofs.lemmas.Option.{same_Some}
 use Rattle.std.proofs.lemmas.Bool.Decides.{nat_tests}
 use Rattle.std.proofs.lemmas.List.{length-append, length_push}
 use Rattle.std.proofs.lemmas.List.Elements.{All-cons, All-head, All-tail, All-nil}
@@ -12,13 +13,13 @@ use Rattle.clap.specs.Kinds.{Kinds}
 use Rattle.clap.specs.Walk.{Row, Rule, Text, Waiting, idle, option, Walk, settled, used_by_id, walked}
 use Rattle.clap.specs.Faults.{turn_fault, use_fault}
 use Rattle.clap.proofs.LexerLemmas.{name_and_value-at, name_and_value-without}
+use Rattle.command_words.specs.Synopses.{Synopsis}
 use Rattle.command_words.specs.Items.{Word, Item, flag, joined, apart, plain, EndsWith, IsBare, IsFlag, IsFree, IsItem, IsOption, given, place_of, use_of, words_of}
 use Rattle.command_words.specs.Commands.{Flags}
-use Rattle.command_words.specs.Matches.{AreFine, Fits, HasRoom, IsLoose, IsLooseCut}
-use Rattle.command_words.specs.declared.verbs.Verb.{Verb}
-use Rattle.command_words.specs.declared.verbs.Verb.TheVariants as verb
+use Rattle.command_words.specs.Matches.{AreFine, AtPlacesIn, Fits, HasRoom, IsLoose, IsLooseCut}
+use Rattle.command_words.proofs.SynopsisLemmas.{same_text}
 use Rattle.command_words.proofs.ItemLemmas.{flag_bare, no_empty_flag, no_empty_option, option_bare}
-use Rattle.command_words.proofs.RowLemmas.{Holds, Said, first_put, first_use, put, same_text, taken}
+use Rattle.command_words.proofs.RowLemmas.{Gathered, Holds, Said, first_put, first_use, put, taken}
 use Rattle.command_words.proofs.RuleLemmas.{flag_found, flag_rule, named, option_found, option_rule, place_by_id, place_for, position_for, room, room_less, rule_for, rules_of}
 use Rattle.command_words.proofs.HoldLemmas.{given_push, holds_as, holds_flag, holds_nothing, holds_option, holds_place}
 use Rattle.command_words.proofs.TurnLemmas.{Passes, Pending, at, both_none, fault_in, first_none, leaf, no_conflict, passes_end, passes_first, passes_more, rows_in, second_none, walk_on}
@@ -26,140 +27,115 @@ use Rattle.command_words.proofs.TurnLemmas.{IsCalm, free_turn, free_walk, is_cal
 use Rattle.command_words.proofs.TurnLemmas.{behind_turn, behind_walk, conflict_none, dashes, end_turn, end_walk, flag_valued, long_turn_as, long_walk_as, no_place_turn, place_turn, place_walk, short_turn, unknown_turn, value_turn, value_walk, conflict, long_turned}
 
 -- the rows at the end of a walk
-abbrev pub end_rows : Verb → Walk → List Word → List Row
-end_rows verb w words = (settled (rules_of verb) (walk_on verb w words).held).rows
+abbrev pub end_rows : Synopsis → Walk → List Word → List Row
+end_rows synopsis w words = (settled (rules_of synopsis) (walk_on synopsis w words).held).rows
 
 -- ---- what waits to be noted
 
-place_unsaid : (verb : Verb) (items : List Item) (rows : List Row) (id : Word) → place_for verb 0 ≡ Some id → Holds verb items [] rows → Said rows id None
-place_unsaid verb.Record items rows id is holds = let same : codes "out" ≡ id = cc in subst (λ (i : Word). Said rows i None) same holds.placed.0
-place_unsaid verb.Info items rows id is holds = let same : codes "file" ≡ id = cc in subst (λ (i : Word). Said rows i None) same holds.placed
-place_unsaid verb.Check items rows id is holds = let same : codes "file" ≡ id = cc in subst (λ (i : Word). Said rows i None) same holds.placed
-place_unsaid verb.Cat items rows id is holds = let same : codes "file" ≡ id = cc in subst (λ (i : Word). Said rows i None) same holds.placed
-place_unsaid verb.Recover items rows id is holds = let same : codes "in" ≡ id = cc in subst (λ (i : Word). Said rows i None) same holds.placed.0
-place_unsaid verb.Merge items rows id is holds = let same : codes "out" ≡ id = cc in subst (λ (i : Word). Said rows i None) same holds.placed.0
-place_unsaid verb.Generate items rows id is holds = let same : codes "seed" ≡ id = cc in subst (λ (i : Word). Said rows i None) same holds.placed.0
+first_unsaid : (first : Word) (rest : Option Word) (rows : List Row) → AtPlacesIn first rest [] (Gathered rows) → Said rows first None
+first_unsaid first None rows placed = placed
+first_unsaid first (Some id) rows placed = placed.0
+
+place_unsaid : (synopsis : Synopsis) (items : List Item) (rows : List Row) (id : Word) → place_for synopsis 0 ≡ Some id → Holds synopsis items [] rows → Said rows id None
+place_unsaid synopsis items rows id is holds =
+    subst (λ (i : Word). Said rows i None) (same_Some synopsis.first id is) (first_unsaid synopsis.first synopsis.rest rows holds.placed)
 
 -- a word of a positional, once it is noted
-used_place : (verb : Verb) (items : List Item) (places : List Word) (rows : List Row) (id word : Word) → place_for verb (length places) ≡ Some id → Holds verb items places rows
-    → used_by_id (Some (rule_for verb (length places) id)) (word ∷ []) rows ≡ put id word rows
-used_place verb.Record items [] rows id word is holds = first_put id word rows (place_unsaid verb.Record items rows id is holds)
-used_place verb.Record items (x ∷ xs) rows id word is holds = refl
-used_place verb.Info items [] rows id word is holds = first_put id word rows (place_unsaid verb.Info items rows id is holds)
-used_place verb.Info items (x ∷ xs) rows id word is holds = cc
-used_place verb.Check items [] rows id word is holds = first_put id word rows (place_unsaid verb.Check items rows id is holds)
-used_place verb.Check items (x ∷ xs) rows id word is holds = cc
-used_place verb.Cat items [] rows id word is holds = first_put id word rows (place_unsaid verb.Cat items rows id is holds)
-used_place verb.Cat items (x ∷ xs) rows id word is holds = cc
-used_place verb.Recover items [] rows id word is holds = first_put id word rows (place_unsaid verb.Recover items rows id is holds)
-used_place verb.Recover items (x ∷ xs) rows id word is holds = refl
-used_place verb.Merge items [] rows id word is holds = first_put id word rows (place_unsaid verb.Merge items rows id is holds)
-used_place verb.Merge items (x ∷ xs) rows id word is holds = refl
-used_place verb.Generate items [] rows id word is holds = first_put id word rows (place_unsaid verb.Generate items rows id is holds)
-used_place verb.Generate items (x ∷ xs) rows id word is holds = refl
+used_place : (synopsis : Synopsis) (items : List Item) (places : List Word) (rows : List Row) (id word : Word) → place_for synopsis (length places) ≡ Some id → Holds synopsis items places rows
+    → used_by_id (Some (rule_for (length places) id)) (word ∷ []) rows ≡ put id word rows
+used_place synopsis items [] rows id word is holds = first_put id word rows (place_unsaid synopsis items rows id is holds)
+used_place synopsis items (x ∷ xs) rows id word is holds = refl
 
-place_rows : (verb : Verb) (items : List Item) (places : List Word) (rows : List Row) (id word : Word) → place_for verb (length places) ≡ Some id → Holds verb items places rows → rows_in verb rows (Some (id, word ∷ [])) ≡ put id word rows
-place_rows verb items places rows id word is holds =
-    ap (λ (r : Option Rule). used_by_id r (word ∷ []) rows) (place_by_id verb (length places) id is) ∙ used_place verb items places rows id word is holds
+place_rows : (synopsis : Synopsis) (items : List Item) (places : List Word) (rows : List Row) (id word : Word) → place_for synopsis (length places) ≡ Some id → Holds synopsis items places rows → rows_in synopsis rows (Some (id, word ∷ [])) ≡ put id word rows
+place_rows synopsis items places rows id word is holds =
+    ap (λ (r : Option Rule). used_by_id r (word ∷ []) rows) (place_by_id synopsis (length places) id is) ∙ used_place synopsis items places rows id word is holds
 
 abbrev pending_fault : List Text → List Row → Option Rule → Kinds
 pending_fault values rows found = option_map_or (λ a. use_fault false a values rows) found []
 
-sound_place : (verb : Verb) (items : List Item) (places : List Word) (rows : List Row) (id word : Word) → place_for verb (length places) ≡ Some id → Holds verb items places rows
-    → pending_fault (word ∷ []) rows (Some (rule_for verb (length places) id)) ≡ []
-sound_place verb.Record items [] rows id word is holds = no_conflict id rows (place_unsaid verb.Record items rows id is holds)
-sound_place verb.Record items (x ∷ xs) rows id word is holds = refl
-sound_place verb.Info items [] rows id word is holds = no_conflict id rows (place_unsaid verb.Info items rows id is holds)
-sound_place verb.Info items (x ∷ xs) rows id word is holds = cc
-sound_place verb.Check items [] rows id word is holds = no_conflict id rows (place_unsaid verb.Check items rows id is holds)
-sound_place verb.Check items (x ∷ xs) rows id word is holds = cc
-sound_place verb.Cat items [] rows id word is holds = no_conflict id rows (place_unsaid verb.Cat items rows id is holds)
-sound_place verb.Cat items (x ∷ xs) rows id word is holds = cc
-sound_place verb.Recover items [] rows id word is holds = no_conflict id rows (place_unsaid verb.Recover items rows id is holds)
-sound_place verb.Recover items (x ∷ xs) rows id word is holds = refl
-sound_place verb.Merge items [] rows id word is holds = no_conflict id rows (place_unsaid verb.Merge items rows id is holds)
-sound_place verb.Merge items (x ∷ xs) rows id word is holds = refl
-sound_place verb.Generate items [] rows id word is holds = no_conflict id rows (place_unsaid verb.Generate items rows id is holds)
-sound_place verb.Generate items (x ∷ xs) rows id word is holds = refl
+sound_place : (synopsis : Synopsis) (items : List Item) (places : List Word) (rows : List Row) (id word : Word) → place_for synopsis (length places) ≡ Some id → Holds synopsis items places rows
+    → pending_fault (word ∷ []) rows (Some (rule_for (length places) id)) ≡ []
+sound_place synopsis items [] rows id word is holds = no_conflict id rows (place_unsaid synopsis items rows id is holds)
+sound_place synopsis items (x ∷ xs) rows id word is holds = refl
 
-place_fault : (verb : Verb) (items : List Item) (places : List Word) (rows : List Row) (id word : Word) → place_for verb (length places) ≡ Some id → Holds verb items places rows → fault_in verb rows (Some (id, word ∷ [])) ≡ []
-place_fault verb items places rows id word is holds = ap (pending_fault (word ∷ []) rows) (place_by_id verb (length places) id is) ∙ sound_place verb items places rows id word is holds
+place_fault : (synopsis : Synopsis) (items : List Item) (places : List Word) (rows : List Row) (id word : Word) → place_for synopsis (length places) ≡ Some id → Holds synopsis items places rows → fault_in synopsis rows (Some (id, word ∷ [])) ≡ []
+place_fault synopsis items places rows id word is holds = ap (pending_fault (word ∷ []) rows) (place_by_id synopsis (length places) id is) ∙ sound_place synopsis items places rows id word is holds
 
-option_rows : (verb : Verb) (id word : Word) (rows : List Row) → IsOption verb id → Said rows id None → rows_in verb rows (Some (id, word ∷ [])) ≡ taken id word rows
-option_rows verb id word rows is none = ap (λ (r : Option Rule). used_by_id r (word ∷ []) rows) (option_found verb id is).1 ∙ first_use id word rows none
+option_rows : (synopsis : Synopsis) (id word : Word) (rows : List Row) → IsOption synopsis id → Said rows id None → rows_in synopsis rows (Some (id, word ∷ [])) ≡ taken id word rows
+option_rows synopsis id word rows is none = ap (λ (r : Option Rule). used_by_id r (word ∷ []) rows) (option_found synopsis id is).1 ∙ first_use id word rows none
 
-option_fault : (verb : Verb) (id word : Word) (rows : List Row) → IsOption verb id → fault_in verb rows (Some (id, word ∷ [])) ≡ conflict id rows
-option_fault verb id word rows is = ap (pending_fault (word ∷ []) rows) (option_found verb id is).1
+option_fault : (synopsis : Synopsis) (id word : Word) (rows : List Row) → IsOption synopsis id → fault_in synopsis rows (Some (id, word ∷ [])) ≡ conflict id rows
+option_fault synopsis id word rows is = ap (pending_fault (word ∷ []) rows) (option_found synopsis id is).1
 
-unfilled : (verb : Verb) (id : Word) (rows : List Row) → IsOption verb id → fault_in verb rows (Some (id, [])) ≡ [] → ⊥
-unfilled verb id rows is none =
-    let wants = ap (pending_fault [] rows) (option_found verb id is).1 in
+unfilled : (synopsis : Synopsis) (id : Word) (rows : List Row) → IsOption synopsis id → fault_in synopsis rows (Some (id, [])) ≡ [] → ⊥
+unfilled synopsis id rows is none =
+    let wants = ap (pending_fault [] rows) (option_found synopsis id is).1 in
     let wrong : pending_fault [] rows (Some (option_rule id)) ≡ [] = sym wants ∙ none in cc
 
 -- ---- words behind `--`
 
 -- a walk that goes on has nothing wrong in what waits
-behind_noted : (name : Word) (verb : Verb) (words : List Word) (rows : List Row) (pending : Pending) (waiting : Waiting) (j : ℕ) → Passes name verb (at rows pending waiting (position_for verb j) true) words → fault_in verb rows pending ≡ []
-behind_noted name verb [] rows pending waiting j passes = passes.1
-behind_noted name verb (word ∷ rest) rows pending waiting j passes = go (place_for verb j) refl
+behind_noted : (name : Word) (synopsis : Synopsis) (words : List Word) (rows : List Row) (pending : Pending) (waiting : Waiting) (j : ℕ) → Passes name synopsis (at rows pending waiting (position_for synopsis j) true) words → fault_in synopsis rows pending ≡ []
+behind_noted name synopsis [] rows pending waiting j passes = passes.1
+behind_noted name synopsis (word ∷ rest) rows pending waiting j passes = go (place_for synopsis j) refl
   where
-    go : (found : Option Word) → place_for verb j ≡ found → fault_in verb rows pending ≡ []
-    go None is = absurd (no_place_turn name verb rows pending j is (passes_first name verb (at rows pending waiting (position_for verb j) true) word rest passes).0)
-    go (Some id) is = sym (place_turn name verb rows pending j id is) ∙ (passes_first name verb (at rows pending waiting (position_for verb j) true) word rest passes).0
+    go : (found : Option Word) → place_for synopsis j ≡ found → fault_in synopsis rows pending ≡ []
+    go None is = absurd (no_place_turn name synopsis rows pending j is (passes_first name synopsis (at rows pending waiting (position_for synopsis j) true) word rest passes).0)
+    go (Some id) is = sym (place_turn name synopsis rows pending j id is) ∙ (passes_first name synopsis (at rows pending waiting (position_for synopsis j) true) word rest passes).0
 
-there_is_place : (name : Word) (verb : Verb) (word : Word) (rest : List Word) (rows : List Row) (pending : Pending) (waiting : Waiting) (j : ℕ) → Passes name verb (at rows pending waiting (position_for verb j) true) (word ∷ rest)
-    → (id : Word) × (place_for verb j ≡ Some id)
-there_is_place name verb word rest rows pending waiting j passes = go (place_for verb j) refl
+there_is_place : (name : Word) (synopsis : Synopsis) (word : Word) (rest : List Word) (rows : List Row) (pending : Pending) (waiting : Waiting) (j : ℕ) → Passes name synopsis (at rows pending waiting (position_for synopsis j) true) (word ∷ rest)
+    → (id : Word) × (place_for synopsis j ≡ Some id)
+there_is_place name synopsis word rest rows pending waiting j passes = go (place_for synopsis j) refl
   where
-    go : (found : Option Word) → place_for verb j ≡ found → (id : Word) × (place_for verb j ≡ Some id)
-    go None is = absurd (no_place_turn name verb rows pending j is (passes_first name verb (at rows pending waiting (position_for verb j) true) word rest passes).0)
+    go : (found : Option Word) → place_for synopsis j ≡ found → (id : Word) × (place_for synopsis j ≡ Some id)
+    go None is = absurd (no_place_turn name synopsis rows pending j is (passes_first name synopsis (at rows pending waiting (position_for synopsis j) true) word rest passes).0)
     go (Some id) is = (id, is)
 
 -- the walk after a word at a place
-one_more : (verb : Verb) (places : List Word) (word : Word) (rows : List Row) (pending : Pending) (waiting : Waiting) (is_trailing : Bool)
-    → at rows pending waiting (position_for verb (suc (length places))) is_trailing ≡ at rows pending waiting (position_for verb (length (places ++ word ∷ []))) is_trailing
-one_more verb places word rows pending waiting is_trailing =
+one_more : (synopsis : Synopsis) (places : List Word) (word : Word) (rows : List Row) (pending : Pending) (waiting : Waiting) (is_trailing : Bool)
+    → at rows pending waiting (position_for synopsis (suc (length places))) is_trailing ≡ at rows pending waiting (position_for synopsis (length (places ++ word ∷ []))) is_trailing
+one_more synopsis places word rows pending waiting is_trailing =
     let more : suc (length places) ≡ length (places ++ word ∷ []) = omega (arith, length_push places word) in
-    ap (λ n. at rows pending waiting (position_for verb n) is_trailing) more
+    ap (λ n. at rows pending waiting (position_for synopsis n) is_trailing) more
 
-behind_goes : (verb : Verb) (word id : Word) (places : List Word) (rows : List Row) (pending : Pending) (waiting : Waiting) → place_for verb (length places) ≡ Some id
-    → walked (rules_of verb) [] (at rows pending waiting (position_for verb (length places)) true) word ≡ at (rows_in verb rows pending) (Some (id, word ∷ [])) (waiting_for verb (length places)) (position_for verb (length (places ++ word ∷ []))) true
-behind_goes verb word id places rows pending waiting is =
-    behind_walk verb word waiting rows pending (position_for verb (length places)) ∙ place_walk verb word rows pending (length places) true waiting id is
-    ∙ one_more verb places word (rows_in verb rows pending) (Some (id, word ∷ [])) (waiting_for verb (length places)) true
+behind_goes : (synopsis : Synopsis) (word id : Word) (places : List Word) (rows : List Row) (pending : Pending) (waiting : Waiting) → place_for synopsis (length places) ≡ Some id
+    → walked (rules_of synopsis) [] (at rows pending waiting (position_for synopsis (length places)) true) word ≡ at (rows_in synopsis rows pending) (Some (id, word ∷ [])) (waiting_for (length places)) (position_for synopsis (length (places ++ word ∷ []))) true
+behind_goes synopsis word id places rows pending waiting is =
+    behind_walk synopsis word waiting rows pending (position_for synopsis (length places)) ∙ place_walk synopsis word rows pending (length places) true waiting id is
+    ∙ one_more synopsis places word (rows_in synopsis rows pending) (Some (id, word ∷ [])) (waiting_for (length places)) true
 
-place_held : (verb : Verb) (items : List Item) (places : List Word) (rows : List Row) (id word : Word) → place_for verb (length places) ≡ Some id → Holds verb items places rows
-    → Holds verb items (places ++ word ∷ []) (rows_in verb rows (Some (id, word ∷ [])))
-place_held verb items places rows id word is holds =
-    subst (Holds verb items (places ++ word ∷ [])) (sym (place_rows verb items places rows id word is holds)) (holds_place verb items places rows id word is holds)
+place_held : (synopsis : Synopsis) (items : List Item) (places : List Word) (rows : List Row) (id word : Word) → place_for synopsis (length places) ≡ Some id → Holds synopsis items places rows
+    → Holds synopsis items (places ++ word ∷ []) (rows_in synopsis rows (Some (id, word ∷ [])))
+place_held synopsis items places rows id word is holds =
+    subst (Holds synopsis items (places ++ word ∷ [])) (sym (place_rows synopsis items places rows id word is holds)) (holds_place synopsis items places rows id word is holds)
 
-pub back_behind : (name : Word) (verb : Verb) (words : List Word) (items : List Item) (places : List Word) (rows : List Row) (pending : Pending) (waiting : Waiting) → Holds verb items places (rows_in verb rows pending)
-    → Passes name verb (at rows pending waiting (position_for verb (length places)) true) words → Holds verb items (places ++ words) (end_rows verb (at rows pending waiting (position_for verb (length places)) true) words)
-back_behind name verb [] items places rows pending waiting holds passes = subst (λ (l : List Word). Holds verb items l (rows_in verb rows pending)) (sym (append-nil places)) holds
-back_behind name verb (word ∷ rest) items places rows pending waiting holds passes =
-    let w = at rows pending waiting (position_for verb (length places)) true in
-    let there = there_is_place name verb word rest rows pending waiting (length places) passes in
-    let goes = behind_goes verb word there.0 places rows pending waiting there.1 in
-    let next : Passes name verb (at (rows_in verb rows pending) (Some (there.0, word ∷ [])) (waiting_for verb (length places)) (position_for verb (length (places ++ word ∷ []))) true) rest =
-    subst (λ (v : Walk). Passes name verb v rest) goes (passes_first name verb w word rest passes).1 in
-    let more = place_held verb items places (rows_in verb rows pending) there.0 word there.1 holds in
-    let end = back_behind name verb rest items (places ++ word ∷ []) (rows_in verb rows pending) (Some (there.0, word ∷ [])) (waiting_for verb (length places)) more next in
-    subst (λ (l : List Word). Holds verb items l (end_rows verb w (word ∷ rest))) (append_assoc places (word ∷ []) rest)
-    (subst (λ (v : Walk). Holds verb items ((places ++ word ∷ []) ++ rest) (end_rows verb v rest)) (sym goes) end)
+pub back_behind : (name : Word) (synopsis : Synopsis) (words : List Word) (items : List Item) (places : List Word) (rows : List Row) (pending : Pending) (waiting : Waiting) → Holds synopsis items places (rows_in synopsis rows pending)
+    → Passes name synopsis (at rows pending waiting (position_for synopsis (length places)) true) words → Holds synopsis items (places ++ words) (end_rows synopsis (at rows pending waiting (position_for synopsis (length places)) true) words)
+back_behind name synopsis [] items places rows pending waiting holds passes = subst (λ (l : List Word). Holds synopsis items l (rows_in synopsis rows pending)) (sym (append-nil places)) holds
+back_behind name synopsis (word ∷ rest) items places rows pending waiting holds passes =
+    let w = at rows pending waiting (position_for synopsis (length places)) true in
+    let there = there_is_place name synopsis word rest rows pending waiting (length places) passes in
+    let goes = behind_goes synopsis word there.0 places rows pending waiting there.1 in
+    let next : Passes name synopsis (at (rows_in synopsis rows pending) (Some (there.0, word ∷ [])) (waiting_for (length places)) (position_for synopsis (length (places ++ word ∷ []))) true) rest =
+    subst (λ (v : Walk). Passes name synopsis v rest) goes (passes_first name synopsis w word rest passes).1 in
+    let more = place_held synopsis items places (rows_in synopsis rows pending) there.0 word there.1 holds in
+    let end = back_behind name synopsis rest items (places ++ word ∷ []) (rows_in synopsis rows pending) (Some (there.0, word ∷ [])) (waiting_for (length places)) more next in
+    subst (λ (l : List Word). Holds synopsis items l (end_rows synopsis w (word ∷ rest))) (append_assoc places (word ∷ []) rest)
+    (subst (λ (v : Walk). Holds synopsis items ((places ++ word ∷ []) ++ rest) (end_rows synopsis v rest)) (sym goes) end)
 
-pub forth_behind : (name : Word) (verb : Verb) (words : List Word) (items : List Item) (places : List Word) (rows : List Row) (pending : Pending) (waiting : Waiting) → Holds verb items places (rows_in verb rows pending)
-    → HasRoom verb (length (places ++ words)) → fault_in verb rows pending ≡ [] → Passes name verb (at rows pending waiting (position_for verb (length places)) true) words
-forth_behind name verb [] items places rows pending waiting holds few none = passes_end name verb rows pending waiting (position_for verb (length places)) true none
-forth_behind name verb (word ∷ rest) items places rows pending waiting holds few none =
-    let w = at rows pending waiting (position_for verb (length places)) true in
-    let there = room verb (length places) (room_less verb (suc (length places)) (length (places ++ word ∷ rest)) (omega (arith, length-append places (word ∷ rest))) few) in
-    let goes = behind_goes verb word there.0 places rows pending waiting there.1 in
-    let more = place_held verb items places (rows_in verb rows pending) there.0 word there.1 holds in
-    let end = forth_behind name verb rest items (places ++ word ∷ []) (rows_in verb rows pending) (Some (there.0, word ∷ [])) (waiting_for verb (length places)) more
-    (subst (λ (l : List Word). HasRoom verb (length l)) (sym (append_assoc places (word ∷ []) rest)) few)
-    (place_fault verb items places (rows_in verb rows pending) there.0 word there.1 holds) in
-    passes_more name verb w word rest (behind_turn name verb word waiting rows pending (position_for verb (length places)) ∙ place_turn name verb rows pending (length places) there.0 there.1 ∙ none)
-    (subst (λ (v : Walk). Passes name verb v rest) (sym goes) end)
+pub forth_behind : (name : Word) (synopsis : Synopsis) (words : List Word) (items : List Item) (places : List Word) (rows : List Row) (pending : Pending) (waiting : Waiting) → Holds synopsis items places (rows_in synopsis rows pending)
+    → HasRoom synopsis (length (places ++ words)) → fault_in synopsis rows pending ≡ [] → Passes name synopsis (at rows pending waiting (position_for synopsis (length places)) true) words
+forth_behind name synopsis [] items places rows pending waiting holds few none = passes_end name synopsis rows pending waiting (position_for synopsis (length places)) true none
+forth_behind name synopsis (word ∷ rest) items places rows pending waiting holds few none =
+    let w = at rows pending waiting (position_for synopsis (length places)) true in
+    let there = room synopsis (length places) (room_less synopsis (suc (length places)) (length (places ++ word ∷ rest)) (omega (arith, length-append places (word ∷ rest))) few) in
+    let goes = behind_goes synopsis word there.0 places rows pending waiting there.1 in
+    let more = place_held synopsis items places (rows_in synopsis rows pending) there.0 word there.1 holds in
+    let end = forth_behind name synopsis rest items (places ++ word ∷ []) (rows_in synopsis rows pending) (Some (there.0, word ∷ [])) (waiting_for (length places)) more
+    (subst (λ (l : List Word). HasRoom synopsis (length l)) (sym (append_assoc places (word ∷ []) rest)) few)
+    (place_fault synopsis items places (rows_in synopsis rows pending) there.0 word there.1 holds) in
+    passes_more name synopsis w word rest (behind_turn name synopsis word waiting rows pending (position_for synopsis (length places)) ∙ place_turn name synopsis rows pending (length places) there.0 there.1 ∙ none)
+    (subst (λ (v : Walk). Passes name synopsis v rest) (sym goes) end)
 
 -- ---- what a word looks like
 
@@ -220,61 +196,61 @@ cut_parts text front back form bare = ap name_and_value form ∙ name_and_value-
 -- ---- a word that begins with `--`
 
 -- what such a word may be where nothing is wrong
-data LongIs (verb : Verb) (named : Word) (rows : List Row) (pending : Pending) (position : ℕ) (after : Walk) : Type 0 where
-  is_flag : IsFlag verb named → Said (rows_in verb rows pending) named None → after ≡ at (taken named (codes "true") (rows_in verb rows pending)) None idle position false → LongIs verb named rows pending position after
-  is_joined : (name value : Word) → named ≡ name ++ 61 ∷ value → IsOption verb name → Said (rows_in verb rows pending) name None → after ≡ at (taken name value (rows_in verb rows pending)) None idle position false
-      → LongIs verb named rows pending position after
-  is_apart : IsOption verb named → after ≡ at (rows_in verb rows pending) (Some (named, [])) (option named) position false → LongIs verb named rows pending position after
+data LongIs (synopsis : Synopsis) (named : Word) (rows : List Row) (pending : Pending) (position : ℕ) (after : Walk) : Type 0 where
+  is_flag : IsFlag synopsis named → Said (rows_in synopsis rows pending) named None → after ≡ at (taken named (codes "true") (rows_in synopsis rows pending)) None idle position false → LongIs synopsis named rows pending position after
+  is_joined : (name value : Word) → named ≡ name ++ 61 ∷ value → IsOption synopsis name → Said (rows_in synopsis rows pending) name None → after ≡ at (taken name value (rows_in synopsis rows pending)) None idle position false
+      → LongIs synopsis named rows pending position after
+  is_apart : IsOption synopsis named → after ≡ at (rows_in synopsis rows pending) (Some (named, [])) (option named) position false → LongIs synopsis named rows pending position after
 
-module _ (name : Word) (verb : Verb) (x : ℕ) (xs : Word) (waiting : Waiting) (rows : List Row) (pending : Pending) (position : ℕ) where
+module _ (name : Word) (synopsis : Synopsis) (x : ℕ) (xs : Word) (waiting : Waiting) (rows : List Row) (pending : Pending) (position : ℕ) where
   abbrev here : Walk
   here = at rows pending waiting position false
 
   abbrev Turns : Type 0
-  Turns = turn_fault (leaf name verb) [] here (dashes (x ∷ xs)) ≡ []
+  Turns = turn_fault (leaf name synopsis) [] here (dashes (x ∷ xs)) ≡ []
 
   abbrev Long : Type 0
-  Long = (fault_in verb rows pending ≡ []) × LongIs verb (x ∷ xs) rows pending position (walked (rules_of verb) [] here (dashes (x ∷ xs)))
+  Long = (fault_in synopsis rows pending ≡ []) × LongIs synopsis (x ∷ xs) rows pending position (walked (rules_of synopsis) [] here (dashes (x ∷ xs)))
 
   bare_long : name_and_value (x ∷ xs) ≡ (x ∷ xs, None) → Turns → Long
-  bare_long cut turns = elim (named verb (x ∷ xs)) [
+  bare_long cut turns = elim (named synopsis (x ∷ xs)) [
     | inl is ↦
-        let none : long_turned name verb (dashes (x ∷ xs)) waiting (Some (flag_rule (x ∷ xs))) None rows pending position ≡ [] =
-        sym (long_turn_as name verb x xs waiting rows pending position (x ∷ xs) None (Some (flag_rule (x ∷ xs))) cut (flag_found verb (x ∷ xs) is).0) ∙ turns in
-        let parts : conflict (x ∷ xs) (rows_in verb rows pending) ≡ [] = second_none (fault_in verb rows pending) _ (first_none _ [] none) in
-        let unsaid = conflict_none (x ∷ xs) (rows_in verb rows pending) parts in (
-          first_none (fault_in verb rows pending) _ (first_none _ [] none),
+        let none : long_turned name synopsis (dashes (x ∷ xs)) waiting (Some (flag_rule (x ∷ xs))) None rows pending position ≡ [] =
+        sym (long_turn_as name synopsis x xs waiting rows pending position (x ∷ xs) None (Some (flag_rule (x ∷ xs))) cut (flag_found synopsis (x ∷ xs) is).0) ∙ turns in
+        let parts : conflict (x ∷ xs) (rows_in synopsis rows pending) ≡ [] = second_none (fault_in synopsis rows pending) _ (first_none _ [] none) in
+        let unsaid = conflict_none (x ∷ xs) (rows_in synopsis rows pending) parts in (
+          first_none (fault_in synopsis rows pending) _ (first_none _ [] none),
           is_flag is unsaid
-              (long_walk_as name verb x xs waiting rows pending position (x ∷ xs) None (Some (flag_rule (x ∷ xs))) cut (flag_found verb (x ∷ xs) is).0
-              ∙ ap (λ (l : List Row). at l None idle position false) (first_use (x ∷ xs) (codes "true") (rows_in verb rows pending) unsaid)),
+              (long_walk_as name synopsis x xs waiting rows pending position (x ∷ xs) None (Some (flag_rule (x ∷ xs))) cut (flag_found synopsis (x ∷ xs) is).0
+              ∙ ap (λ (l : List Row). at l None idle position false) (first_use (x ∷ xs) (codes "true") (rows_in synopsis rows pending) unsaid)),
         )
     | inr (inl is) ↦
-        let none : long_turned name verb (dashes (x ∷ xs)) waiting (Some (option_rule (x ∷ xs))) None rows pending position ≡ [] =
-        sym (long_turn_as name verb x xs waiting rows pending position (x ∷ xs) None (Some (option_rule (x ∷ xs))) cut (option_found verb (x ∷ xs) is).0) ∙ turns in (
-          first_none (fault_in verb rows pending) [] none,
+        let none : long_turned name synopsis (dashes (x ∷ xs)) waiting (Some (option_rule (x ∷ xs))) None rows pending position ≡ [] =
+        sym (long_turn_as name synopsis x xs waiting rows pending position (x ∷ xs) None (Some (option_rule (x ∷ xs))) cut (option_found synopsis (x ∷ xs) is).0) ∙ turns in (
+          first_none (fault_in synopsis rows pending) [] none,
           is_apart is
-              (long_walk_as name verb x xs waiting rows pending position (x ∷ xs) None (Some (option_rule (x ∷ xs))) cut (option_found verb (x ∷ xs) is).0),
+              (long_walk_as name synopsis x xs waiting rows pending position (x ∷ xs) None (Some (option_rule (x ∷ xs))) cut (option_found synopsis (x ∷ xs) is).0),
         )
-    | inr (inr is) ↦ absurd (unknown_turn name verb (dashes (x ∷ xs)) waiting rows pending position (x ∷ xs) None
-        (sym (long_turn_as name verb x xs waiting rows pending position (x ∷ xs) None None cut is) ∙ turns))
+    | inr (inr is) ↦ absurd (unknown_turn name synopsis (dashes (x ∷ xs)) waiting rows pending position (x ∷ xs) None
+        (sym (long_turn_as name synopsis x xs waiting rows pending position (x ∷ xs) None None cut is) ∙ turns))
   ]
 
   cut_long : (n value : Word) → x ∷ xs ≡ n ++ 61 ∷ value → name_and_value (x ∷ xs) ≡ (n, Some value) → Turns → Long
-  cut_long n value form cut turns = elim (named verb n) [
-    | inl is ↦ absurd (flag_valued name verb (dashes (x ∷ xs)) waiting rows pending position n value
-        (sym (long_turn_as name verb x xs waiting rows pending position n (Some value) (Some (flag_rule n)) cut (flag_found verb n is).0) ∙ turns))
+  cut_long n value form cut turns = elim (named synopsis n) [
+    | inl is ↦ absurd (flag_valued name synopsis (dashes (x ∷ xs)) waiting rows pending position n value
+        (sym (long_turn_as name synopsis x xs waiting rows pending position n (Some value) (Some (flag_rule n)) cut (flag_found synopsis n is).0) ∙ turns))
     | inr (inl is) ↦
-        let none : long_turned name verb (dashes (x ∷ xs)) waiting (Some (option_rule n)) (Some value) rows pending position ≡ [] =
-        sym (long_turn_as name verb x xs waiting rows pending position n (Some value) (Some (option_rule n)) cut (option_found verb n is).0) ∙ turns in
-        let parts : conflict n (rows_in verb rows pending) ≡ [] = second_none (fault_in verb rows pending) _ (first_none _ [] none) in
-        let unsaid = conflict_none n (rows_in verb rows pending) parts in (
-          first_none (fault_in verb rows pending) _ (first_none _ [] none),
+        let none : long_turned name synopsis (dashes (x ∷ xs)) waiting (Some (option_rule n)) (Some value) rows pending position ≡ [] =
+        sym (long_turn_as name synopsis x xs waiting rows pending position n (Some value) (Some (option_rule n)) cut (option_found synopsis n is).0) ∙ turns in
+        let parts : conflict n (rows_in synopsis rows pending) ≡ [] = second_none (fault_in synopsis rows pending) _ (first_none _ [] none) in
+        let unsaid = conflict_none n (rows_in synopsis rows pending) parts in (
+          first_none (fault_in synopsis rows pending) _ (first_none _ [] none),
           is_joined n value form is unsaid
-              (long_walk_as name verb x xs waiting rows pending position n (Some value) (Some (option_rule n)) cut (option_found verb n is).0
-              ∙ ap (λ (l : List Row). at l None idle position false) (first_use n value (rows_in verb rows pending) unsaid)),
+              (long_walk_as name synopsis x xs waiting rows pending position n (Some value) (Some (option_rule n)) cut (option_found synopsis n is).0
+              ∙ ap (λ (l : List Row). at l None idle position false) (first_use n value (rows_in synopsis rows pending) unsaid)),
         )
-    | inr (inr is) ↦ absurd (unknown_turn name verb (dashes (x ∷ xs)) waiting rows pending position n (Some value)
-        (sym (long_turn_as name verb x xs waiting rows pending position n (Some value) None cut is) ∙ turns))
+    | inr (inr is) ↦ absurd (unknown_turn name synopsis (dashes (x ∷ xs)) waiting rows pending position n (Some value)
+        (sym (long_turn_as name synopsis x xs waiting rows pending position n (Some value) None cut is) ∙ turns))
   ]
 
   long_is : Turns → Long
@@ -291,75 +267,75 @@ fine_first word rest fine = (All-head IsUtf8 word rest fine.0, All-head (λ word
 pub fine_rest : (word : Word) (rest : List Word) → AreFine (word ∷ rest) → AreFine rest
 fine_rest word rest fine = (All-tail IsUtf8 word rest fine.0, All-tail (λ word. word ≢ codes "-") word rest fine.1)
 
-short_bad : (name : Word) (verb : Verb) (word : Word) (waiting : Waiting) (rows : List Row) (pending : Pending) (position : ℕ) (b : ℕ) (bs : Word) → word ≡ 45 ∷ b ∷ bs → b ≢ 45 → IsUtf8 word
-    → turn_fault (leaf name verb) [] (at rows pending waiting position false) word ≡ [] → ⊥
-short_bad name verb word waiting rows pending position b bs is other utf none =
-    short_turn name verb b bs waiting rows pending position other (subst IsUtf8 is utf) (subst (λ (w : Word). turn_fault (leaf name verb) [] (at rows pending waiting position false) w ≡ []) is none)
+short_bad : (name : Word) (synopsis : Synopsis) (word : Word) (waiting : Waiting) (rows : List Row) (pending : Pending) (position : ℕ) (b : ℕ) (bs : Word) → word ≡ 45 ∷ b ∷ bs → b ≢ 45 → IsUtf8 word
+    → turn_fault (leaf name synopsis) [] (at rows pending waiting position false) word ≡ [] → ⊥
+short_bad name synopsis word waiting rows pending position b bs is other utf none =
+    short_turn name synopsis b bs waiting rows pending position other (subst IsUtf8 is utf) (subst (λ (w : Word). turn_fault (leaf name synopsis) [] (at rows pending waiting position false) w ≡ []) is none)
 
-there_is_plain : (name : Word) (verb : Verb) (word : Word) (waiting : Waiting) (rows : List Row) (pending : Pending) (j : ℕ) → IsFree word → IsCalm waiting → turn_fault (leaf name verb) [] (at rows pending waiting (position_for verb j) false) word ≡ []
-    → (id : Word) × (place_for verb j ≡ Some id) × (fault_in verb rows pending ≡ [])
-there_is_plain name verb word waiting rows pending j free calm turns = go (place_for verb j) refl
+there_is_plain : (name : Word) (synopsis : Synopsis) (word : Word) (waiting : Waiting) (rows : List Row) (pending : Pending) (j : ℕ) → IsFree word → IsCalm waiting → turn_fault (leaf name synopsis) [] (at rows pending waiting (position_for synopsis j) false) word ≡ []
+    → (id : Word) × (place_for synopsis j ≡ Some id) × (fault_in synopsis rows pending ≡ [])
+there_is_plain name synopsis word waiting rows pending j free calm turns = go (place_for synopsis j) refl
   where
-    go : (found : Option Word) → place_for verb j ≡ found → (id : Word) × (place_for verb j ≡ Some id) × (fault_in verb rows pending ≡ [])
-    go None is = absurd (no_place_turn name verb rows pending j is (sym (free_turn name verb word waiting rows pending (position_for verb j) free calm) ∙ turns))
-    go (Some id) is = (id, is, sym (place_turn name verb rows pending j id is) ∙ sym (free_turn name verb word waiting rows pending (position_for verb j) free calm) ∙ turns)
+    go : (found : Option Word) → place_for synopsis j ≡ found → (id : Word) × (place_for synopsis j ≡ Some id) × (fault_in synopsis rows pending ≡ [])
+    go None is = absurd (no_place_turn name synopsis rows pending j is (sym (free_turn name synopsis word waiting rows pending (position_for synopsis j) free calm) ∙ turns))
+    go (Some id) is = (id, is, sym (place_turn name synopsis rows pending j id is) ∙ sym (free_turn name synopsis word waiting rows pending (position_for synopsis j) free calm) ∙ turns)
 
 -- a walk that goes on has nothing wrong in what waits
-idle_noted : (name : Word) (verb : Verb) (words : List Word) (rows : List Row) (pending : Pending) (j : ℕ) → AreFine words → Passes name verb (at rows pending idle (position_for verb j) false) words → fault_in verb rows pending ≡ []
-idle_noted name verb [] rows pending j fine passes = passes.1
-idle_noted name verb (word ∷ rest) rows pending j fine passes =
-    let w = at rows pending idle (position_for verb j) false in
+idle_noted : (name : Word) (synopsis : Synopsis) (words : List Word) (rows : List Row) (pending : Pending) (j : ℕ) → AreFine words → Passes name synopsis (at rows pending idle (position_for synopsis j) false) words → fault_in synopsis rows pending ≡ []
+idle_noted name synopsis [] rows pending j fine passes = passes.1
+idle_noted name synopsis (word ∷ rest) rows pending j fine passes =
+    let w = at rows pending idle (position_for synopsis j) false in
     let first = fine_first word rest fine in
-    let turn = passes_first name verb w word rest passes in
+    let turn = passes_first name synopsis w word rest passes in
     elim (word_is word first.1) [
-      | inl free ↦ (there_is_plain name verb word idle rows pending j free tt turn.0).2
-      | inr (inl end) ↦ behind_noted name verb rest rows pending idle j
-          (subst (λ (v : Walk). Passes name verb v rest) (ap (walked (rules_of verb) [] w) end ∙ end_walk verb idle rows pending (position_for verb j)) turn.1)
-      | inr (inr (inl long)) ↦ (long_is name verb long.0 long.1 idle rows pending (position_for verb j) (subst (λ (t : Word). turn_fault (leaf name verb) [] w t ≡ []) long.2 turn.0)).0
-      | inr (inr (inr short)) ↦ absurd (short_bad name verb word idle rows pending (position_for verb j) short.0 short.1 short.2 short.3 first.0 turn.0)
+      | inl free ↦ (there_is_plain name synopsis word idle rows pending j free tt turn.0).2
+      | inr (inl end) ↦ behind_noted name synopsis rest rows pending idle j
+          (subst (λ (v : Walk). Passes name synopsis v rest) (ap (walked (rules_of synopsis) [] w) end ∙ end_walk synopsis idle rows pending (position_for synopsis j)) turn.1)
+      | inr (inr (inl long)) ↦ (long_is name synopsis long.0 long.1 idle rows pending (position_for synopsis j) (subst (λ (t : Word). turn_fault (leaf name synopsis) [] w t ≡ []) long.2 turn.0)).0
+      | inr (inr (inr short)) ↦ absurd (short_bad name synopsis word idle rows pending (position_for synopsis j) short.0 short.1 short.2 short.3 first.0 turn.0)
     ]
 
 -- the value of an option is the next word
-abbrev Valued : Word → Verb → Word → List Row → ℕ → List Word → Type 0
-Valued name verb n rows j words = (value : Word) × (rest : List Word) × (words ≡ value ∷ rest) × IsFree value × Passes name verb (at rows (Some (n, value ∷ [])) idle (position_for verb j) false) rest
-    × (walk_on verb (at rows (Some (n, [])) (option n) (position_for verb j) false) words ≡ walk_on verb (at rows (Some (n, value ∷ [])) idle (position_for verb j) false) rest)
+abbrev Valued : Word → Synopsis → Word → List Row → ℕ → List Word → Type 0
+Valued name synopsis n rows j words = (value : Word) × (rest : List Word) × (words ≡ value ∷ rest) × IsFree value × Passes name synopsis (at rows (Some (n, value ∷ [])) idle (position_for synopsis j) false) rest
+    × (walk_on synopsis (at rows (Some (n, [])) (option n) (position_for synopsis j) false) words ≡ walk_on synopsis (at rows (Some (n, value ∷ [])) idle (position_for synopsis j) false) rest)
 
-back_value : (name : Word) (verb : Verb) (n : Word) (words : List Word) (rows : List Row) (j : ℕ) → IsOption verb n → AreFine words → Passes name verb (at rows (Some (n, [])) (option n) (position_for verb j) false) words
-    → Valued name verb n rows j words
-back_value name verb n [] rows j is fine passes = absurd (unfilled verb n rows is passes.1)
-back_value name verb n (word ∷ rest) rows j is fine passes =
+back_value : (name : Word) (synopsis : Synopsis) (n : Word) (words : List Word) (rows : List Row) (j : ℕ) → IsOption synopsis n → AreFine words → Passes name synopsis (at rows (Some (n, [])) (option n) (position_for synopsis j) false) words
+    → Valued name synopsis n rows j words
+back_value name synopsis n [] rows j is fine passes = absurd (unfilled synopsis n rows is passes.1)
+back_value name synopsis n (word ∷ rest) rows j is fine passes =
     let pending : Pending = Some (n, []) in
-    let w = at rows pending (option n) (position_for verb j) false in
+    let w = at rows pending (option n) (position_for synopsis j) false in
     let first = fine_first word rest fine in
-    let turn = passes_first name verb w word rest passes in
+    let turn = passes_first name synopsis w word rest passes in
     elim (word_is word first.1) [
       | inl free ↦
-          let goes = value_walk verb word n rows (position_for verb j) is free in
-          (word, rest, refl, free, subst (λ (v : Walk). Passes name verb v rest) goes turn.1, ap (λ (v : Walk). walk_on verb v rest) goes)
-      | inr (inl end) ↦ absurd (unfilled verb n rows is (behind_noted name verb rest rows pending (option n) j
-          (subst (λ (v : Walk). Passes name verb v rest) (ap (walked (rules_of verb) [] w) end ∙ end_walk verb (option n) rows pending (position_for verb j)) turn.1)))
-      | inr (inr (inl long)) ↦ absurd (unfilled verb n rows is (long_is name verb long.0 long.1 (option n) rows pending (position_for verb j) (subst (λ (t : Word). turn_fault (leaf name verb) [] w t ≡ []) long.2 turn.0)).0)
-      | inr (inr (inr short)) ↦ absurd (short_bad name verb word (option n) rows pending (position_for verb j) short.0 short.1 short.2 short.3 first.0 turn.0)
+          let goes = value_walk synopsis word n rows (position_for synopsis j) is free in
+          (word, rest, refl, free, subst (λ (v : Walk). Passes name synopsis v rest) goes turn.1, ap (λ (v : Walk). walk_on synopsis v rest) goes)
+      | inr (inl end) ↦ absurd (unfilled synopsis n rows is (behind_noted name synopsis rest rows pending (option n) j
+          (subst (λ (v : Walk). Passes name synopsis v rest) (ap (walked (rules_of synopsis) [] w) end ∙ end_walk synopsis (option n) rows pending (position_for synopsis j)) turn.1)))
+      | inr (inr (inl long)) ↦ absurd (unfilled synopsis n rows is (long_is name synopsis long.0 long.1 (option n) rows pending (position_for synopsis j) (subst (λ (t : Word). turn_fault (leaf name synopsis) [] w t ≡ []) long.2 turn.0)).0)
+      | inr (inr (inr short)) ↦ absurd (short_bad name synopsis word (option n) rows pending (position_for synopsis j) short.0 short.1 short.2 short.3 first.0 turn.0)
     ]
 
 -- the items of the words, and what holds behind them
-pub record Rest (verb : Verb) (words : List Word) (items : List Item) (places : List Word) (end : List Row) : Type 0 where
+pub record Rest (synopsis : Synopsis) (words : List Word) (items : List Item) (places : List Word) (end : List Row) : Type 0 where
   pub more : List Item
   pub behind : List Word
-  pub cut : IsLooseCut verb words more behind
-  pub holds : Holds verb (items ++ more) (places ++ (flat_map place_of more ++ behind)) end
+  pub cut : IsLooseCut synopsis words more behind
+  pub holds : Holds synopsis (items ++ more) (places ++ (flat_map place_of more ++ behind)) end
 
-rest_end : (verb : Verb) (items : List Item) (places : List Word) (tail behind : List Word) (end : List Row) → EndsWith tail behind → Holds verb items (places ++ behind) end → Rest verb tail items places end
-rest_end verb items places tail behind end ends holds = record {
+rest_end : (synopsis : Synopsis) (items : List Item) (places : List Word) (tail behind : List Word) (end : List Row) → EndsWith tail behind → Holds synopsis items (places ++ behind) end → Rest synopsis tail items places end
+rest_end synopsis items places tail behind end ends holds = record {
   more = [];
   behind = behind;
-  cut = record { tail = tail; form = refl; each = All-nil (IsLoose verb); ends = ends };
-  holds = subst (λ (l : List Item). Holds verb l (places ++ behind) end) (sym (append-nil items)) holds;
+  cut = record { tail = tail; form = refl; each = All-nil (IsLoose synopsis); ends = ends };
+  holds = subst (λ (l : List Item). Holds synopsis l (places ++ behind) end) (sym (append-nil items)) holds;
 }
 
-rest_item : (verb : Verb) (words others : List Word) (items : List Item) (places : List Word) (end : List Row) (item : Item) → IsLoose verb item → words ≡ words_of item ++ others
-    → Rest verb others (items ++ item ∷ []) (places ++ place_of item) end → Rest verb words items places end
-rest_item verb words others items places end item is form rest =
+rest_item : (synopsis : Synopsis) (words others : List Word) (items : List Item) (places : List Word) (end : List Row) (item : Item) → IsLoose synopsis item → words ≡ words_of item ++ others
+    → Rest synopsis others (items ++ item ∷ []) (places ++ place_of item) end → Rest synopsis words items places end
+rest_item synopsis words others items places end item is form rest =
     let all : words ≡ flat_map words_of (item ∷ rest.more) ++ rest.cut.tail =
     form ∙ ap (λ (l : List Word). words_of item ++ l) rest.cut.form ∙ sym (append_assoc (words_of item) (flat_map words_of rest.more) rest.cut.tail) in
     let names : (items ++ item ∷ []) ++ rest.more ≡ items ++ item ∷ rest.more = append_assoc items (item ∷ []) rest.more in
@@ -368,125 +344,113 @@ rest_item verb words others items places end item is form rest =
     record {
       more = item ∷ rest.more;
       behind = rest.behind;
-      cut = record { tail = rest.cut.tail; form = all; each = All-cons (IsLoose verb) item rest.more is rest.cut.each; ends = rest.cut.ends };
-      holds = subst (λ (l : List Word). Holds verb (items ++ item ∷ rest.more) l end) ends
-          (subst (λ (l : List Item). Holds verb l ((places ++ place_of item) ++ (flat_map place_of rest.more ++ rest.behind)) end) names rest.holds);
+      cut = record { tail = rest.cut.tail; form = all; each = All-cons (IsLoose synopsis) item rest.more is rest.cut.each; ends = rest.cut.ends };
+      holds = subst (λ (l : List Word). Holds synopsis (items ++ item ∷ rest.more) l end) ends
+          (subst (λ (l : List Item). Holds synopsis l ((places ++ place_of item) ++ (flat_map place_of rest.more ++ rest.behind)) end) names rest.holds);
     }
 
 -- a word at a place in front of `--`
-plain_goes : (verb : Verb) (word id : Word) (places : List Word) (rows : List Row) (pending : Pending) (waiting : Waiting) → IsFree word → IsCalm waiting → place_for verb (length places) ≡ Some id
-    → walked (rules_of verb) [] (at rows pending waiting (position_for verb (length places)) false) word ≡ at (rows_in verb rows pending) (Some (id, word ∷ [])) (waiting_for verb (length places)) (position_for verb (length (places ++ word ∷ []))) false
-plain_goes verb word id places rows pending waiting free calm is =
-    free_walk verb word waiting rows pending (position_for verb (length places)) free calm ∙ place_walk verb word rows pending (length places) false waiting id is
-    ∙ one_more verb places word (rows_in verb rows pending) (Some (id, word ∷ [])) (waiting_for verb (length places)) false
+plain_goes : (synopsis : Synopsis) (word id : Word) (places : List Word) (rows : List Row) (pending : Pending) (waiting : Waiting) → IsFree word → IsCalm waiting → place_for synopsis (length places) ≡ Some id
+    → walked (rules_of synopsis) [] (at rows pending waiting (position_for synopsis (length places)) false) word ≡ at (rows_in synopsis rows pending) (Some (id, word ∷ [])) (waiting_for (length places)) (position_for synopsis (length (places ++ word ∷ []))) false
+plain_goes synopsis word id places rows pending waiting free calm is =
+    free_walk synopsis word waiting rows pending (position_for synopsis (length places)) free calm ∙ place_walk synopsis word rows pending (length places) false waiting id is
+    ∙ one_more synopsis places word (rows_in synopsis rows pending) (Some (id, word ∷ [])) (waiting_for (length places)) false
 
-plain_held : (verb : Verb) (items : List Item) (places : List Word) (rows : List Row) (id word : Word) → place_for verb (length places) ≡ Some id → Holds verb items places rows
-    → Holds verb (items ++ plain word ∷ []) (places ++ word ∷ []) (rows_in verb rows (Some (id, word ∷ [])))
-plain_held verb items places rows id word is holds =
-    holds_as verb items (items ++ plain word ∷ []) (places ++ word ∷ []) (rows_in verb rows (Some (id, word ∷ []))) (λ name. given_push name items (plain word) ∙ append-nil (given name items)) (place_held verb items places rows id word is holds)
+plain_held : (synopsis : Synopsis) (items : List Item) (places : List Word) (rows : List Row) (id word : Word) → place_for synopsis (length places) ≡ Some id → Holds synopsis items places rows
+    → Holds synopsis (items ++ plain word ∷ []) (places ++ word ∷ []) (rows_in synopsis rows (Some (id, word ∷ [])))
+plain_held synopsis items places rows id word is holds =
+    holds_as synopsis items (items ++ plain word ∷ []) (places ++ word ∷ []) (rows_in synopsis rows (Some (id, word ∷ []))) (λ name. given_push name items (plain word) ∙ append-nil (given name items)) (place_held synopsis items places rows id word is holds)
 
-apart_held : (verb : Verb) (items : List Item) (places : List Word) (rows : List Row) (n value : Word) → IsOption verb n → Said rows n None → Holds verb items places rows
-    → Holds verb (items ++ apart n value ∷ []) places (rows_in verb rows (Some (n, value ∷ [])))
-apart_held verb items places rows n value is none holds =
-    subst (Holds verb (items ++ apart n value ∷ []) places) (sym (option_rows verb n value rows is none)) (holds_option verb items places rows n value (apart n value) (λ other. refl) is none holds)
+apart_held : (synopsis : Synopsis) (items : List Item) (places : List Word) (rows : List Row) (n value : Word) → IsOption synopsis n → Said rows n None → Holds synopsis items places rows
+    → Holds synopsis (items ++ apart n value ∷ []) places (rows_in synopsis rows (Some (n, value ∷ [])))
+apart_held synopsis items places rows n value is none holds =
+    subst (Holds synopsis (items ++ apart n value ∷ []) places) (sym (option_rows synopsis n value rows is none)) (holds_option synopsis items places rows n value (apart n value) (λ other. refl) is none holds)
 
 -- what the walk from here reads, for words of at most this number
-abbrev Backs : Word → Verb → ℕ → Type 0
-Backs name verb fuel = (words : List Word) (items : List Item) (places : List Word) (rows : List Row) (pending : Pending) (waiting : Waiting) → length words ≤ fuel → AreFine words → IsCalm waiting → Holds verb items places (rows_in verb rows pending)
-    → Passes name verb (at rows pending waiting (position_for verb (length places)) false) words → Rest verb words items places (end_rows verb (at rows pending waiting (position_for verb (length places)) false) words)
+abbrev Backs : Word → Synopsis → ℕ → Type 0
+Backs name synopsis fuel = (words : List Word) (items : List Item) (places : List Word) (rows : List Row) (pending : Pending) (waiting : Waiting) → length words ≤ fuel → AreFine words → IsCalm waiting → Holds synopsis items places (rows_in synopsis rows pending)
+    → Passes name synopsis (at rows pending waiting (position_for synopsis (length places)) false) words → Rest synopsis words items places (end_rows synopsis (at rows pending waiting (position_for synopsis (length places)) false) words)
 
-module _ (name : Word) (verb : Verb) (fuel : ℕ) (next : Backs name verb fuel) (word : Word) (rest : List Word) (items : List Item) (places : List Word) (rows : List Row) (pending : Pending) (waiting : Waiting)
-    (less : length rest ≤ fuel) (fine : AreFine (word ∷ rest)) (calm : IsCalm waiting) (holds : Holds verb items places (rows_in verb rows pending)) where
+module _ (name : Word) (synopsis : Synopsis) (fuel : ℕ) (next : Backs name synopsis fuel) (word : Word) (rest : List Word) (items : List Item) (places : List Word) (rows : List Row) (pending : Pending) (waiting : Waiting)
+    (less : length rest ≤ fuel) (fine : AreFine (word ∷ rest)) (calm : IsCalm waiting) (holds : Holds synopsis items places (rows_in synopsis rows pending)) where
   abbrev now : Walk
-  now = at rows pending waiting (position_for verb (length places)) false
+  now = at rows pending waiting (position_for synopsis (length places)) false
 
   abbrev Read : Type 0
-  Read = Rest verb (word ∷ rest) items places (end_rows verb now (word ∷ rest))
+  Read = Rest synopsis (word ∷ rest) items places (end_rows synopsis now (word ∷ rest))
 
   abbrev kept : List Row
-  kept = rows_in verb rows pending
+  kept = rows_in synopsis rows pending
 
-  back_plain : IsFree word → turn_fault (leaf name verb) [] now word ≡ [] → Passes name verb (walked (rules_of verb) [] now word) rest → Read
+  back_plain : IsFree word → turn_fault (leaf name synopsis) [] now word ≡ [] → Passes name synopsis (walked (rules_of synopsis) [] now word) rest → Read
   back_plain free turn passes =
-      let there = there_is_plain name verb word waiting rows pending (length places) free calm turn in
-      let goes = plain_goes verb word there.0 places rows pending waiting free calm there.1 in
-      let end = next rest (items ++ plain word ∷ []) (places ++ word ∷ []) kept (Some (there.0, word ∷ [])) (waiting_for verb (length places)) less (fine_rest word rest fine) (is_calm verb (length places)) (plain_held verb items places kept there.0 word there.1 holds)
-      (subst (λ (v : Walk). Passes name verb v rest) goes passes) in
-      rest_item verb (word ∷ rest) rest items places (end_rows verb now (word ∷ rest)) (plain word) free refl
-      (subst (λ (v : Walk). Rest verb rest (items ++ plain word ∷ []) (places ++ word ∷ []) (end_rows verb v rest)) (sym goes) end)
+      let there = there_is_plain name synopsis word waiting rows pending (length places) free calm turn in
+      let goes = plain_goes synopsis word there.0 places rows pending waiting free calm there.1 in
+      let end = next rest (items ++ plain word ∷ []) (places ++ word ∷ []) kept (Some (there.0, word ∷ [])) (waiting_for (length places)) less (fine_rest word rest fine) (is_calm (length places)) (plain_held synopsis items places kept there.0 word there.1 holds)
+      (subst (λ (v : Walk). Passes name synopsis v rest) goes passes) in
+      rest_item synopsis (word ∷ rest) rest items places (end_rows synopsis now (word ∷ rest)) (plain word) free refl
+      (subst (λ (v : Walk). Rest synopsis rest (items ++ plain word ∷ []) (places ++ word ∷ []) (end_rows synopsis v rest)) (sym goes) end)
 
-  back_end : word ≡ codes "--" → Passes name verb (walked (rules_of verb) [] now word) rest → Read
+  back_end : word ≡ codes "--" → Passes name synopsis (walked (rules_of synopsis) [] now word) rest → Read
   back_end is passes =
-      let goes : walked (rules_of verb) [] now word ≡ at rows pending waiting (position_for verb (length places)) true = ap (walked (rules_of verb) [] now) is ∙ end_walk verb waiting rows pending (position_for verb (length places)) in
-      let end = back_behind name verb rest items places rows pending waiting holds (subst (λ (v : Walk). Passes name verb v rest) goes passes) in
-      rest_end verb items places (word ∷ rest) rest (end_rows verb now (word ∷ rest)) (inr (ap (λ (w : Word). w ∷ rest) is, (fine_rest word rest fine).1))
-      (subst (λ (v : Walk). Holds verb items (places ++ rest) (end_rows verb v rest)) (sym goes) end)
+      let goes : walked (rules_of synopsis) [] now word ≡ at rows pending waiting (position_for synopsis (length places)) true = ap (walked (rules_of synopsis) [] now) is ∙ end_walk synopsis waiting rows pending (position_for synopsis (length places)) in
+      let end = back_behind name synopsis rest items places rows pending waiting holds (subst (λ (v : Walk). Passes name synopsis v rest) goes passes) in
+      rest_end synopsis items places (word ∷ rest) rest (end_rows synopsis now (word ∷ rest)) (inr (ap (λ (w : Word). w ∷ rest) is, (fine_rest word rest fine).1))
+      (subst (λ (v : Walk). Holds synopsis items (places ++ rest) (end_rows synopsis v rest)) (sym goes) end)
 
-  back_long : (x : ℕ) (xs : Word) → word ≡ dashes (x ∷ xs) → LongIs verb (x ∷ xs) rows pending (position_for verb (length places)) (walked (rules_of verb) [] now word) → Passes name verb (walked (rules_of verb) [] now word) rest → Read
+  back_long : (x : ℕ) (xs : Word) → word ≡ dashes (x ∷ xs) → LongIs synopsis (x ∷ xs) rows pending (position_for synopsis (length places)) (walked (rules_of synopsis) [] now word) → Passes name synopsis (walked (rules_of synopsis) [] now word) rest → Read
   back_long x xs form (is_flag is none goes) passes =
-      let end = next rest (items ++ flag (x ∷ xs) ∷ []) places (taken (x ∷ xs) (codes "true") kept) None idle less (fine_rest word rest fine) tt (holds_flag verb items places kept (x ∷ xs) is none holds)
-      (subst (λ (v : Walk). Passes name verb v rest) goes passes) in
-      rest_item verb (word ∷ rest) rest items places (end_rows verb now (word ∷ rest)) (flag (x ∷ xs)) is (ap (λ (w : Word). w ∷ rest) form)
-      (subst (λ (l : List Word). Rest verb rest (items ++ flag (x ∷ xs) ∷ []) l (end_rows verb now (word ∷ rest))) (sym (append-nil places))
-      (subst (λ (v : Walk). Rest verb rest (items ++ flag (x ∷ xs) ∷ []) places (end_rows verb v rest)) (sym goes) end))
+      let end = next rest (items ++ flag (x ∷ xs) ∷ []) places (taken (x ∷ xs) (codes "true") kept) None idle less (fine_rest word rest fine) tt (holds_flag synopsis items places kept (x ∷ xs) is none holds)
+      (subst (λ (v : Walk). Passes name synopsis v rest) goes passes) in
+      rest_item synopsis (word ∷ rest) rest items places (end_rows synopsis now (word ∷ rest)) (flag (x ∷ xs)) is (ap (λ (w : Word). w ∷ rest) form)
+      (subst (λ (l : List Word). Rest synopsis rest (items ++ flag (x ∷ xs) ∷ []) l (end_rows synopsis now (word ∷ rest))) (sym (append-nil places))
+      (subst (λ (v : Walk). Rest synopsis rest (items ++ flag (x ∷ xs) ∷ []) places (end_rows synopsis v rest)) (sym goes) end))
   back_long x xs form (is_joined n value cut is none goes) passes =
-      let end = next rest (items ++ joined n value ∷ []) places (taken n value kept) None idle less (fine_rest word rest fine) tt (holds_option verb items places kept n value (joined n value) (λ other. refl) is none holds)
-      (subst (λ (v : Walk). Passes name verb v rest) goes passes) in
-      rest_item verb (word ∷ rest) rest items places (end_rows verb now (word ∷ rest)) (joined n value) is (ap (λ (w : Word). w ∷ rest) (form ∙ ap dashes cut))
-      (subst (λ (l : List Word). Rest verb rest (items ++ joined n value ∷ []) l (end_rows verb now (word ∷ rest))) (sym (append-nil places))
-      (subst (λ (v : Walk). Rest verb rest (items ++ joined n value ∷ []) places (end_rows verb v rest)) (sym goes) end))
+      let end = next rest (items ++ joined n value ∷ []) places (taken n value kept) None idle less (fine_rest word rest fine) tt (holds_option synopsis items places kept n value (joined n value) (λ other. refl) is none holds)
+      (subst (λ (v : Walk). Passes name synopsis v rest) goes passes) in
+      rest_item synopsis (word ∷ rest) rest items places (end_rows synopsis now (word ∷ rest)) (joined n value) is (ap (λ (w : Word). w ∷ rest) (form ∙ ap dashes cut))
+      (subst (λ (l : List Word). Rest synopsis rest (items ++ joined n value ∷ []) l (end_rows synopsis now (word ∷ rest))) (sym (append-nil places))
+      (subst (λ (v : Walk). Rest synopsis rest (items ++ joined n value ∷ []) places (end_rows synopsis v rest)) (sym goes) end))
   back_long x xs form (is_apart is goes) passes =
       let n = x ∷ xs in
-      let v = back_value name verb n rest kept (length places) is (fine_rest word rest fine) (subst (λ (v : Walk). Passes name verb v rest) goes passes) in
+      let v = back_value name synopsis n rest kept (length places) is (fine_rest word rest fine) (subst (λ (v : Walk). Passes name synopsis v rest) goes passes) in
       let fine_value : AreFine (v.0 ∷ v.1) = subst AreFine v.2 (fine_rest word rest fine) in
       let shorter : length v.1 ≤ fuel = omega (arith, ap length v.2) in
-      let noted = idle_noted name verb v.1 kept (Some (n, v.0 ∷ [])) (length places) (fine_rest v.0 v.1 fine_value) v.4 in
-      let unsaid = conflict_none n kept (sym (option_fault verb n v.0 kept is) ∙ noted) in
-      let end = next v.1 (items ++ apart n v.0 ∷ []) places kept (Some (n, v.0 ∷ [])) idle shorter (fine_rest v.0 v.1 fine_value) tt (apart_held verb items places kept n v.0 is unsaid holds) v.4 in
-      let last : end_rows verb now (word ∷ rest) ≡ end_rows verb (at kept (Some (n, v.0 ∷ [])) idle (position_for verb (length places)) false) v.1 =
-      ap (λ (u : Walk). end_rows verb u rest) goes ∙ ap (λ (u : Walk). (settled (rules_of verb) u.held).rows) v.5 in
-      rest_item verb (word ∷ rest) v.1 items places (end_rows verb now (word ∷ rest)) (apart n v.0) (is, v.3) (ap (λ (w : Word). w ∷ rest) form ∙ ap (λ (l : List Word). dashes n ∷ l) v.2)
-      (subst (λ (l : List Word). Rest verb v.1 (items ++ apart n v.0 ∷ []) l (end_rows verb now (word ∷ rest))) (sym (append-nil places))
-      (subst (λ (l : List Row). Rest verb v.1 (items ++ apart n v.0 ∷ []) places l) (sym last) end))
+      let noted = idle_noted name synopsis v.1 kept (Some (n, v.0 ∷ [])) (length places) (fine_rest v.0 v.1 fine_value) v.4 in
+      let unsaid = conflict_none n kept (sym (option_fault synopsis n v.0 kept is) ∙ noted) in
+      let end = next v.1 (items ++ apart n v.0 ∷ []) places kept (Some (n, v.0 ∷ [])) idle shorter (fine_rest v.0 v.1 fine_value) tt (apart_held synopsis items places kept n v.0 is unsaid holds) v.4 in
+      let last : end_rows synopsis now (word ∷ rest) ≡ end_rows synopsis (at kept (Some (n, v.0 ∷ [])) idle (position_for synopsis (length places)) false) v.1 =
+      ap (λ (u : Walk). end_rows synopsis u rest) goes ∙ ap (λ (u : Walk). (settled (rules_of synopsis) u.held).rows) v.5 in
+      rest_item synopsis (word ∷ rest) v.1 items places (end_rows synopsis now (word ∷ rest)) (apart n v.0) (is, v.3) (ap (λ (w : Word). w ∷ rest) form ∙ ap (λ (l : List Word). dashes n ∷ l) v.2)
+      (subst (λ (l : List Word). Rest synopsis v.1 (items ++ apart n v.0 ∷ []) l (end_rows synopsis now (word ∷ rest))) (sym (append-nil places))
+      (subst (λ (l : List Row). Rest synopsis v.1 (items ++ apart n v.0 ∷ []) places l) (sym last) end))
 
-back_first : (name : Word) (verb : Verb) (fuel : ℕ) → Backs name verb fuel → Backs name verb (suc fuel)
-back_first name verb fuel next [] items places rows pending waiting less fine calm holds passes =
-    rest_end verb items places [] [] (rows_in verb rows pending) (inl (refl, refl)) (subst (λ (l : List Word). Holds verb items l (rows_in verb rows pending)) (sym (append-nil places)) holds)
-back_first name verb fuel next (word ∷ rest) items places rows pending waiting less fine calm holds passes =
-    let w = at rows pending waiting (position_for verb (length places)) false in
+back_first : (name : Word) (synopsis : Synopsis) (fuel : ℕ) → Backs name synopsis fuel → Backs name synopsis (suc fuel)
+back_first name synopsis fuel next [] items places rows pending waiting less fine calm holds passes =
+    rest_end synopsis items places [] [] (rows_in synopsis rows pending) (inl (refl, refl)) (subst (λ (l : List Word). Holds synopsis items l (rows_in synopsis rows pending)) (sym (append-nil places)) holds)
+back_first name synopsis fuel next (word ∷ rest) items places rows pending waiting less fine calm holds passes =
+    let w = at rows pending waiting (position_for synopsis (length places)) false in
     let short : length rest ≤ fuel = omega arith in
     let first = fine_first word rest fine in
-    let turn = passes_first name verb w word rest passes in
+    let turn = passes_first name synopsis w word rest passes in
     elim (word_is word first.1) [
-      | inl free ↦ back_plain name verb fuel next word rest items places rows pending waiting short fine calm holds free turn.0 turn.1
-      | inr (inl end) ↦ back_end name verb fuel next word rest items places rows pending waiting short fine calm holds end turn.1
-      | inr (inr (inl long)) ↦ back_long name verb fuel next word rest items places rows pending waiting short fine calm holds long.0 long.1 long.2
-          (subst (λ (t : Word). LongIs verb (long.0 ∷ long.1) rows pending (position_for verb (length places)) (walked (rules_of verb) [] w t)) (sym long.2)
-          (long_is name verb long.0 long.1 waiting rows pending (position_for verb (length places)) (subst (λ (t : Word). turn_fault (leaf name verb) [] w t ≡ []) long.2 turn.0)).1) turn.1
-      | inr (inr (inr short_one)) ↦ absurd (short_bad name verb word waiting rows pending (position_for verb (length places)) short_one.0 short_one.1 short_one.2 short_one.3 first.0 turn.0)
+      | inl free ↦ back_plain name synopsis fuel next word rest items places rows pending waiting short fine calm holds free turn.0 turn.1
+      | inr (inl end) ↦ back_end name synopsis fuel next word rest items places rows pending waiting short fine calm holds end turn.1
+      | inr (inr (inl long)) ↦ back_long name synopsis fuel next word rest items places rows pending waiting short fine calm holds long.0 long.1 long.2
+          (subst (λ (t : Word). LongIs synopsis (long.0 ∷ long.1) rows pending (position_for synopsis (length places)) (walked (rules_of synopsis) [] w t)) (sym long.2)
+          (long_is name synopsis long.0 long.1 waiting rows pending (position_for synopsis (length places)) (subst (λ (t : Word). turn_fault (leaf name synopsis) [] w t ≡ []) long.2 turn.0)).1) turn.1
+      | inr (inr (inr short_one)) ↦ absurd (short_bad name synopsis word waiting rows pending (position_for synopsis (length places)) short_one.0 short_one.1 short_one.2 short_one.3 first.0 turn.0)
     ]
 
-back_any : (name : Word) (verb : Verb) (fuel : ℕ) → Backs name verb fuel
-back_any name verb zero [] items places rows pending waiting less fine calm holds passes =
-    rest_end verb items places [] [] (rows_in verb rows pending) (inl (refl, refl)) (subst (λ (l : List Word). Holds verb items l (rows_in verb rows pending)) (sym (append-nil places)) holds)
-back_any name verb zero (word ∷ rest) items places rows pending waiting less fine calm holds passes = absurd (omega arith)
-back_any name verb (suc fuel) words items places rows pending waiting less fine calm holds passes = back_first name verb fuel (back_any name verb fuel) words items places rows pending waiting less fine calm holds passes
-
-first_position : (verb : Verb) → position_for verb 0 ≡ 1
-first_position verb.Record = refl
-first_position verb.Info = refl
-first_position verb.Check = refl
-first_position verb.Cat = refl
-first_position verb.Recover = refl
-first_position verb.Merge = refl
-first_position verb.Generate = refl
+back_any : (name : Word) (synopsis : Synopsis) (fuel : ℕ) → Backs name synopsis fuel
+back_any name synopsis zero [] items places rows pending waiting less fine calm holds passes =
+    rest_end synopsis items places [] [] (rows_in synopsis rows pending) (inl (refl, refl)) (subst (λ (l : List Word). Holds synopsis items l (rows_in synopsis rows pending)) (sym (append-nil places)) holds)
+back_any name synopsis zero (word ∷ rest) items places rows pending waiting less fine calm holds passes = absurd (omega arith)
+back_any name synopsis (suc fuel) words items places rows pending waiting less fine calm holds passes = back_first name synopsis fuel (back_any name synopsis fuel) words items places rows pending waiting less fine calm holds passes
 
 -- a walk that passes has read items
-pub back : (name : Word) (verb : Verb) (words : List Word) → AreFine words → Passes name verb (at [] None idle 1 false) words → Rest verb words [] [] (end_rows verb (at [] None idle 1 false) words)
-back name verb words fine passes =
-    let here = ap (λ k. at [] None idle k false) (first_position verb) in
-    subst (λ (w : Walk). Rest verb words [] [] (end_rows verb w words)) here
-    (back_any name verb (length words) words [] [] [] None idle (omega arith) fine tt (holds_nothing verb) (subst (λ (w : Walk). Passes name verb w words) (sym here) passes))
+pub back : (name : Word) (synopsis : Synopsis) (words : List Word) → AreFine words → Passes name synopsis (at [] None idle 1 false) words → Rest synopsis words [] [] (end_rows synopsis (at [] None idle 1 false) words)
+back name synopsis words fine passes = back_any name synopsis (length words) words [] [] [] None idle (omega arith) fine tt (holds_nothing synopsis) passes
 
 -- ---- from items to a walk that passes
 
@@ -503,9 +467,9 @@ given_parts name (x ∷ items) item more =
     ap (λ (l : List Word). use_of name x ++ l) (given_parts name items item more) ∙ sym (append_assoc (use_of name x) (given name items) (use_of name item ++ given name more))
 
 -- an option that stands once wasn't said before
-option_unsaid : (verb : Verb) (items more : List Item) (places others : List Word) (rows : List Row) (item : Item) (n value : Word) → IsOption verb n → use_of n item ≡ value ∷ [] → Holds verb items places rows
-    → Fits verb (items ++ item ∷ more) others → Said rows n None
-option_unsaid verb items more places others rows item n value is uses holds fits = go (holds.options n is)
+option_unsaid : (synopsis : Synopsis) (items more : List Item) (places others : List Word) (rows : List Row) (item : Item) (n value : Word) → IsOption synopsis n → use_of n item ≡ value ∷ [] → Holds synopsis items places rows
+    → Fits synopsis (items ++ item ∷ more) others → Said rows n None
+option_unsaid synopsis items more places others rows item n value is uses holds fits = go (holds.options n is)
   where
     nothing : given n items ≡ []
     nothing =
@@ -517,8 +481,8 @@ option_unsaid verb items more places others rows item n value is uses holds fits
     go (None, is, said) = said
     go (Some x, is, said) = let wrong : x ∷ [] ≡ [] = sym is ∙ nothing in cc
 
-flag_unsaid : (verb : Verb) (items more : List Item) (places others : List Word) (rows : List Row) (n : Word) → IsFlag verb n → Holds verb items places rows → Fits verb (items ++ flag n ∷ more) others → Said rows n None
-flag_unsaid verb items more places others rows n is holds fits = go (holds.flags n is)
+flag_unsaid : (synopsis : Synopsis) (items more : List Item) (places others : List Word) (rows : List Row) (n : Word) → IsFlag synopsis n → Holds synopsis items places rows → Fits synopsis (items ++ flag n ∷ more) others → Said rows n None
+flag_unsaid synopsis items more places others rows n is holds fits = go (holds.flags n is)
   where
     there : (values : List Word) (is_there : Bool) → Flags values is_there → (found : Option Word) × (values ≡ option_to_list found)
     there values true same = (Some [], same)
@@ -541,129 +505,127 @@ has_first : (named : Word) → named ≢ [] → (x : ℕ) × (xs : Word) × (nam
 has_first [] some = absurd (some refl)
 has_first (x ∷ xs) some = (x, xs, refl)
 
-some_flag : (verb : Verb) (n : Word) → IsFlag verb n → n ≢ []
-some_flag verb n is = λ none. no_empty_flag verb (subst (IsFlag verb) none is)
+some_flag : (synopsis : Synopsis) (n : Word) → IsFlag synopsis n → n ≢ []
+some_flag synopsis n is = λ none. no_empty_flag synopsis (subst (IsFlag synopsis) none is)
 
-some_option : (verb : Verb) (n : Word) → IsOption verb n → n ≢ []
-some_option verb n is = λ none. no_empty_option verb (subst (IsOption verb) none is)
+some_option : (synopsis : Synopsis) (n : Word) → IsOption synopsis n → n ≢ []
+some_option synopsis n is = λ none. no_empty_option synopsis (subst (IsOption synopsis) none is)
 
 some_cut : (n value : Word) → n ++ 61 ∷ value ≢ []
 some_cut [] value = λ none. cc
 some_cut (c ∷ cs) value = λ none. cc
 
 -- a word that begins with `--` lets the walk go on
-abbrev Step : Word → Verb → Waiting → List Row → Pending → ℕ → Word → Walk → Type 0
-Step name verb waiting rows pending position word after =
-    (turn_fault (leaf name verb) [] (at rows pending waiting position false) word ≡ []) × (walked (rules_of verb) [] (at rows pending waiting position false) word ≡ after)
+abbrev Step : Word → Synopsis → Waiting → List Row → Pending → ℕ → Word → Walk → Type 0
+Step name synopsis waiting rows pending position word after =
+    (turn_fault (leaf name synopsis) [] (at rows pending waiting position false) word ≡ []) × (walked (rules_of synopsis) [] (at rows pending waiting position false) word ≡ after)
 
-flag_steps : (name : Word) (verb : Verb) (n : Word) (waiting : Waiting) (rows : List Row) (pending : Pending) (position : ℕ) → IsFlag verb n → fault_in verb rows pending ≡ [] → Said (rows_in verb rows pending) n None
-    → Step name verb waiting rows pending position (dashes n) (at (taken n (codes "true") (rows_in verb rows pending)) None idle position false)
-flag_steps name verb n waiting rows pending position is none unsaid =
-    let some = has_first n (some_flag verb n is) in
-    subst (λ (m : Word). Step name verb waiting rows pending position (dashes m) (at (taken n (codes "true") (rows_in verb rows pending)) None idle position false)) (sym some.2) (
-    let cut : name_and_value (some.0 ∷ some.1) ≡ (n, None) = ap name_and_value (sym some.2) ∙ name_and_value-without n (flag_bare verb n is) in (
-      long_turn_as name verb some.0 some.1 waiting rows pending position n None (Some (flag_rule n)) cut (flag_found verb n is).0
-          ∙ both_none _ [] (both_none (fault_in verb rows pending) (conflict n (rows_in verb rows pending)) none (no_conflict n (rows_in verb rows pending) unsaid)) refl,
-      long_walk_as name verb some.0 some.1 waiting rows pending position n None (Some (flag_rule n)) cut (flag_found verb n is).0
-          ∙ ap (λ (l : List Row). at l None idle position false) (first_use n (codes "true") (rows_in verb rows pending) unsaid),
+flag_steps : (name : Word) (synopsis : Synopsis) (n : Word) (waiting : Waiting) (rows : List Row) (pending : Pending) (position : ℕ) → IsFlag synopsis n → fault_in synopsis rows pending ≡ [] → Said (rows_in synopsis rows pending) n None
+    → Step name synopsis waiting rows pending position (dashes n) (at (taken n (codes "true") (rows_in synopsis rows pending)) None idle position false)
+flag_steps name synopsis n waiting rows pending position is none unsaid =
+    let some = has_first n (some_flag synopsis n is) in
+    subst (λ (m : Word). Step name synopsis waiting rows pending position (dashes m) (at (taken n (codes "true") (rows_in synopsis rows pending)) None idle position false)) (sym some.2) (
+    let cut : name_and_value (some.0 ∷ some.1) ≡ (n, None) = ap name_and_value (sym some.2) ∙ name_and_value-without n (flag_bare synopsis n is) in (
+      long_turn_as name synopsis some.0 some.1 waiting rows pending position n None (Some (flag_rule n)) cut (flag_found synopsis n is).0
+          ∙ both_none _ [] (both_none (fault_in synopsis rows pending) (conflict n (rows_in synopsis rows pending)) none (no_conflict n (rows_in synopsis rows pending) unsaid)) refl,
+      long_walk_as name synopsis some.0 some.1 waiting rows pending position n None (Some (flag_rule n)) cut (flag_found synopsis n is).0
+          ∙ ap (λ (l : List Row). at l None idle position false) (first_use n (codes "true") (rows_in synopsis rows pending) unsaid),
     ))
 
-joined_steps : (name : Word) (verb : Verb) (n value : Word) (waiting : Waiting) (rows : List Row) (pending : Pending) (position : ℕ) → IsOption verb n → fault_in verb rows pending ≡ [] → Said (rows_in verb rows pending) n None
-    → Step name verb waiting rows pending position (dashes (n ++ 61 ∷ value)) (at (taken n value (rows_in verb rows pending)) None idle position false)
-joined_steps name verb n value waiting rows pending position is none unsaid =
+joined_steps : (name : Word) (synopsis : Synopsis) (n value : Word) (waiting : Waiting) (rows : List Row) (pending : Pending) (position : ℕ) → IsOption synopsis n → fault_in synopsis rows pending ≡ [] → Said (rows_in synopsis rows pending) n None
+    → Step name synopsis waiting rows pending position (dashes (n ++ 61 ∷ value)) (at (taken n value (rows_in synopsis rows pending)) None idle position false)
+joined_steps name synopsis n value waiting rows pending position is none unsaid =
     let some = has_first (n ++ 61 ∷ value) (some_cut n value) in
-    subst (λ (m : Word). Step name verb waiting rows pending position (dashes m) (at (taken n value (rows_in verb rows pending)) None idle position false)) (sym some.2) (
-    let cut : name_and_value (some.0 ∷ some.1) ≡ (n, Some value) = ap name_and_value (sym some.2) ∙ name_and_value-at n value (option_bare verb n is) in (
-      long_turn_as name verb some.0 some.1 waiting rows pending position n (Some value) (Some (option_rule n)) cut (option_found verb n is).0
-          ∙ both_none _ [] (both_none (fault_in verb rows pending) (conflict n (rows_in verb rows pending)) none (no_conflict n (rows_in verb rows pending) unsaid)) refl,
-      long_walk_as name verb some.0 some.1 waiting rows pending position n (Some value) (Some (option_rule n)) cut (option_found verb n is).0
-          ∙ ap (λ (l : List Row). at l None idle position false) (first_use n value (rows_in verb rows pending) unsaid),
+    subst (λ (m : Word). Step name synopsis waiting rows pending position (dashes m) (at (taken n value (rows_in synopsis rows pending)) None idle position false)) (sym some.2) (
+    let cut : name_and_value (some.0 ∷ some.1) ≡ (n, Some value) = ap name_and_value (sym some.2) ∙ name_and_value-at n value (option_bare synopsis n is) in (
+      long_turn_as name synopsis some.0 some.1 waiting rows pending position n (Some value) (Some (option_rule n)) cut (option_found synopsis n is).0
+          ∙ both_none _ [] (both_none (fault_in synopsis rows pending) (conflict n (rows_in synopsis rows pending)) none (no_conflict n (rows_in synopsis rows pending) unsaid)) refl,
+      long_walk_as name synopsis some.0 some.1 waiting rows pending position n (Some value) (Some (option_rule n)) cut (option_found synopsis n is).0
+          ∙ ap (λ (l : List Row). at l None idle position false) (first_use n value (rows_in synopsis rows pending) unsaid),
     ))
 
-apart_steps : (name : Word) (verb : Verb) (n : Word) (waiting : Waiting) (rows : List Row) (pending : Pending) (position : ℕ) → IsOption verb n → fault_in verb rows pending ≡ []
-    → Step name verb waiting rows pending position (dashes n) (at (rows_in verb rows pending) (Some (n, [])) (option n) position false)
-apart_steps name verb n waiting rows pending position is none =
-    let some = has_first n (some_option verb n is) in
-    subst (λ (m : Word). Step name verb waiting rows pending position (dashes m) (at (rows_in verb rows pending) (Some (n, [])) (option n) position false)) (sym some.2) (
-    let cut : name_and_value (some.0 ∷ some.1) ≡ (n, None) = ap name_and_value (sym some.2) ∙ name_and_value-without n (option_bare verb n is) in (
-      long_turn_as name verb some.0 some.1 waiting rows pending position n None (Some (option_rule n)) cut (option_found verb n is).0 ∙ both_none (fault_in verb rows pending) [] none refl,
-      long_walk_as name verb some.0 some.1 waiting rows pending position n None (Some (option_rule n)) cut (option_found verb n is).0,
+apart_steps : (name : Word) (synopsis : Synopsis) (n : Word) (waiting : Waiting) (rows : List Row) (pending : Pending) (position : ℕ) → IsOption synopsis n → fault_in synopsis rows pending ≡ []
+    → Step name synopsis waiting rows pending position (dashes n) (at (rows_in synopsis rows pending) (Some (n, [])) (option n) position false)
+apart_steps name synopsis n waiting rows pending position is none =
+    let some = has_first n (some_option synopsis n is) in
+    subst (λ (m : Word). Step name synopsis waiting rows pending position (dashes m) (at (rows_in synopsis rows pending) (Some (n, [])) (option n) position false)) (sym some.2) (
+    let cut : name_and_value (some.0 ∷ some.1) ≡ (n, None) = ap name_and_value (sym some.2) ∙ name_and_value-without n (option_bare synopsis n is) in (
+      long_turn_as name synopsis some.0 some.1 waiting rows pending position n None (Some (option_rule n)) cut (option_found synopsis n is).0 ∙ both_none (fault_in synopsis rows pending) [] none refl,
+      long_walk_as name synopsis some.0 some.1 waiting rows pending position n None (Some (option_rule n)) cut (option_found synopsis n is).0,
     ))
 
 -- the walk over the items' words passes
-abbrev Forth : Word → Verb → List Item → List Item → List Word → List Row → Pending → Waiting → List Word → List Word → Type 0
-Forth name verb more items places rows pending waiting tail behind = All (IsItem verb) more → EndsWith tail behind → IsCalm waiting → Holds verb items places (rows_in verb rows pending) → fault_in verb rows pending ≡ []
-    → Fits verb (items ++ more) (places ++ (flat_map place_of more ++ behind)) → Passes name verb (at rows pending waiting (position_for verb (length places)) false) (flat_map words_of more ++ tail)
+abbrev Forth : Word → Synopsis → List Item → List Item → List Word → List Row → Pending → Waiting → List Word → List Word → Type 0
+Forth name synopsis more items places rows pending waiting tail behind = All (IsItem synopsis) more → EndsWith tail behind → IsCalm waiting → Holds synopsis items places (rows_in synopsis rows pending) → fault_in synopsis rows pending ≡ []
+    → Fits synopsis (items ++ more) (places ++ (flat_map place_of more ++ behind)) → Passes name synopsis (at rows pending waiting (position_for synopsis (length places)) false) (flat_map words_of more ++ tail)
 
-fits_as : (verb : Verb) (items others : List Item) (places last : List Word) → items ≡ others → places ≡ last → Fits verb items places → Fits verb others last
-fits_as verb items others places last same same2 fits = subst (λ (l : List Word). Fits verb others l) same2 (subst (λ (l : List Item). Fits verb l places) same fits)
+fits_as : (synopsis : Synopsis) (items others : List Item) (places last : List Word) → items ≡ others → places ≡ last → Fits synopsis items places → Fits synopsis others last
+fits_as synopsis items others places last same same2 fits = subst (λ (l : List Word). Fits synopsis others l) same2 (subst (λ (l : List Item). Fits synopsis l places) same fits)
 
 -- with an item moved from those to come to those that are read
-fits_moved : (verb : Verb) (items more : List Item) (item : Item) (places behind : List Word) → Fits verb (items ++ item ∷ more) (places ++ (flat_map place_of (item ∷ more) ++ behind))
-    → Fits verb ((items ++ item ∷ []) ++ more) ((places ++ place_of item) ++ (flat_map place_of more ++ behind))
-fits_moved verb items more item places behind fits =
-    fits_as verb (items ++ item ∷ more) ((items ++ item ∷ []) ++ more) (places ++ (flat_map place_of (item ∷ more) ++ behind)) ((places ++ place_of item) ++ (flat_map place_of more ++ behind))
+fits_moved : (synopsis : Synopsis) (items more : List Item) (item : Item) (places behind : List Word) → Fits synopsis (items ++ item ∷ more) (places ++ (flat_map place_of (item ∷ more) ++ behind))
+    → Fits synopsis ((items ++ item ∷ []) ++ more) ((places ++ place_of item) ++ (flat_map place_of more ++ behind))
+fits_moved synopsis items more item places behind fits =
+    fits_as synopsis (items ++ item ∷ more) ((items ++ item ∷ []) ++ more) (places ++ (flat_map place_of (item ∷ more) ++ behind)) ((places ++ place_of item) ++ (flat_map place_of more ++ behind))
     (sym (append_assoc items (item ∷ []) more))
     (ap (λ (l : List Word). places ++ l) (append_assoc (place_of item) (flat_map place_of more) behind) ∙ sym (append_assoc places (place_of item) (flat_map place_of more ++ behind))) fits
 
-forth_end : (name : Word) (verb : Verb) (items : List Item) (places : List Word) (rows : List Row) (pending : Pending) (waiting : Waiting) (tail behind : List Word) → EndsWith tail behind → Holds verb items places (rows_in verb rows pending) → fault_in verb rows pending ≡ []
-    → HasRoom verb (length (places ++ behind)) → Passes name verb (at rows pending waiting (position_for verb (length places)) false) tail
-forth_end name verb items places rows pending waiting tail behind (inl ends) holds none few =
-    subst (λ (l : List Word). Passes name verb (at rows pending waiting (position_for verb (length places)) false) l) (sym ends.0) (passes_end name verb rows pending waiting (position_for verb (length places)) false none)
-forth_end name verb items places rows pending waiting tail behind (inr ends) holds none few =
-    subst (λ (l : List Word). Passes name verb (at rows pending waiting (position_for verb (length places)) false) l) (sym ends.0)
-    (passes_more name verb (at rows pending waiting (position_for verb (length places)) false) (codes "--") behind (end_turn name verb waiting rows pending (position_for verb (length places)))
-    (subst (λ (v : Walk). Passes name verb v behind) (sym (end_walk verb waiting rows pending (position_for verb (length places)))) (forth_behind name verb behind items places rows pending waiting holds few none)))
+forth_end : (name : Word) (synopsis : Synopsis) (items : List Item) (places : List Word) (rows : List Row) (pending : Pending) (waiting : Waiting) (tail behind : List Word) → EndsWith tail behind → Holds synopsis items places (rows_in synopsis rows pending) → fault_in synopsis rows pending ≡ []
+    → HasRoom synopsis (length (places ++ behind)) → Passes name synopsis (at rows pending waiting (position_for synopsis (length places)) false) tail
+forth_end name synopsis items places rows pending waiting tail behind (inl ends) holds none few =
+    subst (λ (l : List Word). Passes name synopsis (at rows pending waiting (position_for synopsis (length places)) false) l) (sym ends.0) (passes_end name synopsis rows pending waiting (position_for synopsis (length places)) false none)
+forth_end name synopsis items places rows pending waiting tail behind (inr ends) holds none few =
+    subst (λ (l : List Word). Passes name synopsis (at rows pending waiting (position_for synopsis (length places)) false) l) (sym ends.0)
+    (passes_more name synopsis (at rows pending waiting (position_for synopsis (length places)) false) (codes "--") behind (end_turn name synopsis waiting rows pending (position_for synopsis (length places)))
+    (subst (λ (v : Walk). Passes name synopsis v behind) (sym (end_walk synopsis waiting rows pending (position_for synopsis (length places)))) (forth_behind name synopsis behind items places rows pending waiting holds few none)))
 
-forth_any : (name : Word) (verb : Verb) (more items : List Item) (places : List Word) (rows : List Row) (pending : Pending) (waiting : Waiting) (tail behind : List Word) → Forth name verb more items places rows pending waiting tail behind
-forth_any name verb [] items places rows pending waiting tail behind each ends calm holds none fits = forth_end name verb items places rows pending waiting tail behind ends holds none fits.few
-forth_any name verb (flag n ∷ more) items places rows pending waiting tail behind each ends calm holds none fits =
-    let kept = rows_in verb rows pending in
-    let is = All-head (IsItem verb) (flag n) more each in
-    let unsaid = flag_unsaid verb items more places (places ++ (flat_map place_of more ++ behind)) kept n is holds fits in
-    let step = flag_steps name verb n waiting rows pending (position_for verb (length places)) is none unsaid in
-    let next = forth_any name verb more (items ++ flag n ∷ []) places (taken n (codes "true") kept) None idle tail behind (All-tail (IsItem verb) (flag n) more each) ends tt (holds_flag verb items places kept n is unsaid holds) refl
-    (fits_as verb (items ++ flag n ∷ more) ((items ++ flag n ∷ []) ++ more) (places ++ (flat_map place_of more ++ behind)) (places ++ (flat_map place_of more ++ behind)) (sym (append_assoc items (flag n ∷ []) more)) refl fits) in
-    passes_more name verb (at rows pending waiting (position_for verb (length places)) false) (dashes n) (flat_map words_of more ++ tail) step.0 (subst (λ (v : Walk). Passes name verb v (flat_map words_of more ++ tail)) (sym step.1) next)
-forth_any name verb (joined n value ∷ more) items places rows pending waiting tail behind each ends calm holds none fits =
-    let kept = rows_in verb rows pending in
+forth_any : (name : Word) (synopsis : Synopsis) (more items : List Item) (places : List Word) (rows : List Row) (pending : Pending) (waiting : Waiting) (tail behind : List Word) → Forth name synopsis more items places rows pending waiting tail behind
+forth_any name synopsis [] items places rows pending waiting tail behind each ends calm holds none fits = forth_end name synopsis items places rows pending waiting tail behind ends holds none fits.few
+forth_any name synopsis (flag n ∷ more) items places rows pending waiting tail behind each ends calm holds none fits =
+    let kept = rows_in synopsis rows pending in
+    let is = All-head (IsItem synopsis) (flag n) more each in
+    let unsaid = flag_unsaid synopsis items more places (places ++ (flat_map place_of more ++ behind)) kept n is holds fits in
+    let step = flag_steps name synopsis n waiting rows pending (position_for synopsis (length places)) is none unsaid in
+    let next = forth_any name synopsis more (items ++ flag n ∷ []) places (taken n (codes "true") kept) None idle tail behind (All-tail (IsItem synopsis) (flag n) more each) ends tt (holds_flag synopsis items places kept n is unsaid holds) refl
+    (fits_as synopsis (items ++ flag n ∷ more) ((items ++ flag n ∷ []) ++ more) (places ++ (flat_map place_of more ++ behind)) (places ++ (flat_map place_of more ++ behind)) (sym (append_assoc items (flag n ∷ []) more)) refl fits) in
+    passes_more name synopsis (at rows pending waiting (position_for synopsis (length places)) false) (dashes n) (flat_map words_of more ++ tail) step.0 (subst (λ (v : Walk). Passes name synopsis v (flat_map words_of more ++ tail)) (sym step.1) next)
+forth_any name synopsis (joined n value ∷ more) items places rows pending waiting tail behind each ends calm holds none fits =
+    let kept = rows_in synopsis rows pending in
     let item = joined n value in
-    let is = (All-head (IsItem verb) item more each).0 in
-    let unsaid = option_unsaid verb items more places (places ++ (flat_map place_of more ++ behind)) kept item n value is (rw (same_text n) refl) holds fits in
-    let step = joined_steps name verb n value waiting rows pending (position_for verb (length places)) is none unsaid in
-    let next = forth_any name verb more (items ++ item ∷ []) places (taken n value kept) None idle tail behind (All-tail (IsItem verb) item more each) ends tt (holds_option verb items places kept n value item (λ other. refl) is unsaid holds) refl
-    (fits_as verb (items ++ item ∷ more) ((items ++ item ∷ []) ++ more) (places ++ (flat_map place_of more ++ behind)) (places ++ (flat_map place_of more ++ behind)) (sym (append_assoc items (item ∷ []) more)) refl fits) in
-    passes_more name verb (at rows pending waiting (position_for verb (length places)) false) (dashes (n ++ 61 ∷ value)) (flat_map words_of more ++ tail) step.0 (subst (λ (v : Walk). Passes name verb v (flat_map words_of more ++ tail)) (sym step.1) next)
-forth_any name verb (apart n value ∷ more) items places rows pending waiting tail behind each ends calm holds none fits =
-    let kept = rows_in verb rows pending in
+    let is = (All-head (IsItem synopsis) item more each).0 in
+    let unsaid = option_unsaid synopsis items more places (places ++ (flat_map place_of more ++ behind)) kept item n value is (rw (same_text n) refl) holds fits in
+    let step = joined_steps name synopsis n value waiting rows pending (position_for synopsis (length places)) is none unsaid in
+    let next = forth_any name synopsis more (items ++ item ∷ []) places (taken n value kept) None idle tail behind (All-tail (IsItem synopsis) item more each) ends tt (holds_option synopsis items places kept n value item (λ other. refl) is unsaid holds) refl
+    (fits_as synopsis (items ++ item ∷ more) ((items ++ item ∷ []) ++ more) (places ++ (flat_map place_of more ++ behind)) (places ++ (flat_map place_of more ++ behind)) (sym (append_assoc items (item ∷ []) more)) refl fits) in
+    passes_more name synopsis (at rows pending waiting (position_for synopsis (length places)) false) (dashes (n ++ 61 ∷ value)) (flat_map words_of more ++ tail) step.0 (subst (λ (v : Walk). Passes name synopsis v (flat_map words_of more ++ tail)) (sym step.1) next)
+forth_any name synopsis (apart n value ∷ more) items places rows pending waiting tail behind each ends calm holds none fits =
+    let kept = rows_in synopsis rows pending in
     let item = apart n value in
-    let is = All-head (IsItem verb) item more each in
-    let unsaid = option_unsaid verb items more places (places ++ (flat_map place_of more ++ behind)) kept item n value is.0 (rw (same_text n) refl) holds fits in
-    let step = apart_steps name verb n waiting rows pending (position_for verb (length places)) is.0 none in
-    let next = forth_any name verb more (items ++ item ∷ []) places kept (Some (n, value ∷ [])) idle tail behind (All-tail (IsItem verb) item more each) ends tt (apart_held verb items places kept n value is.0 unsaid holds)
-    (option_fault verb n value kept is.0 ∙ no_conflict n kept unsaid)
-    (fits_as verb (items ++ item ∷ more) ((items ++ item ∷ []) ++ more) (places ++ (flat_map place_of more ++ behind)) (places ++ (flat_map place_of more ++ behind)) (sym (append_assoc items (item ∷ []) more)) refl fits) in
+    let is = All-head (IsItem synopsis) item more each in
+    let unsaid = option_unsaid synopsis items more places (places ++ (flat_map place_of more ++ behind)) kept item n value is.0 (rw (same_text n) refl) holds fits in
+    let step = apart_steps name synopsis n waiting rows pending (position_for synopsis (length places)) is.0 none in
+    let next = forth_any name synopsis more (items ++ item ∷ []) places kept (Some (n, value ∷ [])) idle tail behind (All-tail (IsItem synopsis) item more each) ends tt (apart_held synopsis items places kept n value is.0 unsaid holds)
+    (option_fault synopsis n value kept is.0 ∙ no_conflict n kept unsaid)
+    (fits_as synopsis (items ++ item ∷ more) ((items ++ item ∷ []) ++ more) (places ++ (flat_map place_of more ++ behind)) (places ++ (flat_map place_of more ++ behind)) (sym (append_assoc items (item ∷ []) more)) refl fits) in
     let last = flat_map words_of more ++ tail in
-    let wanting : Walk = at kept (Some (n, [])) (option n) (position_for verb (length places)) false in
-    passes_more name verb (at rows pending waiting (position_for verb (length places)) false) (dashes n) (value ∷ last) step.0
-    (subst (λ (v : Walk). Passes name verb v (value ∷ last)) (sym step.1)
-    (passes_more name verb wanting value last (value_turn name verb value n kept (position_for verb (length places)) is.0 is.1)
-    (subst (λ (v : Walk). Passes name verb v last) (sym (value_walk verb value n kept (position_for verb (length places)) is.0 is.1)) next)))
-forth_any name verb (plain word ∷ more) items places rows pending waiting tail behind each ends calm holds none fits =
-    let kept = rows_in verb rows pending in
+    let wanting : Walk = at kept (Some (n, [])) (option n) (position_for synopsis (length places)) false in
+    passes_more name synopsis (at rows pending waiting (position_for synopsis (length places)) false) (dashes n) (value ∷ last) step.0
+    (subst (λ (v : Walk). Passes name synopsis v (value ∷ last)) (sym step.1)
+    (passes_more name synopsis wanting value last (value_turn name synopsis value n kept (position_for synopsis (length places)) is.0 is.1)
+    (subst (λ (v : Walk). Passes name synopsis v last) (sym (value_walk synopsis value n kept (position_for synopsis (length places)) is.0 is.1)) next)))
+forth_any name synopsis (plain word ∷ more) items places rows pending waiting tail behind each ends calm holds none fits =
+    let kept = rows_in synopsis rows pending in
     let item = plain word in
-    let free = All-head (IsItem verb) item more each in
-    let there = room verb (length places) (room_less verb (suc (length places)) (length (places ++ (word ∷ (flat_map place_of more ++ behind)))) (omega (arith, length-append places (word ∷ (flat_map place_of more ++ behind)))) fits.few) in
-    let goes = plain_goes verb word there.0 places rows pending waiting free calm there.1 in
-    let next = forth_any name verb more (items ++ item ∷ []) (places ++ word ∷ []) kept (Some (there.0, word ∷ [])) (waiting_for verb (length places)) tail behind (All-tail (IsItem verb) item more each) ends (is_calm verb (length places)) (plain_held verb items places kept there.0 word there.1 holds)
-    (place_fault verb items places kept there.0 word there.1 holds) (fits_moved verb items more item places behind fits) in
+    let free = All-head (IsItem synopsis) item more each in
+    let there = room synopsis (length places) (room_less synopsis (suc (length places)) (length (places ++ (word ∷ (flat_map place_of more ++ behind)))) (omega (arith, length-append places (word ∷ (flat_map place_of more ++ behind)))) fits.few) in
+    let goes = plain_goes synopsis word there.0 places rows pending waiting free calm there.1 in
+    let next = forth_any name synopsis more (items ++ item ∷ []) (places ++ word ∷ []) kept (Some (there.0, word ∷ [])) (waiting_for (length places)) tail behind (All-tail (IsItem synopsis) item more each) ends (is_calm (length places)) (plain_held synopsis items places kept there.0 word there.1 holds)
+    (place_fault synopsis items places kept there.0 word there.1 holds) (fits_moved synopsis items more item places behind fits) in
     let last = flat_map words_of more ++ tail in
-    passes_more name verb (at rows pending waiting (position_for verb (length places)) false) word last
-    (free_turn name verb word waiting rows pending (position_for verb (length places)) free calm ∙ place_turn name verb rows pending (length places) there.0 there.1 ∙ none)
-    (subst (λ (v : Walk). Passes name verb v last) (sym goes) next)
+    passes_more name synopsis (at rows pending waiting (position_for synopsis (length places)) false) word last
+    (free_turn name synopsis word waiting rows pending (position_for synopsis (length places)) free calm ∙ place_turn name synopsis rows pending (length places) there.0 there.1 ∙ none)
+    (subst (λ (v : Walk). Passes name synopsis v last) (sym goes) next)
 
 -- items that fit are read
-pub forth : (name : Word) (verb : Verb) (items : List Item) (tail behind : List Word) → All (IsItem verb) items → EndsWith tail behind → Fits verb items (flat_map place_of items ++ behind) → Passes name verb (at [] None idle 1 false) (flat_map words_of items ++ tail)
-forth name verb items tail behind each ends fits =
-    subst (λ k. Passes name verb (at [] None idle k false) (flat_map words_of items ++ tail)) (first_position verb)
-    (forth_any name verb items [] [] [] None idle tail behind each ends tt (holds_nothing verb) refl fits)
+pub forth : (name : Word) (synopsis : Synopsis) (items : List Item) (tail behind : List Word) → All (IsItem synopsis) items → EndsWith tail behind → Fits synopsis items (flat_map place_of items ++ behind) → Passes name synopsis (at [] None idle 1 false) (flat_map words_of items ++ tail)
+forth name synopsis items tail behind each ends fits = forth_any name synopsis items [] [] [] None idle tail behind each ends tt (holds_nothing synopsis) refl fits

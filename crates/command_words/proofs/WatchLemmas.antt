@@ -1,5 +1,5 @@
 -- The names of watchers' files: no two are equal, and none is the output's.
-use Rattle.std.proofs.Common.{◌≡◌, ◌≢◌, ◌<◌, ◌≤◌, ◌++◌, ◌+◌, ◌^◌, ℕ, suc, List, [], ◌∷◌, Option, Some, None, sym, ap, ap₂, inl, inr, ◌∙◌, codes, arith, length, map}
+use Rattle.std.proofs.Common.{◌≡◌, ◌≢◌, ◌<◌, ◌≤◌, ◌++◌, ◌+◌, ◌^◌, ℕ, suc, List, [], ◌∷◌, Option, Some, None, sym, ap, ap₂, inl, inr, ◌∙◌, codes, arith}
 use Rattle.std.specs.Prelude.{AllPairs, MatchOption, decimal, slice_index_or}
 use Rattle.std.specs.Borrow.{Bor}
 use Rattle.std.specs.List.{All, range_with_len}

@@ -1,25 +1,79 @@
 -- Which command the words of a command line are.
-use Rattle.std.specs.Prelude.{◌≡◌, ◌≢◌, ◌≤◌, ℕ, ◌^◌, ◌*◌, ◌-◌, ⊤, Bool, true, false, List, [], ◌∷◌, ◌++◌, codes, decimal, length, map, AllPairs, Option, Some, None, unwrap_or, if◌then◌else◌}
+use Rattle.std.specs.Prelude.{◌≡◌, ◌≢◌, ◌≤◌, ℕ, ◌^◌, ◌*◌, ◌-◌, ⊤, Bool, true, false, List, [], ◌∷◌, ◌++◌, refl, codes, decimal, length, map, AllPairs, Option, Some, None, unwrap_or, if◌then◌else◌}
 use Rattle.std.specs.List.{All, flat_map, range_with_len}
 use Rattle.std.specs.Option.{option_to_list}
 use Rattle.std.specs.Str.Parse.{IsNumeral, digits_value}
 use Rattle.mcap_wire.specs.Limits.{chunk_size_limit, buffer_limit, profile_limit}
 use Rattle.mcap_model.specs.declared.options.FileOptions.{FileOptions}
 use Rattle.mcap_model.specs.declared.replay.Range.{Range}
+use Rattle.command_words.specs.Synopses.{Synopsis}
 use Rattle.command_words.specs.Items.{Word, Item, IsCut, given, place_of}
 use Rattle.command_words.specs.declared.command.Command.{Command}
 use Rattle.command_words.specs.declared.command.Command.TheVariants.{Record, Info, Check, Cat, Recover, Merge, Generate}
 use Rattle.command_words.specs.declared.verbs.Verb.{Verb}
 use Rattle.command_words.specs.declared.verbs.Verb.TheVariants as verb
 
+-- a command of one file, without options
+abbrev pub file_synopsis : Word → Synopsis
+file_synopsis name = record {
+  name = name;
+  flags = [];
+  options = [];
+  first = codes "file";
+  rest = None;
+  sound = refl;
+}
+
+abbrev pub synopsis_of : Verb → Synopsis
+synopsis_of verb.Record = record {
+  name = codes "record";
+  flags = codes "plain" ∷ codes "lossless" ∷ [];
+  options = codes "limit" ∷ codes "chunk" ∷ codes "profile" ∷ codes "watch" ∷ codes "watchers" ∷ [];
+  first = codes "out";
+  rest = Some (codes "feed");
+  sound = refl;
+}
+synopsis_of verb.Info = file_synopsis (codes "info")
+synopsis_of verb.Check = file_synopsis (codes "check")
+synopsis_of verb.Cat = record {
+  name = codes "cat";
+  flags = codes "indexed" ∷ [];
+  options = codes "start" ∷ codes "end" ∷ codes "topic" ∷ [];
+  first = codes "file";
+  rest = None;
+  sound = refl;
+}
+synopsis_of verb.Recover = record {
+  name = codes "recover";
+  flags = [];
+  options = codes "chunk" ∷ [];
+  first = codes "in";
+  rest = Some (codes "out");
+  sound = refl;
+}
+synopsis_of verb.Merge = record {
+  name = codes "merge";
+  flags = [];
+  options = codes "chunk" ∷ [];
+  first = codes "out";
+  rest = Some (codes "in");
+  sound = refl;
+}
+synopsis_of verb.Generate = record {
+  name = codes "gen";
+  flags = [];
+  options = [];
+  first = codes "seed";
+  rest = Some (codes "rest");
+  sound = refl;
+}
+
+-- all commands
+abbrev pub verbs : List Verb
+verbs = verb.Record ∷ verb.Info ∷ verb.Check ∷ verb.Cat ∷ verb.Recover ∷ verb.Merge ∷ verb.Generate ∷ []
+
 abbrev pub name_of : Verb → Word
-name_of verb.Record = codes "record"
-name_of verb.Info = codes "info"
-name_of verb.Check = codes "check"
-name_of verb.Cat = codes "cat"
-name_of verb.Recover = codes "recover"
-name_of verb.Merge = codes "merge"
-name_of verb.Generate = codes "gen"
+name_of verb = (synopsis_of verb).name
 
 -- the size of chunks where the words say none: 768 KiB
 abbrev pub usual_chunk_size : ℕ
@@ -70,9 +124,9 @@ abbrev pub IsUnwatched : Word → ℕ → Word → Type 0
 IsUnwatched out watchers feed = (j : ℕ) → 1 ≤ j → j ≤ watchers → feed ≢ watch_name out j
 
 -- the words behind the command: these items, and these positionals from left to right
-pub record Reads (verb : Verb) (words : List Word) (items : List Item) (places : List Word) : Type 0 where
+pub record Reads (synopsis : Synopsis) (words : List Word) (items : List Item) (places : List Word) : Type 0 where
   pub behind : List Word
-  pub cut : IsCut verb words items behind
+  pub cut : IsCut synopsis words items behind
   pub all : places ≡ flat_map place_of items ++ behind
 
 -- 1 to 20 decimal digits, whose value is in its range
@@ -156,27 +210,44 @@ pub record HasWatchers (items : List Item) (range : Range) (watchers : ℕ) : Ty
   pub range_is : range ≡ unwrap_or span whole_time
   pub watchers_are : watchers ≡ watchers_with number span
 
+-- what a recording is told by its options
+pub record Recording : Type 0 where
+  pub file : FileOptions
+  pub limit : ℕ
+  pub lossless : Bool
+  pub range : Range
+  pub watchers : ℕ
+
+abbrev pub told_with : FileOptions → ℕ → Bool → Range → ℕ → Recording
+told_with file limit lossless range watchers = record {
+  file = file;
+  limit = limit;
+  lossless = lossless;
+  range = range;
+  watchers = watchers;
+}
+
 -- record, its options, OUT and each FEED
-pub record IsRecord (words : List Word) (out : Word) (feeds : List Word) (file : FileOptions) (limit : ℕ) (lossless : Bool) (range : Range) (watchers : ℕ) : Type 0 where
+pub record IsRecord (words : List Word) (out : Word) (feeds : List Word) (told : Recording) : Type 0 where
   pub items : List Item
-  pub reads : Reads verb.Record words items (out ∷ feeds)
+  pub reads : Reads (synopsis_of verb.Record) words items (out ∷ feeds)
   pub some : 1 ≤ length feeds
   pub few : length feeds ≤ feed_limit
   pub out_named : out ≢ []
   pub feeds_named : All (λ feed. feed ≢ []) feeds
   pub differ : All (λ feed. out ≢ feed) feeds
-  pub unwatched : All (IsUnwatched out watchers) feeds
-  pub flagged : Flags (given (codes "lossless") items) lossless
-  pub options : IsFileOptions items file
+  pub unwatched : All (IsUnwatched out told.watchers) feeds
+  pub flagged : Flags (given (codes "lossless") items) told.lossless
+  pub options : IsFileOptions items told.file
   pub size : Option ℕ
   pub sized : GivesNumber 1 buffer_limit (given (codes "limit") items) size
-  pub limited : limit ≡ unwrap_or size usual_limit
-  pub watched : HasWatchers items range watchers
+  pub limited : told.limit ≡ unwrap_or size usual_limit
+  pub watched : HasWatchers items told.range told.watchers
 
 -- a command without options, and FILE
-pub record IsOfFile (verb : Verb) (words : List Word) (file : Word) : Type 0 where
+pub record IsOfFile (synopsis : Synopsis) (words : List Word) (file : Word) : Type 0 where
   pub items : List Item
-  pub reads : Reads verb words items (file ∷ [])
+  pub reads : Reads synopsis words items (file ∷ [])
   pub named : file ≢ []
 
 -- --start and --end
@@ -189,7 +260,7 @@ pub record IsRange (items : List Item) (range : Range) : Type 0 where
 -- cat, its options, and FILE
 pub record IsCat (words : List Word) (file : Word) (indexed : Bool) (range : Range) (topic : Option Word) : Type 0 where
   pub items : List Item
-  pub reads : Reads verb.Cat words items (file ∷ [])
+  pub reads : Reads (synopsis_of verb.Cat) words items (file ∷ [])
   pub named : file ≢ []
   pub flagged : Flags (given (codes "indexed") items) indexed
   pub ranged : IsRange items range
@@ -198,7 +269,7 @@ pub record IsCat (words : List Word) (file : Word) (indexed : Bool) (range : Ran
 -- recover, --chunk, IN and OUT
 pub record IsRecover (words : List Word) (input out : Word) (chunk : ℕ) : Type 0 where
   pub items : List Item
-  pub reads : Reads verb.Recover words items (input ∷ out ∷ [])
+  pub reads : Reads (synopsis_of verb.Recover) words items (input ∷ out ∷ [])
   pub in_named : input ≢ []
   pub out_named : out ≢ []
   pub differ : input ≢ out
@@ -209,7 +280,7 @@ pub record IsRecover (words : List Word) (input out : Word) (chunk : ℕ) : Type
 -- merge, --chunk, OUT and each IN
 pub record IsMerge (words : List Word) (out : Word) (inputs : List Word) (chunk : ℕ) : Type 0 where
   pub items : List Item
-  pub reads : Reads verb.Merge words items (out ∷ inputs)
+  pub reads : Reads (synopsis_of verb.Merge) words items (out ∷ inputs)
   pub some : 1 ≤ length inputs
   pub few : length inputs ≤ feed_limit
   pub out_named : out ≢ []
@@ -231,16 +302,16 @@ pub record IsGenerate (words : List Word) (seed feeds messages : ℕ) (out : Wor
   pub seed_word : Word
   pub feeds_word : Word
   pub messages_word : Word
-  pub reads : Reads verb.Generate words items (seed_word ∷ feeds_word ∷ messages_word ∷ out ∷ [])
+  pub reads : Reads (synopsis_of verb.Generate) words items (seed_word ∷ feeds_word ∷ messages_word ∷ out ∷ [])
   pub seeded : IsNumber 0 largest_seed seed_word seed
   pub amounts : AreAmounts feeds_word messages_word feeds messages
   pub out_named : out ≢ []
 
 -- the words behind the command are those of this one
 abbrev pub Behind : List Word → Command → Type 0
-Behind words (Record out feeds file limit lossless range watchers) = IsRecord words out feeds file limit lossless range watchers
-Behind words (Info file) = IsOfFile verb.Info words file
-Behind words (Check file) = IsOfFile verb.Check words file
+Behind words (Record out feeds file limit lossless range watchers) = IsRecord words out feeds (told_with file limit lossless range watchers)
+Behind words (Info file) = IsOfFile (synopsis_of verb.Info) words file
+Behind words (Check file) = IsOfFile (synopsis_of verb.Check) words file
 Behind words (Cat file indexed range topic) = IsCat words file indexed range topic
 Behind words (Recover input out chunk) = IsRecover words input out chunk
 Behind words (Merge out inputs chunk) = IsMerge words out inputs chunk

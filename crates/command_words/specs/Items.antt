@@ -3,11 +3,8 @@ use Rattle.std.specs.Prelude.{◌≡◌, ◌≢◌, ◌⊎◌, ◌<◌, ℕ, len
 use Rattle.std.specs.Borrow.{Bor}
 use Rattle.std.specs.List.{All, flat_map}
 use Rattle.std.specs.Str.{bytes_eq}
-use Rattle.command_words.specs.declared.verbs.Verb.{Verb}
-use Rattle.command_words.specs.declared.verbs.Verb.TheVariants as verb
-
-abbrev pub Word : Type 0
-Word = List ℕ
+pub use Rattle.command_words.specs.Synopses.{Word}
+use Rattle.command_words.specs.Synopses.{IsOneOf, Synopsis}
 
 -- What stands in front of `--`: `--name` that takes no value, an option with its value behind `=` or in the next word, or
 -- a positional.
@@ -18,24 +15,12 @@ pub data Item : Type 0 where
   plain : Word → Item
 
 -- the names that take no value
-abbrev pub IsFlag : Verb → Word → Type 0
-IsFlag verb.Record name = (name ≡ codes "plain") ⊎ (name ≡ codes "lossless")
-IsFlag verb.Info name = ⊥
-IsFlag verb.Check name = ⊥
-IsFlag verb.Cat name = name ≡ codes "indexed"
-IsFlag verb.Recover name = ⊥
-IsFlag verb.Merge name = ⊥
-IsFlag verb.Generate name = ⊥
+abbrev pub IsFlag : Synopsis → Word → Type 0
+IsFlag synopsis name = IsOneOf synopsis.flags name
 
 -- the names that take a value
-abbrev pub IsOption : Verb → Word → Type 0
-IsOption verb.Record name = (name ≡ codes "limit") ⊎ ((name ≡ codes "chunk") ⊎ ((name ≡ codes "profile") ⊎ ((name ≡ codes "watch") ⊎ (name ≡ codes "watchers"))))
-IsOption verb.Info name = ⊥
-IsOption verb.Check name = ⊥
-IsOption verb.Cat name = (name ≡ codes "start") ⊎ ((name ≡ codes "end") ⊎ (name ≡ codes "topic"))
-IsOption verb.Recover name = name ≡ codes "chunk"
-IsOption verb.Merge name = name ≡ codes "chunk"
-IsOption verb.Generate name = ⊥
+abbrev pub IsOption : Synopsis → Word → Type 0
+IsOption synopsis name = IsOneOf synopsis.options name
 
 -- no `=` stands in the text
 abbrev pub IsBare : List ℕ → Type 0
@@ -46,11 +31,11 @@ abbrev pub IsFree : Word → Type 0
 IsFree word = (rest : Word) → word ≢ 45 ∷ rest
 
 -- the command may have this item
-abbrev pub IsItem : Verb → Item → Type 0
-IsItem verb (flag name) = IsFlag verb name
-IsItem verb (joined name value) = IsOption verb name × (value ≢ codes "-")
-IsItem verb (apart name value) = IsOption verb name × IsFree value
-IsItem verb (plain word) = IsFree word
+abbrev pub IsItem : Synopsis → Item → Type 0
+IsItem synopsis (flag name) = IsFlag synopsis name
+IsItem synopsis (joined name value) = IsOption synopsis name × (value ≢ codes "-")
+IsItem synopsis (apart name value) = IsOption synopsis name × IsFree value
+IsItem synopsis (plain word) = IsFree word
 
 -- the words of an item
 abbrev pub words_of : Item → List Word
@@ -64,10 +49,10 @@ abbrev pub EndsWith : List Word → List Word → Type 0
 EndsWith tail behind = ((tail ≡ []) × (behind ≡ [])) ⊎ ((tail ≡ codes "--" ∷ behind) × All (λ word. word ≢ codes "-") behind)
 
 -- the words are those of the items, and what ends them
-pub record IsCut (verb : Verb) (words : List Word) (items : List Item) (behind : List Word) : Type 0 where
+pub record IsCut (synopsis : Synopsis) (words : List Word) (items : List Item) (behind : List Word) : Type 0 where
   pub tail : List Word
   pub form : words ≡ flat_map words_of items ++ tail
-  pub each : All (IsItem verb) items
+  pub each : All (IsItem synopsis) items
   pub ends : EndsWith tail behind
 
 -- the value that an item gives to this name, where a flag gives an empty one

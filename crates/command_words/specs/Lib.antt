@@ -1,3 +1,4 @@
+pub mod Synopses
 pub mod Items
 pub mod Commands
 pub mod Matches

@@ -1,7 +1,8 @@
 //! The command line as `clap` is told of it.
 ghost use Rattle.std.specs.Prelude.{◌≡◌, false, IfOk};
 ghost use Rattle.clap.specs.Words.{App, new_rule, with_rule, with_subcommand};
-ghost use Rattle.command_words.specs.CommandLine.{IsMade, bare_top, file_app, flag_given, option_given, program, rest_given, verb_app};
+ghost use Rattle.command_words.specs.CommandLine.{IsMade, bare_top, app_given, flag_given, option_given, program, rest_given, verb_app};
+ghost use Rattle.command_words.specs.Commands.{file_synopsis};
 ghost use Rattle.command_words.specs.declared.verbs.Verb.TheVariants as verb;
 
 use clap::{Arg, ArgAction, Command};
@@ -68,7 +69,7 @@ fn record<'a>(alloc: Global) -> Result<Command<'a>, AllocError>
 
 // A command of one file, without options.
 fn of_file<'a>(alloc: Global, name: &'a str) -> Result<Command<'a>, AllocError>
-    ensures { IfOk result (IsMade (file_app name.entry.now)) }
+    ensures { IfOk result (IsMade (app_given (file_synopsis name.entry.now))) }
 {
     with_place(Ok(Command::new(alloc, name)), alloc, "file")
 }

@@ -3,10 +3,9 @@ ghost use Rattle.std.specs.Prelude.{◌≡◌, ◌≢◌, ◌≤◌, ◌↔◌, 
 ghost use Rattle.std.specs.List.{All};
 ghost use Rattle.clap.specs.Words.{subcommand_rows_of};
 ghost use Rattle.command_words.specs.Items.{Word, texts};
-ghost use Rattle.command_words.specs.Commands.{AreAmounts, AreBad, Behind, Derives, IsCat, IsGenerate, IsMerge, IsOnly, IsRecord, IsRecover, verb_of};
+ghost use Rattle.command_words.specs.Commands.{AreAmounts, AreBad, Behind, Derives, IsCat, IsGenerate, IsMerge, IsOnly, IsRecord, IsRecover, Recording, synopsis_of, verb_of};
 ghost use Rattle.command_words.specs.Matches.{AreFeeds, AreRead, AreUnwatched, IsReading, rows_found, value_in, values_in};
 ghost use Rattle.command_words.specs.declared.command.Command.{Command as Wanted};
-ghost use Rattle.mcap_model.specs.declared.options.FileOptions.{FileOptions as Options};
 ghost use Rattle.mcap_model.specs.declared.replay.Range.{Range as Times};
 
 use crate::command::{Command, Names, WordsRefused};
@@ -156,8 +155,8 @@ fn one_name(alloc: Global, found: &ArgMatches) -> Result<Text, WordsRefused>
 
 // What was found behind `record`.
 fn record_of(alloc: Global, found: &ArgMatches) -> Result<Command, WordsRefused>
-    ensures command { (words : List Word) → IsReading Verb.Record words (rows_found found.now) → IfOk result (λ command. Behind words command × (verb_of command ≡ Verb.Record)) }
-    ensures bad { (words : List Word) → IsReading Verb.Record words (rows_found found.now) → IfErr result (λ refused. refused ≡ WordsRefused.BadWords → (out : Word) (feeds : List Word) (file : Options) (limit : ℕ) (lossless : Bool) (range : Times) (watchers : ℕ) → IsRecord words out feeds file limit lossless range watchers → ⊥) }
+    ensures command { (words : List Word) → IsReading (synopsis_of Verb.Record) words (rows_found found.now) → IfOk result (λ command. Behind words command × (verb_of command ≡ Verb.Record)) }
+    ensures bad { (words : List Word) → IsReading (synopsis_of Verb.Record) words (rows_found found.now) → IfErr result (λ refused. refused ≡ WordsRefused.BadWords → (out : Word) (feeds : List Word) (told : Recording) → IsRecord words out feeds told → ⊥) }
 {
     if is_dash(found, "profile") {
         return Err(WordsRefused::BadWords);
@@ -197,8 +196,8 @@ fn record_of(alloc: Global, found: &ArgMatches) -> Result<Command, WordsRefused>
 
 // What was found behind `cat`.
 fn cat_of(alloc: Global, found: &ArgMatches) -> Result<Command, WordsRefused>
-    ensures command { (words : List Word) → IsReading Verb.Cat words (rows_found found.now) → IfOk result (λ command. Behind words command × (verb_of command ≡ Verb.Cat)) }
-    ensures bad { (words : List Word) → IsReading Verb.Cat words (rows_found found.now) → IfErr result (λ refused. refused ≡ WordsRefused.BadWords → (file : Word) (indexed : Bool) (range : Times) (topic : Option Word) → IsCat words file indexed range topic → ⊥) }
+    ensures command { (words : List Word) → IsReading (synopsis_of Verb.Cat) words (rows_found found.now) → IfOk result (λ command. Behind words command × (verb_of command ≡ Verb.Cat)) }
+    ensures bad { (words : List Word) → IsReading (synopsis_of Verb.Cat) words (rows_found found.now) → IfErr result (λ refused. refused ≡ WordsRefused.BadWords → (file : Word) (indexed : Bool) (range : Times) (topic : Option Word) → IsCat words file indexed range topic → ⊥) }
 {
     if is_dash(found, "topic") {
         return Err(WordsRefused::BadWords);
@@ -237,8 +236,8 @@ fn only_output<'a>(found: &ArgMatches<'a>, input: &str) -> Option<&'a str>
 
 // What was found behind `recover`.
 fn recover_of(alloc: Global, found: &ArgMatches) -> Result<Command, WordsRefused>
-    ensures command { (words : List Word) → IsReading Verb.Recover words (rows_found found.now) → IfOk result (λ command. Behind words command × (verb_of command ≡ Verb.Recover)) }
-    ensures bad { (words : List Word) → IsReading Verb.Recover words (rows_found found.now) → IfErr result (λ refused. refused ≡ WordsRefused.BadWords → (input out : Word) (chunk : ℕ) → IsRecover words input out chunk → ⊥) }
+    ensures command { (words : List Word) → IsReading (synopsis_of Verb.Recover) words (rows_found found.now) → IfOk result (λ command. Behind words command × (verb_of command ≡ Verb.Recover)) }
+    ensures bad { (words : List Word) → IsReading (synopsis_of Verb.Recover) words (rows_found found.now) → IfErr result (λ refused. refused ≡ WordsRefused.BadWords → (input out : Word) (chunk : ℕ) → IsRecover words input out chunk → ⊥) }
 {
     let Some(input) = name_of_file(found, "in") else {
         return Err(WordsRefused::BadWords);
@@ -262,8 +261,8 @@ fn recover_of(alloc: Global, found: &ArgMatches) -> Result<Command, WordsRefused
 
 // What was found behind `merge`.
 fn merge_of(alloc: Global, found: &ArgMatches) -> Result<Command, WordsRefused>
-    ensures command { (words : List Word) → IsReading Verb.Merge words (rows_found found.now) → IfOk result (λ command. Behind words command × (verb_of command ≡ Verb.Merge)) }
-    ensures bad { (words : List Word) → IsReading Verb.Merge words (rows_found found.now) → IfErr result (λ refused. refused ≡ WordsRefused.BadWords → (out : Word) (inputs : List Word) (chunk : ℕ) → IsMerge words out inputs chunk → ⊥) }
+    ensures command { (words : List Word) → IsReading (synopsis_of Verb.Merge) words (rows_found found.now) → IfOk result (λ command. Behind words command × (verb_of command ≡ Verb.Merge)) }
+    ensures bad { (words : List Word) → IsReading (synopsis_of Verb.Merge) words (rows_found found.now) → IfErr result (λ refused. refused ≡ WordsRefused.BadWords → (out : Word) (inputs : List Word) (chunk : ℕ) → IsMerge words out inputs chunk → ⊥) }
 {
     let Some(out) = name_of_file(found, "out") else {
         return Err(WordsRefused::BadWords);
@@ -314,8 +313,8 @@ fn amounts_of(feeds_word: &str, messages_word: &str) -> Result<Amounts, BadValue
 
 // What was found behind `gen`.
 fn generate_of(alloc: Global, found: &ArgMatches) -> Result<Command, WordsRefused>
-    ensures command { (words : List Word) → IsReading Verb.Generate words (rows_found found.now) → IfOk result (λ command. Behind words command × (verb_of command ≡ Verb.Generate)) }
-    ensures bad { (words : List Word) → IsReading Verb.Generate words (rows_found found.now) → IfErr result (λ refused. refused ≡ WordsRefused.BadWords → (seed feeds messages : ℕ) (out : Word) → IsGenerate words seed feeds messages out → ⊥) }
+    ensures command { (words : List Word) → IsReading (synopsis_of Verb.Generate) words (rows_found found.now) → IfOk result (λ command. Behind words command × (verb_of command ≡ Verb.Generate)) }
+    ensures bad { (words : List Word) → IsReading (synopsis_of Verb.Generate) words (rows_found found.now) → IfErr result (λ refused. refused ≡ WordsRefused.BadWords → (seed feeds messages : ℕ) (out : Word) → IsGenerate words seed feeds messages out → ⊥) }
 {
     let seed = match number_at(found, "seed", 0, u64::MAX) {
         Ok(seed) => seed,
@@ -344,8 +343,8 @@ fn generate_of(alloc: Global, found: &ArgMatches) -> Result<Command, WordsRefuse
 
 // What was found behind the name of a command.
 fn command_of(alloc: Global, verb: Verb, found: &ArgMatches) -> Result<Command, WordsRefused>
-    ensures command { (words : List Word) → IsReading verb words (rows_found found.now) → IfOk result (λ command. Behind words command × (verb_of command ≡ verb)) }
-    ensures bad { (words : List Word) → IsReading verb words (rows_found found.now) → IfErr result (λ refused. refused ≡ WordsRefused.BadWords → (command : Wanted) → verb_of command ≡ verb → Behind words command → ⊥) }
+    ensures command { (words : List Word) → IsReading (synopsis_of verb) words (rows_found found.now) → IfOk result (λ command. Behind words command × (verb_of command ≡ verb)) }
+    ensures bad { (words : List Word) → IsReading (synopsis_of verb) words (rows_found found.now) → IfErr result (λ refused. refused ≡ WordsRefused.BadWords → (command : Wanted) → verb_of command ≡ verb → Behind words command → ⊥) }
 {
     match verb {
         Verb::Record => return record_of(alloc, found),

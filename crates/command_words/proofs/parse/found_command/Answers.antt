@@ -8,7 +8,7 @@ use Rattle.command_words.specs.Matches.{rows_found}
 use Rattle.command_words.specs.declared.command.Command.{Command}
 use Rattle.command_words.specs.declared.command.WordsRefused.{WordsRefused}
 use Rattle.command_words.specs.declared.command.WordsRefused.TheVariants.{BadWords}
-use Rattle.command_words.proofs.CommandLemmas.{one_name, read_bad, read_behind, read_derives, read_name, read_rows}
+use Rattle.command_words.proofs.VerbLemmas.{one_name, read_bad, read_behind, read_derives, read_name, read_rows}
 use Rattle.command_words.proofs.parse.found_command.Goals as goal
 
 -- what is promised of a refusal holds of this one

@@ -4,8 +4,7 @@ use Rattle.std.specs.List.{All}
 use Rattle.clap.specs.Words.{subcommand_rows_of}
 use Rattle.command_words.specs.Items.{Word, texts}
 use Rattle.command_words.specs.Matches.{AreFine, AreRead, AreUnread}
-use Rattle.command_words.proofs.OneCommand.{only_one}
-use Rattle.command_words.proofs.CommandLemmas.{derived_whole, unread_bad}
+use Rattle.command_words.proofs.VerbLemmas.{derived_whole, only_one, unread_bad}
 use Rattle.command_words.proofs.parse.parse_words.Goals as goal
 
 pub returns-then-not-are_whole-clause-bad : goal.returns-then-not-are_whole-clause-bad

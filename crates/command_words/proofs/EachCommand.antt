@@ -1,0 +1,77 @@
+-- What holds of each command, a line for each: it is listed, it is of one variant, its words fit it, and they are those of no other.
+use Rattle.std.proofs.Common.{◌≡◌, ◌⊎◌, ℕ, Bool, List, [], ◌∷◌, Option, refl, sym, ap, subst, inl, inr, codes}
+use Rattle.mcap_model.specs.declared.options.FileOptions.{FileOptions}
+use Rattle.mcap_model.specs.declared.replay.Range.{Range}
+use Rattle.command_words.specs.Items.{Word, given}
+use Rattle.command_words.specs.Commands.{Behind, IsGenerate, IsMerge, IsRecover, synopsis_of, told_with, verb_of, verbs}
+use Rattle.command_words.specs.declared.command.Command.{Command}
+use Rattle.command_words.specs.declared.command.Command.TheVariants.{Record, Info, Check, Cat, Recover, Merge, Generate}
+use Rattle.command_words.specs.declared.verbs.Verb.{Verb}
+use Rattle.command_words.specs.declared.verbs.Verb.TheVariants as verb
+use Rattle.command_words.proofs.CommandLemmas.{Fitting, fit_cat, fit_file, fit_record, fit_with, once_number}
+use Rattle.command_words.proofs.OneCommand.{one_cat, one_file, one_generate, one_merge, one_record, one_recover}
+
+-- the command is one of these
+abbrev pub IsListed : List Verb → Verb → Type 0
+IsListed [] verb = ⊥
+IsListed (v ∷ some) verb = (verb ≡ v) ⊎ IsListed some verb
+
+pub listed : (v : Verb) → IsListed verbs v
+listed verb.Record = inl refl
+listed verb.Info = inr (inl refl)
+listed verb.Check = inr (inr (inl refl))
+listed verb.Cat = inr (inr (inr (inl refl)))
+listed verb.Recover = inr (inr (inr (inr (inl refl))))
+listed verb.Merge = inr (inr (inr (inr (inr (inl refl)))))
+listed verb.Generate = inr (inr (inr (inr (inr (inr (inl refl))))))
+
+-- it holds of each command with this verb
+abbrev pub OfVerb : Verb → (Command → Type 0) → Type 0
+OfVerb verb.Record P = (out : Word) (feeds : List Word) (file : FileOptions) (limit : ℕ) (lossless : Bool) (range : Range) (watchers : ℕ) → P (Record out feeds file limit lossless range watchers)
+OfVerb verb.Info P = (file : Word) → P (Info file)
+OfVerb verb.Check P = (file : Word) → P (Check file)
+OfVerb verb.Cat P = (file : Word) (indexed : Bool) (range : Range) (topic : Option Word) → P (Cat file indexed range topic)
+OfVerb verb.Recover P = (input out : Word) (chunk : ℕ) → P (Recover input out chunk)
+OfVerb verb.Merge P = (out : Word) (inputs : List Word) (chunk : ℕ) → P (Merge out inputs chunk)
+OfVerb verb.Generate P = (seed feeds messages : ℕ) (out : Word) → P (Generate seed feeds messages out)
+
+of_its : (P : Command → Type 0) (command : Command) → OfVerb (verb_of command) P → P command
+of_its P (Record out feeds file limit lossless range watchers) all = all out feeds file limit lossless range watchers
+of_its P (Info file) all = all file
+of_its P (Check file) all = all file
+of_its P (Cat file indexed range topic) all = all file indexed range topic
+of_its P (Recover input out chunk) all = all input out chunk
+of_its P (Merge out inputs chunk) all = all out inputs chunk
+of_its P (Generate seed feeds messages out) all = all seed feeds messages out
+
+pub of_verb : (v : Verb) (P : Command → Type 0) → OfVerb v P → (command : Command) → verb_of command ≡ v → P command
+of_verb v P all command same = of_its P command (subst (λ (u : Verb). OfVerb u P) (sym same) all)
+
+-- the words behind a command fit it
+pub fitting : (words : List Word) (command : Command) → Behind words command → Fitting (synopsis_of (verb_of command)) words
+fitting words (Record out feeds file limit lossless range watchers) is = fit_record words out feeds (told_with file limit lossless range watchers) is
+fitting words (Info file) is = fit_file (synopsis_of verb.Info) words file (codes "info", refl) is
+fitting words (Check file) is = fit_file (synopsis_of verb.Check) words file (codes "check", refl) is
+fitting words (Cat file indexed range topic) is = fit_cat words file indexed range topic is
+fitting words (Recover input out chunk) is =
+    let one : IsRecover words input out chunk = is in fit_with (synopsis_of verb.Recover) words one.items (input ∷ out ∷ []) one.reads (once_number 1 67108864 (given (codes "chunk") one.items) one.size one.sized, tt) tt tt
+fitting words (Merge out inputs chunk) is =
+    let one : IsMerge words out inputs chunk = is in fit_with (synopsis_of verb.Merge) words one.items (out ∷ inputs) one.reads (once_number 1 67108864 (given (codes "chunk") one.items) one.size one.sized, tt) tt tt
+fitting words (Generate seed feeds messages out) is =
+    let one : IsGenerate words seed feeds messages out = is in fit_with (synopsis_of verb.Generate) words one.items (one.seed_word ∷ one.feeds_word ∷ one.messages_word ∷ out ∷ []) one.reads tt tt tt
+
+-- two with one verb are the same
+pub one_behind : (words : List Word) (a b : Command) → verb_of b ≡ verb_of a → Behind words a → Behind words b → b ≡ a
+one_behind words (Record out feeds file limit lossless range watchers) b same is =
+    of_verb verb.Record (λ c. Behind words c → c ≡ Record out feeds file limit lossless range watchers)
+    (λ out' feeds' file' limit' lossless' range' watchers' other. one_record words out feeds (told_with file limit lossless range watchers) out' feeds' (told_with file' limit' lossless' range' watchers') is other) b same
+one_behind words (Info file) b same is = of_verb verb.Info (λ c. Behind words c → c ≡ Info file) (λ file' other. ap Info (one_file (synopsis_of verb.Info) words file file' is other)) b same
+one_behind words (Check file) b same is = of_verb verb.Check (λ c. Behind words c → c ≡ Check file) (λ file' other. ap Check (one_file (synopsis_of verb.Check) words file file' is other)) b same
+one_behind words (Cat file indexed range topic) b same is =
+    of_verb verb.Cat (λ c. Behind words c → c ≡ Cat file indexed range topic) (λ file' indexed' range' topic' other. one_cat words file indexed range topic file' indexed' range' topic' is other) b same
+one_behind words (Recover input out chunk) b same is =
+    of_verb verb.Recover (λ c. Behind words c → c ≡ Recover input out chunk) (λ input' out' chunk' other. one_recover words input out chunk input' out' chunk' is other) b same
+one_behind words (Merge out inputs chunk) b same is =
+    of_verb verb.Merge (λ c. Behind words c → c ≡ Merge out inputs chunk) (λ out' inputs' chunk' other. one_merge words out inputs chunk out' inputs' chunk' is other) b same
+one_behind words (Generate seed feeds messages out) b same is =
+    of_verb verb.Generate (λ c. Behind words c → c ≡ Generate seed feeds messages out) (λ seed' feeds' messages' out' other. one_generate words seed feeds messages out seed' feeds' messages' out' is other) b same
