@@ -12,6 +12,7 @@ use Rattle.command_base.specs.Ran.{Scene, counts_in, world_faults}
 use Rattle.record_command.specs.declared.watched_answer.WatchedCounts.{WatchedCounts}
 use Rattle.record_command.specs.Record.{entry_of, live_entry, back_sources, OutputHolds, Records}
 use Rattle.record_command.specs.Sinks.{sink_entry}
+use Rattle.record_command.specs.Watched.{requested}
 use Rattle.record_command.specs.WatchedAnswer.{watched_counts_in, AnyCountRose, EndsBeside, RecordsWatched}
 use Rattle.record_command.proofs.Runs.{world_faults-append}
 use Rattle.record_command.proofs.Whole.{calm}
@@ -66,17 +67,17 @@ pub watched_calm : (before now : WatchedCounts) (report : Option Report) (report
 watched_calm before now report reports true status ended zero_is risen = let five = ended.memory refl in omega (arith, five, zero_is)
 watched_calm before now report reports false status ended zero_is risen = let three = ended.rose refl risen in omega (arith, three, zero_is)
 
-pub watched_closed : (options : RecordOptions) (range : Range) (out : List ℕ) (watches feeds : List (List ℕ)) (old new : Scene) (r : Report) (status : ℕ) → RecordsWatched options range out watches feeds old new (Some r) status → status ≡ 0 → r.writer.end ≡ ends.Closed
+pub watched_closed : (options : RecordOptions) (range : Range) (out : List ℕ) (watches feeds : List (List ℕ)) (old new : Scene) (r : Report) (status : ℕ) → RecordsWatched (requested options range out watches feeds) old new (Some r) status → status ≡ 0 → r.writer.end ≡ ends.Closed
 watched_closed options range out watches feeds old new r status it zero_is =
     let all = it.whole zero_is in
     subst (λ (x : Report). x.writer.end ≡ ends.Closed) (same_Some all.0 r (sym all.1)) all.2.all.closed
 
 -- the world's count stood still, and it has the failures of all that was taken back
-pub watched_still : (options : RecordOptions) (range : Range) (out : List ℕ) (watches feeds : List (List ℕ)) (old new : Scene) (r : Report) (status : ℕ) → RecordsWatched options range out watches feeds old new (Some r) status → status ≡ 0 → Rose old.world.faults new.world.faults → ⊥
+pub watched_still : (options : RecordOptions) (range : Range) (out : List ℕ) (watches feeds : List (List ℕ)) (old new : Scene) (r : Report) (status : ℕ) → RecordsWatched (requested options range out watches feeds) old new (Some r) status → status ≡ 0 → Rose old.world.faults new.world.faults → ⊥
 watched_still options range out watches feeds old new r status it zero_is rose =
     watched_calm (watched_counts_in old) (watched_counts_in new) (Some r) it.reports it.lacked status it.ended zero_is (inl (inl rose))
 
-pub watched_total : (options : RecordOptions) (range : Range) (out : List ℕ) (watches feeds : List (List ℕ)) (old new : Scene) (r : Report) (status : ℕ) → (it : RecordsWatched options range out watches feeds old new (Some r) status)
+pub watched_total : (options : RecordOptions) (range : Range) (out : List ℕ) (watches feeds : List (List ℕ)) (old new : Scene) (r : Report) (status : ℕ) → (it : RecordsWatched (requested options range out watches feeds) old new (Some r) status)
     → new.world.faults ≡ added old.world.faults (world_faults (map entry_of (it.reported r refl).kept_feeds) + world_faults (map sink_entry (it.reported r refl).kept_sinks) + (if (it.reported r refl).live_kept then 0 else 1))
 watched_total options range out watches feeds old new r status it =
     let is = it.reported r refl in
@@ -84,12 +85,12 @@ watched_total options range out watches feeds old new r status it =
     let total = world_faults-append (map entry_of is.kept_feeds) (live_entry out is.live_now is.live_kept ∷ map sink_entry is.kept_sinks) in
     omega (arith, counts, total)
 
-pub watched_well : (options : RecordOptions) (range : Range) (out : List ℕ) (watches feeds : List (List ℕ)) (old new : Scene) (r : Report) (status : ℕ) → (it : RecordsWatched options range out watches feeds old new (Some r) status) → status ≡ 0 → (it.reported r refl).live_kept ≡ true
+pub watched_well : (options : RecordOptions) (range : Range) (out : List ℕ) (watches feeds : List (List ℕ)) (old new : Scene) (r : Report) (status : ℕ) → (it : RecordsWatched (requested options range out watches feeds) old new (Some r) status) → status ≡ 0 → (it.reported r refl).live_kept ≡ true
 watched_well options range out watches feeds old new r status it zero_is =
     let is = it.reported r refl in
     kept_well old.world.faults new.world.faults (world_faults (map entry_of is.kept_feeds) + world_faults (map sink_entry is.kept_sinks)) is.live_kept (watched_total options range out watches feeds old new r status it) (watched_still options range out watches feeds old new r status it zero_is)
 
-abbrev pub of_watched : (options : RecordOptions) (range : Range) (out : List ℕ) (watches feeds : List (List ℕ)) (old new : Scene) (r : Report) (status : ℕ) → RecordsWatched options range out watches feeds old new (Some r) status → Recording options out old.world new.world r status
+abbrev pub of_watched : (options : RecordOptions) (range : Range) (out : List ℕ) (watches feeds : List (List ℕ)) (old new : Scene) (r : Report) (status : ℕ) → RecordsWatched (requested options range out watches feeds) old new (Some r) status → Recording options out old.world new.world r status
 of_watched options range out watches feeds old new r status it = record {
   before = sides (it.reported r refl).given (it.reported r refl).viewed;
   after = sides (back_sources (it.reported r refl).kept_feeds) (it.reported r refl).live_now;

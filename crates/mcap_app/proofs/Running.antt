@@ -21,6 +21,7 @@ use Rattle.output_commands.proofs.Merges.{merges_not_two}
 use Rattle.generate_command.proofs.Statuses.{generates_not_two}
 use Rattle.generate_command.specs.Making.{AreAllowed}
 use Rattle.record_command.specs.Record.{Records}
+use Rattle.record_command.specs.Watched.{requested}
 use Rattle.record_command.specs.WatchedAnswer.{RecordsWatched}
 use Rattle.recorder.specs.declared.options.RecordOptions.{RecordOptions}
 use Rattle.mcap_app.specs.Runs.{IsAllowed, IsWatchable, LacksForWords, RecordsBeside, Runs, generate_options}
@@ -44,14 +45,14 @@ ran_not_two command old new report status (inr lacks) two = absurd (omega (arith
 
 -- ---- a recording beside watchers, or without
 
-pub beside_none : (options : RecordOptions) (range : Range) (watchers : ℕ) (out : List ℕ) (feeds : List (List ℕ)) (old new : Scene) (report : Option Report) (status : ℕ) → watchers ≡ 0 → Records options out feeds old new report status
-    → RecordsBeside options range watchers out feeds old new report status
-beside_none options range watchers out feeds old new report status none records = subst (λ (n : ℕ). RecordsBeside options range n out feeds old new report status) (sym none) records
+pub beside_none : (options : RecordOptions) (range : Range) (watchers : ℕ) (out : List ℕ) (names feeds : List (List ℕ)) (old new : Scene) (report : Option Report) (status : ℕ) → watchers ≡ 0 → Records options out feeds old new report status
+    → RecordsBeside watchers (requested options range out names feeds) old new report status
+beside_none options range watchers out names feeds old new report status none records = subst (λ (n : ℕ). RecordsBeside n (requested options range out names feeds) old new report status) (sym none) records
 
 pub beside_some : (options : RecordOptions) (range : Range) (watchers : ℕ) (out : List ℕ) (names feeds : List (List ℕ)) (old new : Scene) (report : Option Report) (status : ℕ) → (watchers ≡ 0 → ⊥) → names ≡ watch_names out watchers
-    → RecordsWatched options range out names feeds old new report status → RecordsBeside options range watchers out feeds old new report status
+    → RecordsWatched (requested options range out names feeds) old new report status → RecordsBeside watchers (requested options range out (watch_names out watchers) feeds) old new report status
 beside_some options range zero out names feeds old new report status some named records = absurd (some refl)
-beside_some options range (suc n) out names feeds old new report status some named records = subst (λ (l : List (List ℕ)). RecordsWatched options range out l feeds old new report status) named records
+beside_some options range (suc n) out names feeds old new report status some named records = subst (λ (l : List (List ℕ)). RecordsWatched (requested options range out l feeds) old new report status) named records
 
 -- there are as many names as watchers
 not_none : (n : ℕ) → (n ≡ 0 → ⊥) → 1 ≤ n
@@ -114,10 +115,11 @@ watchable items file range watchers options watched = (
 pub allowed : (words : List (List ℕ)) (command : Command) → Derives words command → IsAllowed command
 allowed words (commands.Record out feeds file limit lossless range watchers) derives =
     let is = derives.behind in
+    let limited : limit ≡ unwrap_or is.size 104857600 = is.limited in
     let limits = in_range 1 1073741824 104857600 _ is.size is.sized (omega arith) (omega arith) in (
       record {
-        some = omega (arith, is.limited, limits.0);
-        small = omega (arith, is.limited, limits.1);
+        some = omega (arith, limited, limits.0);
+        small = omega (arith, limited, limits.1);
         size = chunk_in_range is.options.chunk.is_plain _ is.options.chunk.size file.chunk is.options.chunk.sizes is.options.chunk.sized;
         short = is.options.profile.short;
       },

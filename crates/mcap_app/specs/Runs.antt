@@ -1,5 +1,5 @@
 -- What the program does, command by command.
-use Rattle.std.specs.Prelude.{◌≡◌, ◌≤◌, ℕ, zero, suc, List, [], ◌∷◌, true, false, Option, None, Some}
+use Rattle.std.specs.Prelude.{◌≡◌, ◌≤◌, ℕ, zero, suc, [], ◌∷◌, true, false, Option, None, Some}
 use Rattle.command_words.specs.declared.command.Command.{Command}
 use Rattle.command_words.specs.declared.command.Command.TheVariants as commands
 use Rattle.recorder.specs.declared.report.Report.{Report}
@@ -7,9 +7,9 @@ use Rattle.command_base.specs.Texts.{no_memory, said}
 use Rattle.command_base.specs.Printing.{Takes}
 use Rattle.command_base.specs.Ran.{Scene}
 use Rattle.record_command.specs.Record.{AreAllowed, AreFew, Records}
+use Rattle.record_command.specs.Watched.{Requested, requested}
 use Rattle.record_command.specs.WatchedAnswer.{RecordsWatched}
 use Rattle.mcap_model.specs.declared.options.FileOptions.{FileOptions}
-use Rattle.mcap_model.specs.declared.replay.Range.{Range}
 use Rattle.file_commands.specs.Info.{Describes}
 use Rattle.file_commands.specs.Check.{FileChecks}
 use Rattle.file_commands.specs.Cat.{selection, Cats}
@@ -57,13 +57,13 @@ abbrev pub generate_options : RecordOptions
 generate_options = record { file = record { profile = []; chunk = Some usual_chunk_size }; limit = usual_limit; lossless = true }
 
 -- a recording without watchers, or beside so many, which write to the files under their names
-abbrev pub RecordsBeside : RecordOptions → Range → ℕ → List ℕ → List (List ℕ) → Scene → Scene → Option Report → ℕ → Type 0
-RecordsBeside options range zero out feeds old new report status = Records options out feeds old new report status
-RecordsBeside options range (suc n) out feeds old new report status = RecordsWatched options range out (watch_names out (suc n)) feeds old new report status
+abbrev pub RecordsBeside : ℕ → Requested → Scene → Scene → Option Report → ℕ → Type 0
+RecordsBeside zero request old new report status = Records request.options request.names.out request.names.feeds old new report status
+RecordsBeside (suc n) request old new report status = RecordsWatched request old new report status
 
 -- only a recording has a report, of feeds that are read or generated
 abbrev pub Runs : Command → Scene → Scene → Option Report → ℕ → Type 0
-Runs (commands.Record out feeds file limit lossless range watchers) old new report status = RecordsBeside (record { file = file; limit = limit; lossless = lossless }) range watchers out feeds old new report status
+Runs (commands.Record out feeds file limit lossless range watchers) old new report status = RecordsBeside watchers (requested (record { file = file; limit = limit; lossless = lossless }) range out (watch_names out watchers) feeds) old new report status
 Runs (commands.Info file) old new report status = Describes file old new status × (report ≡ None)
 Runs (commands.Check file) old new report status = FileChecks file old new status × (report ≡ None)
 Runs (commands.Cat file false range topic) old new report status = Cats (selection range topic) file old new status × (report ≡ None)

@@ -16,6 +16,7 @@ use Rattle.command_base.specs.Ran.{Scene, counts_in, AnyRose}
 use Rattle.recorder.specs.declared.options.RecordOptions.{RecordOptions}
 use Rattle.recorder.specs.declared.report.Report.{Report}
 use Rattle.record_command.specs.Record.{AreAllowed}
+use Rattle.record_command.specs.Watched.{requested}
 use Rattle.record_command.specs.WatchedAnswer.{RecordsWatched}
 use Rattle.file_commands.specs.Cat.{Cats}
 use Rattle.file_commands.specs.Check.{FileChecks}
@@ -26,7 +27,7 @@ use Rattle.mcap_app.specs.Laws.{everything, PrintsHistory, PrintsSound, IsChunkS
 -- count rises: it prints the messages of the recording's history, or memory lacked for that.
 abbrev pub WatchedRecordingsArePrinted : Type 0
 WatchedRecordingsArePrinted = (options : RecordOptions) (range : Range) (out : List ℕ) (watches feeds : List (List ℕ)) (old new later last : Scene) (r : Report) (answer : ℕ) (told : Told) → AreAllowed options → IsUtf8 options.file.profile
-    → (it : RecordsWatched options range out watches feeds old new (Some r) 0) → old.world.told ≡ Some told
+    → (it : RecordsWatched (requested options range out watches feeds) old new (Some r) 0) → old.world.told ≡ Some told
     → later.world ≡ new.world → Cats everything out later last answer → (AnyRose (counts_in later) (counts_in last) → ⊥)
     → ((answer ≡ 0) × PrintsHistory (it.reported r refl).recorded.history later.out last.out) ⊎ (answer ≡ 5)
 
@@ -34,7 +35,7 @@ WatchedRecordingsArePrinted = (options : RecordOptions) (range : Range) (out : L
 -- reading, and prints that; or memory lacked for the check.
 abbrev pub WatchedRecordingsAreSound : Type 0
 WatchedRecordingsAreSound = (options : RecordOptions) (range : Range) (out : List ℕ) (watches feeds : List (List ℕ)) (old new later last : Scene) (r : Report) (answer : ℕ) (told : Told) → AreAllowed options → IsUtf8 options.file.profile
-    → RecordsWatched options range out watches feeds old new (Some r) 0 → old.world.told ≡ Some told
+    → RecordsWatched (requested options range out watches feeds) old new (Some r) 0 → old.world.told ≡ Some told
     → later.world ≡ new.world → FileChecks out later last answer → (AnyRose (counts_in later) (counts_in last) → ⊥)
     → ((answer ≡ 0) × PrintsSound options.file.chunk later.out last.out) ⊎ (answer ≡ 5)
 
@@ -42,7 +43,7 @@ WatchedRecordingsAreSound = (options : RecordOptions) (range : Range) (out : Lis
 -- a first part of its file under the output's name; and where its writer closed, its file is within the limits.
 abbrev pub WatchedRecordingsLeaveFirstParts : Type 0
 WatchedRecordingsLeaveFirstParts = (options : RecordOptions) (range : Range) (out : List ℕ) (watches feeds : List (List ℕ)) (old new : Scene) (r : Report) (answer : ℕ) (told now : Told)
-    → (it : RecordsWatched options range out watches feeds old new (Some r) answer) → old.world.told ≡ Some told → new.world.told ≡ Some now
+    → (it : RecordsWatched (requested options range out watches feeds) old new (Some r) answer) → old.world.told ≡ Some told → new.world.told ≡ Some now
     → (it.reported r refl).live_kept ≡ true → ((it.reported r refl).recorded.history ≡ [] → ⊥)
     → ((part : List ℕ) × (now.names out ≡ Some part) × IsFirstPart options.file (it.reported r refl).recorded.history part)
     × (r.writer.end ≡ ends.Closed → IsWithin options.file (it.reported r refl).recorded.history)
@@ -52,7 +53,7 @@ WatchedRecordingsLeaveFirstParts = (options : RecordOptions) (range : Range) (ou
 -- that file would pass a limit; or memory lacked.
 abbrev pub WatchedRecordingsAreRecovered : Type 0
 WatchedRecordingsAreRecovered = (options : RecordOptions) (range : Range) (out : List ℕ) (watches feeds : List (List ℕ)) (old new : Scene) (r : Report) (answer : ℕ) → AreAllowed options → IsUtf8 options.file.profile
-    → (it : RecordsWatched options range out watches feeds old new (Some r) answer) → IsWithin options.file (it.reported r refl).recorded.history
+    → (it : RecordsWatched (requested options range out watches feeds) old new (Some r) answer) → IsWithin options.file (it.reported r refl).recorded.history
     → (part : List ℕ) → IsFirstPart options.file (it.reported r refl).recorded.history part
     → (chunk : ℕ) (input output : List ℕ) (later last : Scene) (status : ℕ) (told : Told) → IsChunkSize chunk → later.world.told ≡ Some told → told.names input ≡ Some part
     → RecoversFile chunk input output later last status → (AnyRose (counts_in later) (counts_in last) → ⊥)
@@ -78,5 +79,5 @@ pub record HoldsMessages (range : Range) (history : List Rec) (blocks : ℕ) (fi
 -- A recording in chunks with watchers that has the status 0 in a world that tells leaves such a file under each watch name.
 abbrev pub WatchFilesHoldMessages : Type 0
 WatchFilesHoldMessages = (options : RecordOptions) (range : Range) (size : ℕ) (out : List ℕ) (watches feeds : List (List ℕ)) (old new : Scene) (r : Report) (told now : Told) → AreAllowed options → IsUtf8 options.file.profile → options.file.chunk ≡ Some size
-    → (it : RecordsWatched options range out watches feeds old new (Some r) 0) → old.world.told ≡ Some told → new.world.told ≡ Some now
+    → (it : RecordsWatched (requested options range out watches feeds) old new (Some r) 0) → old.world.told ≡ Some told → new.world.told ≡ Some now
     → Each (λ (name : List ℕ). HoldsMessages range (it.reported r refl).recorded.history r.writer.blocks (now.names name)) watches

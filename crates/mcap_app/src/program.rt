@@ -8,6 +8,8 @@ ghost use Rattle.feed_lane.specs.Feeds.{ListsMessages};
 ghost use Rattle.command_base.specs.Printing.{Takes};
 ghost use Rattle.command_base.specs.Ran.{scene};
 ghost use Rattle.record_command.specs.Record.{AreAllowed, AreFew};
+ghost use Rattle.command_words.specs.Commands.{watch_names as names_of_watches};
+ghost use Rattle.record_command.specs.Watched.{requested};
 ghost use Rattle.mcap_app.specs.Runs.{IsAllowed, IsWatchable, RecordsBeside, Runs, LacksForWords, records, generates, reads, writes, way_of, generate_options};
 
 use command_base::{refuse_for_memory, refuse_words};
@@ -110,7 +112,7 @@ fn run_record<R: AllocGlobal + Threads + Wait + Sync, W: World, O: Sink, E: Sink
     requires allowed { AreAllowed options.now }
     requires few { AreFew feeds.now }
     requires watchable { IsWatchable options.now.file watching.watchers }
-    ensures runs { RecordsBeside options.now watching.range watching.watchers name.now feeds.now
+    ensures runs { RecordsBeside watching.watchers (requested options.now watching.range name.now (names_of_watches name.now watching.watchers) feeds.now)
         (scene (W.state world.old) (O.state out.old) (E.state err.old))
         (scene (W.state world.new) (O.state out.new) (E.state err.new))
         result.report result.status

@@ -22,7 +22,7 @@ use Rattle.record_command.specs.declared.watched_answer.WatchedFailures.{Watched
 use Rattle.record_command.specs.Record.{entry_of, live_entry, reports_in, some_failed, worst, report_text, limit_passed, passes_limit, lacks_memory, HaltsThere}
 use Rattle.record_command.specs.Answer.{flags_of}
 use Rattle.record_command.specs.Sinks.{SinkKept, sink_entry}
-use Rattle.record_command.specs.Watched.{CountsBeside, ReportedBeside, NamesWatched, is_watch_fault, is_flaw}
+use Rattle.record_command.specs.Watched.{named, requested, reported_with, CountsBeside, ReportedBeside, NamesWatched, is_watch_fault, is_flaw}
 use Rattle.record_command.specs.WatchedAnswer.{watched_counts_in, AnyCountRose, is_memory_watch, some_flaw, lacks_beside, LackIsToldBeside, BlamesExactly, watch_flags_of, blamed_in, AnyPartFailed, PartsShow, LacksMemoryBeside, AnswersBeside, ends_status_beside, EndsBeside, RecordsAllBeside, RecordsWatched}
 use Rattle.record_command.proofs.Runs.{input_faults-append, output_faults-append}
 use Rattle.record_command.proofs.Flags.{flags_long, every_caused}
@@ -43,7 +43,7 @@ sinks_count_apart [] = refl
 sinks_count_apart (k ∷ ks) = let more = sinks_count_apart ks in omega (arith, more)
 
 read_beside : (options : RecordOptions) (range : Range) (out : List ℕ) (watches feeds : List (List ℕ)) (old new : WorldState) (entries : List Opening) (failures : ℕ) (r : Report) (sealed : Bool) (reports : List WatchReport)
-    → ReportedBeside options range out watches feeds old new entries failures r sealed reports → CountsBeside old new entries failures → Read options feeds old new r
+    → ReportedBeside (requested options range out watches feeds) old new entries failures (reported_with r sealed reports) → CountsBeside old new entries failures → Read options feeds old new r
 read_beside options range out watches feeds old new entries failures r sealed reports is counts =
     let sinks = map sink_entry is.kept_sinks in
     let sources = map entry_of is.kept_feeds in
@@ -66,12 +66,12 @@ read_beside options range out watches feeds old new entries failures r sealed re
 
 -- as many reports as watchers
 as_many_watches : (options : RecordOptions) (range : Range) (out : List ℕ) (watches feeds : List (List ℕ)) (old new : WorldState) (entries : List Opening) (failures : ℕ) (r : Report) (sealed : Bool) (reports : List WatchReport)
-    → ReportedBeside options range out watches feeds old new entries failures r sealed reports → length reports ≡ length watches
+    → ReportedBeside (requested options range out watches feeds) old new entries failures (reported_with r sealed reports) → length reports ≡ length watches
 as_many_watches options range out watches feeds old new entries failures r sealed reports is =
     ap length is.reports_are ∙ map_long (λ (w : Watch). w.report) is.seen ∙ sym (map_long (λ (w : Watch). w.now) is.seen) ∙ ap length is.sinks_are
     ∙ map_long (λ (k : SinkKept). k.back) is.kept_sinks ∙ sym (map_long (λ (k : SinkKept). k.name) is.kept_sinks) ∙ sym (ap length is.watches_are)
 
-module _ (options : RecordOptions) (range : Range) (out : List ℕ) (watches feeds : List (List ℕ)) (old new : WorldState) (outcome : WatchedOutcome) (made : NamesWatched options range out watches feeds old new outcome)
+module _ (options : RecordOptions) (range : Range) (out : List ℕ) (watches feeds : List (List ℕ)) (old new : WorldState) (outcome : WatchedOutcome) (made : NamesWatched (requested options range out watches feeds) old new outcome)
     (inputs_fit : old.input_faults < 2 ^ 64) (outputs_fit : old.output_faults < 2 ^ 64) where
   read_in : (r : Report) → outcome.report ≡ Some r → Read options feeds old new r
   read_in r here = read_beside options range out watches feeds old new made.entries made.failures r outcome.sealed outcome.watches.items (made.reported r here) made.counts
@@ -159,7 +159,7 @@ module _ (before now : WatchedCounts) (watches feeds : List (List ℕ)) (outcome
       none_of false false false false first second third fourth = refl
 
   ended : (out : List ℕ) (err err_now : SinkState) (answer : ℕ) → length (reports_in outcome.report) ≤ length feeds → length outcome.watches.items ≤ length watches → length (flags_of feeds failed.parts) ≤ length feeds → length (watch_flags_of watches failed) ≤ length watches
-      → (a : AnswersBeside out watches feeds outcome failed err err_now answer) → EndsBeside before now outcome.report outcome.watches.items a.lacked answer
+      → (a : AnswersBeside (named out watches feeds) outcome failed err err_now answer) → EndsBeside before now outcome.report outcome.watches.items a.lacked answer
   ended out err err_now answer few few_ends few_flags few_sinks a =
       let number = ends_status_beside (reports_in outcome.report) outcome.watches.items in
       let rest = cond (limit_passed outcome.report) 4 number in
@@ -205,7 +205,7 @@ whole_or watch_ends.Memory no_fault no_flaw no_lack no_other = absurd (no_lack r
 
 -- ---- the whole
 
-module _ (options : RecordOptions) (range : Range) (out : List ℕ) (watches feeds : List (List ℕ)) (old new : Scene) (outcome : WatchedOutcome) (made : NamesWatched options range out watches feeds old.world new.world outcome)
+module _ (options : RecordOptions) (range : Range) (out : List ℕ) (watches feeds : List (List ℕ)) (old new : Scene) (outcome : WatchedOutcome) (made : NamesWatched (requested options range out watches feeds) old.world new.world outcome)
     (inputs_fit : old.world.input_faults < 2 ^ 64) (outputs_fit : old.world.output_faults < 2 ^ 64) (lacked : Bool) (answer : ℕ) where
   abbrev before : WatchedCounts
   before = watched_counts_in old
@@ -271,7 +271,7 @@ module _ (options : RecordOptions) (range : Range) (out : List ℕ) (watches fee
   whole (Some r) here lacking came zero_is = (r, refl, whole_in (Some r) here lacking came r refl zero_is)
 
 -- which names are blamed
-blames : (options : RecordOptions) (range : Range) (out : List ℕ) (watches feeds : List (List ℕ)) (old new : Scene) (outcome : WatchedOutcome) (failed : WatchedFailures) → (made : NamesWatched options range out watches feeds old.world new.world outcome)
+blames : (options : RecordOptions) (range : Range) (out : List ℕ) (watches feeds : List (List ℕ)) (old new : Scene) (outcome : WatchedOutcome) (failed : WatchedFailures) → (made : NamesWatched (requested options range out watches feeds) old.world new.world outcome)
     → PartsShow (watched_counts_in old) (watched_counts_in new) watches feeds outcome failed → ShowingBeside old.world new.world outcome → BlamesExactly old.world watches feeds made.entries outcome.watches.items (blamed_in watches feeds failed)
 blames options range out watches feeds old new outcome failed made shows showing = record {
   inputs = made.inputs;
@@ -290,8 +290,8 @@ blames options range out watches feeds old new outcome failed made shows showing
 
 -- all that the program promises of a recording with watchers
 pub watched_recorded : (options : RecordOptions) (range : Range) (out : List ℕ) (watches feeds : List (List ℕ)) (old new : Scene) (outcome : WatchedOutcome) (failed : WatchedFailures) (answer : ℕ) → 1 ≤ length watches → 1 ≤ length feeds
-    → old.world.input_faults < 2 ^ 64 → old.world.output_faults < 2 ^ 64 → NamesWatched options range out watches feeds old.world new.world outcome → ShowingBeside old.world new.world outcome → Takes old.out new.out (report_text outcome.report)
-    → AnswersBeside out watches feeds outcome failed old.err new.err answer → PartsShow (watched_counts_in old) (watched_counts_in new) watches feeds outcome failed → RecordsWatched options range out watches feeds old new outcome.report answer
+    → old.world.input_faults < 2 ^ 64 → old.world.output_faults < 2 ^ 64 → NamesWatched (requested options range out watches feeds) old.world new.world outcome → ShowingBeside old.world new.world outcome → Takes old.out new.out (report_text outcome.report)
+    → AnswersBeside (named out watches feeds) outcome failed old.err new.err answer → PartsShow (watched_counts_in old) (watched_counts_in new) watches feeds outcome failed → RecordsWatched (requested options range out watches feeds) old new outcome.report answer
 watched_recorded options range out watches feeds old new outcome failed answer many_watches many inputs_fit outputs_fit made showing prints a shows =
     let before = watched_counts_in old in
     let now = watched_counts_in new in
@@ -327,7 +327,7 @@ watched_recorded options range out watches feeds old new outcome failed answer m
     }
 
 -- the status of a recording with watchers is not that of bad words
-pub not_two : (options : RecordOptions) (range : Range) (out : List ℕ) (watches feeds : List (List ℕ)) (old new : Scene) (report : Option Report) (answer : ℕ) → RecordsWatched options range out watches feeds old new report answer → answer ≡ 2 → ⊥
+pub not_two : (options : RecordOptions) (range : Range) (out : List ℕ) (watches feeds : List (List ℕ)) (old new : Scene) (report : Option Report) (answer : ℕ) → RecordsWatched (requested options range out watches feeds) old new report answer → answer ≡ 2 → ⊥
 not_two options range out watches feeds old new report answer all two = watched_not_two out watches feeds report all.reports all.blamed all.printing all.lacked (sym all.said.status_is ∙ two)
 
 -- what holds of counts holds of equal ones

@@ -12,7 +12,7 @@ use Rattle.command_base.specs.Ran.{has_failed, object_faults, source_faults, liv
 use Rattle.record_command.specs.declared.watched_names.WatchedOutcome.{WatchedOutcome}
 use Rattle.record_command.specs.declared.watched_answer.WatchedFailures.{WatchedFailures}
 use Rattle.record_command.specs.Record.{some_failed}
-use Rattle.record_command.specs.Watched.{NamesWatched, with_ends, watch_flags, is_watch_fault}
+use Rattle.record_command.specs.Watched.{requested, NamesWatched, with_ends, watch_flags, is_watch_fault}
 use Rattle.record_command.specs.WatchedAnswer.{watch_flags_of}
 use Rattle.record_command.proofs.Runs.{world_faults-append, input_faults-append, output_faults-append}
 use Rattle.record_command.proofs.Flags.{AreKind, rest_kind, long_of, some_has_input, some_has_output, world_has, inputs_have, outputs_have, stores_read_nothing, feeds_write_nothing, any_flag, some_more}
@@ -73,7 +73,7 @@ pub record ShowingBeside (old new : WorldState) (outcome : WatchedOutcome) : Typ
   pub watches_told : old.watch_faults < 2 ^ 64 - 1 → Rose old.watch_faults new.watch_faults → some_failed outcome.watches_failed.items ≡ true
   pub world_told : old.faults < 2 ^ 64 - 1 → Rose old.faults new.faults → (some_failed outcome.feeds_failed.items ≡ true) ⊎ ((outcome.out_failed ≡ true) ⊎ (some_failed outcome.watches_failed.items ≡ true))
 
-pub watched_outcomes_show : (options : RecordOptions) (range : Range) (out : List ℕ) (watches feeds : List (List ℕ)) (old new : WorldState) (outcome : WatchedOutcome) → NamesWatched options range out watches feeds old new outcome
+pub watched_outcomes_show : (options : RecordOptions) (range : Range) (out : List ℕ) (watches feeds : List (List ℕ)) (old new : WorldState) (outcome : WatchedOutcome) → NamesWatched (requested options range out watches feeds) old new outcome
     → old.faults < 2 ^ 64 → old.input_faults < 2 ^ 64 → old.output_faults < 2 ^ 64 → ShowingBeside old new outcome
 watched_outcomes_show options range out watches feeds old new outcome made world_fits inputs_fit outputs_fit =
     let behind = made.outputs ++ made.sinks in

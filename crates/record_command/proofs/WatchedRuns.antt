@@ -35,7 +35,7 @@ use Rattle.record_command.specs.declared.watched_names.WatchedOutcome.{WatchedOu
 use Rattle.record_command.specs.Record.{files_of, some_failed, FeedKept, entry_of, names_kept, back_sources, IsLeft, NamesRecorded}
 use Rattle.record_command.specs.Sources.{flags_with}
 use Rattle.record_command.specs.Sinks.{SinkKept, sink_entry, sink_names, back_sinks, sink_faults, watch_faults}
-use Rattle.record_command.specs.Watched.{wanted_names, IsWrittenBeside, EndsSo, view_faults, is_flaw, IsWatchedAlone, with_ends, watch_flags, ReportedBeside, UnreportedBeside, NamesWatched}
+use Rattle.record_command.specs.Watched.{requested, reported_with, wanted_names, IsWrittenBeside, EndsSo, view_faults, is_flaw, IsWatchedAlone, with_ends, watch_flags, ReportedBeside, UnreportedBeside, NamesWatched}
 use Rattle.record_command.proofs.Held.{Holds, holds, placed_holds, placed_nothing}
 use Rattle.record_command.proofs.Flags.{some_more, AreKind, rest_kind}
 use Rattle.record_command.proofs.Runs.{world_faults-append, input_faults-append, output_faults-append, sources_write_nothing, unused_count_nothing, each_both, each_none, each_alone, are_sources, left_all, opened_all, none_some, map_kept, names_same, or_nothing, has_there, refusal_of}
@@ -80,7 +80,7 @@ abbrev pub alone : WatchedOutcome → Outcome
 alone outcome = record { report = None; feeds_failed = outcome.feeds_failed; out_failed = outcome.out_failed }
 
 pub unreached : (options : RecordOptions) (range : Range) (out : List ℕ) (watches feeds : List (List ℕ)) (w0 w3 : WorldState) (outcome : WatchedOutcome) → AreApart out watches → NamesRecorded options out feeds w0 w3 (alone outcome)
-    → w3.watch_faults ≡ w0.watch_faults → w0.watch_faults < 2 ^ 64 → outcome.report ≡ None → outcome.watches.items ≡ [] → outcome.watches_failed.items ≡ [] → NamesWatched options range out watches feeds w0 w3 outcome
+    → w3.watch_faults ≡ w0.watch_faults → w0.watch_faults < 2 ^ 64 → outcome.report ≡ None → outcome.watches.items ≡ [] → outcome.watches_failed.items ≡ [] → NamesWatched (requested options range out watches feeds) w0 w3 outcome
 unreached options range out watches feeds w0 w3 outcome apart made still fits none no_reports no_flags =
     let first = watch_nothing kinds.Source made.inputs (λ n. refl) made.sources in
     let second = watch_nothing kinds.Live made.outputs (λ n. refl) made.stores in
@@ -278,9 +278,9 @@ module _ (options : RecordOptions) (range : Range) (out : List ℕ) (watches fee
 
   seen_watched : (outcome : WatchedOutcome) → outcome.feeds_failed.items ≡ b.flags → outcome.out_failed ≡ failed_so (went_well b.live_kept) b.live_now.faults → outcome.watches_failed.items ≡ watch_flags behind outcome.watches.items
       → AreOpened (map (λ (name : List ℕ). (kinds.Sink, name)) watches) behind → length behind ≤ length watches → map (λ (entry : Opening). entry.name) behind ≡ take (length behind) watches
-      → ((r : Report) → outcome.report ≡ Some r → ReportedBeside options range out watches feeds b.w0 b.w8 all (sum b.views) r outcome.sealed outcome.watches.items)
+      → ((r : Report) → outcome.report ≡ Some r → ReportedBeside (requested options range out watches feeds) b.w0 b.w8 all (sum b.views) (reported_with r outcome.sealed outcome.watches.items))
       → (outcome.report ≡ None → UnreportedBeside out watches b.w0 b.w8 all (sum b.views)) → (outcome.report ≡ None → outcome.watches.items ≡ []) → Why outcome → Tells outcome
-      → NamesWatched options range out watches feeds b.w0 b.w8 outcome
+      → NamesWatched (requested options range out watches feeds) b.w0 b.w8 outcome
   seen_watched outcome flags_are out_is watch_flags_are opens few named reported unreported none why tells =
       let sink_list : List Wanted = map (λ (name : List ℕ). (kinds.Sink, name)) watches in
       let feed_list : List Wanted = map (λ (name : List ℕ). (kinds.Source, name)) (names_kept fs) in
@@ -409,7 +409,7 @@ module _ (options : RecordOptions) (range : Range) (out : List ℕ) (watches fee
   pub sink_refused_so : (outcome : WatchedOutcome) (name : List ℕ) (cut : List (List ℕ)) (why : OpenRefused) (failed : Bool) → more ≡ name ∷ cut → b.behind ≡ refusal_of kinds.Sink name why → (failed ≡ true → why ≡ open_refusals.Failed) → (failed ≡ false → why ≡ open_refusals.Memory)
       → b.ss_now ≡ b.ss → b.live_now ≡ b.live → b.ks_now ≡ b.ks → sum b.views ≡ 0
       → outcome.report ≡ None → outcome.watches.items ≡ [] → outcome.feeds_failed.items ≡ b.flags → outcome.out_failed ≡ failed_so (went_well b.live_kept) b.live_now.faults → outcome.watches_failed.items ≡ flags_with b.sink_flags failed
-      → NamesWatched options range out watches feeds b.w0 b.w8 outcome
+      → NamesWatched (requested options range out watches feeds) b.w0 b.w8 outcome
   sink_refused_so outcome name cut why failed more_is behind_is is_failed is_memory sources lives sinks_same no_views none no_reports flags_are out_is watch_flags_are =
       let refusal : flags_with b.sink_flags failed ≡ b.sink_flags ++ map has_failed b.behind = refused_flags b.sink_flags why failed name is_failed is_memory ∙ ap (λ (l : List Opening). b.sink_flags ++ map has_failed l) (sym behind_is) in
       let all_flags : outcome.watches_failed.items ≡ watch_flags behind outcome.watches.items =
@@ -463,7 +463,7 @@ module _ (options : RecordOptions) (range : Range) (out : List ℕ) (watches fee
 
   seen_reported : {X : Type 0} (tells : X → Option (List ℕ)) (r : Report) (reports : List WatchReport) (sealed : Bool) (it : Watched tells r reports sealed) → more ≡ [] → b.behind ≡ []
       → ((told : Told) → b.w0.told ≡ Some told → AreReadable options.file → sealed ≡ true → Each (IsWatchedFile options.file range it.recorded.recorded.history r.writer) it.watches)
-      → ReportedBeside options range out watches feeds b.w0 b.w8 all (sum b.views) r sealed reports
+      → ReportedBeside (requested options range out watches feeds) b.w0 b.w8 all (sum b.views) (reported_with r sealed reports)
   seen_reported tells r reports sealed it whole none texts =
       let there = moved options (sides b.ss it.viewed) b.ss_now (back_sources fs) b.live_now r b.keeps.sources_are it.recorded.recorded in
       let ends = ends_are tells r reports sealed it in
@@ -540,7 +540,7 @@ module _ (options : RecordOptions) (range : Range) (out : List ℕ) (watches fee
       → (report ≡ None → (b.ss_now ≡ b.ss) × (b.live_now ≡ b.live) × (b.ks_now ≡ b.ks) × (sum b.views ≡ 0) × (outcome.watches.items ≡ []))
       → ((r : Report) → report ≡ Some r → (it : Watched tells r outcome.watches.items outcome.sealed)
       × ((told : Told) → b.w0.told ≡ Some told → AreReadable options.file → outcome.sealed ≡ true → Each (IsWatchedFile options.file range it.recorded.recorded.history r.writer) it.watches))
-      → NamesWatched options range out watches feeds b.w0 b.w8 outcome
+      → NamesWatched (requested options range out watches feeds) b.w0 b.w8 outcome
   all_by tells outcome None is whole none flags_are out_is ends_added same made =
       let (sources, lives, sinks_same, no_views, no_reports) = same refl in
       let flags = all_flags outcome ends_added none in
@@ -560,7 +560,7 @@ module _ (options : RecordOptions) (range : Range) (out : List ℕ) (watches fee
       (opens_behind (subst (λ (l : List (List ℕ)). AreOpened (map (λ (n : List ℕ). (kinds.Sink, n)) l) b.behind) (sym whole) none))
       (few_behind (omega (arith, ap length none)))
       (names_behind (ap (map (λ (entry : Opening). entry.name)) none ∙ ap (λ (l : List Opening). take (length l) more) (sym none)))
-      (λ s here. subst (λ (x : Report). ReportedBeside options range out watches feeds b.w0 b.w8 all (sum b.views) x outcome.sealed outcome.watches.items) (same_Some r s (sym is ∙ here)) (seen_reported tells r outcome.watches.items outcome.sealed it whole none texts))
+      (λ s here. subst (λ (x : Report). ReportedBeside (requested options range out watches feeds) b.w0 b.w8 all (sum b.views) (reported_with x outcome.sealed outcome.watches.items)) (same_Some r s (sym is ∙ here)) (seen_reported tells r outcome.watches.items outcome.sealed it whole none texts))
       (λ here. absurd (none_some r (sym here ∙ is)))
       (λ here. absurd (none_some r (sym here ∙ is)))
       (why_reported tells r outcome.sealed outcome it flags)
@@ -571,7 +571,7 @@ module _ (options : RecordOptions) (range : Range) (out : List ℕ) (watches fee
       → outcome.watches_failed.items ≡ with_ends b.sink_flags outcome.watches.items
       → (outcome.report ≡ None → (b.ss_now ≡ b.ss) × (b.live_now ≡ b.live) × (b.ks_now ≡ b.ks) × (sum b.views ≡ 0) × (outcome.watches.items ≡ []))
       → ((size : ℕ) × (options.file.chunk ≡ Some size)) → ((r : Report) → outcome.report ≡ Some r → Watched tells r outcome.watches.items outcome.sealed) → WatchFilesAreTold tells
-      → NamesWatched options range out watches feeds b.w0 b.w8 outcome
+      → NamesWatched (requested options range out watches feeds) b.w0 b.w8 outcome
   all_watched tells outcome whole none flags_are out_is ends_added same (size, chunked) made law =
       all_by tells outcome outcome.report refl whole none flags_are out_is ends_added same (λ r here.
       let it = made r here in

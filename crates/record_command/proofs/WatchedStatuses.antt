@@ -10,7 +10,7 @@ use Rattle.watching.specs.declared.report.WatchReport.{WatchReport}
 use Rattle.command_base.specs.Texts.{Trouble, fault, output_fault, output_limit, no_memory, asked_status, is_asked, status_of}
 use Rattle.command_base.specs.Ran.{when, first_failed, told_of}
 use Rattle.record_command.specs.Record.{end_status, ends_of, reports_in, limit_passed, some_failed, worst}
-use Rattle.record_command.specs.Watched.{is_flaw}
+use Rattle.record_command.specs.Watched.{named, is_flaw}
 use Rattle.record_command.specs.WatchedAnswer.{Blamed, watch_troubles, flaws_of, some_flaw, watch_status, ends_status_beside, watched_troubles}
 use Rattle.record_command.proofs.Statuses.{halts_ask, faults_ask, asked_told, halts_two, halts_three, halts_four, halts_five, halts_one, faults_two, faults_three, faults_four, faults_five, faults_one, picked, status_picks}
 
@@ -252,21 +252,21 @@ limits_first false false one = refl
 
 -- the status is 5 where memory lacked, and else that of the parts that failed, of a limit and of the ends
 pub watched_status : (out : List ℕ) (watches feeds : List (List ℕ)) (report : Option Report) (ends : List WatchReport) (b : Blamed) (p lacked : Bool) → length (reports_in report) ≤ length feeds → length ends ≤ length watches → length b.feeds ≤ length feeds → length b.watches ≤ length watches
-    → status_of (watched_troubles out watches feeds report ends lacked b p) ≡ cond lacked 5 (cond (any_part b.feeds b.out b.watches p) 3 (cond (limit_passed report) 4 (ends_status_beside (reports_in report) ends)))
+    → status_of (watched_troubles (named out watches feeds) report ends lacked b p) ≡ cond lacked 5 (cond (any_part b.feeds b.out b.watches p) 3 (cond (limit_passed report) 4 (ends_status_beside (reports_in report) ends)))
 watched_status out watches feeds report ends b p lacked few few_ends few_flags few_watches =
     let reports = reports_in report in
     let l = limit_passed report in
     let any = any_part b.feeds b.out b.watches p in
     let four = list_any (λ (n : ℕ). n == 4) (map (λ (f : FeedReport). end_status f.end) reports) in
     let one = list_any (λ (n : ℕ). n == 1) (map (λ (f : FeedReport). end_status f.end) reports) || some_flaw ends in
-    status_picks (watched_troubles out watches feeds report ends lacked b p) false lacked any (four || l) one (asks_two out watches feeds reports ends b.feeds b.out b.watches l p lacked) (asks_five out watches feeds reports ends b.feeds b.out b.watches l p lacked)
+    status_picks (watched_troubles (named out watches feeds) report ends lacked b p) false lacked any (four || l) one (asks_two out watches feeds reports ends b.feeds b.out b.watches l p lacked) (asks_five out watches feeds reports ends b.feeds b.out b.watches l p lacked)
     (asks_three out watches feeds reports ends b.feeds b.out b.watches l p lacked few_flags few_watches) (asks_four out watches feeds reports ends b.feeds b.out b.watches l p lacked few) (asks_one_of out watches feeds reports ends b.feeds b.out b.watches l p lacked few few_ends)
     ∙ ap (λ (n : ℕ). cond lacked 5 (cond any 3 n)) (limits_first four l one ∙ ap (cond l 4) (sym (worst_of_ends reports ends)))
 
 -- it is never that of bad words
-pub watched_not_two : (out : List ℕ) (watches feeds : List (List ℕ)) (report : Option Report) (ends : List WatchReport) (b : Blamed) (p lacked : Bool) → status_of (watched_troubles out watches feeds report ends lacked b p) ≡ 2 → ⊥
+pub watched_not_two : (out : List ℕ) (watches feeds : List (List ℕ)) (report : Option Report) (ends : List WatchReport) (b : Blamed) (p lacked : Bool) → status_of (watched_troubles (named out watches feeds) report ends lacked b p) ≡ 2 → ⊥
 watched_not_two out watches feeds report ends b p lacked two =
-    let due = watched_troubles out watches feeds report ends lacked b p in
+    let due = watched_troubles (named out watches feeds) report ends lacked b p in
     let reports = reports_in report in
     let l = limit_passed report in
     none_is_two lacked (is_asked due 3) (is_asked due 4) (is_asked due 1) (sym (status_picks due false lacked (is_asked due 3) (is_asked due 4) (is_asked due 1) (asks_two out watches feeds reports ends b.feeds b.out b.watches l p lacked) (asks_five out watches feeds reports ends b.feeds b.out b.watches l p lacked) refl refl refl) ∙ two)

@@ -20,6 +20,35 @@ use Rattle.record_command.specs.declared.watched_names.WatchedOutcome.{WatchedOu
 use Rattle.record_command.specs.Record.{files_of, failed_of, some_failed, FeedKept, entry_of, live_entry, names_kept, back_sources, OutputHolds, Unreported, SparesOutput}
 use Rattle.record_command.specs.Sinks.{SinkKept, sink_entry, sink_names, back_sinks, watch_faults, SinkHolds}
 
+-- ---- what is asked, and what is reported
+
+-- the names of the output, of the watch files and of the feeds
+pub record Named : Type 0 where
+  pub out : List ℕ
+  pub watches : List (List ℕ)
+  pub feeds : List (List ℕ)
+
+-- how it is recorded, of which times watchers replay the messages, and the names
+pub record Requested : Type 0 where
+  pub options : RecordOptions
+  pub range : Range
+  pub names : Named
+
+abbrev pub named : List ℕ → List (List ℕ) → List (List ℕ) → Named
+named out watches feeds = record { out = out; watches = watches; feeds = feeds }
+
+abbrev pub requested : RecordOptions → Range → List ℕ → List (List ℕ) → List (List ℕ) → Requested
+requested options range out watches feeds = record { options = options; range = range; names = named out watches feeds }
+
+-- what the recorder reported, whether the directory was sealed, and what the watchers did
+pub record Reporting : Type 0 where
+  pub report : Report
+  pub sealed : Bool
+  pub watches : List WatchReport
+
+abbrev pub reported_with : Report → Bool → List WatchReport → Reporting
+reported_with report sealed watches = record { report = report; sealed = sealed; watches = watches }
+
 -- ---- names
 
 -- the feeds, then the output, and then the watch files
@@ -117,47 +146,47 @@ watch_flags entries reports = with_ends (map has_failed entries) reports
 -- ---- with a report
 
 -- The feeds' sources were recorded into the output's store, beside watchers.
-pub record ReportedBeside (options : RecordOptions) (range : Range) (out : List ℕ) (watches feeds : List (List ℕ)) (old new : WorldState) (entries : List Opening) (failures : ℕ) (r : Report) (sealed : Bool) (reports : List WatchReport) : Type 0 where
+pub record ReportedBeside (request : Requested) (old new : WorldState) (entries : List Opening) (failures : ℕ) (did : Reporting) : Type 0 where
   -- as the world gave them and as it took them back, in the order of the words, and whether that went well
   pub given : List SourceState
   pub kept_feeds : List FeedKept
-  pub names_are : feeds ≡ names_kept kept_feeds
+  pub names_are : request.names.feeds ≡ names_kept kept_feeds
   pub live : LiveState
   -- as it was when it had been asked for the watchers' views
   pub viewed : LiveState
   pub live_now : LiveState
   pub live_kept : Bool
   -- what was read of the sources, which history their reports and that of the writer describe, and what the store holds of it
-  pub recorded : Recorded options (sides given viewed) (sides (back_sources kept_feeds) live_now) r
+  pub recorded : Recorded request.options (sides given viewed) (sides (back_sources kept_feeds) live_now) did.report
   -- each source told the bytes under its feed's name, which is there, where the world tells
-  pub tells : AllZip (TellsName old) feeds given
+  pub tells : AllZip (TellsName old) request.names.feeds given
   pub unused : Each (λ (s : SourceState). s.faults ≡ 0) given
   pub live_unused : live.faults ≡ 0
   -- the sinks as the world took them back, in the order of their names, and their watchers
   pub kept_sinks : List SinkKept
-  pub watches_are : watches ≡ sink_names kept_sinks
+  pub watches_are : request.names.watches ≡ sink_names kept_sinks
   pub seen : List Watch
   pub asked : AsksViews live seen viewed
   pub sinks_are : map (λ (w : Watch). w.now) seen ≡ back_sinks kept_sinks
-  pub reports_are : reports ≡ map (λ (w : Watch). w.report) seen
+  pub reports_are : did.watches ≡ map (λ (w : Watch). w.report) seen
   pub failures_are : failures ≡ view_faults seen
   pub sinks_unused : Each (λ (w : Watch). w.before.faults ≡ 0) seen
   pub sinks_empty : (told : Told) → old.told ≡ Some told → Each (λ (w : Watch). w.before.took ≡ Some []) seen
   -- each watcher ended with its cause
-  pub ends : Each (λ (w : Watch). EndsSo live viewed sealed w w.report.end) seen
-  pub sealed_ends : sealed ≡ true → Each (λ (w : Watch). w.report.end ≡ watch_ends.Unsealed → ⊥) seen
+  pub ends : Each (λ (w : Watch). EndsSo live viewed did.sealed w w.report.end) seen
+  pub sealed_ends : did.sealed ≡ true → Each (λ (w : Watch). w.report.end ≡ watch_ends.Unsealed → ⊥) seen
   pub fault_cause : Each (λ (w : Watch). is_watch_fault w.report.end ≡ true → Rose old.output_faults new.output_faults ⊎ Rose old.watch_faults new.watch_faults) seen
   -- and then the output's name holds the file of that history
   pub file : (told now : Told) → old.told ≡ Some told → new.told ≡ Some now
-      → OutputHolds options.file recorded.history r.writer live_kept (told.names out) (now.names out)
+      → OutputHolds request.options.file recorded.history did.report.writer live_kept (told.names request.names.out) (now.names request.names.out)
   -- and the watch files what the watchers' sinks took: where the directory was sealed, the text of that history's blocks
   pub placed : (told now : Told) → old.told ≡ Some told → new.told ≡ Some now → Each (SinkHolds told.names now.names) kept_sinks
-  pub texts : (told : Told) → old.told ≡ Some told → AreReadable options.file → sealed ≡ true
-      → Each (IsWatchedFile options.file range recorded.history r.writer) seen
+  pub texts : (told : Told) → old.told ≡ Some told → AreReadable request.options.file → did.sealed ≡ true
+      → Each (IsWatchedFile request.options.file request.range recorded.history did.report.writer) seen
   -- there no watcher finds a flaw; and where it wasn't sealed, each wrote the same of blocks of its own
-  pub unflawed : (told : Told) → old.told ≡ Some told → sealed ≡ true → Each (λ (w : Watch). is_flaw w.report.end ≡ false) seen
-  pub texts_alone : sealed ≡ false → Each (IsWatchedAlone range) seen
-  pub kept_are : entries ≡ map entry_of kept_feeds ++ live_entry out live_now live_kept ∷ map sink_entry kept_sinks
+  pub unflawed : (told : Told) → old.told ≡ Some told → did.sealed ≡ true → Each (λ (w : Watch). is_flaw w.report.end ≡ false) seen
+  pub texts_alone : did.sealed ≡ false → Each (IsWatchedAlone request.range) seen
+  pub kept_are : entries ≡ map entry_of kept_feeds ++ live_entry request.names.out live_now live_kept ∷ map sink_entry kept_sinks
 
 -- ---- without a report
 
@@ -172,33 +201,33 @@ pub record UnreportedBeside (out : List ℕ) (watches : List (List ℕ)) (old ne
 -- ---- the whole
 
 -- What the opening, recording and keeping of all names did.
-pub record NamesWatched (options : RecordOptions) (range : Range) (out : List ℕ) (watches feeds : List (List ℕ)) (old new : WorldState) (outcome : WatchedOutcome) : Type 0 where
+pub record NamesWatched (request : Requested) (old new : WorldState) (outcome : WatchedOutcome) : Type 0 where
   pub entries : List Opening
-  pub opened : AreOpened (wanted_names out watches feeds) entries
+  pub opened : AreOpened (wanted_names request.names.out request.names.watches request.names.feeds) entries
   pub leaves : LeavesBeside old new entries
   -- the faults of the views that were let go
   pub failures : ℕ
   pub counts : CountsBeside old new entries failures
   pub reported : (r : Report) → outcome.report ≡ Some r
-      → ReportedBeside options range out watches feeds old new entries failures r outcome.sealed outcome.watches.items
-  pub unreported : outcome.report ≡ None → UnreportedBeside out watches old new entries failures
+      → ReportedBeside request old new entries failures (reported_with r outcome.sealed outcome.watches.items)
+  pub unreported : outcome.report ≡ None → UnreportedBeside request.names.out request.names.watches old new entries failures
   pub none : outcome.report ≡ None → outcome.watches.items ≡ []
-  pub spares : SparesOutput out feeds old new
+  pub spares : SparesOutput request.names.out request.names.feeds old new
   -- the entries of the feeds failed so, then that of the output, if it was reached, and then those of the watch files
   pub inputs : List Opening
   pub outputs : List Opening
   pub sinks : List Opening
-  pub few : length inputs ≤ length feeds
-  pub few_sinks : length sinks ≤ length watches
+  pub few : length inputs ≤ length request.names.feeds
+  pub few_sinks : length sinks ≤ length request.names.watches
   pub parts : entries ≡ inputs ++ (outputs ++ sinks)
   pub sources : Each (λ (entry : Opening). entry.kind ≡ kinds.Source) inputs
   pub stores : Each (λ (entry : Opening). entry.kind ≡ kinds.Live) outputs
   pub writers : Each (λ (entry : Opening). entry.kind ≡ kinds.Sink) sinks
-  pub sinks_named : map (λ (entry : Opening). entry.name) sinks ≡ take (length sinks) watches
+  pub sinks_named : map (λ (entry : Opening). entry.name) sinks ≡ take (length sinks) request.names.watches
   pub feeds_failed : outcome.feeds_failed.items ≡ map has_failed inputs
   pub out_failed : outcome.out_failed ≡ list_any has_failed outputs
   pub watches_failed : outcome.watches_failed.items ≡ watch_flags sinks outcome.watches.items
-  pub failed : failed_names (inputs ++ outputs) ≡ blamed_names (files_of out feeds) (failed_of outcome.feeds_failed.items outcome.out_failed)
+  pub failed : failed_names (inputs ++ outputs) ≡ blamed_names (files_of request.names.out request.names.feeds) (failed_of outcome.feeds_failed.items outcome.out_failed)
   -- a watch file is blamed only with a cause, and one is where its count rose
   pub watch_cause : some_failed outcome.watches_failed.items ≡ true
       → Rose old.faults new.faults ⊎ (Rose old.output_faults new.output_faults ⊎ Rose old.watch_faults new.watch_faults)

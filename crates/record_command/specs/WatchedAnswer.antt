@@ -3,7 +3,6 @@ use Rattle.std.specs.Prelude.{◌≡◌, ◌⊎◌, ◌↔◌, ◌≤◌, ◌<�
 use Rattle.std.specs.List.{list_any, AllZip}
 use Rattle.mcap_io.specs.Outside.{Rose, WorldState, SinkState, Told, Opening}
 use Rattle.mcap_io.specs.declared.outside.ObjectKind.TheVariants as kinds
-use Rattle.mcap_model.specs.declared.replay.Range.{Range}
 use Rattle.mcap_model.specs.Places.{Each}
 use Rattle.mcap_model.specs.Kept.{Halt}
 use Rattle.feed_lane.specs.declared.report.FeedReport.{FeedReport}
@@ -20,7 +19,7 @@ use Rattle.record_command.specs.declared.watched_answer.WatchedCounts.{WatchedCo
 use Rattle.record_command.specs.declared.watched_answer.WatchedFailures.{WatchedFailures}
 use Rattle.record_command.specs.Record.{ends_of, reports_in, limit_passed, passes_limit, lacks_memory, some_failed, end_status, worst, report_text, RecordsAll, HaltsThere, SparesOutput}
 use Rattle.record_command.specs.Answer.{flags_of, PartFailed}
-use Rattle.record_command.specs.Watched.{wanted_names, LeavesBeside, CountsBeside, is_flaw, ReportedBeside, UnreportedBeside, watch_flags}
+use Rattle.record_command.specs.Watched.{Named, Requested, reported_with, wanted_names, LeavesBeside, CountsBeside, is_flaw, ReportedBeside, UnreportedBeside, watch_flags}
 
 -- ---- counts of faults
 
@@ -144,10 +143,10 @@ pub record PartsShow (before now : WatchedCounts) (watches feeds : List (List �
 -- ---- standard error
 
 -- all troubles, in their order: those of the feeds, of the output, of the watchers, and the others
-abbrev pub watched_troubles : List ℕ → List (List ℕ) → List (List ℕ) → Option Report → List WatchReport → Bool → Blamed → Bool → List Trouble
-watched_troubles out watches feeds report reports lacked b printing =
-    told_of feeds (ends_of feeds (reports_in report)) b.feeds (when b.out (fault out) ++ (when (limit_passed report) (output_limit out)
-    ++ told_of watches (flaws_of watches reports) b.watches (when printing output_fault ++ when lacked no_memory)))
+abbrev pub watched_troubles : Named → Option Report → List WatchReport → Bool → Blamed → Bool → List Trouble
+watched_troubles names report reports lacked b printing =
+    told_of names.feeds (ends_of names.feeds (reports_in report)) b.feeds (when b.out (fault names.out) ++ (when (limit_passed report) (output_limit names.out)
+    ++ told_of names.watches (flaws_of names.watches reports) b.watches (when printing output_fault ++ when lacked no_memory)))
 
 -- memory lacked exactly where the reports name that, or where there are none though no part failed
 abbrev pub LacksMemoryBeside : Option Report → Bool → List WatchReport → WatchedFailures → Bool → Type 0
@@ -155,10 +154,10 @@ LacksMemoryBeside None sealed reports failed lacked = (AnyPartFailed failed → 
 LacksMemoryBeside (Some r) sealed reports failed lacked = lacked ≡ lacks_beside r sealed reports
 
 -- what standard error is told of a recording with watchers, and the status
-pub record AnswersBeside (out : List ℕ) (watches feeds : List (List ℕ)) (outcome : WatchedOutcome) (failed : WatchedFailures) (before now : SinkState) (status : ℕ) : Type 0 where
+pub record AnswersBeside (names : Named) (outcome : WatchedOutcome) (failed : WatchedFailures) (before now : SinkState) (status : ℕ) : Type 0 where
   pub lacked : Bool
   pub lacks : LacksMemoryBeside outcome.report outcome.sealed outcome.watches.items failed lacked
-  pub told : Complains (watched_troubles out watches feeds outcome.report outcome.watches.items lacked (blamed_in watches feeds failed) failed.parts.printing) before now status
+  pub told : Complains (watched_troubles names outcome.report outcome.watches.items lacked (blamed_in names.watches names.feeds failed) failed.parts.printing) before now status
 
 -- ---- the status
 
@@ -189,38 +188,38 @@ pub record RecordsAllBeside (options : RecordOptions) (r : Report) (sealed : Boo
 -- ---- the command
 
 -- what `record` with watchers does
-pub record RecordsWatched (options : RecordOptions) (range : Range) (out : List ℕ) (watches feeds : List (List ℕ)) (old new : Scene) (report : Option Report) (status : ℕ) : Type 0 where
+pub record RecordsWatched (request : Requested) (old new : Scene) (report : Option Report) (status : ℕ) : Type 0 where
   -- these names were opened, and nothing else; all failures are counted
   pub entries : List Opening
-  pub opened : AreOpened (wanted_names out watches feeds) entries
+  pub opened : AreOpened (wanted_names request.names.out request.names.watches request.names.feeds) entries
   pub leaves : LeavesBeside old.world new.world entries
   pub failures : ℕ
   pub counts : CountsBeside old.world new.world entries failures
   -- with a report the feeds were recorded, the output holds the file, and the watchers' names hold what these reported
   pub sealed : Bool
   pub reports : List WatchReport
-  pub reported : (r : Report) → report ≡ Some r → ReportedBeside options range out watches feeds old.world new.world entries failures r sealed reports
+  pub reported : (r : Report) → report ≡ Some r → ReportedBeside request old.world new.world entries failures (reported_with r sealed reports)
   -- without one nothing was read or written
-  pub unreported : report ≡ None → UnreportedBeside out watches old.world new.world entries failures
+  pub unreported : report ≡ None → UnreportedBeside request.names.out request.names.watches old.world new.world entries failures
   pub none : report ≡ None → reports ≡ []
-  pub spares : SparesOutput out feeds old.world new.world
+  pub spares : SparesOutput request.names.out request.names.feeds old.world new.world
   pub lacked : Bool
   pub lacks : LackIsToldBeside (watched_counts_in old) (watched_counts_in new) report sealed reports lacked
   -- standard output took the text of the report, or a first part of it where it failed
   pub printed : Takes old.out new.out (report_text report)
   -- standard error took the lines of the troubles, which name what failed
   pub blamed : Blamed
-  pub exact : BlamesExactly old.world watches feeds entries reports blamed
+  pub exact : BlamesExactly old.world request.names.watches request.names.feeds entries reports blamed
   pub causes : CausesBeside (watched_counts_in old) (watched_counts_in new) blamed
   pub printing : Bool
   pub blames_output : BlamesOutput old.out new.out printing
-  pub said : Complains (watched_troubles out watches feeds report reports lacked blamed printing) old.err new.err status
+  pub said : Complains (watched_troubles request.names report reports lacked blamed printing) old.err new.err status
   -- the status says what became of it
   pub ended : EndsBeside (watched_counts_in old) (watched_counts_in new) report reports lacked status
   -- where the world tells, the bytes under the feeds' names decide the status, unless a count rises, memory lacks, or a limit
   -- would be passed
-  pub decided : (told : Told) (halts : List Halt) → old.world.told ≡ Some told → AllZip (HaltsThere told) feeds halts
+  pub decided : (told : Told) (halts : List Halt) → old.world.told ≡ Some told → AllZip (HaltsThere told) request.names.feeds halts
       → (AnyCountRose (watched_counts_in old) (watched_counts_in new) → ⊥) → lacked ≡ false → limit_passed report ≡ false
       → status ≡ worst (map halt_status halts)
   -- the status 0 says that all of the feeds was recorded, and that each watcher wrote all that it had to
-  pub whole : status ≡ 0 → (r : Report) × (report ≡ Some r) × RecordsAllBeside options r sealed reports
+  pub whole : status ≡ 0 → (r : Report) × (report ≡ Some r) × RecordsAllBeside request.options r sealed reports

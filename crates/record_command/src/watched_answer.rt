@@ -10,6 +10,7 @@ ghost use Rattle.command_base.specs.Texts.{trouble_of, complained};
 ghost use Rattle.command_base.specs.Ran.{scene, first_failed, told_of};
 ghost use Rattle.record_command.specs.Record.{AreAllowed, AreFew, some_failed, report_text};
 ghost use Rattle.record_command.specs.Answer.{flags_of, PartFailed};
+ghost use Rattle.record_command.specs.Watched.{named, requested};
 ghost use Rattle.record_command.specs.WatchedAnswer.{watched_counts, watch_troubles, first_flaw, flaws_of, is_memory_watch, lacks_beside, watch_flags_of, AnyPartFailed, PartsShow, LacksMemoryBeside, AnswersBeside, RecordsWatched};
 
 use crate::answering::{
@@ -211,7 +212,7 @@ pub fn answer_watched<'a, E: Sink>(
 ) -> u8
     requires few { length feeds.now ≤ feed_limit }
     requires watched { length watches.now ≤ watcher_limit }
-    ensures { AnswersBeside out.now watches.now feeds.now outcome.now failed.entry (E.state err.old) (E.state err.new) result }
+    ensures { AnswersBeside (named out.now watches.now feeds.now) outcome.now failed.entry (E.state err.old) (E.state err.new) result }
 {
     let lacked = lacks_memory_beside(outcome, failed);
     let mut complaints = feed_complaints(feeds, feed_reports(&outcome.report), failed.parts);
@@ -249,7 +250,7 @@ pub fn record_watched_file<R: AllocGlobal + Threads + Wait + Sync, W: World, O: 
     requires few { AreFew feed_names.now }
     requires watched { (1 ≤ length watch_names.now) × (length watch_names.now ≤ watcher_limit) }
     requires apart { AreApart out_name.now watch_names.now }
-    ensures recorded { RecordsWatched options.now range out_name.now watch_names.now feed_names.now
+    ensures recorded { RecordsWatched (requested options.now range out_name.now watch_names.now feed_names.now)
         (scene (W.state world.old) (O.state out.old) (E.state err.old))
         (scene (W.state world.new) (O.state out.new) (E.state err.new))
         result.report result.status }

@@ -9,7 +9,7 @@ ghost use Rattle.command_words.specs.Commands.{AreApart, watcher_limit};
 ghost use Rattle.record_command.specs.Record.{AreFew};
 ghost use Rattle.record_command.specs.Sources.{FeedsOpened};
 ghost use Rattle.record_command.specs.Sinks.{CountsFit, OutOpened, SinksOpened};
-ghost use Rattle.record_command.specs.Watched.{is_watch_fault, or_at, with_ends, NamesWatched};
+ghost use Rattle.record_command.specs.Watched.{requested, is_watch_fault, or_at, with_ends, NamesWatched};
 
 use crate::recording::{Room, add_refused, is_failed, keep_feeds, make_room, open_feeds};
 use crate::sinks::{keep_sinks, keep_views, open_sinks};
@@ -166,7 +166,7 @@ fn record_beside<R: Threads + Wait + Sync, W: World>(
     requires sink_room { length watch_names.now ≤ vec_capacity rooms.watches_failed }
     ensures recorded { (before between : WorldState) → OutOpened before between out.now feeds.now (map W.Source.state rooms.sources.items) (W.Live.state live)
         → SinksOpened between (W.state world.old) watch_names.now (map W.Sink.state rooms.sinks.items)
-        → NamesWatched options.now range out.now watch_names.now feeds.now before (W.state world.new) result }
+        → NamesWatched (requested options.now range out.now watch_names.now feeds.now) before (W.state world.new) result }
     ensures listed { (r : _) → result.report ≡ Some r → Each (λ f. ListsMessages f listed) r.feeds.items }
 {
     let Rooms {
@@ -230,7 +230,7 @@ fn open_watches<R: Threads + Wait + Sync, W: World>(
     requires sinks { length watch_names.now ≤ vec_capacity rooms.sinks }
     requires sink_room { length watch_names.now ≤ vec_capacity rooms.watches_failed }
     ensures recorded { (before : WorldState) → OutOpened before (W.state world.old) out.now feeds.now (map W.Source.state rooms.sources.items) (W.Live.state live)
-        → NamesWatched options.now range out.now watch_names.now feeds.now before (W.state world.new) result }
+        → NamesWatched (requested options.now range out.now watch_names.now feeds.now) before (W.state world.new) result }
     ensures listed { (r : _) → result.report ≡ Some r → Each (λ f. ListsMessages f listed) r.feeds.items }
 {
     let mut rooms = rooms;
@@ -301,7 +301,7 @@ fn open_output<R: Threads + Wait + Sync, W: World>(
     requires sinks { length watch_names.now ≤ vec_capacity rooms.sinks }
     requires sink_room { length watch_names.now ≤ vec_capacity rooms.watches_failed }
     ensures recorded { (before : WorldState) → FeedsOpened before (W.state world.old) feeds.now (map W.Source.state rooms.sources.items) → CountsFit before
-        → NamesWatched options.now range out.now watch_names.now feeds.now before (W.state world.new) result }
+        → NamesWatched (requested options.now range out.now watch_names.now feeds.now) before (W.state world.new) result }
     ensures listed { (r : _) → result.report ≡ Some r → Each (λ f. ListsMessages f listed) r.feeds.items }
 {
     match world.live(out) {
@@ -357,7 +357,7 @@ pub(crate) fn record_watched_names<R: Threads + Wait + Sync, W: World>(
     requires inputs_fit { (W.state world.old).input_faults < 2 ^ 64 }
     requires outputs_fit { (W.state world.old).output_faults < 2 ^ 64 }
     requires watches_fit { (W.state world.old).watch_faults < 2 ^ 64 }
-    ensures recorded { NamesWatched options.now range out.now watch_names.now feeds.now (W.state world.old) (W.state world.new) result }
+    ensures recorded { NamesWatched (requested options.now range out.now watch_names.now feeds.now) (W.state world.old) (W.state world.new) result }
     ensures listed { (r : _) → result.report ≡ Some r → Each (λ f. ListsMessages f listed) r.feeds.items }
 {
     let mut rooms = match make_rooms(alloc, feeds.len(), watch_names.len()) {

@@ -4,7 +4,7 @@ use Rattle.mcap_app.proofs.Running.{beside_none, beside_some, few_names}
 use Rattle.mcap_app.proofs.program.run_record.Goals as goal
 
 pub returns-then-watchers-eq0-clause-runs : goal.returns-then-watchers-eq0-clause-runs
-returns-then-watchers-eq0-clause-runs g c = inl (beside_none _ c.args.watching.range c.args.watching.watchers _ _ _ _ _ _ c.if-watchers-eq0.true c.record_file.ensures.recorded)
+returns-then-watchers-eq0-clause-runs g c = inl (beside_none _ c.args.watching.range c.args.watching.watchers _ _ _ _ _ _ _ c.if-watchers-eq0.true c.record_file.ensures.recorded)
 
 pub record_watched_file-requires-clause-watched : goal.record_watched_file-requires-clause-watched
 record_watched_file-requires-clause-watched g c κs within =
