@@ -847,14 +847,18 @@ wait
 expect_records through-pipe.mcap "$imu_first$log$log_1$imu_2$imu_3$log_2"
 
 # A live feed doesn't wait for its output: what finds the buffer full is refused, and counted. The pipe takes some hundred
-# blocks, and is read two seconds later.
-{ sleep 2 && cat; } <out-pipe >through-late.mcap &
-mcaprec record --limit 1 --chunk 1 out-pipe many.mcap >"$room/stdout" 2>&1
-compare 'the status of a recording that refused messages' 0 $?
-wait
-accepted=$(sed -n 's/^feed 1 accepted=\([0-9]*\) .*/\1/p' "$room/stdout")
-compare 'the line of a feed that met a full buffer' "feed 1 accepted=$accepted refused=$((8192 - accepted)) passed=0 end" \
-    "$(sed -n 1p "$room/stdout")"
+# blocks, and is read two seconds later. On a machine with other work the lane may be through before the writer has a
+# processor, and then none of its messages finds room: that is recorded again.
+for _ in 1 2 3 4 5; do
+    { sleep 2 && cat; } <out-pipe >through-late.mcap &
+    mcaprec record --limit 1 --chunk 1 out-pipe many.mcap >"$room/stdout" 2>&1
+    compare 'the status of a recording that refused messages' 0 $?
+    wait
+    accepted=$(sed -n 's/^feed 1 accepted=\([0-9]*\) .*/\1/p' "$room/stdout")
+    compare 'the line of a feed that met a full buffer' \
+        "feed 1 accepted=$accepted refused=$((8192 - accepted)) passed=0 end" "$(sed -n 1p "$room/stdout")"
+    [ "$accepted" -eq 0 ] || break
+done
 [ "$accepted" -lt 8192 ] || say_wrong 'no message was refused though the output stood still'
 [ "$accepted" -gt 0 ] || say_wrong 'the writer took nothing while the lane ran'
 expect 0 "ok indexed messages=$accepted channels=1 schemas=1 chunks=$((accepted + 2)) attachments=0 metadata=0" '' \
