@@ -20,7 +20,7 @@ use Rattle.mcap_model.specs.Judging.{IsPlain, KeepsRules, JudgedAs, FirstJudged}
 use Rattle.mcap_model.specs.declared.tables.Tables.{Tables}
 use Rattle.mcap_model.specs.declared.tops.Judged.{Judged}
 use Rattle.mcap_model.specs.declared.tops.Judged.TheVariants as judged
-use Rattle.mcap_model.specs.Plain.{ReadTo, TakesRecord, cut_top}
+use Rattle.mcap_model.specs.Plain.{ReadTo, TakesRecord, cut_top, uncut_rule}
 use Rattle.mcap_model.proofs.Places.{at_none, each_more}
 use Rattle.mcap_model.proofs.Readings.{Begun, begun, length-top, halts_are_last}
 use Rattle.mcap_model.proofs.Histories.{header_meets}
@@ -135,16 +135,15 @@ past_there bytes at tables tops was past =
     (past_limit past.0 (subst (λ (n : ℕ). is_beyond reading_limits n (declared_length (drop at bytes)) ≡ true) was.place past.1)))
 
 grammar_there : (bytes : List ℕ) (at : ℕ) (tables : Tables) (tops : List Top) (rule : ℕ) → ReadTo bytes at tables tops → HaltsThere reading_limits tops (drop at bytes) (grammar (offset_behind tops) rule)
-    → (others : List Top) × (number : ℕ) × Halts reading_limits bytes others (grammar at number)
+    → (others : List Top) × Halts reading_limits bytes others (grammar at rule)
 grammar_there bytes at tables tops rule was there = (
   tops,
-  rule,
   halted bytes tops (drop at bytes) (grammar at rule) was.stands was.good was.unended
       (subst (λ (n : ℕ). HaltsThere reading_limits tops (drop at bytes) (grammar n rule)) (sym was.place) there),
 )
 
 pub uncut : (bytes : List ℕ) (at : ℕ) (tables : Tables) (tops : List Top) (fault : CutFault) → ReadTo bytes at tables tops → (HasOpcode (drop at bytes) × (is_beyond reading_limits at (declared_length (drop at bytes)) ≡ true) → ⊥) → CutFails bytes at fault
-    → (others : List Top) × (rule : ℕ) × Halts reading_limits bytes others (grammar at rule)
+    → (others : List Top) × Halts reading_limits bytes others (grammar at (uncut_rule fault))
 uncut bytes at tables tops cut_faults.Short was near (inl few) =
     grammar_there bytes at tables tops 4 was (short_head (lt-leb 9 (length (drop at bytes)) (omega (arith, length-drop at bytes, few))))
 uncut bytes at tables tops cut_faults.Short was near (inr (head, short, few)) =
@@ -175,7 +174,7 @@ cut_due bytes at c tops is place near =
     due_there tops (drop at bytes) at place (front.head, λ (e : opcode (drop at bytes) ≡ 0). is.valid (sym front.op_is ∙ e)) near
 
 pub cut_broken : (bytes : List ℕ) (at : ℕ) (c : Cut) (tables : Tables) (tops : List Top) (rule : ℕ) → ReadTo bytes at tables tops → IsCut bytes at c → (HasOpcode (drop at bytes) × (is_beyond reading_limits at (declared_length (drop at bytes)) ≡ true) → ⊥)
-    → ((tops ≡ [] → ⊥) → IsPlain (cut_top bytes c)) × Breaks tops (cut_top bytes c) rule → (others : List Top) × (number : ℕ) × Halts reading_limits bytes others (grammar at number)
+    → ((tops ≡ [] → ⊥) → IsPlain (cut_top bytes c)) × Breaks tops (cut_top bytes c) rule → (others : List Top) × Halts reading_limits bytes others (grammar at rule)
 cut_broken bytes at c tables tops rule was is near (plain, breaks) =
     let front = cut_begun bytes at c is in
     grammar_there bytes at tables tops rule was
@@ -184,11 +183,10 @@ cut_broken bytes at c tables tops rule was is near (plain, breaks) =
     (subst (λ (x : Top). Breaks tops x rule) (sym front.first) breaks))
 
 pub cut_packed : (bytes : List ℕ) (at : ℕ) (c : Cut) (tables : Tables) (tops : List Top) (name : List ℕ) → ReadTo bytes at tables tops → IsCut bytes at c → (HasOpcode (drop at bytes) × (is_beyond reading_limits at (declared_length (drop at bytes)) ≡ true) → ⊥)
-    → (tops ≡ [] → ⊥) × NamesCompression (cut_top bytes c) name → (others : List Top) × (other : List ℕ) × Halts reading_limits bytes others (compressed at other)
+    → (tops ≡ [] → ⊥) × NamesCompression (cut_top bytes c) name → (others : List Top) × Halts reading_limits bytes others (compressed at name)
 cut_packed bytes at c tables tops name was is near (some, names) =
     let front = cut_begun bytes at c is in (
       tops,
-      name,
       halted bytes tops (drop at bytes) (compressed at name) was.stands was.good was.unended
           (subst (λ (n : ℕ). HaltsThere reading_limits tops (drop at bytes) (compressed n name)) (sym was.place)
           (packed_chunk name (cut_due bytes at c tops is was.place near) front.whole (some, subst (λ (x : Top). NamesCompression x name) (sym front.first) names))),

@@ -3,14 +3,16 @@ use Rattle.std.specs.Prelude.{◌≡◌, ◌⊎◌, ℕ, ◌+◌, ◌<◌, ◌�
 use Rattle.std.specs.List.{list_any, AllZip}
 use Rattle.std.specs.Cmp.Lexicographic.{pointwise}
 use Rattle.mcap_wire.specs.declared.faults.Cut.{Cut}
+use Rattle.mcap_wire.specs.declared.faults.CutFault.{CutFault}
+use Rattle.mcap_wire.specs.declared.faults.CutFault.TheVariants as cut_faults
 use Rattle.mcap_wire.specs.Layout.{part}
 use Rattle.mcap_model.specs.declared.replay.Place.{Place}
 use Rattle.mcap_model.specs.declared.replay.Range.{Range}
 use Rattle.mcap_model.specs.declared.replay.Shown.{Shown}
 use Rattle.mcap_model.specs.declared.replay.Topic.{Topic}
 use Rattle.mcap_model.specs.declared.replay.Replayed.{Replayed}
-use Rattle.mcap_model.specs.declared.refusals.PlainRefused.{PlainRefused}
-use Rattle.mcap_model.specs.declared.refusals.PlainRefused.TheVariants as refusals
+use Rattle.mcap_model.specs.declared.refusals.ReadingRefused.{ReadingRefused}
+use Rattle.mcap_model.specs.declared.refusals.ReadingRefused.TheVariants as refusals
 use Rattle.mcap_model.specs.declared.table.Declared.{Declared}
 use Rattle.mcap_model.specs.declared.tables.Tables.{Tables}
 use Rattle.mcap_model.specs.Places.{At, Each, Has}
@@ -41,13 +43,14 @@ pub record IsScanned (bytes : List ℕ) (all : Replayed) : Type 0 where
   pub differ : PlacesDiffer all.shown.items
 
 -- the reading of the file halts before, at that offset and for that reason
-abbrev pub IsRefused : List ℕ → PlainRefused → Type 0
-IsRefused bytes (refusals.Grammar offset) = (tops : List Top) × (rule : ℕ) × Halts reading_limits bytes tops (grammar offset rule)
-IsRefused bytes (refusals.Compressed offset) = (tops : List Top) × (name : List ℕ) × Halts reading_limits bytes tops (compressed offset name)
+abbrev pub IsRefused : List ℕ → ReadingRefused → Type 0
+IsRefused bytes (refusals.Fault faults) = ⊥
+IsRefused bytes (refusals.Grammar offset rule) = (tops : List Top) × Halts reading_limits bytes tops (grammar offset rule)
+IsRefused bytes (refusals.Compressed offset name) = (tops : List Top) × Halts reading_limits bytes tops (compressed offset name)
 IsRefused bytes (refusals.Limit offset) = (tops : List Top) × Halts reading_limits bytes tops (beyond offset)
 IsRefused bytes refusals.Memory = Unit {0}
 
-abbrev pub PlainScanned : List ℕ → Result Replayed PlainRefused → Type 0
+abbrev pub PlainScanned : List ℕ → Result Replayed ReadingRefused → Type 0
 PlainScanned bytes (Ok all) = IsScanned bytes all
 PlainScanned bytes (Err why) = IsRefused bytes why
 
@@ -74,9 +77,15 @@ pub record TakesRecord (bytes : List ℕ) (at : ℕ) (tops : List Top) (tables :
   pub behind : c.to ≡ at + length (top_bytes (cut_top bytes c))
   pub tables_are : TablesOf (flat (tops ++ cut_top bytes c ∷ [])) tables
 
-abbrev pub PlainRecordTaken : List ℕ → ℕ → List Top → Tables → Result Cut PlainRefused → Type 0
+abbrev pub PlainRecordTaken : List ℕ → ℕ → List Top → Tables → Result Cut ReadingRefused → Type 0
 PlainRecordTaken bytes at tops tables (Ok c) = TakesRecord bytes at tops tables c
 PlainRecordTaken bytes at tops tables (Err why) = IsRefused bytes why
+
+-- the rule that a record breaks which can't be cut: it is cut short, or its opcode is 0
+abbrev pub uncut_rule : CutFault → ℕ
+uncut_rule cut_faults.Short = 4
+uncut_rule cut_faults.ZeroOp = 5
+uncut_rule (cut_faults.TooLong len) = 4
 
 -- ---- the messages of a record
 

@@ -29,7 +29,7 @@ pub use ends::{End, Stop};
 pub use inner::{Inner, InnerWalk};
 pub use options::FileOptions;
 pub use plain::scan_plain;
-pub use refusals::PlainRefused;
+pub use refusals::{IndexedRefused, NotIndexed, ReadingRefused};
 pub use replay::{Place, Range, Replayed, Shown, Topic};
 pub use replaying::{is_within, put_in_order, replay_plain};
 pub use table::Table;

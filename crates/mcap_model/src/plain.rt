@@ -2,7 +2,7 @@
 ghost use Rattle.std.specs.Prelude.{◌≡◌};
 ghost use Rattle.mcap_model.specs.Plain.{PlainScanned};
 
-use crate::refusals::PlainRefused;
+use crate::refusals::ReadingRefused;
 use crate::replay::Replayed;
 use crate::showing::add_messages;
 use crate::tables::Tables;
@@ -12,11 +12,11 @@ use rec_data::DATA_END;
 use std::alloc::Global;
 
 /// The messages of a file in scan order, up to its Data End. A refusal says where the reading halts, and why.
-pub fn scan_plain(alloc: Global, bytes: &[u8]) -> Result<Replayed, PlainRefused>
+pub fn scan_plain(alloc: Global, bytes: &[u8]) -> Result<Replayed, ReadingRefused>
     ensures { PlainScanned bytes.now result }
 {
     if !has_magic(bytes) {
-        return Err(PlainRefused::Grammar { offset: 0 });
+        return Err(ReadingRefused::Grammar { offset: 0, rule: 1 });
     }
     let mut tables = Tables::new(alloc);
     let mut shown = Vec::new(alloc);
@@ -29,12 +29,12 @@ pub fn scan_plain(alloc: Global, bytes: &[u8]) -> Result<Replayed, PlainRefused>
         let content = &bytes[cut.from as usize..cut.to as usize];
         match add_messages(alloc, &mut shown, at as u64, cut.op, content) {
             Ok(()) => {}
-            Err(_) => return Err(PlainRefused::Memory),
+            Err(_) => return Err(ReadingRefused::Memory),
         }
         if cut.op == DATA_END {
             match topics_of(alloc, &tables, &shown) {
                 Ok(topics) => return Ok(Replayed { topics, shown }),
-                Err(_) => return Err(PlainRefused::Memory),
+                Err(_) => return Err(ReadingRefused::Memory),
             }
         }
         at = cut.to as usize;

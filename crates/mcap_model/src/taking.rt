@@ -6,12 +6,12 @@ ghost use Rattle.mcap_model.specs.Kept.{reading_limits, is_beyond as passes, Has
 ghost use Rattle.mcap_model.specs.Declarations.{TablesOf};
 ghost use Rattle.mcap_model.specs.Made.{top};
 ghost use Rattle.mcap_model.specs.Judging.{JudgedAs};
-ghost use Rattle.mcap_model.specs.Plain.{ReadTo, PlainRecordTaken};
+ghost use Rattle.mcap_model.specs.Plain.{ReadTo, PlainRecordTaken, uncut_rule};
 
-use crate::refusals::PlainRefused;
+use crate::refusals::ReadingRefused;
 use crate::tables::Tables;
 use crate::tops::{Judged, judge, judge_first};
-use mcap_wire::{CONTENT_LIMIT, Cut, FILE_LIMIT, MAGIC, cut, take_u64};
+use mcap_wire::{CONTENT_LIMIT, Cut, CutFault, FILE_LIMIT, MAGIC, Text, cut, take_u64};
 use std::alloc::Global;
 
 /// The length of a record's head: the opcode and the content's length.
@@ -46,6 +46,16 @@ fn passes_limit(bytes: &[u8], at: usize) -> bool
     }
 }
 
+// The rule that a record breaks which can't be cut.
+fn rule_of(fault: CutFault) -> u8
+    ensures { result ≡ uncut_rule fault }
+{
+    match fault {
+        CutFault::ZeroOp => return 5,
+        _ => return 4,
+    }
+}
+
 // Judges the record at the offset.
 fn judge_at<'a>(
     alloc: Global,
@@ -68,24 +78,32 @@ pub(crate) fn take_record(
     tables: &mut Tables,
     bytes: &[u8],
     at: usize,
-) -> Result<Cut, PlainRefused>
+) -> Result<Cut, ReadingRefused>
     requires { at ≤ length bytes.now }
     ensures { (tops : List Top) → ReadTo bytes.now at tables.old tops → PlainRecordTaken bytes.now at tops tables.new result }
 {
     let offset = at as u64;
     if passes_limit(bytes, at) {
-        return Err(PlainRefused::Limit { offset });
+        return Err(ReadingRefused::Limit { offset });
     }
     let cut = match cut(bytes, at) {
         Ok(cut) => cut,
-        Err(_) => return Err(PlainRefused::Grammar { offset }),
+        Err(fault) => {
+            return Err(ReadingRefused::Grammar {
+                offset,
+                rule: rule_of(fault),
+            });
+        }
     };
     let content = &bytes[cut.from as usize..cut.to as usize];
     match judge_at(alloc, tables, at, cut.op, content) {
         Judged::Fits => return Ok(cut),
-        Judged::Breaks { rule: _ } => return Err(PlainRefused::Grammar { offset }),
-        Judged::Compressed { name: _ } => return Err(PlainRefused::Compressed { offset }),
-        Judged::Memory => return Err(PlainRefused::Memory),
+        Judged::Breaks { rule } => return Err(ReadingRefused::Grammar { offset, rule }),
+        Judged::Compressed { name } => match Text::copied(alloc, name) {
+            Ok(name) => return Err(ReadingRefused::Compressed { offset, name }),
+            Err(_) => return Err(ReadingRefused::Memory),
+        },
+        Judged::Memory => return Err(ReadingRefused::Memory),
     }
 }
 

@@ -3,7 +3,7 @@ use Rattle.std.proofs.Common.{◌≡◌, List, [], refl, sym, subst, inl, ◌∙
 use Rattle.mcap_io.specs.Outside.{SourceState}
 use Rattle.mcap_model.specs.Tops.{Top}
 use Rattle.mcap_model.proofs.Places.{at_none}
-use Rattle.mcap_scan.specs.declared.answers.ScanRefused.{ScanRefused}
+use Rattle.mcap_model.specs.declared.refusals.ReadingRefused.{ReadingRefused}
 use Rattle.mcap_scan.specs.declared.reader.Reader.{Reader}
 use Rattle.mcap_scan.specs.declared.reader.Stage.TheVariants as stages
 use Rattle.mcap_scan.specs.Scanning.{RefusalStands, Refuses, MemoryStands}
@@ -17,9 +17,9 @@ nothing_read before = record {
 }
 
 -- the refusal that a reader hands out is the one that it keeps
-pub refusal_stands : (reader : Reader) (before now : SourceState) (tops : List Top) (why : ScanRefused) → Refuses reader before now tops → reader.stage ≡ stages.Stopped why → RefusalStands why before now tops
+pub refusal_stands : (reader : Reader) (before now : SourceState) (tops : List Top) (why : ReadingRefused) → Refuses reader before now tops → reader.stage ≡ stages.Stopped why → RefusalStands why before now tops
 refusal_stands reader before now tops why refuses is =
-    subst (λ (w : ScanRefused). RefusalStands w before now tops) (same (sym refuses.stage ∙ is)) refuses.stands
+    subst (λ (w : ReadingRefused). RefusalStands w before now tops) (same (sym refuses.stage ∙ is)) refuses.stands
   where
-    same : {a b : ScanRefused} → stages.Stopped a ≡ stages.Stopped b → a ≡ b
+    same : {a b : ReadingRefused} → stages.Stopped a ≡ stages.Stopped b → a ≡ b
     same e = cc

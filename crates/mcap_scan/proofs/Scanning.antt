@@ -10,8 +10,8 @@ use Rattle.mcap_model.specs.Rules.{V1, HasDataEnd, Breaks}
 use Rattle.mcap_model.specs.Kept.{reading_limits, is_beyond, NamesCompression, Fits, Good, Kept, Halt, at_end, grammar, compressed, beyond, IsDue, IsPacked, HaltsThere, packed_chunk, broken_rule, no_magic, at_data_end, behind_kept, HaltsAt}
 use Rattle.mcap_model.proofs.Places.{at_none, each_more, each_at}
 use Rattle.mcap_model.proofs.Readings.{Begun, begun, length-top, fits_opcode, halts_are_last, good_from_the_front}
-use Rattle.mcap_scan.specs.declared.answers.ScanRefused.{ScanRefused}
-use Rattle.mcap_scan.specs.declared.answers.ScanRefused.TheVariants as refusals
+use Rattle.mcap_model.specs.declared.refusals.ReadingRefused.{ReadingRefused}
+use Rattle.mcap_model.specs.declared.refusals.ReadingRefused.TheVariants as refusals
 use Rattle.mcap_scan.specs.declared.answers.Step.{Step}
 use Rattle.mcap_scan.specs.declared.answers.Step.TheVariants as steps
 use Rattle.mcap_scan.specs.declared.reader.Stage.{Stage}
@@ -71,7 +71,7 @@ cut_off part tops rest offset place stands good unended there = record {
   cut = inr (subst (λ (n : ℕ). HaltsAt reading_limits part tops (grammar n 4)) place (behind_kept rest stands unended (grammar offset 4) there));
 }
 
-pub record_refused : (tables : Tables) (offset : ℕ) (before now now_new : SourceState) (tops : List Top) (why : ScanRefused) → IsUnfinished tables offset before now tops
+pub record_refused : (tables : Tables) (offset : ℕ) (before now now_new : SourceState) (tops : List Top) (why : ReadingRefused) → IsUnfinished tables offset before now tops
     → RefusalCause now.faults now_new.faults why → ((rest : List ℕ) → now.left ≡ Some rest → RecordRefused rest offset now_new.left why) → RefusalStands why before now_new tops
 record_refused tables offset before now now_new tops (refusals.Fault faults) was cause refused = record {
   rises = subst (λ (n : ℕ). RisesOnce n now_new.faults) was.still cause.0;
@@ -124,13 +124,13 @@ kept_none bytes none = record {
 short_magic : (bytes : List ℕ) → length bytes < 8 → V1 bytes → ⊥
 short_magic bytes few (rest, split) = omega (arith, few, ap length split, length-append magic rest)
 
-pub magic_refused : (tables : Tables) (offset : ℕ) (before now now_new : SourceState) (tops : List Top) (why : ScanRefused) → IsFresh tables offset before now tops
+pub magic_refused : (tables : Tables) (offset : ℕ) (before now now_new : SourceState) (tops : List Top) (why : ReadingRefused) → IsFresh tables offset before now tops
     → RefusalCause now.faults now_new.faults why → ((bytes : List ℕ) → now.left ≡ Some bytes → MagicRefused bytes now_new.left why) → RefusalStands why before now_new tops
 magic_refused tables offset before now now_new tops why was cause refused =
     subst (RefusalStands why before now_new) (sym was.none)
     (subst (λ (s : SourceState). RefusalStands why s now_new []) was.unread (by why cause refused))
   where
-    by : (w : ScanRefused) → RefusalCause now.faults now_new.faults w → ((bytes : List ℕ) → now.left ≡ Some bytes → MagicRefused bytes now_new.left w) → RefusalStands w now now_new []
+    by : (w : ReadingRefused) → RefusalCause now.faults now_new.faults w → ((bytes : List ℕ) → now.left ≡ Some bytes → MagicRefused bytes now_new.left w) → RefusalStands w now now_new []
     by (refusals.Fault faults) c r = record {
       rises = c.0;
       carried = c.1;
@@ -316,21 +316,21 @@ lacks_there tables offset before now now_new tops op content was same taken taka
 }
 
 -- a step that is refused
-pub refused_step : (reader : Reader) (before now : SourceState) (tops : List Top) (why : ScanRefused) (step : Step) → step ≡ steps.Refused → reader.stage ≡ stages.Stopped why → RefusalStands why before now tops → Advanced reader before now tops step
+pub refused_step : (reader : Reader) (before now : SourceState) (tops : List Top) (why : ReadingRefused) (step : Step) → step ≡ steps.Refused → reader.stage ≡ stages.Stopped why → RefusalStands why before now tops → Advanced reader before now tops step
 refused_step reader before now tops why step step_is stage_is stands =
     subst (Advanced reader before now tops) (sym step_is) (record { why = why; stage = stage_is; stands = stands })
 
-refused_given : (reader : Reader) (before now : SourceState) (tops : List Top) (at len op : ℕ) (refused : Option ScanRefused) (why : ScanRefused) (step : Step)
+refused_given : (reader : Reader) (before now : SourceState) (tops : List Top) (at len op : ℕ) (refused : Option ReadingRefused) (why : ReadingRefused) (step : Step)
     → refused ≡ Some why → Given at len reader.offset reader.stage op refused step → RefusalStands why before now tops → Advanced reader before now tops step
 refused_given reader before now tops at len op refused why step is given stands =
-    let there : (step ≡ steps.Refused) × (reader.stage ≡ stages.Stopped why) = subst (λ (r : Option ScanRefused). Given at len reader.offset reader.stage op r step) is given in
+    let there : (step ≡ steps.Refused) × (reader.stage ≡ stages.Stopped why) = subst (λ (r : Option ReadingRefused). Given at len reader.offset reader.stage op r step) is given in
     refused_step reader before now tops why step there.0 there.1 stands
 
-pub stepped : (reader : Reader) (tables : Tables) (offset : ℕ) (before now now_new : SourceState) (tops : List Top) (op : ℕ) (content : List ℕ) (how : Judged) (refused : Option ScanRefused) (step : Step)
+pub stepped : (reader : Reader) (tables : Tables) (offset : ℕ) (before now now_new : SourceState) (tops : List Top) (op : ℕ) (content : List ℕ) (how : Judged) (refused : Option ReadingRefused) (step : Step)
     → IsUnfinished tables offset before now tops → now_new.faults ≡ now.faults → ((rest : List ℕ) → now.left ≡ Some rest → TakesRecord rest now_new.left op content) → IsTakable offset op (length content)
     → JudgedAs tops (top op content) reader.tables how → RefusedAt offset how refused → Given offset (length content) reader.offset reader.stage op refused step → content_of reader ≡ content → Advanced reader before now_new tops step
 stepped reader tables offset before now now_new tops op content judged.Fits refused step was same taken takable (keeps, are) none given room =
-    let there = subst (λ (r : Option ScanRefused). Given offset (length content) reader.offset reader.stage op r step) none given in
+    let there = subst (λ (r : Option ReadingRefused). Given offset (length content) reader.offset reader.stage op r step) none given in
     by there.0 there.1 there.2
   where
     by : step ≡ steps.Record op offset → reader.offset ≡ min (min (offset + 9) (2 ^ 64 - 1) + length content) (2 ^ 64 - 1) → reader.stage ≡ (if eqb op 15 then stages.Ended else stages.Inside) → Advanced reader before now_new tops step
@@ -415,7 +415,7 @@ given_back reader before now tops t = by reader.stage
 
 -- ---- a reading moves on
 
-pub moved : (at op len new : ℕ) (stage : Stage) (refused : Option ScanRefused) (step : Step) → IsTakable at op len → Given at len new stage op refused step → Moves at new step
+pub moved : (at op len new : ℕ) (stage : Stage) (refused : Option ReadingRefused) (step : Step) → IsTakable at op len → Given at len new stage op refused step → Moves at new step
 moved at op len new stage None step takable given =
     let near = near_there at len takable.within in
     subst (Moves at new) (sym given.0) (omega (arith, near.near, given.1), omega (arith, near.near, given.1))

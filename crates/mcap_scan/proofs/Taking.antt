@@ -13,7 +13,7 @@ use Rattle.mcap_io.specs.Outside.{SourceState, StretchTaken, ReadCause}
 use Rattle.mcap_model.specs.Tops.{Top, offset_behind, opcode, declared_length, has_head, is_whole, behind_first}
 use Rattle.mcap_model.specs.Rules.{V1}
 use Rattle.mcap_model.specs.Kept.{reading_limits, is_beyond, HasOpcode, grammar, beyond, HaltsThere, short_head, zero_opcode, past_limit, cut_short}
-use Rattle.mcap_scan.specs.declared.answers.ScanRefused.{ScanRefused}
+use Rattle.mcap_model.specs.declared.refusals.ReadingRefused.{ReadingRefused}
 use Rattle.mcap_scan.specs.Sources.{unread_behind}
 use Rattle.mcap_scan.specs.Taking.{DueAny, Failure, RefusalCause, MagicRefused, TakesHead, HaltsAny, RecordRefused, TakesRecord}
 
@@ -91,14 +91,14 @@ head_taken (r ∷ rs) bytes left op len is left_is head =
     }
 
 -- why a head wasn't read
-pub head_refused : (rest : List ℕ) (at : ℕ) (old new : SourceState) (got : List ℕ) (faults : ℕ) (why : ReadRefused) (end : ScanRefused) → old.left ≡ Some rest → StretchTaken old.left new.left 9 got (Err why) → (IsErrOf {T = Unit {0}} (Err why) reads.Memory → 9 ≤ 65536 → new ≡ old) → Failure faults why end → RecordRefused rest at new.left end
+pub head_refused : (rest : List ℕ) (at : ℕ) (old new : SourceState) (got : List ℕ) (faults : ℕ) (why : ReadRefused) (end : ReadingRefused) → old.left ≡ Some rest → StretchTaken old.left new.left 9 got (Err why) → (IsErrOf {T = Unit {0}} (Err why) reads.Memory → 9 ≤ 65536 → new ≡ old) → Failure faults why end → RecordRefused rest at new.left end
 head_refused rest at old new got faults reads.Failed end told taken unread is =
     let lost = taken rest told in
     let size = length-take lost.0 rest in
     let few : length (take lost.0 rest) < 9 = omega (arith, lost.1) in
-    subst (λ (e : ScanRefused). RecordRefused rest at new.left e) (sym is) (lost.0, lost.2, headless_there (take lost.0 rest) at (lt-leb 9 (length (take lost.0 rest)) few))
+    subst (λ (e : ReadingRefused). RecordRefused rest at new.left e) (sym is) (lost.0, lost.2, headless_there (take lost.0 rest) at (lt-leb 9 (length (take lost.0 rest)) few))
 head_refused rest at old new got faults reads.Memory end told taken unread is =
-    subst (λ (e : ScanRefused). RecordRefused rest at new.left e) (sym is) (inl (ap (λ (s : SourceState). s.left) (unread refl (omega arith)) ∙ told))
+    subst (λ (e : ReadingRefused). RecordRefused rest at new.left e) (sym is) (inl (ap (λ (s : SourceState). s.left) (unread refl (omega arith)) ∙ told))
 
 -- fewer than nine bytes
 pub head_short : (rest bytes : List ℕ) (at : ℕ) (left : Option (List ℕ)) → bytes ≡ take 9 rest → left ≡ Some (drop 9 rest) → length bytes < 9 → HaltsAny rest at (grammar at 4) × (left ≡ Some (unread_behind rest (grammar at 4)))
@@ -195,15 +195,15 @@ content_lost rest old new op len got why head taken =
     let lost = taken head.after head.left_after in
     (lost.0, lost.1, lost.2 ∙ ap (λ (l : List ℕ). Some (drop lost.0 l)) (sym (behind_head rest old op len head)) ∙ ap Some (drop-drop lost.0 9 rest))
 
-pub content_refused : (rest : List ℕ) (at : ℕ) (old new : Option (List ℕ)) (op len : ℕ) (got : List ℕ) (faults : ℕ) (why : ReadRefused) (end : ScanRefused) → TakesHead rest old op len → is_beyond reading_limits at len ≡ false → StretchTaken old new len got (Err why) → Failure faults why end → RecordRefused rest at new end
+pub content_refused : (rest : List ℕ) (at : ℕ) (old new : Option (List ℕ)) (op len : ℕ) (got : List ℕ) (faults : ℕ) (why : ReadRefused) (end : ReadingRefused) → TakesHead rest old op len → is_beyond reading_limits at len ≡ false → StretchTaken old new len got (Err why) → Failure faults why end → RecordRefused rest at new end
 content_refused rest at old new op len got faults reads.Failed end head within taken is =
     let lost = content_lost rest old new op len got reads.Failed head taken in
-    subst (λ (e : ScanRefused). RecordRefused rest at new e) (sym is)
+    subst (λ (e : ReadingRefused). RecordRefused rest at new e) (sym is)
     (9 + lost.0, lost.2, cut_there (take (9 + lost.0) rest) at (front_opcode rest old op len lost.0 head) (ap (is_beyond reading_limits at) (declares_there rest lost.0 len head.len_is) ∙ within) (few_behind rest lost.0 len head.len_is lost.1))
 content_refused rest at old new op len got faults reads.Memory end head within taken is =
     let lost = content_lost rest old new op len got reads.Memory head taken in
     let declared = head.len_is in
-    subst (λ (e : ScanRefused). RecordRefused rest at new e) (sym is) (inr (due_there rest old at op len head within, (lost.0, omega (arith, declared, lost.1), lost.2)))
+    subst (λ (e : ReadingRefused). RecordRefused rest at new e) (sym is) (inr (due_there rest old at op len head within, (lost.0, omega (arith, declared, lost.1), lost.2)))
 
 -- ---- a whole record
 
@@ -219,14 +219,14 @@ record_taken rest content left left_after op len head is left_is enough few =
 
 -- ---- the magic
 
-pub magic_refused : (bytes : List ℕ) (old new : SourceState) (got : List ℕ) (faults : ℕ) (why : ReadRefused) (end : ScanRefused) → old.left ≡ Some bytes → StretchTaken old.left new.left 8 got (Err why) → (IsErrOf {T = Unit {0}} (Err why) reads.Memory → 8 ≤ 65536 → new ≡ old) → Failure faults why end → MagicRefused bytes new.left end
+pub magic_refused : (bytes : List ℕ) (old new : SourceState) (got : List ℕ) (faults : ℕ) (why : ReadRefused) (end : ReadingRefused) → old.left ≡ Some bytes → StretchTaken old.left new.left 8 got (Err why) → (IsErrOf {T = Unit {0}} (Err why) reads.Memory → 8 ≤ 65536 → new ≡ old) → Failure faults why end → MagicRefused bytes new.left end
 magic_refused bytes old new got faults reads.Failed end told taken unread is =
     let lost = taken bytes told in
     let size = length-take lost.0 bytes in
     let few : length (take lost.0 bytes) < 8 = omega (arith, lost.1) in
-    subst (λ (e : ScanRefused). MagicRefused bytes new.left e) (sym is) (lost.0, lost.2, few)
+    subst (λ (e : ReadingRefused). MagicRefused bytes new.left e) (sym is) (lost.0, lost.2, few)
 magic_refused bytes old new got faults reads.Memory end told taken unread is =
-    subst (λ (e : ScanRefused). MagicRefused bytes new.left e) (sym is) (ap (λ (s : SourceState). s.left) (unread refl (omega arith)) ∙ told)
+    subst (λ (e : ReadingRefused). MagicRefused bytes new.left e) (sym is) (ap (λ (s : SourceState). s.left) (unread refl (omega arith)) ∙ told)
 
 pub magic_lacks : (bytes got : List ℕ) → got ≡ take 8 bytes → (got ≡ magic → ⊥) → V1 bytes → ⊥
 magic_lacks bytes got is other (rest, split) = other (is ∙ ap (take 8) split)
@@ -236,6 +236,6 @@ magic_there bytes got is same = sym (take-append-drop 8 bytes) ∙ ap (λ (l : L
 
 -- ---- counts of faults
 
-pub failure_cause : (before now : ℕ) (why : ReadRefused) (end : ScanRefused) → ReadCause {T = Unit} before now (Err why) → Failure now why end → RefusalCause before now end
+pub failure_cause : (before now : ℕ) (why : ReadRefused) (end : ReadingRefused) → ReadCause {T = Unit} before now (Err why) → Failure now why end → RefusalCause before now end
 failure_cause before now reads.Failed end cause is = subst (RefusalCause before now) (sym is) (cause, refl)
 failure_cause before now reads.Memory end cause is = subst (RefusalCause before now) (sym is) cause

@@ -1,8 +1,8 @@
 -- For which records a scanner stands: a reader with its source.
 use Rattle.std.specs.Prelude.{◌≡◌, ◌⊎◌, ℕ, List, Option, Result, Ok, Err}
 use Rattle.mcap_model.specs.Tops.{Top}
-use Rattle.mcap_scan.specs.declared.answers.ScanRefused.{ScanRefused}
-use Rattle.mcap_scan.specs.declared.answers.ScanRefused.TheVariants as refusals
+use Rattle.mcap_model.specs.declared.refusals.ReadingRefused.{ReadingRefused}
+use Rattle.mcap_model.specs.declared.refusals.ReadingRefused.TheVariants as refusals
 use Rattle.mcap_scan.specs.declared.answers.Step.{Step}
 use Rattle.mcap_scan.specs.declared.answers.Step.TheVariants as steps
 use Rattle.mcap_scan.specs.declared.answers.Top.{Top as Taken}
@@ -35,7 +35,7 @@ abbrev pub source_of : {S : Type 0} → Scanner S → S
 source_of scanner = scanner.source
 
 -- the refusal that it keeps
-abbrev pub KeptIn : {S : Type 0} → Scanner S → Option (Bor ScanRefused) → Type 0
+abbrev pub KeptIn : {S : Type 0} → Scanner S → Option (Bor ReadingRefused) → Type 0
 KeptIn scanner refusal = KeptBy scanner.reader refusal
 
 -- where its next record stands
@@ -43,13 +43,13 @@ abbrev pub scanned_offset : {S : Type 0} → Scanner S → ℕ
 scanned_offset scanner = offset_of scanner.reader
 
 -- the step that an answer with a copy of the content tells of
-abbrev pub step_of : Result Taken ScanRefused → Step
+abbrev pub step_of : Result Taken ReadingRefused → Step
 step_of (Ok (tops_given.Record op offset content)) = steps.Record op offset
 step_of (Ok (tops_given.End offset)) = steps.End offset
 step_of (Err why) = steps.Refused
 
 -- A kept refusal is told as it is. The name of a compression is copied for that, and memory may lack for it.
-abbrev pub TellsAgain : ScanRefused → ScanRefused → Type 0
+abbrev pub TellsAgain : ReadingRefused → ReadingRefused → Type 0
 TellsAgain (refusals.Fault faults) why = why ≡ refusals.Fault faults
 TellsAgain (refusals.Grammar offset rule) why = why ≡ refusals.Grammar offset rule
 TellsAgain (refusals.Compressed offset name) why = (why ≡ refusals.Compressed offset name) ⊎ (why ≡ refusals.Memory)
@@ -57,7 +57,7 @@ TellsAgain (refusals.Limit offset) why = why ≡ refusals.Limit offset
 TellsAgain refusals.Memory why = why ≡ refusals.Memory
 
 -- the content is a copy of the one that the scanner holds; a refusal is the one that it keeps
-abbrev pub Copies : {S : Type 0} → Scanner S → Result Taken ScanRefused → Type 0
+abbrev pub Copies : {S : Type 0} → Scanner S → Result Taken ReadingRefused → Type 0
 Copies scanner (Ok (tops_given.Record op offset content)) = content ≡ scanned_content scanner
 Copies scanner (Ok (tops_given.End offset)) = Unit {0}
-Copies scanner (Err why) = (kept : ScanRefused) × (scanner.reader.stage ≡ stages.Stopped kept) × TellsAgain kept why
+Copies scanner (Err why) = (kept : ReadingRefused) × (scanner.reader.stage ≡ stages.Stopped kept) × TellsAgain kept why

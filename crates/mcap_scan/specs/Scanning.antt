@@ -6,8 +6,8 @@ use Rattle.mcap_wire.specs.Limits.{file_limit}
 use Rattle.mcap_model.specs.Tops.{Top, offset_behind, flat}
 use Rattle.mcap_model.specs.Rules.{HasDataEnd}
 use Rattle.mcap_model.specs.Kept.{reading_limits, Good, Halt, at_end, grammar, compressed, beyond, Halts}
-use Rattle.mcap_scan.specs.declared.answers.ScanRefused.{ScanRefused}
-use Rattle.mcap_scan.specs.declared.answers.ScanRefused.TheVariants as refusals
+use Rattle.mcap_model.specs.declared.refusals.ReadingRefused.{ReadingRefused}
+use Rattle.mcap_model.specs.declared.refusals.ReadingRefused.TheVariants as refusals
 use Rattle.mcap_scan.specs.declared.answers.Step.{Step}
 use Rattle.mcap_scan.specs.declared.answers.Step.TheVariants as steps
 use Rattle.mcap_scan.specs.declared.reader.Stage.{Stage}
@@ -75,7 +75,7 @@ pub record MemoryStands (before now : SourceState) (tops : List Top) : Type 0 wh
   pub leaves : (bytes : List ℕ) → before.left ≡ Some bytes → MemoryLeaves bytes tops now.left
 
 -- what a refusal says, behind the records that were given
-abbrev pub RefusalStands : ScanRefused → SourceState → SourceState → List Top → Type 0
+abbrev pub RefusalStands : ReadingRefused → SourceState → SourceState → List Top → Type 0
 RefusalStands (refusals.Fault faults) before now tops = FaultStands faults before now tops
 RefusalStands (refusals.Grammar offset rule) before now tops = HaltsSo before now tops (grammar offset rule)
 RefusalStands (refusals.Compressed offset name) before now tops = HaltsSo before now tops (compressed offset name)
@@ -134,7 +134,7 @@ pub record Finds (reader : Reader) (before now : SourceState) (tops : List Top) 
 
 -- the reader keeps a refusal
 pub record Refuses (reader : Reader) (before now : SourceState) (tops : List Top) : Type 0 where
-  pub why : ScanRefused
+  pub why : ReadingRefused
   pub stage : reader.stage ≡ stages.Stopped why
   pub stands : RefusalStands why before now tops
 
@@ -151,26 +151,26 @@ IsOver stages.Ended = Unit {0}
 IsOver (stages.Stopped why) = Unit {0}
 
 -- What the judging of a record at that offset refuses. The name of a compression is copied.
-abbrev pub RefusedAt : ℕ → Judged → Option ScanRefused → Type 0
+abbrev pub RefusedAt : ℕ → Judged → Option ReadingRefused → Type 0
 RefusedAt at judged.Fits why = why ≡ None
 RefusedAt at (judged.Breaks rule) why = why ≡ Some (refusals.Grammar at rule)
 RefusedAt at (judged.Compressed name) why = (why ≡ Some (refusals.Compressed at name.now)) ⊎ (why ≡ Some refusals.Memory)
 RefusedAt at judged.Memory why = why ≡ Some refusals.Memory
 
 -- What a record that was taken at that offset, or its refusal, makes of the offset and the stage.
-abbrev pub Given : ℕ → ℕ → ℕ → Stage → ℕ → Option ScanRefused → Step → Type 0
+abbrev pub Given : ℕ → ℕ → ℕ → Stage → ℕ → Option ReadingRefused → Step → Type 0
 Given at len offset stage op None step = (step ≡ steps.Record op at) × (offset ≡ min (min (at + 9) (2 ^ 64 - 1) + len) (2 ^ 64 - 1)) × (stage ≡ (if op == 15 then stages.Ended else stages.Inside))
 Given at len offset stage op (Some why) step = (step ≡ steps.Refused) × (stage ≡ stages.Stopped why)
 
 -- the refusal that a reader keeps
-abbrev pub KeptBy : Reader → Option (Bor ScanRefused) → Type 0
+abbrev pub KeptBy : Reader → Option (Bor ReadingRefused) → Type 0
 KeptBy reader (Some why) = reader.stage ≡ stages.Stopped why.now
-KeptBy reader None = (why : ScanRefused) → reader.stage ≡ stages.Stopped why → ⊥
+KeptBy reader None = (why : ReadingRefused) → reader.stage ≡ stages.Stopped why → ⊥
 
 -- that refusal, handed out
-abbrev pub HandsOut : Reader → Option ScanRefused → Type 0
+abbrev pub HandsOut : Reader → Option ReadingRefused → Type 0
 HandsOut reader (Some why) = reader.stage ≡ stages.Stopped why
-HandsOut reader None = (why : ScanRefused) → reader.stage ≡ stages.Stopped why → ⊥
+HandsOut reader None = (why : ReadingRefused) → reader.stage ≡ stages.Stopped why → ⊥
 
 -- the Data End was given, or the reading was refused
 abbrev pub IsDone : Reader → Type 0

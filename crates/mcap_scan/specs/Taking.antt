@@ -9,35 +9,35 @@ use Rattle.mcap_model.specs.Tops.{Top, offset_behind, has_head, opcode, declared
 use Rattle.mcap_model.specs.Rules.{V1}
 use Rattle.mcap_model.specs.Kept.{reading_limits, is_beyond, Halt, grammar, beyond, IsDue, HaltsThere}
 use Rattle.mcap_scan.specs.Sources.{unread_behind, ReadWithin}
-use Rattle.mcap_scan.specs.declared.answers.ScanRefused.{ScanRefused}
-use Rattle.mcap_scan.specs.declared.answers.ScanRefused.TheVariants as refusals
+use Rattle.mcap_model.specs.declared.refusals.ReadingRefused.{ReadingRefused}
+use Rattle.mcap_model.specs.declared.refusals.ReadingRefused.TheVariants as refusals
 
 -- ---- why a source couldn't be read
 
 -- the refusal for a read that failed
-abbrev pub Failure : ℕ → ReadRefused → ScanRefused → Type 0
+abbrev pub Failure : ℕ → ReadRefused → ReadingRefused → Type 0
 Failure faults reads.Failed why = why ≡ refusals.Fault faults
 Failure faults reads.Memory why = why ≡ refusals.Memory
 
 -- the count of faults stands still but at a fault, which carries it, and where it rose by one
-abbrev pub RefusalCause : ℕ → ℕ → ScanRefused → Type 0
+abbrev pub RefusalCause : ℕ → ℕ → ReadingRefused → Type 0
 RefusalCause before now (refusals.Fault faults) = RisesOnce before now × (faults ≡ now)
 RefusalCause before now why = now ≡ before
 
-abbrev pub TakingCause : {T : Type 0} → ℕ → ℕ → Result T ScanRefused → Type 0
+abbrev pub TakingCause : {T : Type 0} → ℕ → ℕ → Result T ReadingRefused → Type 0
 TakingCause before now (Ok it) = now ≡ before
 TakingCause before now (Err why) = RefusalCause before now why
 
 -- ---- the magic
 
-abbrev pub MagicRefused : List ℕ → Option (List ℕ) → ScanRefused → Type 0
+abbrev pub MagicRefused : List ℕ → Option (List ℕ) → ReadingRefused → Type 0
 MagicRefused bytes left (refusals.Fault faults) = (n : ℕ) × (left ≡ Some (drop n bytes)) × (length (take n bytes) < 8)
 MagicRefused bytes left (refusals.Grammar offset rule) = (offset ≡ 0) × (rule ≡ 1) × (V1 bytes → ⊥) × (left ≡ Some (drop 8 bytes))
 MagicRefused bytes left (refusals.Compressed offset name) = ⊥
 MagicRefused bytes left (refusals.Limit offset) = ⊥
 MagicRefused bytes left refusals.Memory = left ≡ Some bytes
 
-abbrev pub MagicTaken : List ℕ → Option (List ℕ) → Result Unit ScanRefused → Type 0
+abbrev pub MagicTaken : List ℕ → Option (List ℕ) → Result Unit ReadingRefused → Type 0
 MagicTaken bytes left (Ok it) = (rest : List ℕ) × (left ≡ Some rest) × (bytes ≡ magic ++ rest)
 MagicTaken bytes left (Err why) = MagicRefused bytes left why
 
@@ -64,14 +64,14 @@ abbrev pub DueAny : List ℕ → ℕ → Type 0
 DueAny rest at = (tops : List Top) → at ≡ offset_behind tops → IsDue reading_limits tops rest
 
 -- why no record could be taken from the front of what was left, at that offset
-abbrev pub RecordRefused : List ℕ → ℕ → Option (List ℕ) → ScanRefused → Type 0
+abbrev pub RecordRefused : List ℕ → ℕ → Option (List ℕ) → ReadingRefused → Type 0
 RecordRefused rest at left (refusals.Fault faults) = (n : ℕ) × (left ≡ Some (drop n rest)) × HaltsAny (take n rest) at (grammar at 4)
 RecordRefused rest at left (refusals.Grammar offset rule) = HaltsAny rest at (grammar offset rule) × (left ≡ Some (unread_behind rest (grammar offset rule)))
 RecordRefused rest at left (refusals.Compressed offset name) = ⊥
 RecordRefused rest at left (refusals.Limit offset) = HaltsAny rest at (beyond offset) × (left ≡ Some (unread_behind rest (beyond offset)))
 RecordRefused rest at left refusals.Memory = (left ≡ Some rest) ⊎ (DueAny rest at × ReadWithin rest left)
 
-abbrev pub HeadTaken : List ℕ → ℕ → Option (List ℕ) → Result Head ScanRefused → Type 0
+abbrev pub HeadTaken : List ℕ → ℕ → Option (List ℕ) → Result Head ReadingRefused → Type 0
 HeadTaken rest at left (Ok head) = TakesHead rest left head.op head.len
 HeadTaken rest at left (Err why) = RecordRefused rest at left why
 
@@ -81,7 +81,7 @@ pub record TakesRecord (rest : List ℕ) (left : Option (List ℕ)) (op : ℕ) (
   pub split : rest ≡ framed op content ++ after
   pub left_after : left ≡ Some after
 
-abbrev pub RecordTaken : List ℕ → ℕ → Option (List ℕ) → List ℕ → Result ℕ ScanRefused → Type 0
+abbrev pub RecordTaken : List ℕ → ℕ → Option (List ℕ) → List ℕ → Result ℕ ReadingRefused → Type 0
 RecordTaken rest at left content (Ok op) = TakesRecord rest left op content
 RecordTaken rest at left content (Err why) = RecordRefused rest at left why
 

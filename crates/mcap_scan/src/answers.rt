@@ -1,6 +1,5 @@
 //! What a scanner answers.
-use mcap_wire::{Bytes, Memory, Text};
-use std::alloc::Global;
+use mcap_wire::Bytes;
 
 /// What comes next in a file. Offsets are in bytes from the file's front; the content of a record is lent by the scanner.
 #[derive(Clone, Copy)]
@@ -19,21 +18,4 @@ pub enum Top {
     Record { op: u8, offset: u64, content: Bytes },
     /// The offset behind the Data End.
     End { offset: u64 },
-}
-
-/// Why a file isn't read on.
-#[derive(Drop)]
-pub enum ScanRefused {
-    /// The source failed, and this is its count of faults.
-    Fault { faults: u64 },
-    /// The rule of that number is broken by the record at that offset; by the file's front, at offset 0, where the magic
-    /// is missing.
-    Grammar { offset: u64, rule: u8 },
-    /// The Chunk at that offset names that compression.
-    Compressed { offset: u64, name: Text },
-    /// The record at that offset has a content of more than 268,435,456 bytes, or an end more than 2^40 bytes from the
-    /// file's front. Its content wasn't read.
-    Limit { offset: u64 },
-    /// Memory lacked for a record, or for a copy of its content.
-    Memory,
 }

@@ -8,7 +8,7 @@ mod lent;
 mod reader;
 mod scanner;
 
-pub use answers::{ScanRefused, Step, Top};
+pub use answers::{Step, Top};
 pub use lent::Lent;
 pub use reader::Reader;
 pub use scanner::Scanner;

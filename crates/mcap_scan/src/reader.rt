@@ -1,10 +1,10 @@
 //! Reading the records of a file from a source that is handed in at each call.
 ghost use Rattle.mcap_scan.specs.Scanning.{RefusedAt};
 
-use crate::answers::{ScanRefused, Step};
+use crate::answers::Step;
 use crate::heads::{take_magic, take_record};
 use mcap_io::{Room, Source};
-use mcap_model::{Judged, Tables, judge, judge_first};
+use mcap_model::{Judged, ReadingRefused, Tables, judge, judge_first};
 use mcap_wire::{Memory, Text};
 use rec_data::DATA_END;
 use std::alloc::Global;
@@ -19,22 +19,22 @@ pub(crate) enum Stage {
     /// The Data End was given.
     Ended,
     /// The reading was refused.
-    Stopped { why: ScanRefused },
+    Stopped { why: ReadingRefused },
 }
 
 // What the judging of a record at that offset refuses.
 #[inline(always)]
-fn refused_at(alloc: Global, offset: u64, judged: Judged<'_>) -> Option<ScanRefused>
+fn refused_at(alloc: Global, offset: u64, judged: Judged<'_>) -> Option<ReadingRefused>
     ensures { RefusedAt offset judged.entry result }
 {
     match judged {
         Judged::Fits => return None,
-        Judged::Breaks { rule } => return Some(ScanRefused::Grammar { offset, rule }),
+        Judged::Breaks { rule } => return Some(ReadingRefused::Grammar { offset, rule }),
         Judged::Compressed { name } => match Text::copied(alloc, name) {
-            Ok(name) => return Some(ScanRefused::Compressed { offset, name }),
-            Err(_) => return Some(ScanRefused::Memory),
+            Ok(name) => return Some(ReadingRefused::Compressed { offset, name }),
+            Err(_) => return Some(ReadingRefused::Memory),
         },
-        Judged::Memory => return Some(ScanRefused::Memory),
+        Judged::Memory => return Some(ReadingRefused::Memory),
     }
 }
 
@@ -107,7 +107,7 @@ impl Reader {
     }
 
     /// Why the reading was refused, where it was.
-    pub fn refusal(&self) -> Option<&ScanRefused>
+    pub fn refusal(&self) -> Option<&ReadingRefused>
         ensures { KeptBy self.now result }
     {
         match &self.stage {
@@ -117,7 +117,7 @@ impl Reader {
     }
 
     /// Why the reading was refused, where it was, handed out at its end.
-    pub fn into_refusal(self) -> Option<ScanRefused>
+    pub fn into_refusal(self) -> Option<ReadingRefused>
         ensures { HandsOut self result }
     {
         let Reader {
@@ -132,7 +132,7 @@ impl Reader {
     }
 
     // The refusal in a stage. A reader has more to let go, which is done at one place so.
-    fn refusal_in(stage: Stage) -> Option<ScanRefused>
+    fn refusal_in(stage: Stage) -> Option<ReadingRefused>
         ensures { (reader : Whole) → reader.stage ≡ stage → HandsOut reader result }
     {
         match stage {
@@ -143,7 +143,7 @@ impl Reader {
 
     // Keeps the refusal.
     #[inline(never)]
-    pub(crate) fn stop(&mut self, why: ScanRefused) -> Step
+    pub(crate) fn stop(&mut self, why: ReadingRefused) -> Step
         ensures step { result ≡ Step.Refused }
         ensures stage { self.new.stage ≡ Stage.Stopped why }
         ensures room { self.new.room ≡ self.old.room }
@@ -170,7 +170,7 @@ impl Reader {
 
     // Gives the record that was read and judged, or refuses it.
     #[inline(always)]
-    fn give(&mut self, op: u8, refused: Option<ScanRefused>) -> Step
+    fn give(&mut self, op: u8, refused: Option<ReadingRefused>) -> Step
         ensures given { Given self.old.offset (length (held_in self.old.room)) self.new.offset self.new.stage op refused result }
         ensures room { self.new.room ≡ self.old.room }
         ensures tables { self.new.tables ≡ self.old.tables }

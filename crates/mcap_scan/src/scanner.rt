@@ -1,15 +1,16 @@
 //! A scanner: a reader with its source.
 ghost use Rattle.std.specs.Prelude.{◌≡◌, ℕ, List, [], Option, IfOk, IfErr};
 ghost use Rattle.mcap_model.specs.Tops.{Top as Record};
-ghost use Rattle.mcap_scan.specs.declared.answers.ScanRefused.{ScanRefused as Refusal};
+ghost use Rattle.mcap_model.specs.declared.refusals.ReadingRefused.{ReadingRefused as Refusal};
 ghost use Rattle.mcap_scan.specs.declared.reader.Stage.TheVariants as stages;
 ghost use Rattle.mcap_scan.specs.Scanning.{IsLast, Moves, content_of};
 ghost use Rattle.mcap_io.specs.Outside.{SourceState};
 ghost use Rattle.mcap_scan.specs.Scanners.{Scans, Steps, TellsAgain, Copies, step_of, IsScanned, KeptIn, source_of, scanned_content, scanned_offset};
 
-use crate::answers::{ScanRefused, Step, Top};
+use crate::answers::{Step, Top};
 use crate::reader::Reader;
 use mcap_io::Source;
+use mcap_model::ReadingRefused;
 use mcap_wire::{Bytes, Memory, Text};
 use std::alloc::Global;
 
@@ -22,38 +23,38 @@ pub struct Scanner<S> {
 }
 
 // The same refusal once more.
-fn again(alloc: Global, why: &ScanRefused) -> ScanRefused
+fn again(alloc: Global, why: &ReadingRefused) -> ReadingRefused
     ensures { TellsAgain why.now result }
 {
     match why {
-        ScanRefused::Fault { faults } => return ScanRefused::Fault { faults: *faults },
-        ScanRefused::Grammar { offset, rule } => {
-            return ScanRefused::Grammar {
+        ReadingRefused::Fault { faults } => return ReadingRefused::Fault { faults: *faults },
+        ReadingRefused::Grammar { offset, rule } => {
+            return ReadingRefused::Grammar {
                 offset: *offset,
                 rule: *rule,
             };
         }
-        ScanRefused::Compressed { offset, name } => match Text::copied(alloc, name.as_str()) {
+        ReadingRefused::Compressed { offset, name } => match Text::copied(alloc, name.as_str()) {
             Ok(name) => {
-                return ScanRefused::Compressed {
+                return ReadingRefused::Compressed {
                     offset: *offset,
                     name,
                 };
             }
-            Err(_) => return ScanRefused::Memory,
+            Err(_) => return ReadingRefused::Memory,
         },
-        ScanRefused::Limit { offset } => return ScanRefused::Limit { offset: *offset },
-        ScanRefused::Memory => return ScanRefused::Memory,
+        ReadingRefused::Limit { offset } => return ReadingRefused::Limit { offset: *offset },
+        ReadingRefused::Memory => return ReadingRefused::Memory,
     }
 }
 
 // The refusal that a reader keeps, once more.
-fn refusal_of(alloc: Global, reader: &Reader) -> ScanRefused
+fn refusal_of(alloc: Global, reader: &Reader) -> ReadingRefused
     ensures { (kept : Refusal) → reader.now.stage ≡ stages.Stopped kept → TellsAgain kept result }
 {
     match reader.refusal() {
         Some(why) => return again(alloc, why),
-        None => return ScanRefused::Memory,
+        None => return ReadingRefused::Memory,
     }
 }
 
@@ -111,7 +112,7 @@ impl<S: Source> Scanner<S> {
     }
 
     /// Why the reading was refused, where it was.
-    pub fn refusal(&self) -> Option<&ScanRefused>
+    pub fn refusal(&self) -> Option<&ReadingRefused>
         ensures { KeptIn self.now result }
     {
         self.reader.refusal()
@@ -119,7 +120,7 @@ impl<S: Source> Scanner<S> {
 
     /// Reads the next record as `advance` does, and copies its content. Where memory lacks for the copy the reading is
     /// refused for good.
-    pub fn next(&mut self) -> Result<Top, ScanRefused>
+    pub fn next(&mut self) -> Result<Top, ReadingRefused>
         ensures steps { (before : SourceState) (tops : List Record) → Scans S.state self.old before tops
             → Steps S.state self.new before tops (step_of result) × Copies self.new result }
         ensures moves { Moves (scanned_offset self.old) (scanned_offset self.new) (step_of result) }
@@ -130,8 +131,8 @@ impl<S: Source> Scanner<S> {
             Step::Record { op, offset } => match copied(self.alloc, &self.reader, op, offset) {
                 Ok(record) => return Ok(record),
                 Err(_) => {
-                    let _ = self.reader.stop(ScanRefused::Memory);
-                    return Err(ScanRefused::Memory);
+                    let _ = self.reader.stop(ReadingRefused::Memory);
+                    return Err(ReadingRefused::Memory);
                 }
             },
             Step::End { offset } => return Ok(Top::End { offset }),

@@ -9,7 +9,7 @@ use Rattle.mcap_model.proofs.PlacesApart.{places_differ}
 use Rattle.mcap_model.proofs.plain.scan_plain.Goals as goal
 
 pub returns-then-not-has_magic : goal.returns-then-not-has_magic
-returns-then-not-has_magic c = ([], 1, unread c.args.bytes.now (λ magic. both_ways c.has_magic.result c.if-not-has_magic.true (c.has_magic.ensures.1 magic)))
+returns-then-not-has_magic c = ([], unread c.args.bytes.now (λ magic. both_ways c.has_magic.result c.if-not-has_magic.true (c.has_magic.ensures.1 magic)))
 
 pub records-init : goal.records-init
 records-init c = scan_begins c.args.bytes.now c.new-tables.result c.new-shown.result.items (c.has_magic.ensures.0 c.if-not-has_magic.false) c.new-tables.ensures.schemas c.new-tables.ensures.channels c.new-shown.ensures.items
