@@ -1,0 +1,4 @@
+pub mod Walked
+mod Steps
+mod Chunks
+mod Listed
