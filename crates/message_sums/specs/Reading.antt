@@ -3,11 +3,10 @@ use Rattle.std.specs.Prelude.{◌≡◌, ℕ, List, map, filter, Result, Ok, Err
 use Rattle.std.specs.List.{AllZip, fold}
 use Rattle.mcap_io.specs.Outside.{SourceState}
 use Rattle.rec_data.specs.Fields.{MessageFields}
-use Rattle.mcap_model.specs.Tops.{Top, Placed, placed_one}
-use Rattle.mcap_model.specs.Rules.{V6}
+use Rattle.mcap_model.specs.Tops.{Top, Placed}
 use Rattle.mcap_model.specs.Kept.{at_end}
 use Rattle.mcap_model.specs.Scan.{Seen, IsSeen, Scan, is_message_top}
-use Rattle.mcap_scan.specs.declared.answers.ScanRefused.{ScanRefused}
+use Rattle.mcap_model.specs.declared.refusals.ReadingRefused.{ReadingRefused}
 use Rattle.mcap_scan.specs.Scanning.{HaltsSo, RefusalStands}
 use Rattle.message_sums.specs.declared.sums.Sums.{Sums}
 use Rattle.message_sums.specs.Sums.{sums_of, with_message}
@@ -24,10 +23,6 @@ with_messages sums messages = fold with_message sums (fields_of messages)
 abbrev pub Adds : List Placed → Sums → Sums → Type 0
 Adds ps old new = (records : List Top) (messages : List Seen) → AllZip (IsSeen records) (filter (λ p. is_message_top p.top) ps) messages → new ≡ with_messages old messages
 
--- those that a record is or holds whose content meets its layout
-abbrev pub AddsRecord : Top → Sums → Sums → Type 0
-AddsRecord t old new = (offset : ℕ) → V6 t → Adds (placed_one offset t) old new
-
 -- The source was read to its Data End, and these are the sums of its messages. Where it told its bytes, this is their reading.
 pub record SumsAll (before now : SourceState) (sums : Sums) : Type 0 where
   pub tops : List Top
@@ -38,6 +33,6 @@ pub record SumsAll (before now : SourceState) (sums : Sums) : Type 0 where
   pub sums_are : sums ≡ sums_of (fields_of messages)
 
 -- or the reading was refused behind some records, for that reason
-abbrev pub SumsUp : SourceState → SourceState → Result Sums ScanRefused → Type 0
+abbrev pub SumsUp : SourceState → SourceState → Result Sums ReadingRefused → Type 0
 SumsUp before now (Ok sums) = SumsAll before now sums
 SumsUp before now (Err why) = (tops : List Top) × RefusalStands why before now tops

@@ -1,147 +1,170 @@
 -- What a replay has kept so far, and what it comes to.
-use Rattle.std.proofs.Common.{◌≡◌, ℕ, zero, suc, Bool, true, List, [], ◌∷◌, ◌++◌, length, map, refl, sym, ap, subst, ◌∙◌, cond, Option, Some, None}
-use Rattle.std.specs.Prelude.{filter, AllPairs, IsPermutation}
+use Rattle.std.proofs.Common.{◌≡◌, ℕ, suc, Bool, true, false, List, [], ◌∷◌, ◌++◌, map, refl, sym, ap, subst, ◌∙◌, append_assoc, append-nil, cond, Option, Some, None}
+use Rattle.std.specs.Prelude.{filter, ◌==◌, AllPairs, IsPermutation}
 use Rattle.std.specs.Bool.{Decides}
-use Rattle.std.specs.List.{AllZip}
+use Rattle.std.specs.List.{AllZip, list_any}
 use Rattle.std.proofs.lemmas.Bool.Decides.{Decides-and}
+use Rattle.std.proofs.lemmas.Bool.{eqb-true}
+use Rattle.std.proofs.lemmas.List.{map-append}
 use Rattle.std.proofs.lemmas.List.Elements.{filter-append}
 use Rattle.std.proofs.lemmas.List.Kept.{AllPairs-filter}
 use Rattle.std.proofs.lemmas.List.Sorted.{Contains-permutation}
-use Rattle.std.proofs.lemmas.Grind.{flat_map-append}
 use Rattle.std.specs.Cmp.Lexicographic.{bytes_decides}
+use Rattle.mcap_model.specs.declared.replay.Place.{Place}
 use Rattle.mcap_model.specs.declared.replay.Range.{Range}
 use Rattle.mcap_model.specs.declared.replay.Shown.{Shown}
 use Rattle.mcap_model.specs.declared.replay.Topic.{Topic}
 use Rattle.mcap_model.specs.declared.replay.Replayed.{Replayed}
 use Rattle.mcap_model.specs.declared.tables.Tables.{Tables}
-use Rattle.mcap_model.specs.Places.{At, Has}
-use Rattle.mcap_model.specs.Tops.{Top, Placed, placed, placed_one, flat, flattened, offset_behind}
-use Rattle.mcap_model.specs.Rules.{V6}
-use Rattle.mcap_model.specs.Kept.{reading_limits, Good}
-use Rattle.mcap_model.specs.Scan.{Seen, IsSeen, Scan, OnTopic, IsAsked, tops_of}
+use Rattle.mcap_model.specs.Places.{Has, At, EachBehind}
+use Rattle.mcap_model.specs.Tops.{Top, Placed, placed, is_flat_kind}
+use Rattle.mcap_model.specs.Tops.{flat as flat_tops}
+use Rattle.mcap_model.specs.Rules.{Agrees}
+use Rattle.mcap_model.specs.Kept.{reading_limits}
+use Rattle.mcap_model.specs.Scan.{Seen, HasTopic, IsSeen, OnTopic, IsAsked, tops_of}
 use Rattle.mcap_model.specs.Showing.{shown_as, Shows}
-use Rattle.mcap_model.specs.Made.{top}
 use Rattle.mcap_model.specs.Plain.{is_used, is_within, is_chosen, AreNamed, PlacesDiffer, InOrder, IsShown}
-use Rattle.mcap_model.proofs.Places.{at_none}
+use Rattle.mcap_model.proofs.Places.{at_kept, each_at}
 use Rattle.mcap_model.proofs.Lists.{pairs_at, pairs_from, filter_passed, filter_has}
 use Rattle.std.proofs.lemmas.Option.{same_Some}
-use Rattle.mcap_model.proofs.Flat.{at_mapped, placed_tops, good_lists_agree, good_lists_are_scanned}
-use Rattle.mcap_model.proofs.ShownMessages.{is_message_placed, placed_joined, zip_joined}
+use Rattle.mcap_model.proofs.Flat.{at_mapped, placed_tops, topic_once, good_lists_agree, good_lists_are_scanned}
+use Rattle.mcap_model.proofs.ShownMessages.{is_message_placed}
 use Rattle.mcap_model.proofs.NamedTopics.{AreKnown, known_all, are_channels, are_declared, topics_right, unmapped, contained, has_there}
 use Rattle.mcap_model.proofs.PlacesApart.{places_differ}
 use Rattle.mcap_model.proofs.Replays.{IsPut, replayed, asked_decided, range_decided, used_there}
-use Rattle.mcap_scan.specs.declared.reader.Reader.{Reader}
 use Rattle.mcap_io.specs.Outside.{SourceState}
-use Rattle.mcap_scan.specs.Scanning.{Stands, Gives, Finds, content_of}
-use Rattle.mcap_scan.proofs.Scanning.{tables_stand, good_stand}
-use Rattle.time_player.specs.Asking.{is_topic, is_asked, Knows, KeepsRecord}
-use Rattle.time_player.specs.Replaying.{IsTold, IsPlayed}
+use Rattle.mcap_scan.specs.Scanning.{IsGoing}
+use Rattle.mcap_scan.proofs.Scanning.{tables_stand, good_stand, lacks_behind}
+use Rattle.record_walk.specs.declared.flat_reader.FlatReader.{FlatReader}
+use Rattle.record_walk.specs.Walking.{flat_content, flat_tables, ahead_of, placed_at, FlatStands, FlatGives, FlatFinds}
+use Rattle.record_walk.proofs.Walked.{walked_flat_tops, walked_messages}
+use Rattle.time_player.specs.Asking.{is_topic, is_asked, Knows, KeepsAmong, Keeps}
+use Rattle.time_player.specs.Replaying.{IsTold, IsPlayed, KeepsAll}
 use Rattle.time_player.proofs.Chosen.{kept, kept_joined, zip_parts}
 
 -- ---- records that are read
 
--- the reader stands for records, and of their messages those that are asked for are kept
-pub record PlaysSoFar (range : Range) (topic : Option (List ℕ)) (reader : Reader) (before now : SourceState) (shown : List Shown) : Type 0 where
-  pub tops : List Top
-  pub messages : List Seen
-  pub stands : Stands reader before now tops
-  pub scan : Scan tops messages
-  pub kept_are : shown ≡ kept range topic messages
+abbrev is_flat_placed : Placed → Bool
+is_flat_placed p = is_flat_kind p.top
 
--- a message is seen among more records too
-seen_more : (records more : List Top) (p : Placed) (m : Seen) → IsSeen records p m → IsSeen (records ++ more) p m
-seen_more records more p m seen =
-    let known = seen.known in
+-- the Schemas, Channels and Messages among those that were given
+abbrev pub records_of : List Placed → List Top
+records_of given = tops_of (filter is_flat_placed given)
+
+records_joined : (ps qs : List Placed) → records_of (ps ++ qs) ≡ records_of ps ++ records_of qs
+records_joined ps qs = ap tops_of (filter-append is_flat_placed ps qs) ∙ map-append (λ (p : Placed). p.top) (filter is_flat_placed ps) (filter is_flat_placed qs)
+
+-- of the messages that were given those that are asked for are kept, whatever stands behind them
+abbrev pub KeepsGiven : Range → Option (List ℕ) → List Placed → List Shown → Type 0
+KeepsGiven range topic given shown = (more : List Top) → EachBehind Agrees (records_of given ++ more) → KeepsAmong range topic (records_of given ++ more) given [] shown
+
+-- the reader stands for records, and of the messages that it gave those that are asked for are kept
+pub record PlaysSoFar (range : Range) (topic : Option (List ℕ)) (flat : FlatReader) (before now : SourceState) (shown : List Shown) : Type 0 where
+  pub tops : List Top
+  pub given : List Placed
+  pub stands : FlatStands flat before now tops given
+  pub keeps : KeepsGiven range topic given shown
+
+-- nothing was read
+pub plays_begin : (range : Range) (topic : Option (List ℕ)) (flat : FlatReader) (before : SourceState) (shown : List Shown) → FlatStands flat before before [] [] → shown ≡ [] → PlaysSoFar range topic flat before before shown
+plays_begin range topic flat before shown stands none = record { tops = []; given = []; stands = stands; keeps = λ more agree messages zip. none ∙ by (records_of [] ++ more) messages zip }
+  where
+    by : (records : List Top) (messages : List Seen) → AllZip (IsSeen records) [] messages → [] ≡ kept range topic messages
+    by records [] zip = refl
+    by records (m ∷ ms) zip = absurd zip
+
+-- ---- a record more
+
+-- a Message's channel stands among the records in front of it, so it is seen whatever stands behind it
+seen_again : (front more others : List Top) (p : Placed) (m : Seen) → EachBehind Agrees (front ++ p.top ∷ more) → IsSeen (front ++ p.top ∷ more) p m → IsSeen (front ++ others) p m
+seen_again front more others p m agree seen =
+    let here = each_at Agrees front p.top more agree in
+    let has = here.channel m.channel m.message seen.is in
+    let one : HasTopic (front ++ p.top ∷ more) m.channel has.shown.topic = record { place = has.place; top = has.top; shown = has.shown; at = at_kept front (p.top ∷ more) has.place has.top has.at; is = has.is; topic_is = refl } in
+    let same = topic_once (front ++ p.top ∷ more) m.channel has.shown.topic m.topic agree one seen.known in
     record {
       place = seen.place;
       is = seen.is;
-      known = record { place = known.place; top = known.top; shown = known.shown; at = at_front records known.place known.top known.at; is = known.is; topic_is = known.topic_is };
+      known = record { place = has.place; top = has.top; shown = has.shown; at = at_kept front others has.place has.top has.at; is = has.is; topic_is = same };
     }
+
+-- what is seen of one record
+zip_again : (records others : List Top) (p : Placed) (ms : List Seen) → (p.top.op ≡ 5 → (m : Seen) → IsSeen records p m → IsSeen others p m) → AllZip (IsSeen records) (filter is_message_placed (p ∷ [])) ms → AllZip (IsSeen others) (filter is_message_placed (p ∷ [])) ms
+zip_again records others p ms again = by (is_message_placed p) refl ms
   where
-    at_front : (xs : List Top) (n : ℕ) (x : Top) → At xs n x → At (xs ++ more) n x
-    at_front [] n x at = absurd (at_none n x at)
-    at_front (y ∷ xs) zero x at = at
-    at_front (y ∷ xs) (suc n) x at = at_front xs n x at
+    by : (b : Bool) → is_message_placed p ≡ b → (ms : List Seen) → AllZip (IsSeen records) (cond b (p ∷ []) []) ms → AllZip (IsSeen others) (cond b (p ∷ []) []) ms
+    by true is [] zip = absurd zip
+    by true is (m ∷ []) zip = (again (eqb-true p.top.op 5 is) m zip.0, tt)
+    by true is (m ∷ n ∷ ms) zip = absurd zip.1
+    by false is [] zip = tt
+    by false is (m ∷ ms) zip = absurd zip
 
-zip_more : (records more : List Top) (ps : List Placed) (ms : List Seen) → AllZip (IsSeen records) ps ms → AllZip (IsSeen (records ++ more)) ps ms
-zip_more records more [] [] zip = tt
-zip_more records more [] (m ∷ ms) zip = absurd zip
-zip_more records more (p ∷ ps) [] zip = absurd zip
-zip_more records more (p ∷ ps) (m ∷ ms) zip = (seen_more records more p m zip.0, zip_more records more ps ms zip.1)
+-- a Message is one of the records
+alone : (p : Placed) → p.top.op ≡ 5 → records_of (p ∷ []) ≡ p.top ∷ []
+alone p is = ap (λ (b : Bool). tops_of (cond b (p ∷ []) [])) (ap (λ (n : ℕ). list_any (λ kind. kind == n) (3 ∷ 4 ∷ 5 ∷ [])) is)
 
--- the messages of the records with one more
-pub record ScansOn (tops : List Top) (t : Top) (messages : List Seen) : Type 0 where
-  pub more : List Seen
-  pub scan : Scan (tops ++ t ∷ []) (messages ++ more)
-  pub behind : AllZip (IsSeen (flat (tops ++ t ∷ []))) (filter is_message_placed (placed_one (offset_behind tops) t)) more
+keeps_on : (range : Range) (topic : Option (List ℕ)) (tables : Tables) (given : List Placed) (p : Placed) (behind : List Top) (old new : List Shown) → KeepsGiven range topic given old → Knows (records_of given ++ (records_of (p ∷ []) ++ behind)) tables → Keeps range topic tables (p ∷ []) old new
+    → KeepsGiven range topic (given ++ p ∷ []) new
+keeps_on range topic tables given p behind old new was knows keeps more agree messages zip =
+    let front = records_of given in
+    let one = records_of (p ∷ []) in
+    let split : records_of (given ++ p ∷ []) ++ more ≡ front ++ (one ++ more) = ap (λ (l : List Top). l ++ more) (records_joined given (p ∷ [])) ∙ append_assoc front one more in
+    let agreed = subst (EachBehind Agrees) split agree in
+    let zipped : AllZip (IsSeen (front ++ (one ++ more))) (filter is_message_placed given ++ filter is_message_placed (p ∷ [])) messages =
+    subst (λ (l : List Placed). AllZip (IsSeen (front ++ (one ++ more))) l messages) (filter-append is_message_placed given (p ∷ []))
+    (subst (λ (l : List Top). AllZip (IsSeen l) (filter is_message_placed (given ++ p ∷ [])) messages) split zip) in
+    let parts = zip_parts (IsSeen (front ++ (one ++ more))) (filter is_message_placed given) (filter is_message_placed (p ∷ [])) messages zipped in
+    let again : p.top.op ≡ 5 → (m : Seen) → IsSeen (front ++ (one ++ more)) p m → IsSeen (front ++ (one ++ behind)) p m = λ is m seen.
+    let front_there = ap (λ (l : List Top). front ++ (l ++ more)) (alone p is) in
+    seen_again front more (one ++ behind) p m (subst (EachBehind Agrees) front_there agreed) (subst (λ (l : List Top). IsSeen l p m) front_there seen) in
+    keeps (front ++ (one ++ behind)) knows parts.1 (zip_again (front ++ (one ++ more)) (front ++ (one ++ behind)) p parts.1 again parts.4)
+    ∙ ap (λ (l : List Shown). l ++ kept range topic parts.1) (was (one ++ more) agreed parts.0 parts.3)
+    ∙ sym (kept_joined range topic parts.0 parts.1)
+    ∙ ap (kept range topic) (sym parts.2)
 
-scans_on : (tops : List Top) (t : Top) (messages : List Seen) → Scan tops messages → Good reading_limits (tops ++ t ∷ []) → ScansOn tops t messages
-scans_on tops t messages scan good =
-    let all = tops ++ t ∷ [] in
-    let found = good_lists_are_scanned reading_limits all good in
-    let here : AllZip (IsSeen (flat all)) (filter is_message_placed (placed all)) found.0 = subst (λ (l : List Top). AllZip (IsSeen l) (filter is_message_placed (placed all)) found.0) (placed_tops 8 all) found.1 in
-    let split : filter is_message_placed (placed all) ≡ filter is_message_placed (placed tops) ++ filter is_message_placed (placed_one (offset_behind tops) t) =
-    ap (filter is_message_placed) (placed_joined 8 tops t) ∙ filter-append is_message_placed (placed tops) (placed_one (offset_behind tops) t) in
-    let parts = zip_parts (IsSeen (flat all)) (filter is_message_placed (placed tops)) (filter is_message_placed (placed_one (offset_behind tops) t)) found.0 (subst (λ (l : List Placed). AllZip (IsSeen (flat all)) l found.0) split here) in
-    let was : AllZip (IsSeen (flat tops)) (filter is_message_placed (placed tops)) messages = subst (λ (l : List Top). AllZip (IsSeen l) (filter is_message_placed (placed tops)) messages) (placed_tops 8 tops) scan in
-    let grown : AllZip (IsSeen (flat all)) (filter is_message_placed (placed tops)) messages = subst (λ (l : List Top). AllZip (IsSeen l) (filter is_message_placed (placed tops)) messages) (sym (flat_map-append flattened tops (t ∷ []))) (zip_more (flat tops) (flat (t ∷ [])) (filter is_message_placed (placed tops)) messages was) in
-    let joined = zip_joined (IsSeen (flat all)) (filter is_message_placed (placed tops)) (filter is_message_placed (placed_one (offset_behind tops) t)) messages parts.1 grown parts.4 in
-    record {
-      more = parts.1;
-      scan = subst (λ (l : List Top). AllZip (IsSeen l) (filter is_message_placed (placed all)) (messages ++ parts.1)) (sym (placed_tops 8 all)) (subst (λ (l : List Placed). AllZip (IsSeen (flat all)) l (messages ++ parts.1)) (sym split) joined);
-      behind = parts.4;
-    }
-
--- nothing was read
-pub plays_begin : (range : Range) (topic : Option (List ℕ)) (reader : Reader) (before : SourceState) (shown : List Shown) → Stands reader before before [] → shown ≡ [] → PlaysSoFar range topic reader before before shown
-plays_begin range topic reader before shown stands none = record { tops = []; messages = []; stands = stands; scan = tt; kept_are = none }
-
--- the last of good records meets its layout
-last_meets : (tops : List Top) (t : Top) → Good reading_limits (tops ++ t ∷ []) → V6 t
-last_meets tops t good = let fits = good (length tops) t (stands tops) in fits.v6
-  where
-    stands : (ts : List Top) → At (ts ++ t ∷ []) (length ts) t
-    stands [] = refl
-    stands (u ∷ us) = stands us
-
--- a record more
-pub plays_on : (range : Range) (topic : Option (List ℕ)) (reader reader_new : Reader) (before now now_new : SourceState) (old new : List Shown) (op offset : ℕ) (was : PlaysSoFar range topic reader before now old) → Gives reader_new before now_new was.tops op offset
-    → KeepsRecord range topic reader_new.tables offset (top op (content_of reader_new)) old new → PlaysSoFar range topic reader_new before now_new new
-plays_on range topic reader reader_new before now now_new old new op offset was gives keeps =
-    let t = top op (content_of reader_new) in
-    let all = was.tops ++ t ∷ [] in
-    let good = good_stand reader_new before now_new all gives.going gives.stands in
-    let are = tables_stand reader_new before now_new all gives.going gives.stands in
-    let on = scans_on was.tops t was.messages was.scan good in
-    let known = good_lists_agree reading_limits all good in
-    let knows : Knows (flat all) reader_new.tables = record { agree = known.1; tables_are = are } in
-    let behind = subst (λ (n : ℕ). AllZip (IsSeen (flat all)) (filter is_message_placed (placed_one n t)) on.more) (sym gives.place) on.behind in
-    record {
-      tops = all;
-      messages = was.messages ++ on.more;
-      stands = gives.stands;
-      scan = on.scan;
-      kept_are =
-          keeps (last_meets was.tops t good) (flat all) knows on.more behind
-          ∙ ap (λ (l : List Shown). l ++ kept range topic on.more) was.kept_are
-          ∙ sym (kept_joined range topic was.messages on.more);
-    }
-
--- the records that it stands for then
-pub plays_begin_tops : (range : Range) (topic : Option (List ℕ)) (reader : Reader) (before : SourceState) (shown : List Shown) (stands : Stands reader before before []) (none : shown ≡ []) → (plays_begin range topic reader before shown stands none).tops ≡ []
-unfolding plays_begin
-plays_begin_tops range topic reader before shown stands none = refl
-
-pub plays_on_tops : (range : Range) (topic : Option (List ℕ)) (reader reader_new : Reader) (before now now_new : SourceState) (old new : List Shown) (op offset : ℕ) (was : PlaysSoFar range topic reader before now old) (gives : Gives reader_new before now_new was.tops op offset)
-    (keeps : KeepsRecord range topic reader_new.tables offset (top op (content_of reader_new)) old new) → (plays_on range topic reader reader_new before now now_new old new op offset was gives keeps).tops ≡ was.tops ++ top op (content_of reader_new) ∷ []
-unfolding plays_on
-plays_on_tops range topic reader reader_new before now now_new old new op offset was gives keeps = refl
+pub plays_on : (range : Range) (topic : Option (List ℕ)) (flat flat_new : FlatReader) (before now now_new : SourceState) (old new : List Shown) (op : ℕ) (place : Place) (was : PlaysSoFar range topic flat before now old) → FlatGives flat_new before now_new was.tops was.given op place
+    → Keeps range topic (flat_tables flat_new) (placed_at place op (flat_content flat_new) ∷ []) old new → PlaysSoFar range topic flat_new before now_new new
+plays_on range topic flat flat_new before now now_new old new op place was gives keeps =
+    let p = placed_at place op (flat_content flat_new) in
+    let tops = gives.tops in
+    let stands = gives.stands in
+    let front = records_of was.given in
+    let behind = records_of (ahead_of flat_new) in
+    let are = tables_stand flat_new.reader before now_new tops gives.going stands.stands in
+    let good = good_stand flat_new.reader before now_new tops gives.going stands.stands in
+    let all : flat_tops tops ≡ front ++ (records_of (p ∷ []) ++ behind) =
+    sym (walked_flat_tops tops)
+    ∙ ap records_of stands.all
+    ∙ records_joined (was.given ++ p ∷ []) (ahead_of flat_new)
+    ∙ ap (λ (l : List Top). l ++ behind) (records_joined was.given (p ∷ []))
+    ∙ append_assoc front (records_of (p ∷ [])) behind in
+    let agree = (good_lists_agree reading_limits tops good).1 in
+    let knows : Knows (front ++ (records_of (p ∷ []) ++ behind)) (flat_tables flat_new) = subst (λ (l : List Top). Knows l (flat_tables flat_new)) all (record { agree = agree; tables_are = are }) in
+    record { tops = tops; given = was.given ++ p ∷ []; stands = stands; keeps = keeps_on range topic (flat_tables flat_new) was.given p behind old new was.keeps knows keeps }
 
 -- the Data End was given
-pub told_at_end : (range : Range) (topic : Option (List ℕ)) (reader reader_new : Reader) (before now now_new : SourceState) (shown : List Shown) (offset : ℕ) (was : PlaysSoFar range topic reader before now shown) → Finds reader_new before now_new was.tops offset → IsTold was.tops reader_new.tables was.messages
-told_at_end range topic reader reader_new before now now_new shown offset was finds =
+pub plays_end : (range : Range) (topic : Option (List ℕ)) (flat flat_new : FlatReader) (before now now_new : SourceState) (tables : Tables) (shown : List Shown) (offset : ℕ) (was : PlaysSoFar range topic flat before now shown) → tables ≡ flat_tables flat_new → FlatFinds flat_new before now_new was.tops was.given offset
+    → KeepsAll range topic before now_new tables shown
+plays_end range topic flat flat_new before now now_new tables shown offset was same found =
+    let tops = found.tops in
+    let finds = found.finds in
     let is = finds.is in
-    record { good = is.good; tables_are = is.tables_are; scan = was.scan }
+    let scan = good_lists_are_scanned reading_limits tops is.good in
+    let agree = (good_lists_agree reading_limits tops is.good).1 in
+    let all : records_of was.given ++ [] ≡ flat_tops tops = append-nil (records_of was.given) ∙ ap records_of found.whole ∙ walked_flat_tops tops in
+    let messages : filter is_message_placed (placed tops) ≡ filter is_message_placed was.given = sym (walked_messages tops) ∙ ap (filter is_message_placed) (sym found.whole) in
+    let zip : AllZip (IsSeen (records_of was.given ++ [])) (filter is_message_placed was.given) scan.0 =
+    subst (λ (l : List Placed). AllZip (IsSeen (records_of was.given ++ [])) l scan.0) messages
+    (subst (λ (l : List Top). AllZip (IsSeen l) (filter is_message_placed (placed tops)) scan.0) (placed_tops 8 tops ∙ sym all) scan.1) in
+    record {
+      tops = tops;
+      end = offset;
+      messages = scan.0;
+      halts = finds.halts;
+      lacks = lacks_behind flat_new.reader before now_new tops (subst IsGoing (sym finds.stage) tt) finds.stands;
+      told = subst (λ (t : Tables). IsTold tops t scan.0) (sym same) (record { good = is.good; tables_are = is.tables_are; scan = scan.1 });
+      kept_are = was.keeps [] (subst (EachBehind Agrees) (sym all) agree) scan.0 zip;
+    }
 
 -- ---- the end
 
@@ -186,11 +209,11 @@ kept_shown : (range : Range) (topic : Option (List ℕ)) (tops : List Top) (tabl
 kept_shown range topic tops tables messages all told same named =
     let chosen = filter (is_asked range topic) messages in
     let agree = good_lists_agree reading_limits tops told.good in
-    let zip : AllZip (IsSeen (flat tops)) (filter is_message_placed (placed tops)) messages = subst (λ (l : List Top). AllZip (IsSeen l) (filter is_message_placed (placed tops)) messages) (placed_tops 8 tops) told.scan in
-    let heard : AreKnown (flat tops) messages = known_all (flat tops) (filter is_message_placed (placed tops)) messages zip in
-    let known : AreKnown (flat tops) chosen = λ s has. heard s (filter_passed (is_asked range topic) messages has.0 s has.1).0 in
-    let have = named (are_channels (flat tops) tables told.tables_are) (are_declared (flat tops) tables chosen all.shown.items told.tables_are known same) in
-    record { shown = same; topics = topics_right (flat tops) tables chosen all.shown.items all.topics.items agree.1 told.tables_are known same have }
+    let zip : AllZip (IsSeen (flat_tops tops)) (filter is_message_placed (placed tops)) messages = subst (λ (l : List Top). AllZip (IsSeen l) (filter is_message_placed (placed tops)) messages) (placed_tops 8 tops) told.scan in
+    let heard : AreKnown (flat_tops tops) messages = known_all (flat_tops tops) (filter is_message_placed (placed tops)) messages zip in
+    let known : AreKnown (flat_tops tops) chosen = λ s has. heard s (filter_passed (is_asked range topic) messages has.0 s has.1).0 in
+    let have = named (are_channels (flat_tops tops) tables told.tables_are) (are_declared (flat_tops tops) tables chosen all.shown.items told.tables_are known same) in
+    record { shown = same; topics = topics_right (flat_tops tops) tables chosen all.shown.items all.topics.items agree.1 told.tables_are known same have }
 
 mapped_there : (chosen : List Seen) (m : Seen) → Has chosen m → Has (map shown_as chosen) (shown_as m)
 mapped_there chosen m has = (has.0, at_mapped shown_as chosen has.0 m has.1)

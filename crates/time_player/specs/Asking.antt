@@ -1,4 +1,4 @@
--- The messages of a record that are asked for, as a replay keeps them.
+-- The messages of records that are asked for, as a replay keeps them.
 use Rattle.std.specs.Prelude.{◌≡◌, ℕ, List, ◌++◌, map, filter, Bool, true, ◌&&◌, nat_eq, Option, Some, None}
 use Rattle.std.specs.List.{AllZip}
 use Rattle.std.specs.Cmp.Lexicographic.{pointwise}
@@ -6,8 +6,8 @@ use Rattle.mcap_model.specs.declared.replay.Range.{Range}
 use Rattle.mcap_model.specs.declared.replay.Shown.{Shown}
 use Rattle.mcap_model.specs.declared.tables.Tables.{Tables}
 use Rattle.mcap_model.specs.Places.{EachBehind}
-use Rattle.mcap_model.specs.Tops.{Top, Placed, placed_one}
-use Rattle.mcap_model.specs.Rules.{V6, Agrees}
+use Rattle.mcap_model.specs.Tops.{Top, Placed}
+use Rattle.mcap_model.specs.Rules.{Agrees}
 use Rattle.mcap_model.specs.Scan.{Seen, IsSeen, is_message_top}
 use Rattle.mcap_model.specs.Declarations.{TablesOf}
 use Rattle.mcap_model.specs.Showing.{shown_as}
@@ -33,7 +33,3 @@ KeepsAmong range topic records ps old new = (messages : List Seen) → AllZip (I
 -- the same among all records of which these are the tables
 abbrev pub Keeps : Range → Option (List ℕ) → Tables → List Placed → List Shown → List Shown → Type 0
 Keeps range topic tables ps old new = (records : List Top) → Knows records tables → KeepsAmong range topic records ps old new
-
--- of a record at that offset whose content meets its layout
-abbrev pub KeepsRecord : Range → Option (List ℕ) → Tables → ℕ → Top → List Shown → List Shown → Type 0
-KeepsRecord range topic tables offset t old new = V6 t → Keeps range topic tables (placed_one offset t) old new

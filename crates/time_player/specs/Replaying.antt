@@ -10,7 +10,7 @@ use Rattle.mcap_model.specs.Declarations.{TablesOf}
 use Rattle.mcap_model.specs.declared.replay.Shown.{Shown}
 use Rattle.mcap_model.specs.Showing.{shown_as, Shows}
 use Rattle.time_player.specs.Text.{cat_text}
-use Rattle.mcap_scan.specs.declared.answers.ScanRefused.{ScanRefused}
+use Rattle.mcap_model.specs.declared.refusals.ReadingRefused.{ReadingRefused}
 use Rattle.mcap_io.specs.Outside.{SourceState}
 use Rattle.mcap_scan.specs.Scanning.{HaltsSo, MemoryStands, RefusalStands}
 use Rattle.time_player.specs.declared.kept.Kept.{Kept}
@@ -44,7 +44,7 @@ pub record KeepsAll (range : Range) (topic : Option (List ℕ)) (before now : So
   pub told : IsTold tops tables messages
   pub kept_are : kept ≡ map shown_as (filter (is_asked range topic) messages)
 
-abbrev pub ReadsKept : Range → Option (List ℕ) → SourceState → SourceState → Result (Tables × Kept) ScanRefused → Type 0
+abbrev pub ReadsKept : Range → Option (List ℕ) → SourceState → SourceState → Result (Tables × Kept) ReadingRefused → Type 0
 ReadsKept range topic before now (Ok read) = KeepsAll range topic before now read.0 (kept_in read.1)
 ReadsKept range topic before now (Err why) = (tops : List Top) × RefusalStands why before now tops
 
@@ -58,7 +58,7 @@ pub record PlaysAll (range : Range) (topic : Option (List ℕ)) (before now : So
   pub played_are : IsPlayed range topic messages played
 
 -- or the reading was refused behind some records, for that reason
-abbrev pub Plays : Range → Option (List ℕ) → SourceState → SourceState → Result Replayed ScanRefused → Type 0
+abbrev pub Plays : Range → Option (List ℕ) → SourceState → SourceState → Result Replayed ReadingRefused → Type 0
 Plays range topic before now (Ok played) = PlaysAll range topic before now played
 Plays range topic before now (Err why) = (tops : List Top) × RefusalStands why before now tops
 
@@ -71,6 +71,6 @@ pub record PlaysAllLines (range : Range) (topic : Option (List ℕ)) (before now
   pub scan : Scan tops messages
   pub lines : AreLines range topic messages text
 
-abbrev pub PlaysLines : Range → Option (List ℕ) → SourceState → SourceState → Result (List ℕ) ScanRefused → Type 0
+abbrev pub PlaysLines : Range → Option (List ℕ) → SourceState → SourceState → Result (List ℕ) ReadingRefused → Type 0
 PlaysLines range topic before now (Ok text) = PlaysAllLines range topic before now text
 PlaysLines range topic before now (Err why) = (tops : List Top) × RefusalStands why before now tops

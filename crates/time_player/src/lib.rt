@@ -18,7 +18,6 @@ mod replaying;
 mod store_part;
 mod topics;
 
-pub use keeping::keep_messages;
 pub use kept::Kept;
 pub use lent::{Lent, lend};
 pub use line::add_line;

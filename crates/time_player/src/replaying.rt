@@ -5,21 +5,21 @@ ghost use Rattle.mcap_model.specs.Tops.{Top};
 ghost use Rattle.mcap_model.specs.Scan.{Seen, Scan};
 ghost use Rattle.mcap_model.specs.Plain.{asked_topic};
 ghost use Rattle.mcap_model.specs.Showing.{shown_as};
-ghost use Rattle.mcap_scan.specs.declared.answers.ScanRefused.{ScanRefused as Refusal};
+ghost use Rattle.mcap_model.specs.declared.refusals.ReadingRefused.{ReadingRefused as Refusal};
 ghost use Rattle.mcap_scan.specs.declared.reader.Stage.TheVariants as stages;
 ghost use Rattle.time_player.specs.Asking.{is_asked};
 ghost use Rattle.time_player.specs.Keeping.{kept_in};
 ghost use Rattle.time_player.specs.Replaying.{IsTold, IsPlayed, AreLines, ReadsKept, Plays, PlaysLines};
 
-use crate::keeping::keep_messages;
+use crate::keeping::keep_record;
 use crate::kept::Kept;
 use crate::printer::Printer;
 use crate::replay::KeptReplay;
 use crate::topics::topics_of_kept;
 use mcap_io::Source;
-use mcap_model::{Range, Replayed, Tables, put_in_order, topics_of};
-use mcap_scan::{Reader, ScanRefused, Step};
+use mcap_model::{Range, ReadingRefused, Replayed, Tables, put_in_order, topics_of};
 use mcap_wire::{Memory, Text};
+use record_walk::{FlatReader, FlatStep};
 use std::alloc::Global;
 
 // Puts copies of the messages that were kept in order, with the topics of their channels.
@@ -57,12 +57,12 @@ fn finish_lines(alloc: Global, tables: &Tables, kept: Kept) -> Result<Printer, M
 }
 
 // Why a reading was refused. It is apart, so that the messages that were kept are dropped in one place for all reasons.
-fn refusal_of(reader: Reader) -> ScanRefused
-    ensures { (why : Refusal) → reader.stage ≡ stages.Stopped why → result ≡ why }
+fn refusal_of(flat: FlatReader) -> ReadingRefused
+    ensures { (why : Refusal) → flat.reader.stage ≡ stages.Stopped why → result ≡ why }
 {
-    match reader.into_refusal() {
+    match flat.into_refusal() {
         Some(why) => return why,
-        None => return ScanRefused::Memory,
+        None => return ReadingRefused::Memory,
     }
 }
 
@@ -72,25 +72,25 @@ fn read_kept<S: Source>(
     source: &mut S,
     range: Range,
     topic: Option<&Text>,
-) -> Result<(Tables, Kept), ScanRefused>
+) -> Result<(Tables, Kept), ReadingRefused>
     ensures reads { ReadsKept range (asked_topic topic.entry) (S.state source.old) (S.state source.new) result }
     ensures stays { S.stays source.old source.new }
 {
-    let mut reader = match Reader::new(alloc) {
-        Ok(reader) => reader,
-        Err(_) => return Err(ScanRefused::Memory),
+    let mut flat = match FlatReader::new(alloc) {
+        Ok(flat) => flat,
+        Err(_) => return Err(ReadingRefused::Memory),
     };
     let mut kept = Kept::new(alloc);
     'records: loop {
-        match reader.advance(source) {
-            Step::Record { op, offset } => {
-                match keep_messages(&mut kept, &reader, range, topic, op, offset) {
+        match flat.advance(source) {
+            FlatStep::Record { op, place } => {
+                match keep_record(&mut kept, &flat, range, topic, op, place) {
                     Ok(()) => {}
-                    Err(_) => return Err(ScanRefused::Memory),
+                    Err(_) => return Err(ReadingRefused::Memory),
                 }
             }
-            Step::End { offset: _ } => return Ok((reader.into_tables(), kept)),
-            Step::Refused => return Err(refusal_of(reader)),
+            FlatStep::End { offset: _ } => return Ok((flat.into_tables(), kept)),
+            FlatStep::Refused => return Err(refusal_of(flat)),
         }
     }
 }
@@ -103,14 +103,14 @@ pub fn replay_scan<S: Source>(
     source: &mut S,
     range: Range,
     topic: Option<&Text>,
-) -> Result<Replayed, ScanRefused>
+) -> Result<Replayed, ReadingRefused>
     ensures plays { Plays range (asked_topic topic.entry) (S.state source.old) (S.state source.new) result }
     ensures stays { S.stays source.old source.new }
 {
     match read_kept(alloc, source, range, topic) {
         Ok((tables, kept)) => match finish(alloc, &tables, &kept) {
             Ok(played) => return Ok(played),
-            Err(_) => return Err(ScanRefused::Memory),
+            Err(_) => return Err(ReadingRefused::Memory),
         },
         Err(why) => return Err(why),
     }
@@ -123,14 +123,14 @@ pub fn replay_lines<S: Source>(
     source: &mut S,
     range: Range,
     topic: Option<&Text>,
-) -> Result<Printer, ScanRefused>
+) -> Result<Printer, ReadingRefused>
     ensures plays { PlaysLines range (asked_topic topic.entry) (S.state source.old) (S.state source.new) result }
     ensures stays { S.stays source.old source.new }
 {
     match read_kept(alloc, source, range, topic) {
         Ok((tables, kept)) => match finish_lines(alloc, &tables, kept) {
             Ok(text) => return Ok(text),
-            Err(_) => return Err(ScanRefused::Memory),
+            Err(_) => return Err(ReadingRefused::Memory),
         },
         Err(why) => return Err(why),
     }

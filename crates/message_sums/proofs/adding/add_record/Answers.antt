@@ -1,18 +1,21 @@
-use Rattle.std.proofs.Common.{List, ℕ, refl, sym, subst}
-use Rattle.rec_index.specs.Parsed.{chunk_fields}
-use Rattle.mcap_model.specs.Fields.{IsChunk}
+use Rattle.std.proofs.Common.{◌∷◌, [], ℕ, refl, sym, subst}
 use Rattle.mcap_model.specs.Made.{top}
-use Rattle.mcap_scan.specs.Scanning.{content_of}
-use Rattle.message_sums.proofs.Added.{chunk_opened, chunk_unread}
+use Rattle.message_sums.specs.Reading.{Adds}
+use Rattle.message_sums.specs.declared.sums.Sums.{Sums}
+use Rattle.message_sums.proofs.Added.{other_kind, message_added, message_absent}
 use Rattle.message_sums.proofs.adding.add_record.Goals as goal
 
+pub returns-then-op-ne-MESSAGE : goal.returns-then-op-ne-MESSAGE
+returns-then-op-ne-MESSAGE c = λ place. other_kind (record { place = place; top = top c.args.op c.args.content.now }) c.args.sums.now c.if-op-ne-MESSAGE.true
+
 pub returns-in-Ok : goal.returns-in-Ok
-returns-in-Ok c =
-    let f = chunk_fields c.in-Ok.chunk in
-    let shown : IsChunk (top 6 (content_of c.args.reader.now)) f = subst (λ (l : List ℕ). IsChunk (top 6 l) f) c.content-content.ensures (record { kind = refl; layout = c.in-Ok.ensures.shown }) in
-    chunk_opened c.args.op (content_of c.args.reader.now) f c.args.sums.now c.add_inside.new.sums c.in-6.is shown c.add_inside.ensures
+returns-in-Ok c = λ place.
+    let m = c.in-Ok.message in
+    subst (λ (n : ℕ). Adds (record { place = place; top = top n c.args.content.now } ∷ []) c.args.sums.now c.add.new.self) (sym c.if-op-ne-MESSAGE.false)
+    (subst (λ (s : Sums). Adds (record { place = place; top = top 5 c.args.content.now } ∷ []) c.args.sums.now s) (sym c.add.ensures)
+    (message_added place c.args.content.now c.args.sums.now (record { place = place; log_time = m.log_time; publish_time = m.publish_time; channel = m.channel_id; sequence = m.sequence; payload = m.payload.now }) refl c.in-Ok.ensures.shown))
 
 pub returns-in-Err : goal.returns-in-Err
-returns-in-Err c =
-    chunk_unread c.args.op (content_of c.args.reader.now) c.args.sums.now c.args.sums.now c.in-6.is
-    (λ f is. let there = subst (λ (l : List ℕ). IsChunk (top 6 l) f) (sym c.content-content.ensures) is in c.in-Err.ensures.none f there.layout)
+returns-in-Err c = λ place.
+    subst (λ (n : ℕ). Adds (record { place = place; top = top n c.args.content.now } ∷ []) c.args.sums.now c.args.sums.now) (sym c.if-op-ne-MESSAGE.false)
+    (message_absent place c.args.content.now c.args.sums.now c.in-Err.ensures.none)

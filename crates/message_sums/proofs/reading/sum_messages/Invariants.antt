@@ -1,10 +1,9 @@
-use Rattle.std.proofs.Common.{◌-◌, ◌≤◌}
-use Rattle.mcap_scan.specs.Scanning.{offset_of}
+use Rattle.record_walk.specs.Walking.{flat_left}
 use Rattle.message_sums.proofs.Summed.{SumsSoFar}
 use Rattle.message_sums.proofs.reading.sum_messages.Given as goal
 
 abbrev pub decreases-records : goal.decreases-records
-decreases-records g l = 1099511627776 - offset_of l.reader
+decreases-records g l = flat_left l.flat
 
 abbrev pub invariant-records : goal.invariant-records
-invariant-records g l = SumsSoFar l.reader (g.S.Source.state l.fn.source) (g.S.Source.state l.source) l.sums × (offset_of l.reader ≤ 1099511627776) × g.S.Source.stays l.fn.source l.source
+invariant-records g l = SumsSoFar l.flat (g.S.Source.state l.fn.source) (g.S.Source.state l.source) l.sums × g.S.Source.stays l.fn.source l.source
