@@ -4,10 +4,11 @@ use Rattle.mcap_io.specs.Outside.{SourceState}
 use Rattle.mcap_model.specs.declared.ends.End.{End}
 use Rattle.mcap_model.specs.Places.{Has, Each}
 use Rattle.mcap_model.specs.Tops.{Top, flat}
-use Rattle.mcap_model.specs.Kept.{reading_limits, Good, at_end, grammar, compressed, beyond}
+use Rattle.mcap_model.specs.declared.refusals.ReadingRefused.TheVariants as refusals
+use Rattle.mcap_model.specs.Kept.{reading_limits, Good, at_end}
 use Rattle.mcap_model.specs.Written.{passed}
 use Rattle.mcap_scan.specs.Sources.{ReadTo}
-use Rattle.mcap_scan.specs.Scanning.{HaltsSo, FaultStands, MemoryStands}
+use Rattle.mcap_scan.specs.Scanning.{HaltsSo, RefusalStands}
 use Rattle.record_core.specs.declared.answers.Found.{Found}
 use Rattle.feed_lane.specs.declared.report.Refused.{Refused}
 use Rattle.feed_lane.specs.declared.report.FeedReport.{FeedReport}
@@ -25,15 +26,11 @@ pub record ReadSoFar (before now : SourceState) (tops : List Top) : Type 0 where
   pub good : Good reading_limits tops
   pub read : ReadTo before now tops
 
--- The source as it was before and is now, and the records that were read: where the reading halted, whether the source
--- failed or memory lacked, or that the records so far were read.
+-- The source as it was before and is now, and the records that were read: where the reading halted, that the source failed or
+-- memory lacked, or that the records so far were read.
 abbrev pub FeedEnds : SourceState → SourceState → List Top → FeedEnd → Type 0
 FeedEnds before now tops feed_ends.Done = (offset : ℕ) × HaltsSo before now tops (at_end offset)
-FeedEnds before now tops (feed_ends.Grammar offset) = (rule : ℕ) × HaltsSo before now tops (grammar offset rule)
-FeedEnds before now tops (feed_ends.Compressed offset name) = HaltsSo before now tops (compressed offset name)
-FeedEnds before now tops (feed_ends.Limit offset) = HaltsSo before now tops (beyond offset)
-FeedEnds before now tops (feed_ends.Fault faults) = FaultStands faults before now tops
-FeedEnds before now tops feed_ends.Memory = MemoryStands before now tops
+FeedEnds before now tops (feed_ends.Refused why) = RefusalStands why before now tops
 FeedEnds before now tops feed_ends.Ended = ReadSoFar before now tops
 
 -- All messages of the records were handled, and so many were passed over.
@@ -58,11 +55,7 @@ EndsInLast tops handled count refused = (r : Refused) × Has refused r × (r.ind
 -- All were taken, unless memory lacked for the next message, which is one of the last record, or the intake had ended.
 abbrev pub TakesMessages : List Top → ℕ → ℕ → List Refused → FeedEnd → Type 0
 TakesMessages tops handled count refused feed_ends.Done = AllTaken tops handled count
-TakesMessages tops handled count refused (feed_ends.Grammar offset) = AllTaken tops handled count
-TakesMessages tops handled count refused (feed_ends.Compressed offset name) = AllTaken tops handled count
-TakesMessages tops handled count refused (feed_ends.Limit offset) = AllTaken tops handled count
-TakesMessages tops handled count refused (feed_ends.Fault faults) = AllTaken tops handled count
-TakesMessages tops handled count refused feed_ends.Memory = AllTaken tops handled count ⊎ IsInLast tops handled count
+TakesMessages tops handled count refused (feed_ends.Refused why) = AllTaken tops handled count ⊎ ((why ≡ refusals.Memory) × IsInLast tops handled count)
 TakesMessages tops handled count refused feed_ends.Ended = EndsInLast tops handled count refused
 
 -- the lists of a report

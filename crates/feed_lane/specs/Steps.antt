@@ -9,11 +9,11 @@ use Rattle.mcap_model.specs.Tops.{Top}
 use Rattle.mcap_model.specs.Made.{top}
 use Rattle.mcap_model.specs.Fields.{MessageFields}
 use Rattle.rec_data.specs.declared.message.Message.{Message}
-use Rattle.mcap_model.specs.Rules.{V6, is_unknown}
+use Rattle.mcap_model.specs.Rules.{V6}
+use Rattle.mcap_model.specs.Written.{is_passed_over}
 use Rattle.mcap_model.specs.declared.tables.Tables.{Tables}
 use Rattle.mcap_model.specs.Declarations.{TablesOf}
-use Rattle.mcap_scan.specs.declared.answers.ScanRefused.{ScanRefused}
-use Rattle.mcap_scan.specs.declared.answers.ScanRefused.TheVariants as refusals
+use Rattle.mcap_model.specs.declared.refusals.ReadingRefused.TheVariants as refusals
 use Rattle.record_core.specs.declared.answers.Found.{Found}
 use Rattle.record_core.specs.declared.answers.PublishRefused.{PublishRefused}
 use Rattle.record_core.specs.declared.answers.PublishRefused.TheVariants as publishing
@@ -226,9 +226,9 @@ abbrev pub RecordHandled : Lane → List Top → ℕ → List Top → PassState 
 RecordHandled lane records before more pass (Ok it) = (handled : ℕ) × (before ≤ handled) × LaneStands lane records handled pass × Waits records handled more
 RecordHandled lane records before more pass (Err over) = (handled : ℕ) × (before ≤ handled) × LaneOver lane records handled pass over
 
--- how many of the records inside a chunk are passed over
-abbrev pub unknown_in : List Top → ℕ
-unknown_in records = length (filter (λ u. is_unknown u.op) records)
+-- how many of the records are passed over
+abbrev pub passed_among : List Top → ℕ
+passed_among records = length (filter is_passed_over records)
 
 -- so many were counted, where the count doesn't pass the end of its type
 abbrev pub Counts : ℕ → ℕ → ℕ → Type 0
@@ -240,14 +240,7 @@ Counted before now n result = (before ≤ now) × (now ≤ before + n) × OnOk r
 
 -- ---- ends of a feed
 
--- what a refused reading says of a feed
-abbrev pub refused_end : ScanRefused → FeedEnd
-refused_end (refusals.Fault faults) = feed_ends.Fault faults
-refused_end (refusals.Grammar offset rule) = feed_ends.Grammar offset
-refused_end (refusals.Compressed offset name) = feed_ends.Compressed offset name
-refused_end (refusals.Limit offset) = feed_ends.Limit offset
-refused_end refusals.Memory = feed_ends.Memory
-
+-- that of a lane which is over before its feed is
 abbrev pub over_end : Over → FeedEnd
-over_end overs.Memory = feed_ends.Memory
+over_end overs.Memory = feed_ends.Refused refusals.Memory
 over_end overs.Ended = feed_ends.Ended

@@ -2,7 +2,7 @@
 ghost use Rattle.std.specs.Prelude.{◌≡◌, ℕ, []};
 ghost use Rattle.feed_lane.specs.Pass.{PassState, no_calls};
 ghost use Rattle.feed_lane.specs.Lanes.{LaneFits};
-ghost use Rattle.feed_lane.specs.Steps.{refused_end, over_end as end_of_over};
+ghost use Rattle.feed_lane.specs.Steps.{over_end as end_of_over};
 ghost use Rattle.feed_lane.specs.Feeds.{reported, Reports, ListsMessages};
 
 use crate::lane::{Lane, Over};
@@ -11,28 +11,18 @@ use crate::refused_list::Refusals;
 use crate::report::{FeedEnd, FeedReport};
 use listing::Listing;
 use mcap_io::Source;
-use mcap_scan::{Reader, ScanRefused, Step};
+use mcap_model::ReadingRefused;
+use record_walk::{FlatReader, FlatStep};
 use std::alloc::Global;
-
-// The end of a feed whose reading was refused.
-fn end_of(why: ScanRefused) -> FeedEnd
-    ensures { result ≡ refused_end why }
-{
-    match why {
-        ScanRefused::Fault { faults } => return FeedEnd::Fault { faults },
-        ScanRefused::Grammar { offset, rule: _ } => return FeedEnd::Grammar { offset },
-        ScanRefused::Compressed { offset, name } => return FeedEnd::Compressed { offset, name },
-        ScanRefused::Limit { offset } => return FeedEnd::Limit { offset },
-        ScanRefused::Memory => return FeedEnd::Memory,
-    }
-}
 
 // The end of a feed whose lane was over before.
 fn over_end(over: Over) -> FeedEnd
     ensures { result ≡ end_of_over over }
 {
     match over {
-        Over::Memory => return FeedEnd::Memory,
+        Over::Memory => return FeedEnd::Refused {
+            why: ReadingRefused::Memory,
+        },
         Over::Ended => return FeedEnd::Ended,
     }
 }
@@ -61,7 +51,7 @@ impl Lane {
 
 // The report of a lane for which there was no memory.
 fn nothing(alloc: Global, listed: bool) -> FeedReport
-    ensures end { result.end ≡ FeedEnd.Memory }
+    ensures end { result.end ≡ FeedEnd.Refused ReadingRefused.Memory }
     ensures passed { result.passed ≡ 0 }
     ensures fits { (limit : ℕ) → LaneFits [] 0 (reported result) (no_calls limit) }
     ensures kept { ListsMessages result listed }
@@ -71,7 +61,9 @@ fn nothing(alloc: Global, listed: bool) -> FeedReport
         declared: Vec::new(alloc),
         refused: Refusals::new(alloc, listed),
         passed: 0,
-        end: FeedEnd::Memory,
+        end: FeedEnd::Refused {
+            why: ReadingRefused::Memory,
+        },
     }
 }
 
@@ -90,8 +82,8 @@ pub fn publish_feed<S: Source, P: Pass>(
     ensures stays { S.stays source.old source.new }
     ensures kept { ListsMessages result listed }
 {
-    let mut reader = match Reader::new(alloc) {
-        Ok(reader) => reader,
+    let mut flat = match FlatReader::new(alloc) {
+        Ok(flat) => flat,
         Err(_) => return nothing(alloc, listed),
     };
     let mut lane = match Lane::new(alloc, listed) {
@@ -99,17 +91,17 @@ pub fn publish_feed<S: Source, P: Pass>(
         Err(_) => return nothing(alloc, listed),
     };
     'records: loop {
-        match reader.advance(source) {
-            Step::Record { op, offset: _ } => {
-                match lane.take(alloc, reader.tables(), op, reader.content(), pass) {
+        match flat.advance(source) {
+            FlatStep::Record { op, place: _ } => {
+                match lane.take(alloc, flat.tables(), op, flat.content(), pass) {
                     Ok(()) => {}
                     Err(over) => return lane.report(over_end(over)),
                 }
             }
-            Step::End { offset: _ } => return lane.report(FeedEnd::Done),
-            Step::Refused => match reader.into_refusal() {
-                Some(why) => return lane.report(end_of(why)),
-                None => return lane.report(FeedEnd::Memory),
+            FlatStep::End { offset: _ } => return lane.report(FeedEnd::Done),
+            FlatStep::Refused => match flat.into_refusal() {
+                Some(why) => return lane.report(FeedEnd::Refused { why }),
+                None => return lane.report(over_end(Over::Memory)),
             },
         }
     }

@@ -1,8 +1,7 @@
 //! What the lane of a feed came to.
 use crate::refused_list::Refusals;
 use listing::Listing;
-use mcap_model::Stop;
-use mcap_wire::Text;
+use mcap_model::{ReadingRefused, Stop};
 
 /// A message that was recorded: its number in the feed, and its place among the recorded records.
 #[derive(Clone, Copy)]
@@ -54,16 +53,8 @@ pub struct Refused {
 pub enum FeedEnd {
     /// The Data End was read.
     Done,
-    /// The record at the offset breaks a rule of the format.
-    Grammar { offset: u64 },
-    /// The chunk at the offset names that compression.
-    Compressed { offset: u64, name: Text },
-    /// The record at the offset is longer than a record may be, or ends behind the last offset of a file.
-    Limit { offset: u64 },
-    /// The source failed; `faults` is its count of faults.
-    Fault { faults: u64 },
-    /// Memory lacked.
-    Memory,
+    /// The reading was refused, or memory lacked to go on.
+    Refused { why: ReadingRefused },
     /// The intake was closed or stopped, and the message at hand was refused for it.
     Ended,
 }
