@@ -10,7 +10,7 @@ use Rattle.chunk_writer.specs.declared.scribe.Scribe.{Scribe}
 use Rattle.chunk_writer.specs.declared.phase.Phase.TheVariants as phases
 use Rattle.mcap_io.specs.Outside.{LiveState}
 use Rattle.mcap_model.specs.declared.ends.Stop.{Stop}
-use Rattle.chunk_writer.specs.Stops.{StopsBehind}
+use Rattle.chunk_writer.specs.Stops.{numbers, StopsBehind}
 use Rattle.mcap_wire.specs.Layout.{le, framed}
 use Rattle.mcap_wire.proofs.Numbers.{length-le}
 use Rattle.mcap_wire.proofs.Framing.{length-framed}
@@ -192,12 +192,12 @@ filling_on state before now after place less same so_far step options extras ope
 
 pub filling_stopped : {L : Type 0} (state : L → LiveState) (before now after : Scribe L) (place : ℕ) (stop : Stop) (blocks bytes : ℕ) → place < length before.extras → now.extras ≡ before.extras → Filling state before now place
     → ((t : Top) → get_or now.extras place [] ≡ top_bytes t → (options : FileOptions) (extras behind : List Top) (opened : LiveState) (history : List Rec)
-    → Fills options extras opened.held (state now.store).held history now.plan → StopsBehind options (extras ++ t ∷ behind) history opened.held (state after.store).held stop blocks bytes)
+    → Fills options extras opened.held (state now.store).held history now.plan → StopsBehind options (extras ++ t ∷ behind) history opened.held (state after.store).held stop (numbers blocks bytes))
     → (options : FileOptions) (extras : List Top) (opened : LiveState) (history : List Rec) → before.extras ≡ map top_bytes extras → Fills options [] opened.held (state before.store).held history before.plan
-    → StopsBehind options extras history opened.held (state after.store).held stop blocks bytes
+    → StopsBehind options extras history opened.held (state after.store).held stop (numbers blocks bytes)
 filling_stopped state before now after place stop blocks bytes less same so_far step options extras opened history is fills =
     let found = read_at extras before.extras place is less in
-    subst (λ (l : List Top). StopsBehind options l history opened.held (state after.store).held stop blocks bytes) (sym found.whole)
+    subst (λ (l : List Top). StopsBehind options l history opened.held (state after.store).held stop (numbers blocks bytes)) (sym found.whole)
     (step found.t (ap (λ (l : List (List ℕ)). get_or l place []) same ∙ found.there) options (take place extras) (drop (suc place) extras) opened history (so_far options extras opened history is fills))
 
 pub filling_done : {L : Type 0} (state : L → LiveState) (before now : Scribe L) (place : ℕ) → length before.extras ≤ place → Filling state before now place

@@ -20,7 +20,7 @@ use Rattle.mcap_model.specs.Pieces.{joined, back_of, file_pieces, pieces_before}
 use Rattle.chunk_writer.specs.Limits.{Holds, StopWhy, IsNoFault}
 use Rattle.chunk_writer.specs.Bodies.{Closes}
 use Rattle.chunk_writer.specs.Plans.{PutStopped, LastStopped, ExtraStopped, BackStopped}
-use Rattle.chunk_writer.specs.Stops.{blocks_among, StopsAt, Cause, Appends, Added, refusal}
+use Rattle.chunk_writer.specs.Stops.{numbers, blocks_among, StopsAt, Cause, Appends, Added, refusal}
 use Rattle.chunk_writer.proofs.Cuts.{pieces_grow, closed_grow}
 use Rattle.chunk_writer.proofs.Noting.{blocks_more}
 use Rattle.chunk_writer.proofs.Planned.{whole_some}
@@ -104,7 +104,7 @@ more_first ps (p ∷ rest) = blocks_more ps p
 
 pub stops_at : (options : FileOptions) (extras : List Top) (history : List Rec) (opened held now : Option (List ℕ)) (ps rest : List Piece) (stop : Stop) (blocks bytes : ℕ) → pieces_of options.chunk history ≡ ps ++ rest
     → Adds opened held (front options.profile ++ pieces_bytes ps) → Left held now (next_of rest (tail_of options extras history)) stop → blocks ≡ length (blocks_in ps) → bytes ≡ length (front options.profile ++ pieces_bytes ps)
-    → StopWhy stop blocks bytes (blocks + length (blocks_in (first_of rest))) (bytes + length (next_of rest (tail_of options extras history))) → StopsAt options extras history opened now stop blocks bytes
+    → StopWhy stop blocks bytes (blocks + length (blocks_in (first_of rest))) (bytes + length (next_of rest (tail_of options extras history))) → StopsAt options extras history opened now stop (numbers blocks bytes)
 stops_at options extras history opened held now ps rest stop blocks bytes is adds left many long why =
     let back = back_of options extras history in
     let es = map top_bytes extras in
@@ -156,14 +156,14 @@ Holding options opened held history blocks bytes = Adds opened held (written_of 
 
 -- memory lacks behind the pieces that are sure
 pub put_lacks : (options : FileOptions) (extras : List Top) (opened held : Option (List ℕ)) (history : List Rec) (blocks bytes : ℕ) (behind : List Rec) → Holding options opened held history blocks bytes
-    → StopsAt options extras (history ++ behind) opened held stops.Memory blocks bytes
+    → StopsAt options extras (history ++ behind) opened held stops.Memory (numbers blocks bytes)
 put_lacks options extras opened held history blocks bytes behind (adds, many, long) =
     let (rest, is) = pieces_grow options.chunk history behind in
     stops_at options extras (history ++ behind) opened held held (cuts options.chunk history).pieces rest stops.Memory blocks bytes is adds
     (left_none held held (next_of rest (tail_of options extras (history ++ behind))) stops.Memory refl) many long tt
 
 pub put_refused : (options : FileOptions) (extras : List Top) (opened held : Option (List ℕ)) (history : List Rec) (r : Rec) (stop : Stop) (blocks bytes : ℕ) (behind : List Rec) → Holding options opened held history blocks bytes
-    → PutStopped options.chunk history r blocks bytes stop → StopsAt options extras ((history ++ r ∷ []) ++ behind) opened held stop blocks bytes
+    → PutStopped options.chunk history r blocks bytes stop → StopsAt options extras ((history ++ r ∷ []) ++ behind) opened held stop (numbers blocks bytes)
 put_refused options extras opened held history r (stops.Fault faults) blocks bytes behind stands stopped = absurd stopped
 put_refused options extras opened held history r (stops.Limit b n) blocks bytes behind (adds, many, long) (piece, closes, same_b, same_n, passes) =
     let (rest, is) = closed_grow options.chunk history r piece behind closes in
@@ -172,12 +172,12 @@ put_refused options extras opened held history r (stops.Limit b n) blocks bytes 
 put_refused options extras opened held history r stops.Memory blocks bytes behind (adds, many, long) stopped =
     let (rest, is) = pieces_grow options.chunk history (r ∷ behind) in
     let same : history ++ r ∷ behind ≡ (history ++ r ∷ []) ++ behind = sym (append_assoc history (r ∷ []) behind) in
-    subst (λ (l : List Rec). StopsAt options extras l opened held stops.Memory blocks bytes) same
+    subst (λ (l : List Rec). StopsAt options extras l opened held stops.Memory (numbers blocks bytes)) same
     (stops_at options extras (history ++ r ∷ behind) opened held held (cuts options.chunk history).pieces rest stops.Memory blocks bytes is adds (left_none held held (next_of rest (tail_of options extras (history ++ r ∷ behind))) stops.Memory refl) many long tt)
 
 pub append_refused : (options : FileOptions) (extras : List Top) (opened held now : Option (List ℕ)) (history : List Rec) (r : Rec) (piece : Piece) (stop : Stop) (blocks bytes : ℕ) (behind : List Rec) → Holding options opened held history blocks bytes
     → Closes options.chunk history r piece → Holds (blocks + length (blocks_in (piece ∷ []))) (bytes + length (piece_bytes piece)) → Added held now (piece_bytes piece) (Err stop)
-    → StopsAt options extras ((history ++ r ∷ []) ++ behind) opened now stop blocks bytes
+    → StopsAt options extras ((history ++ r ∷ []) ++ behind) opened now stop (numbers blocks bytes)
 append_refused options extras opened held now history r piece stop blocks bytes behind (adds, many, long) closes holds added =
     let (rest, is) = closed_grow options.chunk history r piece behind closes in
     let (left, why) = refused_by held now (piece_bytes piece) stop blocks bytes _ _ added holds in
@@ -186,7 +186,7 @@ append_refused options extras opened held now history r piece stop blocks bytes 
 -- ---- where the end was refused
 
 pub last_refused : (options : FileOptions) (extras : List Top) (opened held : Option (List ℕ)) (history : List Rec) (stop : Stop) (blocks bytes : ℕ) → Holding options opened held history blocks bytes
-    → LastStopped options.chunk history blocks bytes stop → StopsAt options extras history opened held stop blocks bytes
+    → LastStopped options.chunk history blocks bytes stop → StopsAt options extras history opened held stop (numbers blocks bytes)
 last_refused options extras opened held history (stops.Fault faults) blocks bytes stands stopped = absurd stopped
 last_refused options extras opened held history (stops.Limit b n) blocks bytes (adds, many, long) (piece, last, same_b, same_n, passes) =
     stops_at options extras history opened held held (cuts options.chunk history).pieces (piece ∷ []) (stops.Limit b n) blocks bytes (whole_some options.chunk history piece last) adds
@@ -197,7 +197,7 @@ last_refused options extras opened held history stops.Memory blocks bytes (adds,
 
 pub last_append_refused : (options : FileOptions) (extras : List Top) (opened held now : Option (List ℕ)) (history : List Rec) (piece : Piece) (stop : Stop) (blocks bytes : ℕ) → Holding options opened held history blocks bytes
     → last_piece (cuts options.chunk history).waiting ≡ piece ∷ [] → Holds (blocks + length (blocks_in (piece ∷ []))) (bytes + length (piece_bytes piece)) → Added held now (piece_bytes piece) (Err stop)
-    → StopsAt options extras history opened now stop blocks bytes
+    → StopsAt options extras history opened now stop (numbers blocks bytes)
 last_append_refused options extras opened held now history piece stop blocks bytes (adds, many, long) last holds added =
     let (left, why) = refused_by held now (piece_bytes piece) stop blocks bytes _ _ added holds in
     stops_at options extras history opened held now (cuts options.chunk history).pieces (piece ∷ []) stop blocks bytes (whole_some options.chunk history piece last) adds left many long why
@@ -213,7 +213,7 @@ take_past ps es k = take_all (length (map piece_bytes ps ++ map top_bytes es) + 
 -- the writer stopped behind the first extras, where that stands next
 stops_past : (options : FileOptions) (done extras : List Top) (opened held now : Option (List ℕ)) (history : List Rec) (next : List ℕ) (behind : List (List ℕ)) (stop : Stop) (blocks bytes : ℕ)
     → tail_of options extras history ≡ map top_bytes done ++ next ∷ behind → Wholly options done opened held history blocks bytes → Left held now next stop
-    → StopWhy stop blocks bytes (blocks + 0) (bytes + length next) → StopsAt options extras history opened now stop blocks bytes
+    → StopWhy stop blocks bytes (blocks + 0) (bytes + length next) → StopsAt options extras history opened now stop (numbers blocks bytes)
 stops_past options done extras opened held now history next behind stop blocks bytes is (adds, many, long) left why =
     let ps = pieces_of options.chunk history in
     let start = front options.profile in
@@ -259,7 +259,7 @@ limit_past blocks bytes len b n (same_b, same_n, passes) = (same_b, same_n, λ h
 
 past_refused : (options : FileOptions) (done extras : List Top) (opened held now : Option (List ℕ)) (history : List Rec) (next : List ℕ) (behind : List (List ℕ)) (stop : Stop) (blocks bytes : ℕ)
     → tail_of options extras history ≡ map top_bytes done ++ next ∷ behind → Wholly options done opened held history blocks bytes
-    → Holds blocks (bytes + length next) → Added held now next (Err stop) → StopsAt options extras history opened now stop blocks bytes
+    → Holds blocks (bytes + length next) → Added held now next (Err stop) → StopsAt options extras history opened now stop (numbers blocks bytes)
 past_refused options done extras opened held now history next behind stop blocks bytes is wholly holds added =
     let few = holds.few in
     let (left, why) = refused_by held now next stop blocks bytes (blocks + 0) (bytes + length next) added (record { few = omega (arith, few); small = holds.small }) in
@@ -268,7 +268,7 @@ past_refused options done extras opened held now history next behind stop blocks
 -- ---- the back
 
 pub back_refused : (options : FileOptions) (extras : List Top) (opened held : Option (List ℕ)) (history : List Rec) (stop : Stop) (blocks bytes : ℕ) → Wholly options extras opened held history blocks bytes
-    → BackStopped options extras history blocks bytes stop → StopsAt options extras history opened held stop blocks bytes
+    → BackStopped options extras history blocks bytes stop → StopsAt options extras history opened held stop (numbers blocks bytes)
 back_refused options extras opened held history (stops.Fault faults) blocks bytes wholly stopped = absurd stopped
 back_refused options extras opened held history (stops.Limit b n) blocks bytes wholly stopped =
     let back = back_of options extras history in
@@ -278,7 +278,7 @@ back_refused options extras opened held history stops.Memory blocks bytes wholly
     stops_past options extras extras opened held held history back [] stops.Memory blocks bytes refl wholly (left_none held held back stops.Memory refl) tt
 
 pub back_append_refused : (options : FileOptions) (extras : List Top) (opened held now : Option (List ℕ)) (history : List Rec) (stop : Stop) (blocks bytes : ℕ) → Wholly options extras opened held history blocks bytes
-    → Holds blocks (bytes + length (back_of options extras history)) → Added held now (back_of options extras history) (Err stop) → StopsAt options extras history opened now stop blocks bytes
+    → Holds blocks (bytes + length (back_of options extras history)) → Added held now (back_of options extras history) (Err stop) → StopsAt options extras history opened now stop (numbers blocks bytes)
 back_append_refused options extras opened held now history stop blocks bytes wholly holds added =
     past_refused options extras extras opened held now history (back_of options extras history) [] stop blocks bytes refl wholly holds added
 
@@ -292,7 +292,7 @@ tail_split options done t behind history =
     ap (λ (l : List (List ℕ)). l ++ back ∷ []) (map-append top_bytes done (t ∷ behind)) ∙ append_assoc (map top_bytes done) (top_bytes t ∷ map top_bytes behind) (back ∷ [])
 
 pub extra_refused : (options : FileOptions) (done : List Top) (t : Top) (behind : List Top) (opened held : Option (List ℕ)) (history : List Rec) (stop : Stop) (blocks bytes : ℕ) → Wholly options done opened held history blocks bytes
-    → ExtraStopped blocks bytes (top_bytes t) stop → StopsAt options (done ++ t ∷ behind) history opened held stop blocks bytes
+    → ExtraStopped blocks bytes (top_bytes t) stop → StopsAt options (done ++ t ∷ behind) history opened held stop (numbers blocks bytes)
 extra_refused options done t behind opened held history (stops.Fault faults) blocks bytes wholly stopped = absurd stopped
 extra_refused options done t behind opened held history (stops.Limit b n) blocks bytes wholly stopped =
     stops_past options done (done ++ t ∷ behind) opened held held history (top_bytes t) _ (stops.Limit b n) blocks bytes (tail_split options done t behind history) wholly
@@ -301,14 +301,14 @@ extra_refused options done t behind opened held history stops.Memory blocks byte
     stops_past options done (done ++ t ∷ behind) opened held held history (top_bytes t) _ stops.Memory blocks bytes (tail_split options done t behind history) wholly (left_none held held (top_bytes t) stops.Memory refl) tt
 
 pub extra_append_refused : (options : FileOptions) (done : List Top) (t : Top) (behind : List Top) (opened held now : Option (List ℕ)) (history : List Rec) (stop : Stop) (blocks bytes : ℕ) → Wholly options done opened held history blocks bytes
-    → Holds blocks (bytes + length (top_bytes t)) → Added held now (top_bytes t) (Err stop) → StopsAt options (done ++ t ∷ behind) history opened now stop blocks bytes
+    → Holds blocks (bytes + length (top_bytes t)) → Added held now (top_bytes t) (Err stop) → StopsAt options (done ++ t ∷ behind) history opened now stop (numbers blocks bytes)
 extra_append_refused options done t behind opened held now history stop blocks bytes wholly holds added =
     past_refused options done (done ++ t ∷ behind) opened held now history (top_bytes t) _ stop blocks bytes (tail_split options done t behind history) wholly holds added
 
 -- ---- where the front was refused
 
 at_front : (options : FileOptions) (extras : List Top) (opened now : Option (List ℕ)) (history : List Rec) (stop : Stop) → Left opened now (front options.profile) stop
-    → StopWhy stop 0 0 0 (0 + length (front options.profile)) → StopsAt options extras history opened now stop 0 0
+    → StopWhy stop 0 0 0 (0 + length (front options.profile)) → StopsAt options extras history opened now stop (numbers 0 0)
 at_front options extras opened now history stop left why = record {
   place = 0;
   next = front options.profile;
@@ -321,11 +321,11 @@ at_front options extras opened now history stop left why = record {
       (take some (front options.profile), holds, record { next = front options.profile; at = refl; some = some; split = refl; unfailed = unfailed; size = refl });
 }
 
-pub front_lacks : (options : FileOptions) (extras : List Top) (opened : Option (List ℕ)) (history : List Rec) → StopsAt options extras history opened opened stops.Memory 0 0
+pub front_lacks : (options : FileOptions) (extras : List Top) (opened : Option (List ℕ)) (history : List Rec) → StopsAt options extras history opened opened stops.Memory (numbers 0 0)
 front_lacks options extras opened history = at_front options extras opened opened history stops.Memory (left_none opened opened (front options.profile) stops.Memory refl) tt
 
 pub front_refused : (options : FileOptions) (extras : List Top) (opened now : Option (List ℕ)) (history : List Rec) (stop : Stop) → length (front options.profile) ≤ 1099511627776 → Added opened now (front options.profile) (Err stop)
-    → StopsAt options extras history opened now stop 0 0
+    → StopsAt options extras history opened now stop (numbers 0 0)
 front_refused options extras opened now history stop small added =
     let (left, why) = refused_by opened now (front options.profile) stop 0 0 0 (0 + length (front options.profile)) added (record { few = omega arith; small = omega (arith, small) }) in
     at_front options extras opened now history stop left why

@@ -24,7 +24,7 @@ use Rattle.chunk_writer.specs.declared.scribe.Scribe.{Scribe}
 use Rattle.chunk_writer.specs.Limits.{Holds}
 use Rattle.chunk_writer.specs.Planning.{Planning}
 use Rattle.chunk_writer.specs.Plans.{StoppedBefore}
-use Rattle.chunk_writer.specs.Stops.{StopsBehind}
+use Rattle.chunk_writer.specs.Stops.{numbers, StopsBehind}
 use Rattle.chunk_writer.specs.Scribes.{ScribeStands, Writes, Grows, OfEach, KeepsOn, ListsEntry, GivesEntries, PutsFront, grows_on}
 use Rattle.chunk_writer.specs.Tapes.{no_entries}
 use Rattle.chunk_writer.proofs.Entries.{seen_later, entries_more}
@@ -56,7 +56,7 @@ memory_stops options opened held history p after going before stands =
 pub stopped_on : (options : FileOptions) (opened now : Option (List ℕ)) (history more : List Rec) (p : Planning) (stop : Stop) → p.phase ≡ phases.Stopped stop → ScribeStands options opened now history p → ScribeStands options opened now (history ++ more) p
 stopped_on options opened now history more p stop is stands = record {
   going = λ going. absurd (going_apart p.phase stop is going);
-  stopped = λ other e extras behind. subst (λ (l : List Rec). StopsBehind options extras l opened now other p.blocks p.bytes) (sym (append_assoc history more behind)) (stands.stopped other e extras (more ++ behind));
+  stopped = λ other e extras behind. subst (λ (l : List Rec). StopsBehind options extras l opened now other (numbers p.blocks p.bytes)) (sym (append_assoc history more behind)) (stands.stopped other e extras (more ++ behind));
   unended = stands.unended;
 }
 

@@ -12,9 +12,9 @@ use Rattle.live_entry.specs.Entries.{SeenExtents, seen_before}
 use Rattle.chunk_writer.specs.declared.phase.Phase.{Phase}
 use Rattle.chunk_writer.specs.declared.phase.Phase.TheVariants as phases
 use Rattle.chunk_writer.specs.declared.scribe.Scribe.{Scribe}
-use Rattle.chunk_writer.specs.Stops.{Cause, StopsBehind}
+use Rattle.chunk_writer.specs.Stops.{numbers, Cause, StopsBehind}
 use Rattle.chunk_writer.specs.Scribes.{Grows, OfEach, KeepsOn, PutsFront, GoesThrough, store_of, phase_of, bytes_of}
-use Rattle.chunk_writer.specs.Tapes.{EndsFor, KeepsCause, IsLeft, PutsFirst, TakesOn, MeetsLimit}
+use Rattle.chunk_writer.specs.Tapes.{EndsFor, KeepsCause, IsLeft, PutsFirst, seen_store, TakesOn, MeetsLimit}
 use Rattle.chunk_writer.proofs.Writing.{going_apart}
 
 -- ---- what is left
@@ -66,7 +66,7 @@ module _ {L X : Type 0} (state : L → LiveState) (tells : X → Option (List �
       → OnOk end ((phase_of old ≡ phases.Going) × (phase_of new ≡ phases.Going)) → IfErr end (λ stop. phase_of new ≡ phases.Stopped stop)
       → OnOk end (OfEach state old (λ options history. GoesThrough options records (state (store_of old)).waiting (state (store_of new)).waiting))
       → ((stop : Stop) → phase_of old ≡ phases.Stopped stop → (end ≡ Err stop) × (entries ≡ []) × (new ≡ old))
-      → (phase_of old ≡ phases.Going → Cause (state (store_of old)).faults (state (store_of new)).faults end) → TakesOn state tells size old new records entries
+      → (phase_of old ≡ phases.Going → Cause (state (store_of old)).faults (state (store_of new)).faults end) → TakesOn (seen_store state tells size) old new records entries
   takes end grows front keeps on stopped through kept cause = record {
     grown = grows;
     front = λ going options extras opened history writes.
@@ -84,7 +84,7 @@ pub meets : {L : Type 0} (state : L → LiveState) (scribe : Scribe L) (blocks b
 meets state scribe blocks bytes is = record {
   stopped = is;
   at = λ options extras opened history writes.
-      (subst (λ (l : List Rec). StopsBehind options extras l opened.held (state (store_of scribe)).held (stops.Limit blocks bytes) scribe.plan.blocks scribe.plan.bytes) (append-nil history)
+      (subst (λ (l : List Rec). StopsBehind options extras l opened.held (state (store_of scribe)).held (stops.Limit blocks bytes) (numbers scribe.plan.blocks scribe.plan.bytes)) (append-nil history)
       (writes.0.stopped (stops.Limit blocks bytes) is extras [])).stops;
 }
 

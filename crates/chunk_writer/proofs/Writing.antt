@@ -23,7 +23,7 @@ use Rattle.chunk_writer.specs.Limits.{Holds}
 use Rattle.chunk_writer.specs.Bodies.{Closes}
 use Rattle.chunk_writer.specs.Planning.{Planning}
 use Rattle.chunk_writer.specs.Plans.{Plans, IsPlanned, IsNext, PutStopped, HoldsBlock, HoldsNext, StoppedBefore, IsFilled, IsLast, LastStopped, ExtraStopped, BackStopped}
-use Rattle.chunk_writer.specs.Stops.{StopsAt, StopsBehind, Added}
+use Rattle.chunk_writer.specs.Stops.{numbers, StopsAt, StopsBehind, Added}
 use Rattle.chunk_writer.specs.Scribes.{ScribeStands, AreWaiting, IsEntryWith, AddsLast, Fills, Ends, GivesEntry, GivesLast}
 use Rattle.chunk_writer.proofs.Cuts.{bytes_behind}
 use Rattle.chunk_writer.proofs.Planned.{whole_none, whole_some}
@@ -71,14 +71,14 @@ pub plans_begun : (options : FileOptions) (history : List Rec) (p : Planning) �
 plans_begun options history p plans = omega (arith, plans.bytes, length-append (front options.profile) (pieces_bytes (cuts options.chunk history).pieces))
 
 pub stands_stopped : (options : FileOptions) (opened now : Option (List ℕ)) (history : List Rec) (p : Planning) (stop : Stop) (blocks bytes : ℕ) → StoppedBefore blocks bytes stop p
-    → length (front options.profile) ≤ bytes → ((extras : List Top) (behind : List Rec) → StopsAt options extras (history ++ behind) opened now stop blocks bytes) → ScribeStands options opened now history p
+    → length (front options.profile) ≤ bytes → ((extras : List Top) (behind : List Rec) → StopsAt options extras (history ++ behind) opened now stop (numbers blocks bytes)) → ScribeStands options opened now history p
 stands_stopped options opened now history p stop blocks bytes before begun stops = record {
   going = λ e. absurd (going_apart p.phase stop before.phase e);
   stopped = λ other e extras behind. record {
     stops =
-        subst (λ (s : Stop). StopsAt options extras (history ++ behind) opened now s p.blocks p.bytes) (same_stop p.phase stop other before.phase e)
-        (subst (λ (n : ℕ). StopsAt options extras (history ++ behind) opened now stop n p.bytes) (sym before.blocks_are)
-        (subst (λ (n : ℕ). StopsAt options extras (history ++ behind) opened now stop blocks n) (sym before.bytes_are) (stops extras behind)));
+        subst (λ (s : Stop). StopsAt options extras (history ++ behind) opened now s (numbers p.blocks p.bytes)) (same_stop p.phase stop other before.phase e)
+        (subst (λ (n : ℕ). StopsAt options extras (history ++ behind) opened now stop (numbers n p.bytes)) (sym before.blocks_are)
+        (subst (λ (n : ℕ). StopsAt options extras (history ++ behind) opened now stop (numbers blocks n)) (sym before.bytes_are) (stops extras behind)));
     begun = omega (arith, begun, before.bytes_are);
   };
   unended = λ e. ended_apart p.phase stop before.phase e;
@@ -224,14 +224,14 @@ last_entry seen options opened held history p mid last blk e bytes is lasts goin
           (subst (λ (n : ℕ). IsEntryWith e e.extent n blk) offset with_it) made.last_block.1 long told,
     )
 
-stops_so : (options : FileOptions) (extras : List Top) (opened now : Option (List ℕ)) (history : List Rec) (p : Planning) (stop : Stop) (blocks bytes : ℕ) → StoppedBefore blocks bytes stop p → StopsAt options extras history opened now stop blocks bytes
-    → StopsAt options extras history opened now stop p.blocks p.bytes
+stops_so : (options : FileOptions) (extras : List Top) (opened now : Option (List ℕ)) (history : List Rec) (p : Planning) (stop : Stop) (blocks bytes : ℕ) → StoppedBefore blocks bytes stop p → StopsAt options extras history opened now stop (numbers blocks bytes)
+    → StopsAt options extras history opened now stop (numbers p.blocks p.bytes)
 stops_so options extras opened now history p stop blocks bytes before stops =
-    subst (λ (n : ℕ). StopsAt options extras history opened now stop n p.bytes) (sym before.blocks_are) (subst (λ (n : ℕ). StopsAt options extras history opened now stop blocks n) (sym before.bytes_are) stops)
+    subst (λ (n : ℕ). StopsAt options extras history opened now stop (numbers n p.bytes)) (sym before.blocks_are) (subst (λ (n : ℕ). StopsAt options extras history opened now stop (numbers blocks n)) (sym before.bytes_are) stops)
 
 pub block_last_refused : (options : FileOptions) (extras : List Top) (opened held now : Option (List ℕ)) (history : List Rec) (p mid after : Planning) (last : Option Block) (blk : Block) (stop : Stop) (blocks bytes : ℕ) → last ≡ Some blk → Lasts p last mid
     → HoldsBlock p.blocks p.bytes last → blocks ≡ p.blocks → bytes ≡ p.bytes → StoppedBefore blocks bytes stop after → p.phase ≡ phases.Going → Added held now blk.bytes (Err stop) → ScribeStands options opened held history p
-    → StopsAt options extras history opened now stop after.blocks after.bytes
+    → StopsAt options extras history opened now stop (numbers after.blocks after.bytes)
 block_last_refused options extras opened held now history p mid after last blk stop blocks bytes is lasts room same_b same_n before going added stands =
     let (plans, first) = stands.going going in
     let made : IsLast options history (Some blk) mid = subst (λ (x : Option Block). IsLast options history x mid) is (lasts options history plans) in
@@ -246,7 +246,7 @@ block_last_refused options extras opened held now history p mid after last blk s
 
 pub last_stopped : (options : FileOptions) (extras : List Top) (opened held : Option (List ℕ)) (history : List Rec) (p after : Planning) (stop : Stop) → p.phase ≡ phases.Going
     → ((o : FileOptions) (h : List Rec) → Plans o h p → LastStopped o.chunk h p.blocks p.bytes stop) → StoppedBefore p.blocks p.bytes stop after → ScribeStands options opened held history p
-    → StopsAt options extras history opened held stop after.blocks after.bytes
+    → StopsAt options extras history opened held stop (numbers after.blocks after.bytes)
 last_stopped options extras opened held history p after stop going refused before stands =
     stops_so options extras opened held history after stop p.blocks p.bytes before
     (last_refused options extras opened held history stop p.blocks p.bytes (holding options opened held history p going stands) (refused options history (stands.going going).0))
@@ -298,7 +298,7 @@ fills_begun options extras opened held history p fills = let long = fills.filled
 
 -- an extra stopped the writer
 extra_so : (options : FileOptions) (extras : List Top) (opened now : Option (List ℕ)) (history : List Rec) (p : Planning) (stop : Stop) (blocks bytes : ℕ) → StoppedBefore blocks bytes stop p → length (front options.profile) ≤ bytes
-    → StopsAt options extras history opened now stop blocks bytes → StopsBehind options extras history opened now stop p.blocks p.bytes
+    → StopsAt options extras history opened now stop (numbers blocks bytes) → StopsBehind options extras history opened now stop (numbers p.blocks p.bytes)
 extra_so options extras opened now history p stop blocks bytes before begun stops = record {
   stops = stops_so options extras opened now history p stop blocks bytes before stops;
   begun = let same = before.bytes_are in omega (arith, begun, same);
@@ -306,14 +306,14 @@ extra_so options extras opened now history p stop blocks bytes before begun stop
 
 pub extra_stopped : (options : FileOptions) (extras : List Top) (t : Top) (behind : List Top) (opened held : Option (List ℕ)) (history : List Rec) (p after : Planning) (framed : List ℕ) (stop : Stop) → framed ≡ top_bytes t
     → ExtraStopped p.blocks p.bytes framed stop → StoppedBefore p.blocks p.bytes stop after → Fills options extras opened held history p
-    → StopsBehind options (extras ++ t ∷ behind) history opened held stop after.blocks after.bytes
+    → StopsBehind options (extras ++ t ∷ behind) history opened held stop (numbers after.blocks after.bytes)
 extra_stopped options extras t behind opened held history p after framed stop is why before fills =
     extra_so options (extras ++ t ∷ behind) opened held history after stop p.blocks p.bytes before (fills_begun options extras opened held history p fills)
     (extra_refused options extras t behind opened held history stop p.blocks p.bytes (wholly options extras opened held history p fills) (subst (λ (l : List ℕ). ExtraStopped p.blocks p.bytes l stop) is why))
 
 pub extra_not_appended : (options : FileOptions) (extras : List Top) (t : Top) (behind : List Top) (opened held now : Option (List ℕ)) (history : List Rec) (p after : Planning) (framed : List ℕ) (stop : Stop) (blocks bytes : ℕ) → framed ≡ top_bytes t
     → Holds p.blocks (p.bytes + length framed) → blocks ≡ p.blocks → bytes ≡ p.bytes → StoppedBefore blocks bytes stop after → Added held now framed (Err stop) → Fills options extras opened held history p
-    → StopsBehind options (extras ++ t ∷ behind) history opened now stop after.blocks after.bytes
+    → StopsBehind options (extras ++ t ∷ behind) history opened now stop (numbers after.blocks after.bytes)
 extra_not_appended options extras t behind opened held now history p after framed stop blocks bytes is holds same_b same_n before added fills =
     let stopped : StoppedBefore p.blocks p.bytes stop after = record { phase = before.phase; blocks_are = before.blocks_are ∙ same_b; bytes_are = before.bytes_are ∙ same_n } in
     extra_so options (extras ++ t ∷ behind) opened now history after stop p.blocks p.bytes stopped (fills_begun options extras opened held history p fills)
@@ -322,7 +322,7 @@ extra_not_appended options extras t behind opened held now history p after frame
 -- ---- the back
 
 pub back_ends : (options : FileOptions) (extras : List Top) (opened held now : Option (List ℕ)) (history : List Rec) (p after : Planning) (piece : List ℕ) → ((o : FileOptions) (e : List Top) (h : List Rec) → IsFilled o e h p → piece ≡ back_of o e h)
-    → after.blocks ≡ p.blocks → after.bytes ≡ p.bytes + length piece → Adds held now piece → Fills options extras opened held history p → Ends options extras opened now history after.blocks after.bytes (Ok tt)
+    → after.blocks ≡ p.blocks → after.bytes ≡ p.bytes + length piece → Adds held now piece → Fills options extras opened held history p → Ends options extras opened now history (numbers after.blocks after.bytes) (Ok tt)
 back_ends options extras opened held now history p after piece is many long adds fills =
     let filled = fills.filled in
     let back : piece ≡ back_of options extras history = is options extras history filled in
@@ -335,14 +335,14 @@ back_ends options extras opened held now history p after piece is many long adds
 
 pub back_stopped : (options : FileOptions) (extras : List Top) (opened held : Option (List ℕ)) (history : List Rec) (p after : Planning) (stop : Stop)
     → ((o : FileOptions) (e : List Top) (h : List Rec) → IsFilled o e h p → BackStopped o e h p.blocks p.bytes stop) → StoppedBefore p.blocks p.bytes stop after → Fills options extras opened held history p
-    → StopsAt options extras history opened held stop after.blocks after.bytes
+    → StopsAt options extras history opened held stop (numbers after.blocks after.bytes)
 back_stopped options extras opened held history p after stop refused before fills =
     stops_so options extras opened held history after stop p.blocks p.bytes before
     (back_refused options extras opened held history stop p.blocks p.bytes (wholly options extras opened held history p fills) (refused options extras history fills.filled))
 
 pub back_not_appended : (options : FileOptions) (extras : List Top) (opened held now : Option (List ℕ)) (history : List Rec) (p after : Planning) (piece : List ℕ) (stop : Stop) (blocks bytes : ℕ) → ((o : FileOptions) (e : List Top) (h : List Rec) → IsFilled o e h p → piece ≡ back_of o e h)
     → Holds p.blocks (p.bytes + length piece) → blocks ≡ p.blocks → bytes ≡ p.bytes → StoppedBefore blocks bytes stop after → Added held now piece (Err stop) → Fills options extras opened held history p
-    → StopsAt options extras history opened now stop after.blocks after.bytes
+    → StopsAt options extras history opened now stop (numbers after.blocks after.bytes)
 back_not_appended options extras opened held now history p after piece stop blocks bytes is holds same_b same_n before added fills =
     let back : piece ≡ back_of options extras history = is options extras history fills.filled in
     let stopped : StoppedBefore p.blocks p.bytes stop after = record { phase = before.phase; blocks_are = before.blocks_are ∙ same_b; bytes_are = before.bytes_are ∙ same_n } in
@@ -351,15 +351,15 @@ back_not_appended options extras opened held now history p after piece stop bloc
 
 -- the same end, told in other numbers
 pub ends_so : (options : FileOptions) (extras : List Top) (opened now : Option (List ℕ)) (history : List Rec) (blocks bytes blocks' bytes' : ℕ) (end end' : Result Unit Stop) → end' ≡ end → blocks' ≡ blocks → bytes' ≡ bytes
-    → Ends options extras opened now history blocks bytes end → Ends options extras opened now history blocks' bytes' end'
+    → Ends options extras opened now history (numbers blocks bytes) end → Ends options extras opened now history (numbers blocks' bytes') end'
 ends_so options extras opened now history blocks bytes blocks' bytes' end end' same_end same_b same_n ends =
-    subst (λ (e : Result Unit Stop). Ends options extras opened now history blocks' bytes' e) (sym same_end)
-    (subst (λ (n : ℕ). Ends options extras opened now history n bytes' end) (sym same_b) (subst (λ (n : ℕ). Ends options extras opened now history blocks n end) (sym same_n) ends))
+    subst (λ (e : Result Unit Stop). Ends options extras opened now history (numbers blocks' bytes') e) (sym same_end)
+    (subst (λ (n : ℕ). Ends options extras opened now history (numbers n bytes') end) (sym same_b) (subst (λ (n : ℕ). Ends options extras opened now history (numbers blocks n) end) (sym same_n) ends))
 
 -- a history ends where the scribe had stopped
 pub stopped_ends : (options : FileOptions) (extras : List Top) (opened now : Option (List ℕ)) (history : List Rec) (p : Planning) (stop : Stop) → p.phase ≡ phases.Stopped stop → ScribeStands options opened now history p
-    → StopsBehind options extras history opened now stop p.blocks p.bytes
-stopped_ends options extras opened now history p stop is stands = subst (λ (l : List Rec). StopsBehind options extras l opened now stop p.blocks p.bytes) (append-nil history) (stands.stopped stop is extras [])
+    → StopsBehind options extras history opened now stop (numbers p.blocks p.bytes)
+stopped_ends options extras opened now history p stop is stands = subst (λ (l : List Rec). StopsBehind options extras l opened now stop (numbers p.blocks p.bytes)) (append-nil history) (stands.stopped stop is extras [])
 
 -- it had not, and stopped at its last block
 pub last_begun : (options : FileOptions) (opened now : Option (List ℕ)) (history : List Rec) (p : Planning) → p.phase ≡ phases.Going → ScribeStands options opened now history p → length (front options.profile) ≤ p.bytes
@@ -375,6 +375,6 @@ whole_begun options extras history =
 
 -- behind the last piece no bytes are lost
 pub back_begun : (options : FileOptions) (extras : List Top) (opened held now : Option (List ℕ)) (history : List Rec) (p : Planning) (blocks bytes : ℕ) (end : Result Unit Stop) → Fills options extras opened held history p
-    → Ends options extras opened now history blocks bytes end → OnErr end ((blocks ≡ p.blocks) × (bytes ≡ p.bytes)) → length (front options.profile) ≤ bytes
+    → Ends options extras opened now history (numbers blocks bytes) end → OnErr end ((blocks ≡ p.blocks) × (bytes ≡ p.bytes)) → length (front options.profile) ≤ bytes
 back_begun options extras opened held now history p blocks bytes (Ok it) fills ends same = omega (arith, whole_begun options extras history, ends.2)
 back_begun options extras opened held now history p blocks bytes (Err stop) fills ends same = omega (arith, same.1, fills_begun options extras opened held history p fills)

@@ -22,14 +22,14 @@ use Rattle.chunk_writer.specs.declared.tape.Written.{Written}
 use Rattle.chunk_writer.specs.Planning.{Planning}
 use Rattle.chunk_writer.specs.Bodies.{Closes}
 use Rattle.chunk_writer.specs.Plans.{Plans, IsWhole, IsFilled}
-use Rattle.chunk_writer.specs.Stops.{StopsAt, StopsBehind}
+use Rattle.chunk_writer.specs.Stops.{numbers, StopsAt, StopsBehind}
 
 -- The plan of a scribe, whose store held the first bytes when it was opened and holds the second now, stands for a history.
 -- While it goes on, all pieces that are sure stand behind the first bytes. Where it stopped, it stopped at a piece of each
 -- history that goes on from this one, behind its front, whatever the extras.
 pub record ScribeStands (options : FileOptions) (opened now : Option (List ℕ)) (history : List Rec) (p : Planning) : Type 0 where
   pub going : p.phase ≡ phases.Going → Plans options history p × Adds opened now (written_of options history)
-  pub stopped : (stop : Stop) → p.phase ≡ phases.Stopped stop → (extras : List Top) (behind : List Rec) → StopsBehind options extras (history ++ behind) opened now stop p.blocks p.bytes
+  pub stopped : (stop : Stop) → p.phase ≡ phases.Stopped stop → (extras : List Top) (behind : List Rec) → StopsBehind options extras (history ++ behind) opened now stop (numbers p.blocks p.bytes)
   pub unended : p.phase ≡ phases.Ended → ⊥
 
 -- while a scribe goes on these extras wait in it, framed, for the end of its file
@@ -147,16 +147,16 @@ pub record PutsFront {X : Type 0} (seen : SeenExtents X) (options : FileOptions)
 -- ---- the end
 
 -- how the file of extras and a history ended: all of it stands behind what the store held, or the writer stopped at a piece of it
-abbrev pub Ends : FileOptions → List Top → Option (List ℕ) → Option (List ℕ) → List Rec → ℕ → ℕ → Result Unit Stop → Type 0
-Ends options extras opened now history blocks bytes (Ok it) = Adds opened now (file_of options extras history)
-    × (blocks ≡ length (blocks_in (pieces_of options.chunk history))) × (bytes ≡ length (file_of options extras history))
-Ends options extras opened now history blocks bytes (Err stop) = StopsAt options extras history opened now stop blocks bytes
+abbrev pub Ends : FileOptions → List Top → Option (List ℕ) → Option (List ℕ) → List Rec → Written → Result Unit Stop → Type 0
+Ends options extras opened now history written (Ok it) = Adds opened now (file_of options extras history)
+    × (written.blocks ≡ length (blocks_in (pieces_of options.chunk history))) × (written.bytes ≡ length (file_of options extras history))
+Ends options extras opened now history written (Err stop) = StopsAt options extras history opened now stop written
 
 -- The second scribe is the first with its end, which came to this with so many blocks and bytes, those of the front among them.
 -- A whole file is with the system.
 abbrev pub EndsFile : {L : Type 0} → (L → LiveState) → Scribe L → Scribe L → Written → Result Unit Stop → Type 0
 EndsFile seen before after written end = (options : FileOptions) (extras : List Top) (opened : LiveState) (history : List Rec) → Writes seen options extras opened history before
-    → Ends options extras opened.held (seen after.store).held history written.blocks written.bytes end × (length (front options.profile) ≤ written.bytes)
+    → Ends options extras opened.held (seen after.store).held history written end × (length (front options.profile) ≤ written.bytes)
     × OnOk end ((seen after.store).waiting ≡ 0)
 
 -- there is an entry for each block that was appended, at most one

@@ -13,28 +13,34 @@ use Rattle.mcap_model.specs.Blocks.{pieces_of, blocks_in}
 use Rattle.mcap_model.specs.File.{front}
 use Rattle.mcap_model.specs.Pieces.{file_pieces, pieces_before, StoppedAt}
 use Rattle.live_entry.specs.Entries.{TellsPiece}
+use Rattle.chunk_writer.specs.declared.tape.Written.{Written}
 use Rattle.chunk_writer.specs.Limits.{StopWhy}
+
+-- so many blocks and bytes
+abbrev pub numbers : ℕ → ℕ → Written
+numbers blocks bytes = record { blocks = blocks; bytes = bytes }
 
 -- how many blocks stand among the first pieces of a file; the front is the first of them
 abbrev pub blocks_among : FileOptions → List Rec → ℕ → ℕ
 blocks_among options history pieces = length (blocks_in (take (pieces - 1) (pieces_of options.chunk history)))
 
--- The writer of this history and these extras stopped at a piece of their file. So many blocks and bytes stand before the piece, and where the
--- store tells, these bytes, and of the piece no more than the store took of it in a failure, stand behind what it held.
-pub record StopsAt (options : FileOptions) (extras : List Top) (history : List Rec) (opened now : Option (List ℕ)) (stop : Stop) (blocks bytes : ℕ) : Type 0 where
+-- The writer of this history and these extras stopped at a piece of their file. So many blocks and bytes are written before
+-- the piece, and where the store tells, these bytes, and of the piece no more than the store took of it in a failure, stand
+-- behind what it held.
+pub record StopsAt (options : FileOptions) (extras : List Top) (history : List Rec) (opened now : Option (List ℕ)) (stop : Stop) (written : Written) : Type 0 where
   pub place : ℕ
   pub next : List ℕ
   pub at : At (file_pieces options extras history) place next
-  pub blocks_are : blocks ≡ blocks_among options history place
-  pub bytes_are : bytes ≡ length (pieces_before (file_pieces options extras history) place)
-  pub why : StopWhy stop blocks bytes (blocks_among options history (place + 1)) (bytes + length next)
+  pub blocks_are : written.blocks ≡ blocks_among options history place
+  pub bytes_are : written.bytes ≡ length (pieces_before (file_pieces options extras history) place)
+  pub why : StopWhy stop written.blocks written.bytes (blocks_among options history (place + 1)) (written.bytes + length next)
   pub took : (start : List ℕ) → opened ≡ Some start
-      → (text : List ℕ) × (now ≡ Some (start ++ text)) × StoppedAt (file_pieces options extras history) place stop text bytes
+      → (text : List ℕ) × (now ≡ Some (start ++ text)) × StoppedAt (file_pieces options extras history) place stop text written.bytes
 
 -- the same behind the front, whose bytes are among those that stand
-pub record StopsBehind (options : FileOptions) (extras : List Top) (history : List Rec) (opened now : Option (List ℕ)) (stop : Stop) (blocks bytes : ℕ) : Type 0 where
-  pub stops : StopsAt options extras history opened now stop blocks bytes
-  pub begun : length (front options.profile) ≤ bytes
+pub record StopsBehind (options : FileOptions) (extras : List Top) (history : List Rec) (opened now : Option (List ℕ)) (stop : Stop) (written : Written) : Type 0 where
+  pub stops : StopsAt options extras history opened now stop written
+  pub begun : length (front options.profile) ≤ written.bytes
 
 -- the count of a store rises by one where the writer stopped at a fault, which carries it, and stands still otherwise
 abbrev pub StopCause : ℕ → ℕ → Stop → Type 0

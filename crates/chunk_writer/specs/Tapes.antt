@@ -19,7 +19,7 @@ use Rattle.chunk_writer.specs.declared.phase.Phase.TheVariants as phases
 use Rattle.chunk_writer.specs.declared.scribe.Scribe.{Scribe}
 use Rattle.chunk_writer.specs.declared.tape.Written.{Written}
 use Rattle.chunk_writer.specs.Limits.{Holds}
-use Rattle.chunk_writer.specs.Stops.{StopsAt, StopCause, Cause}
+use Rattle.chunk_writer.specs.Stops.{numbers, StopsAt, StopCause, Cause}
 use Rattle.chunk_writer.specs.Scribes.{Writes, Grows, EndsFile, OfEach, KeepsOn, GivesEntries, GivesLast, CountsLast, store_of, phase_of, blocks_of, bytes_of, sure_blocks, grows_none, grows_on}
 
 -- ---- what a tape took
@@ -78,24 +78,36 @@ pub record PutsFirst {X : Type 0} (seen : SeenExtents X) (options : FileOptions)
   pub bytes_are : bytes ≡ length (written_of options (history ++ first))
   pub left : IsLeft phase behind
 
--- The second scribe is the first, later: it took these records and gave these entries, over one call or several. What is seen
--- of a store and of its extents is handed in.
-pub record TakesOn {L X : Type 0} (state : L → LiveState) (tells : X → Option (List ℕ)) (size : X → ℕ) (before after : Scribe L) (records : List Rec) (entries : List (Entry X)) : Type 0 where
-  pub grown : Grows state before after records
-  pub front : phase_of before ≡ phases.Going → OfEach state before (λ options history. PutsFirst (seen_before tells size (state (store_of before))) options history records entries (bytes_of after) (phase_of after))
-  pub keeps : KeepsOn (state (store_of before)).held (state (store_of after)).held
+-- What is seen of a store, and of its extents: their bytes where they tell them, and their size.
+pub record SeenStore (L X : Type 0) : Type 0 where
+  pub state : L → LiveState
+  pub tells : X → Option (List ℕ)
+  pub size : X → ℕ
+
+abbrev pub seen_store : {L X : Type 0} → (L → LiveState) → (X → Option (List ℕ)) → (X → ℕ) → SeenStore L X
+seen_store state tells size = record { state = state; tells = tells; size = size }
+
+-- of its extents, and of what it held before they were
+abbrev pub seen_behind : {L X : Type 0} → SeenStore L X → L → SeenExtents X
+seen_behind seen store = seen_before seen.tells seen.size (seen.state store)
+
+-- The second scribe is the first, later: it took these records and gave these entries, over one call or several.
+pub record TakesOn {L X : Type 0} (seen : SeenStore L X) (before after : Scribe L) (records : List Rec) (entries : List (Entry X)) : Type 0 where
+  pub grown : Grows seen.state before after records
+  pub front : phase_of before ≡ phases.Going → OfEach seen.state before (λ options history. PutsFirst (seen_behind seen (store_of before)) options history records entries (bytes_of after) (phase_of after))
+  pub keeps : KeepsOn (seen.state (store_of before)).held (seen.state (store_of after)).held
   -- where nothing waited in its store nothing waits, while it goes on
-  pub through : OfEach state before (λ options history. phase_of after ≡ phases.Going → (state (store_of before)).waiting ≡ 0 → (state (store_of after)).waiting ≡ 0)
-  pub cause : phase_of before ≡ phases.Going → KeepsCause (phase_of after) (state (store_of before)).faults (state (store_of after)).faults
+  pub through : OfEach seen.state before (λ options history. phase_of after ≡ phases.Going → (seen.state (store_of before)).waiting ≡ 0 → (seen.state (store_of after)).waiting ≡ 0)
+  pub cause : phase_of before ≡ phases.Going → KeepsCause (phase_of after) (seen.state (store_of before)).faults (seen.state (store_of after)).faults
   pub kept : (stop : Stop) → phase_of before ≡ phases.Stopped stop → (after ≡ before) × (entries ≡ [])
 
 -- The second scribe is the first with its end, which came to this with so many blocks and bytes, and with that last entry.
-pub record EndsOn {L X : Type 0} (state : L → LiveState) (tells : X → Option (List ℕ)) (size : X → ℕ) (before after : Scribe L) (last : Option (Entry X)) (written : Written) (end : Result Unit Stop) : Type 0 where
-  pub file : EndsFile state before after written end
-  pub last_is : OfEach state before (λ options history. GivesLast (seen_before tells size (state (store_of before))) options history last)
+pub record EndsOn {L X : Type 0} (seen : SeenStore L X) (before after : Scribe L) (last : Option (Entry X)) (written : Written) (end : Result Unit Stop) : Type 0 where
+  pub file : EndsFile seen.state before after written end
+  pub last_is : OfEach seen.state before (λ options history. GivesLast (seen_behind seen (store_of before)) options history last)
   pub counted : CountsLast (blocks_of before) written.blocks last
   pub within : Holds written.blocks written.bytes
-  pub cause : phase_of before ≡ phases.Going → Cause (state (store_of before)).faults (state (store_of after)).faults end
+  pub cause : phase_of before ≡ phases.Going → Cause (seen.state (store_of before)).faults (seen.state (store_of after)).faults end
   pub kept : (stop : Stop) → phase_of before ≡ phases.Stopped stop → (end ≡ Err stop) × (last ≡ None) × (after ≡ before)
 
 -- A scribe stopped at the limit of a file: at so many blocks and bytes, behind which the next piece of each file for which it
@@ -103,7 +115,7 @@ pub record EndsOn {L X : Type 0} (state : L → LiveState) (tells : X → Option
 pub record MeetsLimit {L : Type 0} (state : L → LiveState) (scribe : Scribe L) (blocks bytes : ℕ) : Type 0 where
   pub stopped : phase_of scribe ≡ phases.Stopped (stops.Limit blocks bytes)
   pub at : (options : FileOptions) (extras : List Top) (opened : LiveState) (history : List Rec) → Writes state options extras opened history scribe
-      → StopsAt options extras history opened.held (state (store_of scribe)).held (stops.Limit blocks bytes) (blocks_of scribe) (bytes_of scribe)
+      → StopsAt options extras history opened.held (state (store_of scribe)).held (stops.Limit blocks bytes) (numbers (blocks_of scribe) (bytes_of scribe))
 
 -- ---- entries in a row
 
@@ -141,35 +153,35 @@ module _ {X : Type 0} (tells : X → Option (List ℕ)) (size : X → ℕ) (old 
 
 -- ---- one call behind another
 
-pub takes_none : {L X : Type 0} (state : L → LiveState) (tells : X → Option (List ℕ)) (size : X → ℕ) (scribe : Scribe L) → TakesOn state tells size scribe scribe [] []
-takes_none state tells size scribe = record {
-  grown = grows_none state scribe;
+pub takes_none : {L X : Type 0} (seen : SeenStore L X) (scribe : Scribe L) → TakesOn seen scribe scribe [] []
+takes_none seen scribe = record {
+  grown = grows_none seen.state scribe;
   front = λ going options extras opened history writes. record {
     first = [];
     behind = [];
     cut = refl;
-    entries_are = no_entries (seen_before tells size (state (store_of scribe))) options history;
+    entries_are = no_entries (seen_behind seen (store_of scribe)) options history;
     bytes_are = (writes.0.going going).0.bytes ∙ ap (λ (l : List Rec). length (written_of options l)) (sym (append-nil history));
     left = subst (λ (p : Phase). IsLeft p []) (sym going) refl;
   };
   keeps = λ held is. ([], is ∙ ap (λ (l : List ℕ). Some l) (sym (append-nil held)));
   through = λ options extras opened history writes going zero. zero;
-  cause = λ going. subst (λ (p : Phase). KeepsCause p (state (store_of scribe)).faults (state (store_of scribe)).faults) (sym going) refl;
+  cause = λ going. subst (λ (p : Phase). KeepsCause p (seen.state (store_of scribe)).faults (seen.state (store_of scribe)).faults) (sym going) refl;
   kept = λ stop is. (refl, refl);
 }
 
-module _ {L X : Type 0} (state : L → LiveState) (tells : X → Option (List ℕ)) (size : X → ℕ) (one two three : Scribe L) (a b : List Rec) (es fs : List (Entry X))
-    (first : TakesOn state tells size one two a es) (second : TakesOn state tells size two three b fs) where
-  cause_on : (p : Phase) → phase_of two ≡ p → KeepsCause p (state (store_of one)).faults (state (store_of two)).faults → KeepsCause (phase_of three) (state (store_of one)).faults (state (store_of three)).faults
-  cause_on phases.Going is before = subst (λ (n : ℕ). KeepsCause (phase_of three) n (state (store_of three)).faults) before (second.cause is)
+module _ {L X : Type 0} (seen : SeenStore L X) (one two three : Scribe L) (a b : List Rec) (es fs : List (Entry X))
+    (first : TakesOn seen one two a es) (second : TakesOn seen two three b fs) where
+  cause_on : (p : Phase) → phase_of two ≡ p → KeepsCause p (seen.state (store_of one)).faults (seen.state (store_of two)).faults → KeepsCause (phase_of three) (seen.state (store_of one)).faults (seen.state (store_of three)).faults
+  cause_on phases.Going is before = subst (λ (n : ℕ). KeepsCause (phase_of three) n (seen.state (store_of three)).faults) before (second.cause is)
   cause_on (phases.Stopped stop) is before =
-      subst (λ (s : Scribe L). KeepsCause (phase_of s) (state (store_of one)).faults (state (store_of s)).faults) (sym (second.kept stop is).0)
-      (subst (λ (q : Phase). KeepsCause q (state (store_of one)).faults (state (store_of two)).faults) (sym is) before)
+      subst (λ (s : Scribe L). KeepsCause (phase_of s) (seen.state (store_of one)).faults (seen.state (store_of s)).faults) (sym (second.kept stop is).0)
+      (subst (λ (q : Phase). KeepsCause q (seen.state (store_of one)).faults (seen.state (store_of two)).faults) (sym is) before)
   cause_on phases.Ended is before = absurd before
 
-  front_on : (options : FileOptions) (extras : List Top) (opened : LiveState) (history : List Rec) (p : Phase) → phase_of two ≡ p → Writes state options extras opened (history ++ a) two
-      → (it : PutsFirst (seen_before tells size (state (store_of one))) options history a es (bytes_of two) (phase_of two)) → IsLeft p it.behind
-      → PutsFirst (seen_before tells size (state (store_of one))) options history (a ++ b) (es ++ fs) (bytes_of three) (phase_of three)
+  front_on : (options : FileOptions) (extras : List Top) (opened : LiveState) (history : List Rec) (p : Phase) → phase_of two ≡ p → Writes seen.state options extras opened (history ++ a) two
+      → (it : PutsFirst (seen_behind seen (store_of one)) options history a es (bytes_of two) (phase_of two)) → IsLeft p it.behind
+      → PutsFirst (seen_behind seen (store_of one)) options history (a ++ b) (es ++ fs) (bytes_of three) (phase_of three)
   front_on options extras opened history phases.Going is writes it left =
       let whole : a ≡ it.first = it.cut ∙ ap (λ (l : List Rec). it.first ++ l) left ∙ append-nil it.first in
       let more = second.front is options extras opened (history ++ a) writes in
@@ -177,8 +189,8 @@ module _ {L X : Type 0} (state : L → LiveState) (tells : X → Option (List �
         first = a ++ more.first;
         behind = more.behind;
         cut = ap (λ (l : List Rec). a ++ l) more.cut ∙ sym (append_assoc a more.first more.behind);
-        entries_are = entries_joined tells size (state (store_of one)) (state (store_of two)) first.keeps options history a more.first es fs
-            (subst (λ (l : List Rec). GivesEntries (seen_before tells size (state (store_of one))) options history l es) (sym whole) it.entries_are) more.entries_are;
+        entries_are = entries_joined seen.tells seen.size (seen.state (store_of one)) (seen.state (store_of two)) first.keeps options history a more.first es fs
+            (subst (λ (l : List Rec). GivesEntries (seen_behind seen (store_of one)) options history l es) (sym whole) it.entries_are) more.entries_are;
         bytes_are = more.bytes_are ∙ ap (λ (l : List Rec). length (written_of options l)) (append_assoc history a more.first);
         left = more.left;
       }
@@ -188,23 +200,23 @@ module _ {L X : Type 0} (state : L → LiveState) (tells : X → Option (List �
         first = it.first;
         behind = it.behind ++ b;
         cut = ap (λ (l : List Rec). l ++ b) it.cut ∙ append_assoc it.first it.behind b;
-        entries_are = subst (λ (l : List (Entry X)). GivesEntries (seen_before tells size (state (store_of one))) options history it.first l) (sym (ap (λ (l : List (Entry X)). es ++ l) none ∙ append-nil es)) it.entries_are;
+        entries_are = subst (λ (l : List (Entry X)). GivesEntries (seen_behind seen (store_of one)) options history it.first l) (sym (ap (λ (l : List (Entry X)). es ++ l) none ∙ append-nil es)) it.entries_are;
         bytes_are = ap (λ (s : Scribe L). bytes_of s) same ∙ it.bytes_are;
         left = subst (λ (q : Phase). IsLeft q (it.behind ++ b)) (sym (ap (λ (s : Scribe L). phase_of s) same ∙ is)) (left.0, left.1 ++ b, ap (λ (l : List Rec). l ++ b) left.2);
       }
   front_on options extras opened history phases.Ended is writes it left = absurd left
 
-  through_on : (options : FileOptions) (extras : List Top) (opened : LiveState) (history : List Rec) (p : Phase) → phase_of two ≡ p → Writes state options extras opened (history ++ a) two
-      → (phase_of two ≡ phases.Going → (state (store_of two)).waiting ≡ 0) → phase_of three ≡ phases.Going → (state (store_of three)).waiting ≡ 0
+  through_on : (options : FileOptions) (extras : List Top) (opened : LiveState) (history : List Rec) (p : Phase) → phase_of two ≡ p → Writes seen.state options extras opened (history ++ a) two
+      → (phase_of two ≡ phases.Going → (seen.state (store_of two)).waiting ≡ 0) → phase_of three ≡ phases.Going → (seen.state (store_of three)).waiting ≡ 0
   through_on options extras opened history phases.Going is writes zero going = second.through options extras opened (history ++ a) writes going (zero is)
   through_on options extras opened history (phases.Stopped stop) is writes zero going =
       let same = (second.kept stop is).0 in
-      ap (λ (s : Scribe L). (state (store_of s)).waiting) same ∙ zero (ap (λ (s : Scribe L). phase_of s) (sym same) ∙ going)
+      ap (λ (s : Scribe L). (seen.state (store_of s)).waiting) same ∙ zero (ap (λ (s : Scribe L). phase_of s) (sym same) ∙ going)
   through_on options extras opened history phases.Ended is writes zero going = absurd (writes.0.unended is)
 
-  pub takes_on : TakesOn state tells size one three (a ++ b) (es ++ fs)
+  pub takes_on : TakesOn seen one three (a ++ b) (es ++ fs)
   takes_on = record {
-    grown = grows_on state one two three a b first.grown second.grown;
+    grown = grows_on seen.state one two three a b first.grown second.grown;
     front = λ going options extras opened history writes.
         let it = first.front going options extras opened history writes in
         front_on options extras opened history (phase_of two) refl (first.grown options extras opened history writes) it it.left;

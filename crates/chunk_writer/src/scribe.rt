@@ -19,7 +19,7 @@ ghost use Rattle.live_entry.specs.Entries.{seen_before};
 ghost use Rattle.chunk_writer.specs.declared.phase.Phase.TheVariants as phases;
 ghost use Rattle.chunk_writer.specs.Limits.{Holds};
 ghost use Rattle.chunk_writer.specs.Plans.{Plans, StoppedBefore};
-ghost use Rattle.chunk_writer.specs.Stops.{StopsAt, StopsBehind, Cause, StopCause, Appends, Added, refusal};
+ghost use Rattle.chunk_writer.specs.Stops.{numbers, StopsAt, StopsBehind, Cause, StopCause, Appends, Added, refusal};
 ghost use Rattle.chunk_writer.specs.Scribes.{ScribeStands, Writes, Grows, Gathers, Fills, OfEach, KeepsOn, store_of, phase_of, blocks_of, bytes_of, GivesEntry, GivesLast, ListsEntry, PutsFront, GoesThrough, Ends, EndsFile, CountsLast, CountsBytes, IsEntryWith, AddsLast};
 
 use crate::buffered::append_records;
@@ -129,7 +129,7 @@ fn begin_file<L: LiveStore>(
     ensures stands { IfOk result (λ plan. ScribeStands options.now (L.state store.old).held (L.state store.new).held [] plan) }
     ensures goes_on { IfOk result (λ plan. plan.phase ≡ phases.Going) }
     ensures through { OnOk result ((L.state store.new).waiting ≡ 0) }
-    ensures refused { IfErr result (λ stop. (extras : List Top) (history : List Rec) → StopsAt options.now extras history (L.state store.old).held (L.state store.new).held stop 0 0) }
+    ensures refused { IfErr result (λ stop. (extras : List Top) (history : List Rec) → StopsAt options.now extras history (L.state store.old).held (L.state store.new).held stop (numbers 0 0)) }
     ensures cause { Cause (L.state store.old).faults (L.state store.new).faults result }
 {
     let (plan, piece) = match opening(alloc, options) {
@@ -169,7 +169,7 @@ impl<L: LiveStore> Scribe<L> {
         // The front is with the system, whether there are chunks or not.
         ensures through { IfOk result (λ s. (L.state (store_of s)).waiting ≡ 0) }
         ensures still { IfOk result (λ s. (L.state (store_of s)).faults ≡ (L.state store).faults) }
-        ensures refused { IfErr result (λ e. (extras : List Top) (history : List Rec) → StopsAt options.now extras history (L.state store).held (L.state e.0).held e.1 0 0) }
+        ensures refused { IfErr result (λ e. (extras : List Top) (history : List Rec) → StopsAt options.now extras history (L.state store).held (L.state e.0).held e.1 (numbers 0 0)) }
         ensures cause { IfErr result (λ e. StopCause (L.state store).faults (L.state e.0).faults e.1) }
     {
         let mut store = store;
@@ -548,7 +548,7 @@ impl<L: LiveStore> Scribe<L> {
         ensures bytes { IfOk result (λ last. CountsBytes (λ e. L.Extent.size e) (bytes_of self.old) (bytes_of self.new) last) }
         ensures ended { OnOk result (phase_of self.new ≡ phases.Ended) }
         ensures refused { IfErr result (λ stop. (options : FileOptions) (extras : List Top) (opened : LiveState) (history : List Rec) → Writes L.state options extras opened history self.old
-            → StopsAt options extras history opened.held (L.state (store_of self.new)).held stop (blocks_of self.new) (bytes_of self.new)) }
+            → StopsAt options extras history opened.held (L.state (store_of self.new)).held stop (numbers (blocks_of self.new) (bytes_of self.new))) }
         ensures stopped { IfErr result (λ stop. StoppedBefore (blocks_of self.old) (bytes_of self.old) stop self.new.plan) }
         ensures cause { Cause (L.state (store_of self.old)).faults (L.state (store_of self.new)).faults result }
     {
@@ -572,7 +572,7 @@ impl<L: LiveStore> Scribe<L> {
             → Fills options extras opened.held (L.state (store_of self.new)).held history self.new.plan) }
         ensures refused { IfErr result (λ stop. (options : FileOptions) (extras : List Top) (opened : LiveState) (history : List Rec) → self.old.extras ≡ map top_bytes extras
             → Fills options [] opened.held (L.state (store_of self.old)).held history self.old.plan
-            → StopsBehind options extras history opened.held (L.state (store_of self.new)).held stop (blocks_of self.new) (bytes_of self.new)) }
+            → StopsBehind options extras history opened.held (L.state (store_of self.new)).held stop (numbers (blocks_of self.new) (bytes_of self.new))) }
         ensures same { blocks_of self.new ≡ blocks_of self.old }
         ensures stays { OnOk result (phase_of self.new ≡ phases.Ended) }
         ensures stopped { IfErr result (λ stop. phase_of self.new ≡ phases.Stopped stop) }
@@ -599,7 +599,7 @@ impl<L: LiveStore> Scribe<L> {
             → Fills options (extras ++ t ∷ []) opened.held (L.state (store_of self.new)).held history self.new.plan) }
         ensures refused { IfErr result (λ stop. (t : Top) → get_or self.old.extras place [] ≡ top_bytes t → (options : FileOptions) (extras behind : List Top) (opened : LiveState) (history : List Rec)
             → Fills options extras opened.held (L.state (store_of self.old)).held history self.old.plan
-            → StopsBehind options (extras ++ t ∷ behind) history opened.held (L.state (store_of self.new)).held stop (blocks_of self.new) (bytes_of self.new)) }
+            → StopsBehind options (extras ++ t ∷ behind) history opened.held (L.state (store_of self.new)).held stop (numbers (blocks_of self.new) (bytes_of self.new))) }
         ensures same { (blocks_of self.new ≡ blocks_of self.old) × (self.new.extras ≡ self.old.extras) }
         ensures stays { OnOk result (phase_of self.new ≡ phases.Ended) }
         ensures stopped { IfErr result (λ stop. phase_of self.new ≡ phases.Stopped stop) }
@@ -624,7 +624,7 @@ impl<L: LiveStore> Scribe<L> {
     fn append_back(&mut self) -> Result<(), Stop>
         requires ended { phase_of self.old ≡ phases.Ended }
         ensures ends { (options : FileOptions) (extras : List Top) (opened : LiveState) (history : List Rec) → Fills options extras opened.held (L.state (store_of self.old)).held history self.old.plan
-            → Ends options extras opened.held (L.state (store_of self.new)).held history (blocks_of self.new) (bytes_of self.new) result }
+            → Ends options extras opened.held (L.state (store_of self.new)).held history (numbers (blocks_of self.new) (bytes_of self.new)) result }
         ensures same { blocks_of self.new ≡ blocks_of self.old }
         ensures stays { OnOk result (phase_of self.new ≡ phases.Ended) }
         ensures through { OnOk result ((L.state (store_of self.new)).waiting ≡ 0) }

@@ -7,7 +7,7 @@ ghost use Rattle.chunk_writer.specs.declared.phase.Phase.TheVariants as phases;
 ghost use Rattle.chunk_writer.specs.declared.phase.Phase.{Phase as TapePhase};
 ghost use Rattle.chunk_writer.specs.declared.tape.Written.{Written as Numbers};
 ghost use Rattle.chunk_writer.specs.Scribes.{store_of, phase_of, blocks_of, bytes_of};
-ghost use Rattle.chunk_writer.specs.Tapes.{HasTaken, MayTake, EndsFor, TakesOn, EndsOn, MeetsLimit, takes_none, takes_on};
+ghost use Rattle.chunk_writer.specs.Tapes.{HasTaken, MayTake, EndsFor, seen_store, TakesOn, EndsOn, MeetsLimit, takes_none, takes_on};
 
 use crate::phase::Phase;
 use crate::scribe::Scribe;
@@ -111,9 +111,9 @@ impl<L: LiveStore> Tape for Scribe<L> {
     // It takes whatever it is handed.
     ghost is_new = { λ s. Unit {0} };
 
-    ghost grows = { λ before after records entries. TakesOn L.state (λ e. L.Extent.tells e) (λ e. L.Extent.size e) before after records entries };
+    ghost grows = { λ before after records entries. TakesOn (seen_store L.state (λ e. L.Extent.tells e) (λ e. L.Extent.size e)) before after records entries };
 
-    ghost ends = { λ before after last written end. EndsOn L.state (λ e. L.Extent.tells e) (λ e. L.Extent.size e) before after last written end };
+    ghost ends = { λ before after last written end. EndsOn (seen_store L.state (λ e. L.Extent.tells e) (λ e. L.Extent.size e)) before after last written end };
 
     ghost limit_met = { λ s blocks bytes. MeetsLimit L.state s blocks bytes };
 
@@ -123,9 +123,9 @@ impl<L: LiveStore> Tape for Scribe<L> {
 
     ghost failures = { λ s. (L.state (store_of s)).faults };
 
-    ghost grows_none = { λ s. takes_none L.state (λ e. L.Extent.tells e) (λ e. L.Extent.size e) s };
+    ghost grows_none = { λ s. takes_none (seen_store L.state (λ e. L.Extent.tells e) (λ e. L.Extent.size e)) s };
 
-    ghost grows_on = { λ one two three before behind es fs first second. takes_on L.state (λ e. L.Extent.tells e) (λ e. L.Extent.size e) one two three before behind es fs first second };
+    ghost grows_on = { λ one two three before behind es fs first second. takes_on (seen_store L.state (λ e. L.Extent.tells e) (λ e. L.Extent.size e)) one two three before behind es fs first second };
 
     fn take(&mut self, full: Cache) -> Taken<L::Extent> {
         Scribe::take(self, full)

@@ -7,6 +7,7 @@ use Rattle.mcap_model.specs.Tops.{Top, top_bytes, spelled}
 use Rattle.mcap_model.specs.Blocks.{Piece, block, cuts, pieces_of, piece_bytes, pieces_bytes, block_in, blocks_in, last_piece}
 use Rattle.mcap_model.specs.File.{front, data_end, section, noted, tail_by, file_of}
 use Rattle.mcap_model.specs.Pieces.{joined, back_of}
+use Rattle.chunk_writer.specs.Stops.{numbers}
 use Rattle.chunk_writer.specs.Scribes.{Ends}
 
 -- so many first pieces have all blocks only where they are all pieces, and the last of these is a block
@@ -38,7 +39,7 @@ file_whole options extras history = sym (append_assoc (section options extras hi
 
 -- the bytes of all blocks are among those that stand
 pub all_stand : (options : FileOptions) (extras : List Top) (opened now : Option (List ℕ)) (history records : List Rec) (before blocks bytes : ℕ) (end : Result Unit Stop)
-    → last_piece (cuts options.chunk history).waiting ≡ block records ∷ [] → before ≡ length (blocks_in (cuts options.chunk history).pieces) → blocks ≡ before + 1 → Ends options extras opened now history blocks bytes end
+    → last_piece (cuts options.chunk history).waiting ≡ block records ∷ [] → before ≡ length (blocks_in (cuts options.chunk history).pieces) → blocks ≡ before + 1 → Ends options extras opened now history (numbers blocks bytes) end
     → length (front options.profile ++ pieces_bytes (pieces_of options.chunk history)) ≤ bytes
 all_stand options extras opened now history records before blocks bytes (Ok it) last many more ends =
     let start = front options.profile in

@@ -4,7 +4,7 @@ use Rattle.std.specs.Prelude.{IsSome}
 use Rattle.std.specs.List.{AllZip}
 use Rattle.std.proofs.lemmas.Bool.{false≢true}
 use Rattle.rec_data.specs.declared.owned.Rec.{Rec}
-use Rattle.mcap_io.specs.Outside.{SinkState, LiveState}
+use Rattle.mcap_io.specs.Outside.{LiveState}
 use Rattle.mcap_model.specs.declared.options.FileOptions.{FileOptions}
 use Rattle.mcap_model.specs.declared.replay.Range.{Range}
 use Rattle.mcap_model.specs.Places.{At, Each}
@@ -20,7 +20,6 @@ use Rattle.recorder.specs.Laws.{AreReadable}
 use Rattle.recorder.specs.Recorded.{Sides}
 use Rattle.watching.specs.declared.report.WatchEnd.{WatchEnd}
 use Rattle.watching.specs.declared.report.WatchEnd.TheVariants as watch_ends
-use Rattle.watching.specs.declared.report.WatchReport.{WatchReport}
 use Rattle.watching.specs.Text.{sealed_by, WatchText, WatchPart, WatchTextOf, WatchPartOf, replays_of}
 use Rattle.watching.specs.Watching.{Written, unwritten, written_by, Takes, WritesTo}
 use Rattle.watching.proofs.Taking.{takes_as}
@@ -60,15 +59,15 @@ module _ {X : Type 0} (tells : X → Option (List ℕ)) (options : FileOptions) 
   written_of before now (watch_ends.Flaw rule offset) is = is.1 stored told
   written_of before now watch_ends.Memory is = (is.0, part_told now.fronts before.sink.took now.sink.took is.1)
 
-  told_of : (note : List (Added X)) → entries ≡ entries_of note → end_of note ≡ Some w.end → (before now : SinkState) (view : Option ℕ) (report : WatchReport) → WatchTells tells range (Some note) before now view report → TellsFile options range history w before now view report
-  told_of note same end_is before now (Some failures) report is =
-      written_of (unwritten before 0) (written_by now failures report) report.end
-      (subst (λ (es : List (Entry X)). WritesTo tells range es (sealed_by w.end) (unwritten before 0) (written_by now failures report) (Some report.end)) (sym same) (is w.end end_is))
-  told_of note same end_is before now None report is = is
+  told_of : (note : List (Added X)) → entries ≡ entries_of note → end_of note ≡ Some w.end → (it : Watch) (view : Option ℕ) → WatchTells tells range (Some note) it.before it.now view it.report → TellsFile options range history w it view
+  told_of note same end_is it (Some failures) is =
+      written_of (unwritten it.before 0) (written_by it.now failures it.report) it.report.end
+      (subst (λ (es : List (Entry X)). WritesTo tells range es (sealed_by w.end) (unwritten it.before 0) (written_by it.now failures it.report) (Some it.report.end)) (sym same) (is w.end end_is))
+  told_of note same end_is it None is = is
 
-module _ {X : Type 0} (tells : X → Option (List ℕ)) (options : RecordOptions) (range : Range) (before now : Sides) (sinks : List SinkState) (r : Report) (told : Told) (it : RecordedWatched tells options range before now sinks r told)
+module _ {X : Type 0} (tells : X → Option (List ℕ)) (options : RecordOptions) (range : Range) (before now : Sides) (r : Report) (told : Told) (it : RecordedWatched tells options range before now r told)
     (readable : AreReadable options.file) (size : ℕ) (some : options.file.chunk ≡ Some size) (held : List ℕ) (held_is : before.live.held ≡ Some held) where
-  by_note : (note : Option (List (Added X))) → it.note ≡ note → (sinks ≡ []) ⊎ IsSome note → Each (IsWatchedFile options.file range it.recorded.recorded.history r.writer) it.watches
+  by_note : (note : Option (List (Added X))) → it.note ≡ note → (told.handed ≡ []) ⊎ IsSome note → Each (IsWatchedFile options.file range it.recorded.recorded.history r.writer) it.watches
   by_note None is (inl none) n w at = absurd (none_watched it.watches (sym none ∙ it.are.before_are) n w at)
   by_note None is (inr there) n w at = absurd (false≢true there)
   by_note (Some note) is sealed n w at =
@@ -77,9 +76,9 @@ module _ {X : Type 0} (tells : X → Option (List ℕ)) (options : RecordOptions
       let (stored, stores) = blocks.tell held (still_held before.live it.viewed it.watches it.asked ∙ held_is) in
       told_of tells options.file range recorded.history r.writer (entries_of note) blocks.many stored stores
       (front_replayed tells options.file size recorded.history blocks.pieces (entries_of note) readable some recorded.assembled.numbered recorded.kept blocks.first blocks.each range stored stores)
-      note refl (it.recorded.end_is note is) w.before w.now w.view w.report
+      note refl (it.recorded.end_is note is) w w.view
       (subst (λ (t : Option (List (Added X))). IsWatched tells range t w) is (it.each n w at))
 
 pub watch_files_are_told : {X : Type 0} (tells : X → Option (List ℕ)) → WatchFilesAreTold tells
-watch_files_are_told tells options range before now sinks r told it readable size some held held_is seal =
-    by_note tells options range before now sinks r told it readable size some held held_is it.note refl (it.sealed seal)
+watch_files_are_told tells options range before now r told it readable size some held held_is seal =
+    by_note tells options range before now r told it readable size some held held_is it.note refl (it.sealed seal)

@@ -20,8 +20,9 @@ use Rattle.chunk_writer.specs.declared.phase.Phase.{Phase}
 use Rattle.chunk_writer.specs.declared.phase.Phase.TheVariants as phases
 use Rattle.chunk_writer.specs.declared.scribe.Scribe.{Scribe}
 use Rattle.chunk_writer.specs.Limits.{Holds}
+use Rattle.chunk_writer.specs.Stops.{numbers}
 use Rattle.chunk_writer.specs.Scribes.{Writes, Ends, GivesEntries, store_of, phase_of, blocks_of, bytes_of}
-use Rattle.chunk_writer.specs.Tapes.{PutsFirst, IsLeft, TakesOn, EndsOn}
+use Rattle.chunk_writer.specs.Tapes.{PutsFirst, IsLeft, seen_store, TakesOn, EndsOn}
 use Rattle.chunk_writer.proofs.Cuts.{pieces_grow}
 use Rattle.recorder.specs.declared.report.WriterReport.{WriterReport}
 use Rattle.recorder.specs.Recorded.{answer_of}
@@ -57,7 +58,7 @@ module _ {X : Type 0} (seen : SeenExtents X) (held : List ℕ) (is : seen.held �
 
 -- A scribe was opened, took a history in several calls, and was ended.
 module _ {L X : Type 0} (state : L → LiveState) (tells : X → Option (List ℕ)) (size : X → ℕ) (options : FileOptions) (live : LiveState) (first mid last : Scribe L) (history : List Rec) (given : List (Entry X)) (w : WriterReport)
-    (stands : Writes state options [] live [] first) (going : phase_of first ≡ phases.Going) (took : TakesOn state tells size first mid history given)
+    (stands : Writes state options [] live [] first) (going : phase_of first ≡ phases.Going) (took : TakesOn (seen_store state tells size) first mid history given)
     (counted : blocks_of mid ≡ blocks_of first + length given) (holds : Holds (blocks_of mid) (bytes_of mid)) where
   none_first : blocks_of first ≡ 0
   none_first = (stands.0.going going).0.blocks
@@ -67,13 +68,13 @@ module _ {L X : Type 0} (state : L → LiveState) (tells : X → Option (List �
 
   -- where it was closed without a last block the blocks that are sure are all
   sure_all : (p : Phase) → phase_of mid ≡ p → (it : PutsFirst (seen_before tells size (state (store_of first))) options [] history given (bytes_of mid) (phase_of mid)) → IsLeft p it.behind
-      → EndsOn state tells size mid last None (numbers_of w) (answer_of w.end) → w.end ≡ ends.Closed → (cuts options.chunk it.first).pieces ≡ pieces_of options.chunk history
+      → EndsOn (seen_store state tells size) mid last None (numbers_of w) (answer_of w.end) → w.end ≡ ends.Closed → (cuts options.chunk it.first).pieces ≡ pieces_of options.chunk history
   sure_all phases.Going is it left ended closed =
       let sure = (cuts options.chunk history).pieces in
       let whole : history ≡ it.first = it.cut ∙ ap (λ (l : List Rec). it.first ++ l) left ∙ append-nil it.first in
       let writes = took.grown options [] live [] stands in
       let file = ended.file options [] live history writes in
-      let all = subst (λ (a : Result Unit Stop). Ends options [] live.held (state (store_of last)).held history w.blocks w.bytes a) (ap answer_of closed) file.0 in
+      let all = subst (λ (a : Result Unit Stop). Ends options [] live.held (state (store_of last)).held history (numbers w.blocks w.bytes) a) (ap answer_of closed) file.0 in
       let none = no_last sure (cuts options.chunk history).waiting (sym all.1 ∙ ended.counted ∙ (writes.0.going is).0.blocks) in
       ap (λ (l : List Rec). (cuts options.chunk l).pieces) (sym whole) ∙ sym (append-nil sure) ∙ ap (λ (l : List Piece). sure ++ l) (sym none)
   sure_all (phases.Stopped stop) is it left ended closed = absurd (subst (λ (a : Result Unit Stop). OnErr a ⊥) (sym (ap answer_of closed) ∙ (ended.kept stop is).0) tt)
@@ -81,7 +82,7 @@ module _ {L X : Type 0} (state : L → LiveState) (tells : X → Option (List �
 
   -- no block was appended at the end
   sure_blocks_are : (it : PutsFirst (seen_before tells size (state (store_of first))) options [] history given (bytes_of mid) (phase_of mid))
-      → EndsOn state tells size mid last None (numbers_of w) (answer_of w.end) → AreBlocks tells options live history w given
+      → EndsOn (seen_store state tells size) mid last None (numbers_of w) (answer_of w.end) → AreBlocks tells options live history w given
   sure_blocks_are it ended =
       let gives = it.entries_are in
       let grow = pieces_grow options.chunk it.first it.behind in
@@ -103,7 +104,7 @@ module _ {L X : Type 0} (state : L → LiveState) (tells : X → Option (List �
 
   -- a last block was
   last_blocks_are : (it : PutsFirst (seen_before tells size (state (store_of first))) options [] history given (bytes_of mid) (phase_of mid)) (e : Entry X)
-      → EndsOn state tells size mid last (Some e) (numbers_of w) (answer_of w.end) → AreBlocks tells options live history w (given ++ e ∷ [])
+      → EndsOn (seen_store state tells size) mid last (Some e) (numbers_of w) (answer_of w.end) → AreBlocks tells options live history w (given ++ e ∷ [])
   last_blocks_are it e ended =
       let seen = seen_before tells size (state (store_of first)) in
       let writes = took.grown options [] live [] stands in
@@ -137,7 +138,7 @@ module _ {L X : Type 0} (state : L → LiveState) (tells : X → Option (List �
         all = λ closed. refl;
       }
 
-  pub first_blocks_are : (closing : Option (Entry X)) → EndsOn state tells size mid last closing (numbers_of w) (answer_of w.end) → AreBlocks tells options live history w (given ++ at_most_one closing)
+  pub first_blocks_are : (closing : Option (Entry X)) → EndsOn (seen_store state tells size) mid last closing (numbers_of w) (answer_of w.end) → AreBlocks tells options live history w (given ++ at_most_one closing)
   first_blocks_are None ended =
       subst (λ (l : List (Entry X)). AreBlocks tells options live history w l) (sym (append-nil given)) (sure_blocks_are (took.front going options [] live [] stands) ended)
   first_blocks_are (Some e) ended = last_blocks_are (took.front going options [] live [] stands) e ended

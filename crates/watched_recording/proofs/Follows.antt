@@ -23,7 +23,7 @@ use Rattle.chunk_writer.specs.declared.scribe.Scribe.{Scribe}
 use Rattle.chunk_writer.specs.declared.tape.Written.{Written}
 use Rattle.chunk_writer.specs.Limits.{Holds}
 use Rattle.chunk_writer.specs.Scribes.{GivesEntries, store_of, phase_of, blocks_of, bytes_of}
-use Rattle.chunk_writer.specs.Tapes.{PutsFirst, IsLeft, TakesOn, EndsOn, takes_on}
+use Rattle.chunk_writer.specs.Tapes.{PutsFirst, IsLeft, seen_store, TakesOn, EndsOn, takes_on}
 use Rattle.recorder.proofs.EntriesFollow.{entries_follow}
 use Rattle.recorder.proofs.EntriesGathered.{entries_gathered}
 use Rattle.watched_recording.specs.Publishing.{Board, IsKnown, GivesTo, Publishing, IsNew, empty_board, held_in}
@@ -55,7 +55,7 @@ module _ {X : Type 0} (tells : X → Option (List ℕ)) (size : X → ℕ) (stor
 
 module _ {L X : Type 0} (state : L → LiveState) (tells : X → Option (List ℕ)) (size : X → ℕ) (now later : Scribe L) where
   -- the scribe goes on, where ending it gave an entry
-  pub still_going : (last : Entry X) (written : Written) (end : Result Unit Stop) (phase : Phase) → phase_of now ≡ phase → (phase_of now ≡ phases.Ended → ⊥) → EndsOn state tells size now later (Some last) written end
+  pub still_going : (last : Entry X) (written : Written) (end : Result Unit Stop) (phase : Phase) → phase_of now ≡ phase → (phase_of now ≡ phases.Ended → ⊥) → EndsOn (seen_store state tells size) now later (Some last) written end
       → phase_of now ≡ phases.Going
   still_going last written end phases.Going is unended ended = is
   still_going last written end (phases.Stopped stop) is unended ended = absurd (none-some last (sym (ended.kept stop is).1))
@@ -63,15 +63,15 @@ module _ {L X : Type 0} (state : L → LiveState) (tells : X → Option (List �
 
 module _ {L X : Type 0} (state : L → LiveState) (tells : X → Option (List ℕ)) (size : X → ℕ) (first : Publishing L X) (now later : Scribe L) where
   -- of a tape that was new, and took these records in several calls
-  pub taken_follow : (taken records : List Rec) (one other : List (Entry X)) → IsNew state first → TakesOn state tells size first.scribe now taken one → TakesOn state tells size now later records other
+  pub taken_follow : (taken records : List Rec) (one other : List (Entry X)) → IsNew state first → TakesOn (seen_store state tells size) first.scribe now taken one → TakesOn (seen_store state tells size) now later records other
       → Holds (blocks_of later) (bytes_of later) → Numbered (taken ++ records) → All IsKept taken → All IsKept records → EntriesFollow tells (one ++ other)
   taken_follow taken records one other new took takes holds numbered kept more =
-      let all = takes_on state tells size first.scribe now later taken records one other took takes in
+      let all = takes_on (seen_store state tells size) first.scribe now later taken records one other took takes in
       first_follow tells size (state (store_of first.scribe)) new.options new.size new.chunked new.size_is (taken ++ records) (one ++ other) (bytes_of later) (phase_of later) numbered
       (each_of IsKept (taken ++ records) (All-append IsKept taken records kept more)) holds.small (all.front new.going new.options [] new.opened [] new.writes)
 
-  pub last_follows : (taken : List Rec) (one : List (Entry X)) (last : Entry X) (written : Written) (end : Result Unit Stop) → IsNew state first → TakesOn state tells size first.scribe now taken one
-      → EndsOn state tells size now later (Some last) written end → (phase_of now ≡ phases.Ended → ⊥) → Numbered taken → All IsKept taken → EntriesFollow tells (one ++ last ∷ [])
+  pub last_follows : (taken : List Rec) (one : List (Entry X)) (last : Entry X) (written : Written) (end : Result Unit Stop) → IsNew state first → TakesOn (seen_store state tells size) first.scribe now taken one
+      → EndsOn (seen_store state tells size) now later (Some last) written end → (phase_of now ≡ phases.Ended → ⊥) → Numbered taken → All IsKept taken → EntriesFollow tells (one ++ last ∷ [])
   last_follows taken one last written end new took ended unended numbered kept =
       let options = new.options in
       let going = still_going state tells size now later last written end (phase_of now) refl unended ended in

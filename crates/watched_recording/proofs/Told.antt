@@ -21,9 +21,9 @@ use Rattle.chunk_writer.specs.declared.phase.Phase.{Phase}
 use Rattle.chunk_writer.specs.declared.phase.Phase.TheVariants as phases
 use Rattle.chunk_writer.specs.declared.scribe.Scribe.{Scribe}
 use Rattle.chunk_writer.specs.Limits.{Holds}
-use Rattle.chunk_writer.specs.Stops.{StopsAt, StopCause, Cause}
+use Rattle.chunk_writer.specs.Stops.{numbers, StopsAt, StopCause, Cause}
 use Rattle.chunk_writer.specs.Scribes.{Writes, store_of, phase_of, blocks_of, bytes_of}
-use Rattle.chunk_writer.specs.Tapes.{KeepsCause}
+use Rattle.chunk_writer.specs.Tapes.{KeepsCause, seen_store}
 use Rattle.chunk_writer.proofs.Planned.{length-front}
 use Rattle.recorder.specs.declared.options.RecordOptions.{RecordOptions}
 use Rattle.recorder.specs.declared.report.Report.{Report}
@@ -101,7 +101,7 @@ module _ {L : Type 0} (state : L → LiveState) where
 -- ---- a tape that was new
 
 module _ {L X : Type 0} (state : L → LiveState) (tells : X → Option (List ℕ)) (size : X → ℕ) (first mid last : Publishing L X) (history : List Rec) (given : List (Entry X)) (closing : Option (Entry X)) (w : WriterReport)
-    (empty : first.board ≡ empty_board) (grown : PublishesOn state tells size first mid history given) (ended : PublishesEnd state tells size mid last closing (numbers_of w) (answer_of w.end)) where
+    (empty : first.board ≡ empty_board) (grown : PublishesOn (seen_store state tells size) first mid history given) (ended : PublishesEnd (seen_store state tells size) mid last closing (numbers_of w) (answer_of w.end)) where
   gives_all : GivesTo first.board last.board (grown.given ++ at_most_one ended.given)
   gives_all = gives_on first.board mid.board last.board grown.given (at_most_one ended.given) grown.published ended.published
 
@@ -133,7 +133,7 @@ module _ {L X : Type 0} (state : L → LiveState) (tells : X → Option (List �
 module _ {L X : Type 0} (state : L → LiveState) (tells : X → Option (List ℕ)) (options : RecordOptions) (sources now : List SourceState) (live : LiveState) (store : L) (report : Report) (note : Option (List (Added X))) where
   -- the writer took a history, and the directory told its blocks at the seal
   pub tape_beside : (size : X → ℕ) (first mid last : Publishing L X) (history : List Rec) (given : List (Entry X)) (closing : Option (Entry X)) → first.board ≡ empty_board
-      → PublishesOn state tells size first mid history given → PublishesEnd state tells size mid last closing (numbers_of report.writer) (answer_of report.writer.end)
+      → PublishesOn (seen_store state tells size) first mid history given → PublishesEnd (seen_store state tells size) mid last closing (numbers_of report.writer) (answer_of report.writer.end)
       → Writes state options.file [] live [] first.scribe → phase_of first.scribe ≡ phases.Going → (state (store_of first.scribe)).faults ≡ live.faults → length options.file.profile ≤ content_limit
       → IsReported options.limit options.lossless sources now history report → IsAll history report.writer → store ≡ store_of last.scribe
       → IfSome note (λ n. (entries_of n ≡ held_in last.board.directory) × (end_of n ≡ Some report.writer.end)) → (last.board.lost ≡ true → note ≡ None)
@@ -157,7 +157,7 @@ module _ {L X : Type 0} (state : L → LiveState) (tells : X → Option (List �
 
   -- nothing was begun, and the directory told no block
   pub nothing_beside : (stop : Stop) → length options.file.profile ≤ content_limit → IsReported options.limit options.lossless sources now [] report
-      → report.writer ≡ record { records = 0; blocks = 0; bytes = 0; end = ends.Stopped stop } → StopsAt options.file [] [] live.held (state store).held stop 0 0
+      → report.writer ≡ record { records = 0; blocks = 0; bytes = 0; end = ends.Stopped stop } → StopsAt options.file [] [] live.held (state store).held stop (numbers 0 0)
       → StopCause live.faults (state store).faults stop → IfSome note (λ n. (entries_of n ≡ []) × (end_of n ≡ Some (ends.Stopped stop)))
       → RecordedBeside tells options (sides sources live) (sides now (state store)) report note
   nothing_beside stop short reported written stops cause told =

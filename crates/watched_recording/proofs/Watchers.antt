@@ -121,14 +121,14 @@ module _ {X K : Type 0} (tells : X → Option (List ℕ)) (state : K → SinkSta
   told_unsealed (Some note) sealed is not_sealed = absurd (cc (is, not_sealed))
 
   pub watched_so : (options : RecordOptions) (before now : Sides) (viewed : LiveState) (sinks : List K) (seats ran : List Seat) (report r : Report) (it : Told) → Some report ≡ Some r
-      → (sinks ≡ [] → ⊥) → SeatsMade state range before.live sinks viewed seats → InStep (SeatRuns tells) seats ran → SeatsEnd tells state told ran it.sinks it.views it.reports
-      → RecordedBeside tells options (sides before.sources viewed) now report told → it.sealed ≡ is_some told → RecordedWatched tells options range before now (map state sinks) r it
-  watched_so options before now viewed sinks seats ran report r it is some made runs ends recorded sealed =
+      → it.handed ≡ map state sinks → (sinks ≡ [] → ⊥) → SeatsMade state range before.live sinks viewed seats → InStep (SeatRuns tells) seats ran → SeatsEnd tells state told ran it.sinks it.views it.reports
+      → RecordedBeside tells options (sides before.sources viewed) now report told → it.sealed ≡ is_some told → RecordedWatched tells options range before now r it
+  watched_so options before now viewed sinks seats ran report r it is handed some made runs ends recorded sealed =
       let all : AllTold before.live sinks viewed ends.left = all_told before.live viewed sinks seats ran ends.left made (zipped (SeatRuns tells) seats ran runs) ends.each in
-      subst (λ (x : Report). RecordedWatched tells options range before now (map state sinks) x it) (same_some is) (record {
+      subst (λ (x : Report). RecordedWatched tells options range before now x it) (same_some is) (record {
         watches = all.watches;
         are = record {
-          before_are = all.befores;
+          before_are = handed ∙ all.befores;
           now_are = ends.sinks_are ∙ all.nows;
           views_are = ends.views_are ∙ ap concat all.views;
           reports_are = ends.reports_are ∙ all.reports;
@@ -139,7 +139,7 @@ module _ {X K : Type 0} (tells : X → Option (List ℕ)) (state : K → SinkSta
         recorded = recorded;
         each = all.each;
         sealed = λ is. inr (told_sealed told it.sealed sealed is);
-        unsealed = λ is. (λ none. some (none_mapped state sinks none), told_unsealed told it.sealed sealed is);
+        unsealed = λ is. (λ none. some (none_mapped state sinks (sym handed ∙ none)), told_unsealed told it.sealed sealed is);
       })
 
 -- ---- a recording without watchers
@@ -152,10 +152,10 @@ module _ {X : Type 0} (tells : X → Option (List ℕ)) where
     blocks_are = λ note is. absurd (cc is);
   }
 
-  pub alone_so : (options : RecordOptions) (range : Range) (sources : List SourceState) (live : LiveState) (now : Sides) (sinks : List SinkState) (r : Report) (it : Told)
-      → Recorded options (sides sources live) now r → sinks ≡ [] → it.sinks ≡ sinks → it.views ≡ [] → it.reports ≡ [] → it.sealed ≡ true
-      → RecordedWatched tells options range (sides sources live) now sinks r it
-  alone_so options range sources live now sinks r it recorded none same views reports sealed = record {
+  pub alone_so : (options : RecordOptions) (range : Range) (sources : List SourceState) (live : LiveState) (now : Sides) (r : Report) (it : Told)
+      → Recorded options (sides sources live) now r → it.handed ≡ [] → it.sinks ≡ it.handed → it.views ≡ [] → it.reports ≡ [] → it.sealed ≡ true
+      → RecordedWatched tells options range (sides sources live) now r it
+  alone_so options range sources live now r it recorded none same views reports sealed = record {
     watches = [];
     are = record { before_are = none; now_are = same ∙ none; views_are = views; reports_are = reports };
     viewed = live;

@@ -1,7 +1,6 @@
 -- What watchers wrote of the file of what was recorded.
 use Rattle.std.specs.Prelude.{◌≡◌, ℕ, List, length, true, Option, Some, None}
 use Rattle.rec_data.specs.declared.owned.Rec.{Rec}
-use Rattle.mcap_io.specs.Outside.{SinkState}
 use Rattle.mcap_model.specs.declared.options.FileOptions.{FileOptions}
 use Rattle.mcap_model.specs.declared.replay.Range.{Range}
 use Rattle.mcap_model.specs.File.{front_of}
@@ -17,7 +16,6 @@ use Rattle.recorder.specs.Laws.{AreReadable}
 use Rattle.recorder.specs.Recorded.{Sides}
 use Rattle.watching.specs.declared.report.WatchEnd.{WatchEnd}
 use Rattle.watching.specs.declared.report.WatchEnd.TheVariants as watch_ends
-use Rattle.watching.specs.declared.report.WatchReport.{WatchReport}
 use Rattle.watching.specs.Text.{sealed_by, WatchText, WatchPart}
 use Rattle.watching.specs.Watching.{Written, unwritten, written_by, IsQuiet, HasFailed, Takes}
 use Rattle.watched_recording.specs.Watched.{Watch, Told, RecordedWatched}
@@ -43,17 +41,17 @@ WritesOfFile options range history w before now (watch_ends.Flaw rule offset) = 
 WritesOfFile options range history w before now watch_ends.Memory = IsQuiet before now × Takes (WatchPart (FrontReplay options range history) w.blocks now.fronts (sealed_by w.end)) before.sink.took now.sink.took
 
 -- by the failures of its view; one that got no view has written nothing
-abbrev pub TellsFile : FileOptions → Range → List Rec → WriterReport → SinkState → SinkState → Option ℕ → WatchReport → Type 0
-TellsFile options range history w before now (Some failures) report = WritesOfFile options range history w (unwritten before 0) (written_by now failures report) report.end
-TellsFile options range history w before now None report = now ≡ before
+abbrev pub TellsFile : FileOptions → Range → List Rec → WriterReport → Watch → Option ℕ → Type 0
+TellsFile options range history w it (Some failures) = WritesOfFile options range history w (unwritten it.before 0) (written_by it.now failures it.report) it.report.end
+TellsFile options range history w it None = it.now ≡ it.before
 
 abbrev pub IsWatchedFile : FileOptions → Range → List Rec → WriterReport → Watch → Type 0
-IsWatchedFile options range history w it = TellsFile options range history w it.before it.now it.view it.report
+IsWatchedFile options range history w it = TellsFile options range history w it it.view
 
 -- Where a recording in chunks was sealed, and its store told what it held before, each watcher wrote of the file of the
 -- history: the line of a front is that of the file up to that block, and the lines of the end are those of all its blocks.
 abbrev pub WatchFilesAreTold : {X : Type 0} → (X → Option (List ℕ)) → Type 0
-WatchFilesAreTold {X} tells = (options : RecordOptions) (range : Range) (before now : Sides) (sinks : List SinkState) (r : Report) (told : Told)
-    → (it : RecordedWatched tells options range before now sinks r told) → AreReadable options.file → (size : ℕ) → options.file.chunk ≡ Some size
+WatchFilesAreTold {X} tells = (options : RecordOptions) (range : Range) (before now : Sides) (r : Report) (told : Told)
+    → (it : RecordedWatched tells options range before now r told) → AreReadable options.file → (size : ℕ) → options.file.chunk ≡ Some size
     → (held : List ℕ) → before.live.held ≡ Some held → told.sealed ≡ true
     → Each (IsWatchedFile options.file range it.recorded.recorded.history r.writer) it.watches

@@ -16,7 +16,7 @@ use Rattle.chunk_writer.specs.declared.scribe.Scribe.{Scribe}
 use Rattle.chunk_writer.specs.declared.tape.Written.{Written}
 use Rattle.chunk_writer.specs.Limits.{Holds}
 use Rattle.chunk_writer.specs.Scribes.{Writes, phase_of, blocks_of, bytes_of}
-use Rattle.chunk_writer.specs.Tapes.{TakesOn, EndsOn, takes_none, takes_on}
+use Rattle.chunk_writer.specs.Tapes.{SeenStore, TakesOn, EndsOn, takes_none, takes_on}
 
 -- ---- what was published
 
@@ -114,36 +114,36 @@ pub record IsNew {L X : Type 0} (state : L → LiveState) (p : Publishing L X) :
 
 -- The scribe took these records, and its entries were published, so that none are handed to the caller. They are as many as
 -- the blocks that it appended, and it stays within what a file may hold.
-pub record PublishesOn {L X : Type 0} (state : L → LiveState) (tells : X → Option (List ℕ)) (size : X → ℕ) (before now : Publishing L X) (records : List Rec) (entries : List (Entry X)) : Type 0 where
+pub record PublishesOn {L X : Type 0} (seen : SeenStore L X) (before now : Publishing L X) (records : List Rec) (entries : List (Entry X)) : Type 0 where
   pub given : List (Entry X)
-  pub took : TakesOn state tells size before.scribe now.scribe records given
+  pub took : TakesOn seen before.scribe now.scribe records given
   pub published : GivesTo before.board now.board given
   pub counted : blocks_of now.scribe ≡ blocks_of before.scribe + length given
   pub within : Holds (blocks_of before.scribe) (bytes_of before.scribe) → Holds (blocks_of now.scribe) (bytes_of now.scribe)
   pub none : entries ≡ []
 
 -- The scribe ended its file, and its last entry was published.
-pub record PublishesEnd {L X : Type 0} (state : L → LiveState) (tells : X → Option (List ℕ)) (size : X → ℕ) (before now : Publishing L X) (last : Option (Entry X)) (written : Written) (end : Result Unit Stop) : Type 0 where
+pub record PublishesEnd {L X : Type 0} (seen : SeenStore L X) (before now : Publishing L X) (last : Option (Entry X)) (written : Written) (end : Result Unit Stop) : Type 0 where
   pub given : Option (Entry X)
-  pub ended : EndsOn state tells size before.scribe now.scribe given written end
+  pub ended : EndsOn seen before.scribe now.scribe given written end
   pub published : GivesTo before.board now.board (at_most_one given)
   pub none : last ≡ None
 
-pub publishes_none : {L X : Type 0} (state : L → LiveState) (tells : X → Option (List ℕ)) (size : X → ℕ) (p : Publishing L X) → PublishesOn state tells size p p [] []
-publishes_none state tells size p = record {
+pub publishes_none : {L X : Type 0} (seen : SeenStore L X) (p : Publishing L X) → PublishesOn seen p p [] []
+publishes_none seen p = record {
   given = [];
-  took = takes_none state tells size p.scribe;
+  took = takes_none seen p.scribe;
   published = gives_none p.board;
   counted = sym (add-zero (blocks_of p.scribe));
   within = λ holds. holds;
   none = refl;
 }
 
-pub publishes_on : {L X : Type 0} (state : L → LiveState) (tells : X → Option (List ℕ)) (size : X → ℕ) (one two three : Publishing L X) (a b : List Rec) (es fs : List (Entry X))
-    → PublishesOn state tells size one two a es → PublishesOn state tells size two three b fs → PublishesOn state tells size one three (a ++ b) (es ++ fs)
-publishes_on state tells size one two three a b es fs first second = record {
+pub publishes_on : {L X : Type 0} (seen : SeenStore L X) (one two three : Publishing L X) (a b : List Rec) (es fs : List (Entry X))
+    → PublishesOn seen one two a es → PublishesOn seen two three b fs → PublishesOn seen one three (a ++ b) (es ++ fs)
+publishes_on seen one two three a b es fs first second = record {
   given = first.given ++ second.given;
-  took = takes_on state tells size one.scribe two.scribe three.scribe a b first.given second.given first.took second.took;
+  took = takes_on seen one.scribe two.scribe three.scribe a b first.given second.given first.took second.took;
   published = gives_on one.board two.board three.board first.given second.given first.published second.published;
   counted = second.counted ∙ ap (λ (n : ℕ). n + length second.given) first.counted ∙ add_assoc (blocks_of one.scribe) (length first.given) (length second.given)
       ∙ ap (λ (n : ℕ). blocks_of one.scribe + n) (sym (length-append first.given second.given));

@@ -95,8 +95,10 @@ pub record AreWatches (watches : List Watch) (before now : List SinkState) (view
 
 -- ---- the whole
 
--- What is seen of what a recording gave back to its caller beside feeds, store and report.
+-- What is seen of a recording beside its feeds, its store and its report: the sinks as they were handed in and as they came
+-- back, the failures of the views that were made, and the reports on the watchers.
 pub record Told : Type 0 where
+  pub handed : List SinkState
   pub sinks : List SinkState
   pub views : List ℕ
   pub reports : List WatchReport
@@ -104,16 +106,16 @@ pub record Told : Type 0 where
 
 -- What a recording with watchers came to: the store was asked for their views first, and what the recording did is said from
 -- there on; each watcher wrote of what was told at the seal. It is told as unsealed only where there are watchers and no seal.
-pub record RecordedWatched {X : Type 0} (tells : X → Option (List ℕ)) (options : RecordOptions) (range : Range) (before now : Sides) (sinks : List SinkState) (r : Report) (told : Told) : Type 0 where
+pub record RecordedWatched {X : Type 0} (tells : X → Option (List ℕ)) (options : RecordOptions) (range : Range) (before now : Sides) (r : Report) (told : Told) : Type 0 where
   pub watches : List Watch
-  pub are : AreWatches watches sinks told.sinks told.views told.reports
+  pub are : AreWatches watches told.handed told.sinks told.views told.reports
   pub viewed : LiveState
   pub asked : AsksViews before.live watches viewed
   pub note : Option (List (Added X))
   pub recorded : RecordedBeside tells options (sides before.sources viewed) now r note
   pub each : Each (IsWatched tells range note) watches
-  pub sealed : told.sealed ≡ true → (sinks ≡ []) ⊎ IsSome note
-  pub unsealed : told.sealed ≡ false → (sinks ≡ [] → ⊥) × (note ≡ None)
+  pub sealed : told.sealed ≡ true → (told.handed ≡ []) ⊎ IsSome note
+  pub unsealed : told.sealed ≡ false → (told.handed ≡ [] → ⊥) × (note ≡ None)
 
 -- ---- inside
 

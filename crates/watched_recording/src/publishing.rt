@@ -8,7 +8,7 @@ ghost use Rattle.live_entry.specs.Following.{EntriesFollow};
 ghost use Rattle.live_directory.specs.Published.{entries_of, end_of};
 ghost use Rattle.live_directory.specs.Writing.{empty_directory};
 ghost use Rattle.chunk_writer.specs.declared.phase.Phase.TheVariants as phases;
-ghost use Rattle.chunk_writer.specs.Stops.{StopsAt, StopCause};
+ghost use Rattle.chunk_writer.specs.Stops.{numbers, StopsAt, StopCause};
 ghost use Rattle.chunk_writer.specs.Scribes.{Writes, store_of, phase_of};
 ghost use Rattle.watched_recording.specs.Publishing.{IsKnown, GivesTo, IsNew, held_in, publishing};
 
@@ -78,7 +78,7 @@ impl<'d, L: LiveStore, J: Naming, R: Wait> PublishingTape<'d, L, J, R> {
         ensures empty { IfOk result (λ t. (t.directory.now ≡ empty_directory) × (t.short ≡ false) × (t.lost ≡ false)) }
         ensures room { IfOk result (λ t. (t.room.items ≡ []) × (1 ≤ vec_capacity t.room)) }
         ensures unused { IfOk result (λ t. IsNew L.state (publishing t.scribe t.directory.now t.short t.lost)) }
-        ensures refused { IfErr result (λ e. (extras : List Top) (history : List Rec) → StopsAt options.now extras history (L.state live).held (L.state e.0).held e.1 0 0) }
+        ensures refused { IfErr result (λ e. (extras : List Top) (history : List Rec) → StopsAt options.now extras history (L.state live).held (L.state e.0).held e.1 (numbers 0 0)) }
         ensures cause { IfErr result (λ e. StopCause (L.state live).faults (L.state e.0).faults e.1) }
     {
         match Scribe::open(alloc, live, options) {
@@ -160,16 +160,16 @@ impl<'d, L: LiveStore, J: Naming, R: Wait> Tape for PublishingTape<'d, L, J, R> 
     ghost use Rattle.std.specs.Prelude.{refl, ◌≡◌, ◌≤◌, [], vec_capacity};
     ghost use Rattle.std.proofs.Common.{◌∙◌};
     ghost use Rattle.chunk_writer.specs.Scribes.{store_of, phase_of, blocks_of, bytes_of};
-    ghost use Rattle.chunk_writer.specs.Tapes.{MeetsLimit};
+    ghost use Rattle.chunk_writer.specs.Tapes.{MeetsLimit, seen_store};
     ghost use Rattle.watched_recording.specs.Publishing.{PublishesOn, PublishesEnd, IsNew, publishing, publishes_none, publishes_on};
 
     ghost is_new = { λ t. IsNew L.state (publishing t.scribe t.directory.now t.short t.lost) × (t.room.items ≡ []) × (1 ≤ vec_capacity t.room) };
 
     ghost grows = { λ before after records entries. (after.directory.ghost_name ≡ before.directory.ghost_name) × (after.room ≡ before.room)
-        × PublishesOn L.state (λ e. L.Extent.tells e) (λ e. L.Extent.size e) (publishing before.scribe before.directory.now before.short before.lost) (publishing after.scribe after.directory.now after.short after.lost) records entries };
+        × PublishesOn (seen_store L.state (λ e. L.Extent.tells e) (λ e. L.Extent.size e)) (publishing before.scribe before.directory.now before.short before.lost) (publishing after.scribe after.directory.now after.short after.lost) records entries };
 
     ghost ends = { λ before after last written end. (after.directory.ghost_name ≡ before.directory.ghost_name)
-        × PublishesEnd L.state (λ e. L.Extent.tells e) (λ e. L.Extent.size e) (publishing before.scribe before.directory.now before.short before.lost) (publishing after.scribe after.directory.now after.short after.lost) last written end };
+        × PublishesEnd (seen_store L.state (λ e. L.Extent.tells e) (λ e. L.Extent.size e)) (publishing before.scribe before.directory.now before.short before.lost) (publishing after.scribe after.directory.now after.short after.lost) last written end };
 
     ghost limit_met = { λ t blocks bytes. MeetsLimit L.state t.scribe blocks bytes };
 
@@ -179,12 +179,12 @@ impl<'d, L: LiveStore, J: Naming, R: Wait> Tape for PublishingTape<'d, L, J, R> 
 
     ghost failures = { λ t. (L.state (store_of t.scribe)).faults };
 
-    ghost grows_none = { λ t. (refl, refl, publishes_none L.state (λ e. L.Extent.tells e) (λ e. L.Extent.size e) (publishing t.scribe t.directory.now t.short t.lost)) };
+    ghost grows_none = { λ t. (refl, refl, publishes_none (seen_store L.state (λ e. L.Extent.tells e) (λ e. L.Extent.size e)) (publishing t.scribe t.directory.now t.short t.lost)) };
 
     ghost grows_on = { λ one two three before behind es fs first second. (
       second.0 ∙ first.0,
       second.1 ∙ first.1,
-      publishes_on L.state (λ e. L.Extent.tells e) (λ e. L.Extent.size e) (publishing one.scribe one.directory.now one.short one.lost) (publishing two.scribe two.directory.now two.short two.lost) (publishing three.scribe three.directory.now three.short three.lost) before behind es fs first.2 second.2,
+      publishes_on (seen_store L.state (λ e. L.Extent.tells e) (λ e. L.Extent.size e)) (publishing one.scribe one.directory.now one.short one.lost) (publishing two.scribe two.directory.now two.short two.lost) (publishing three.scribe three.directory.now three.short three.lost) before behind es fs first.2 second.2,
     ) };
 
     fn take(&mut self, full: Cache) -> Taken<L::Extent> {

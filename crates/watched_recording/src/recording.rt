@@ -161,8 +161,8 @@ fn record_beside<
     requires last { (room.last.items ≡ []) × (1 ≤ vec_capacity room.last) }
     ensures report { result.report ≡ None → ⊥ }
     ensures stays { AllZip S.stays feeds.items result.feeds.items }
-    ensures recorded { (r : _) → result.report ≡ Some r → RecordedWatched (λ e. L.Extent.tells e) options.now range (sides (map S.state feeds.items) (L.state live)) (sides (map S.state result.feeds.items) (L.state result.live)) (map K.state watchers.items) r
-        (record { sinks = map K.state result.watchers.items; views = map (λ v. L.View.failures v) result.views.items; reports = result.watches.items; sealed = result.sealed }) }
+    ensures recorded { (r : _) → result.report ≡ Some r → RecordedWatched (λ e. L.Extent.tells e) options.now range (sides (map S.state feeds.items) (L.state live)) (sides (map S.state result.feeds.items) (L.state result.live)) r
+        (record { handed = map K.state watchers.items; sinks = map K.state result.watchers.items; views = map (λ v. L.View.failures v) result.views.items; reports = result.watches.items; sealed = result.sealed }) }
     ensures listed { (r : _) → result.report ≡ Some r → Each (λ f. ListsMessages f listed) r.feeds.items }
 {
     let WatchRoom { seats, left, last } = room;
@@ -248,8 +248,8 @@ fn record_over<
     requires watchers { watchers.items ≡ [] → ⊥ }
     ensures refused { result.report ≡ None → (result.feeds.items ≡ feeds.items) × (result.live ≡ live) × (result.watchers.items ≡ watchers.items) × (result.views.items ≡ []) × (result.watches.items ≡ []) }
     ensures stays { AllZip S.stays feeds.items result.feeds.items }
-    ensures recorded { (r : _) → result.report ≡ Some r → RecordedWatched (λ e. L.Extent.tells e) options.now range (sides (map S.state feeds.items) (L.state live)) (sides (map S.state result.feeds.items) (L.state result.live)) (map K.state watchers.items) r
-        (record { sinks = map K.state result.watchers.items; views = map (λ v. L.View.failures v) result.views.items; reports = result.watches.items; sealed = result.sealed }) }
+    ensures recorded { (r : _) → result.report ≡ Some r → RecordedWatched (λ e. L.Extent.tells e) options.now range (sides (map S.state feeds.items) (L.state live)) (sides (map S.state result.feeds.items) (L.state result.live)) r
+        (record { handed = map K.state watchers.items; sinks = map K.state result.watchers.items; views = map (λ v. L.View.failures v) result.views.items; reports = result.watches.items; sealed = result.sealed }) }
     ensures listed { (r : _) → result.report ≡ Some r → Each (λ f. ListsMessages f listed) r.feeds.items }
 {
     let watched = match watch_room(alloc, watchers.len()) {
@@ -310,8 +310,8 @@ fn record_as<
     requires watchers { (watchers.items ≡ [] → ⊥) × (vec_len watchers ≤ 16) }
     ensures refused { result.report ≡ None → (result.feeds.items ≡ feeds.items) × (result.live ≡ live) × (result.watchers.items ≡ watchers.items) × (result.views.items ≡ []) × (result.watches.items ≡ []) }
     ensures stays { AllZip S.stays feeds.items result.feeds.items }
-    ensures recorded { (r : _) → result.report ≡ Some r → RecordedWatched (λ e. L.Extent.tells e) options.now range (sides (map S.state feeds.items) (L.state live)) (sides (map S.state result.feeds.items) (L.state result.live)) (map K.state watchers.items) r
-        (record { sinks = map K.state result.watchers.items; views = map (λ v. L.View.failures v) result.views.items; reports = result.watches.items; sealed = result.sealed }) }
+    ensures recorded { (r : _) → result.report ≡ Some r → RecordedWatched (λ e. L.Extent.tells e) options.now range (sides (map S.state feeds.items) (L.state live)) (sides (map S.state result.feeds.items) (L.state result.live)) r
+        (record { handed = map K.state watchers.items; sinks = map K.state result.watchers.items; views = map (λ v. L.View.failures v) result.views.items; reports = result.watches.items; sealed = result.sealed }) }
     ensures listed { (r : _) → result.report ≡ Some r → Each (λ f. ListsMessages f listed) r.feeds.items }
 {
     match open_directory::<L::Extent, J, R>(alloc, rt, opened, watchers.len() as u32) {
@@ -365,8 +365,8 @@ pub fn record_watched<
     requires plain { options.now.file.chunk ≡ None → watchers.items ≡ [] }
     ensures refused { result.report ≡ None → (result.feeds.items ≡ feeds.items) × (result.live ≡ live) × (result.watchers.items ≡ watchers.items) × (result.views.items ≡ []) × (result.watches.items ≡ []) }
     ensures stays { AllZip S.stays feeds.items result.feeds.items }
-    ensures recorded { (r : _) → result.report ≡ Some r → RecordedWatched (λ e. L.Extent.tells e) options.now range (sides (map S.state feeds.items) (L.state live)) (sides (map S.state result.feeds.items) (L.state result.live)) (map K.state watchers.items) r
-        (record { sinks = map K.state result.watchers.items; views = map (λ v. L.View.failures v) result.views.items; reports = result.watches.items; sealed = result.sealed }) }
+    ensures recorded { (r : _) → result.report ≡ Some r → RecordedWatched (λ e. L.Extent.tells e) options.now range (sides (map S.state feeds.items) (L.state live)) (sides (map S.state result.feeds.items) (L.state result.live)) r
+        (record { handed = map K.state watchers.items; sinks = map K.state result.watchers.items; views = map (λ v. L.View.failures v) result.views.items; reports = result.watches.items; sealed = result.sealed }) }
     ensures listed { (r : _) → result.report ≡ Some r → Each (λ f. ListsMessages f listed) r.feeds.items }
 {
     if watchers.is_empty() {

@@ -1,4 +1,4 @@
-use Rattle.std.proofs.Common.{map, arith}
+use Rattle.std.proofs.Common.{map, refl, arith}
 use denote.Param.Send.{sendable}
 use Rattle.recorder.specs.Recorded.{sides}
 use Rattle.watched_recording.proofs.Seating.{seats_many}
@@ -79,7 +79,7 @@ returns-clause-recorded g c = λ r is.
     let ran = c.join-seats in
     let wrote = ran.result.1 in
     watched_so {X = g.row.L-Extent.Denot} (λ e. g.L.Extent.Extent.tells e) g.K.Sink.state c.args.range wrote.3 c.args.options.now
-    (sides (map source c.args.feeds.items) (live c.args.live)) (sides (map source wrote.1.items) (live wrote.2)) (live made.new.live) c.args.watchers.items made.result.items ran.result.0.items wrote.0 r _ is
+    (sides (map source c.args.feeds.items) (live c.args.live)) (sides (map source wrote.1.items) (live wrote.2)) (live made.new.live) c.args.watchers.items made.result.items ran.result.0.items wrote.0 r _ is refl
     c.requires.some made.ensures.made ran.ensures.first c.finish_seats-reports.ensures ran.ensures.second.1.0 c.is_some.ensures
 
 pub returns-clause-listed : goal.returns-clause-listed

@@ -16,7 +16,7 @@ returns-then-is_empty-clause-recorded g c = λ r is.
     let no_sinks : vec_len c.args.watchers ≡ 0 = grind (arith, nat_tests, sym c.is_empty.ensures ∙ c.if-is_empty.true) in
     let none : c.args.watchers.items ≡ [] = nothing_left c.args.watchers.items (omega arith) in
     let recorded : Recorded c.args.options.now (sides (map source c.args.feeds.items) (live c.args.live)) (sides (map source alone.feeds.items) (live alone.live)) r = rw (same.1, same.2) (c.record.ensures.recorded r (sym same.0 ∙ is)) in
-    alone_so {X = g.row.L-Extent.Denot} (λ e. g.L.Extent.Extent.tells e) c.args.options.now c.args.range (map source c.args.feeds.items) (live c.args.live) (sides (map source alone.feeds.items) (live alone.live)) (map state c.args.watchers.items) r _
+    alone_so {X = g.row.L-Extent.Denot} (λ e. g.L.Extent.Extent.tells e) c.args.options.now c.args.range (map source c.args.feeds.items) (live c.args.live) (sides (map source alone.feeds.items) (live alone.live)) r _
     recorded (ap (map state) none) (ap (λ (v : _). map state v.items) same.3) (ap (map (λ v. g.L.View.LiveView.failures v)) c.alone.ensures.none.1) c.alone.ensures.none.0 c.alone.ensures.sealed
 
 pub returns-then-is_empty-clause-listed : goal.returns-then-is_empty-clause-listed

@@ -3,7 +3,7 @@ use Rattle.std.proofs.lemmas.Option.{none-some}
 use Rattle.live_entry.specs.declared.entry.Entry.{Entry}
 use Rattle.live_entry.specs.Following.{EntriesFollow}
 use Rattle.chunk_writer.specs.declared.scribe.Scribe.{Scribe}
-use Rattle.chunk_writer.specs.Tapes.{EndsFor, EndsOn, MeetsLimit}
+use Rattle.chunk_writer.specs.Tapes.{EndsFor, seen_store, EndsOn, MeetsLimit}
 use Rattle.chunk_writer.proofs.Taped.{meets, ends_for}
 use Rattle.watched_recording.proofs.Follows.{last_follows, all_since}
 use Rattle.watched_recording.proofs.Given.{gives_same}
@@ -14,7 +14,7 @@ publish-requires-clause-follow g c = λ is.
     let (taken, has) = c.requires.behind in
     let on = has.grown.2 in
     let last = c.finish-last in
-    let all : EndsOn g.L.LiveStore.state (λ e. g.L.Extent.Extent.tells e) (λ e. g.L.Extent.Extent.size e) c.args.self.now.scribe last.new.self last.result.last (record { blocks = c.finish-last.result.blocks; bytes = c.finish-last.result.bytes }) last.result.end = record {
+    let all : EndsOn (seen_store g.L.LiveStore.state (λ e. g.L.Extent.Extent.tells e) (λ e. g.L.Extent.Extent.size e)) c.args.self.now.scribe last.new.self last.result.last (record { blocks = c.finish-last.result.blocks; bytes = c.finish-last.result.bytes }) last.result.end = record {
       file = last.ensures.ends;
       last_is = last.ensures.last;
       counted = last.ensures.counted;
@@ -22,7 +22,7 @@ publish-requires-clause-follow g c = λ is.
       cause = last.ensures.cause;
       kept = last.ensures.kept;
     } in
-    let ended = subst (λ (o : Option (Entry g.row.L-Extent.Denot)). EndsOn g.L.LiveStore.state (λ e. g.L.Extent.Extent.tells e) (λ e. g.L.Extent.Extent.size e) c.args.self.now.scribe last.new.self o (record { blocks = c.finish-last.result.blocks; bytes = c.finish-last.result.bytes }) last.result.end) c.in-Some.is all in
+    let ended = subst (λ (o : Option (Entry g.row.L-Extent.Denot)). EndsOn (seen_store g.L.LiveStore.state (λ e. g.L.Extent.Extent.tells e) (λ e. g.L.Extent.Extent.size e)) c.args.self.now.scribe last.new.self o (record { blocks = c.finish-last.result.blocks; bytes = c.finish-last.result.bytes }) last.result.end) c.in-Some.is all in
     let nothing : c.replace-entries.result.items ≡ [] = grind (arith, c.replace-entries.ensures.value, has.grown.1, has.begun.1) in
     let pushed : c.push_reserved.new.self.items ≡ c.in-Some.entry ∷ [] = c.push_reserved.ensures.items ∙ ap (λ (l : List (Entry g.row.L-Extent.Denot)). l ++ c.in-Some.entry ∷ []) nothing in
     subst (λ (l : List (Entry g.row.L-Extent.Denot)). EntriesFollow (λ e. g.L.Extent.Extent.tells e) (l ++ c.push_reserved.new.self.items)) (sym (all_since _ _ on.given has.begun.0.empty on.published is))
@@ -33,7 +33,7 @@ pub returns-in-Some-clause-ends : goal.returns-in-Some-clause-ends
 returns-in-Some-clause-ends g c =
     let (taken, has) = c.requires.behind in
     let last = c.finish-last in
-    let all : EndsOn g.L.LiveStore.state (λ e. g.L.Extent.Extent.tells e) (λ e. g.L.Extent.Extent.size e) c.args.self.now.scribe last.new.self last.result.last (record { blocks = c.finish-last.result.blocks; bytes = c.finish-last.result.bytes }) last.result.end = record {
+    let all : EndsOn (seen_store g.L.LiveStore.state (λ e. g.L.Extent.Extent.tells e) (λ e. g.L.Extent.Extent.size e)) c.args.self.now.scribe last.new.self last.result.last (record { blocks = c.finish-last.result.blocks; bytes = c.finish-last.result.bytes }) last.result.end = record {
       file = last.ensures.ends;
       last_is = last.ensures.last;
       counted = last.ensures.counted;
@@ -41,14 +41,14 @@ returns-in-Some-clause-ends g c =
       cause = last.ensures.cause;
       kept = last.ensures.kept;
     } in
-    let ended = subst (λ (o : Option (Entry g.row.L-Extent.Denot)). EndsOn g.L.LiveStore.state (λ e. g.L.Extent.Extent.tells e) (λ e. g.L.Extent.Extent.size e) c.args.self.now.scribe last.new.self o (record { blocks = c.finish-last.result.blocks; bytes = c.finish-last.result.bytes }) last.result.end) c.in-Some.is all in
+    let ended = subst (λ (o : Option (Entry g.row.L-Extent.Denot)). EndsOn (seen_store g.L.LiveStore.state (λ e. g.L.Extent.Extent.tells e) (λ e. g.L.Extent.Extent.size e)) c.args.self.now.scribe last.new.self o (record { blocks = c.finish-last.result.blocks; bytes = c.finish-last.result.bytes }) last.result.end) c.in-Some.is all in
     let nothing : c.replace-entries.result.items ≡ [] = grind (arith, c.replace-entries.ensures.value, has.grown.1, has.begun.1) in
     let pushed : c.push_reserved.new.self.items ≡ c.in-Some.entry ∷ [] = c.push_reserved.ensures.items ∙ ap (λ (l : List (Entry g.row.L-Extent.Denot)). l ++ c.in-Some.entry ∷ []) nothing in
     let done = c.publish.ensures in (
       done.lent,
       record {
         given = Some c.in-Some.entry;
-        ended = subst (λ (s : Scribe _). EndsOn g.L.LiveStore.state (λ e. g.L.Extent.Extent.tells e) (λ e. g.L.Extent.Extent.size e) c.args.self.now.scribe s (Some c.in-Some.entry) (record { blocks = c.finish-last.result.blocks; bytes = c.finish-last.result.bytes }) last.result.end) (sym done.scribe.0) ended;
+        ended = subst (λ (s : Scribe _). EndsOn (seen_store g.L.LiveStore.state (λ e. g.L.Extent.Extent.tells e) (λ e. g.L.Extent.Extent.size e)) c.args.self.now.scribe s (Some c.in-Some.entry) (record { blocks = c.finish-last.result.blocks; bytes = c.finish-last.result.bytes }) last.result.end) (sym done.scribe.0) ended;
         published = gives_same _ _ _ _ pushed done.gives;
         none = refl;
       },

@@ -4,7 +4,7 @@ use Rattle.live_entry.specs.Following.{EntriesFollow}
 use Rattle.chunk_writer.specs.declared.scribe.Scribe.{Scribe}
 use Rattle.chunk_writer.specs.Limits.{Holds}
 use Rattle.chunk_writer.specs.Scribes.{blocks_of, bytes_of}
-use Rattle.chunk_writer.specs.Tapes.{EndsFor, TakesOn, MeetsLimit}
+use Rattle.chunk_writer.specs.Tapes.{EndsFor, seen_store, TakesOn, MeetsLimit}
 use Rattle.chunk_writer.proofs.Taped.{takes, meets, ends_for}
 use Rattle.watched_recording.proofs.Follows.{taken_follow, known_since, unsealed_since, all_since}
 use Rattle.watched_recording.proofs.publishing.PublishingTapeTape.take.Goals as goal
@@ -42,7 +42,7 @@ returns-clause-grows g c =
       done.scribe.1,
       record {
         given = took.result.entries.items;
-        took = subst (λ (s : Scribe _). TakesOn g.L.LiveStore.state (λ e. g.L.Extent.Extent.tells e) (λ e. g.L.Extent.Extent.size e) c.args.self.now.scribe s c.args.full.records took.result.entries.items) (sym done.scribe.0) calls;
+        took = subst (λ (s : Scribe _). TakesOn (seen_store g.L.LiveStore.state (λ e. g.L.Extent.Extent.tells e) (λ e. g.L.Extent.Extent.size e)) c.args.self.now.scribe s c.args.full.records took.result.entries.items) (sym done.scribe.0) calls;
         published = done.gives;
         counted = subst (λ (s : Scribe _). blocks_of s ≡ blocks_of c.args.self.now.scribe + length took.result.entries.items) (sym done.scribe.0) took.ensures.counted;
         within = λ holds. subst (λ (s : Scribe _). Holds (blocks_of s) (bytes_of s)) (sym done.scribe.0) took.ensures.within;
