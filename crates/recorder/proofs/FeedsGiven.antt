@@ -11,6 +11,8 @@ use Rattle.mcap_model.proofs.Places.{at_one, at_kept}
 use Rattle.mcap_model.proofs.NamedTopics.{zip_front, zip_back}
 use Rattle.mcap_model.proofs.Readings.{readings_follow}
 use Rattle.mcap_model.proofs.Flat.{good_lists_agree}
+use Rattle.mcap_model.specs.declared.refusals.ReadingRefused.{ReadingRefused}
+use Rattle.mcap_model.specs.declared.refusals.ReadingRefused.TheVariants as refusals
 use Rattle.feed_lane.specs.declared.report.FeedReport.{FeedReport}
 use Rattle.feed_lane.specs.declared.report.FeedEnd.{FeedEnd}
 use Rattle.feed_lane.specs.declared.report.FeedEnd.TheVariants as feed_ends
@@ -73,22 +75,25 @@ begins_on part rest tops (inl none) = inl none
 begins_on part rest tops (inr (behind, stands)) =
     inr (behind ++ rest, record { split = ap (λ (l : List ℕ). l ++ rest) stands.split ∙ append_assoc magic (spelled tops ++ behind) rest ∙ ap (λ (l : List ℕ). magic ++ l) (append_assoc (spelled tops) behind rest) })
 
-feed_read : (before now : SourceState) (tops : List Top) (end : FeedEnd) (bytes : List ℕ) → before.left ≡ Some bytes → FeedEnds before now tops end → IsRead bytes tops
-feed_read before now tops feed_ends.Done bytes left (offset, ends) = read_halted bytes tops (at_end offset) (ends.halts bytes left)
-feed_read before now tops (feed_ends.Grammar offset) bytes left (rule, ends) = read_halted bytes tops (grammar offset rule) (ends.halts bytes left)
-feed_read before now tops (feed_ends.Compressed offset name) bytes left ends = read_halted bytes tops (compressed offset name) (ends.halts bytes left)
-feed_read before now tops (feed_ends.Limit offset) bytes left ends = read_halted bytes tops (beyond offset) (ends.halts bytes left)
-feed_read before now tops (feed_ends.Fault faults) bytes left ends =
+refused_read : (before now : SourceState) (tops : List Top) (why : ReadingRefused) (bytes : List ℕ) → before.left ≡ Some bytes → FeedEnds before now tops (feed_ends.Refused why) → IsRead bytes tops
+refused_read before now tops (refusals.Grammar offset rule) bytes left ends = read_halted bytes tops (grammar offset rule) (ends.halts bytes left)
+refused_read before now tops (refusals.Compressed offset name) bytes left ends = read_halted bytes tops (compressed offset name) (ends.halts bytes left)
+refused_read before now tops (refusals.Limit offset) bytes left ends = read_halted bytes tops (beyond offset) (ends.halts bytes left)
+refused_read before now tops (refusals.Fault faults) bytes left ends =
     let leaves = ends.leaves bytes left in
     let kept = leaves.cut_off.kept in
     record { begins = subst (λ (l : List ℕ). Begins l tops) (sym leaves.split) (begins_on leaves.part leaves.rest tops kept.stands); good = kept.good }
-feed_read before now tops feed_ends.Memory bytes left ends = record {
+refused_read before now tops refusals.Memory bytes left ends = record {
   begins = elim (ends.leaves bytes left) [
     | inl none ↦ inl none.0
     | inr (rest, stands, lacks) ↦ inr (rest, stands)
   ];
   good = ends.good;
 }
+
+feed_read : (before now : SourceState) (tops : List Top) (end : FeedEnd) (bytes : List ℕ) → before.left ≡ Some bytes → FeedEnds before now tops end → IsRead bytes tops
+feed_read before now tops feed_ends.Done bytes left (offset, ends) = read_halted bytes tops (at_end offset) (ends.halts bytes left)
+feed_read before now tops (feed_ends.Refused why) bytes left ends = refused_read before now tops why bytes left ends
 feed_read before now tops feed_ends.Ended bytes left ends = record {
   begins = (let (rest, has, stands) = ends.read bytes left in inr (rest, stands));
   good = ends.good;

@@ -10,9 +10,9 @@ use Rattle.mcap_model.proofs.Places.{at_none}
 use Rattle.chunk_writer.specs.declared.phase.Phase.{Phase}
 use Rattle.chunk_writer.specs.declared.phase.Phase.TheVariants as phases
 use Rattle.chunk_writer.specs.declared.scribe.Scribe.{Scribe}
-use Rattle.chunk_writer.specs.Stops.{StopsAt, StopCause, Cause}
+use Rattle.chunk_writer.specs.Stops.{numbers, StopsAt, StopCause, Cause}
 use Rattle.chunk_writer.specs.Scribes.{Writes, store_of, phase_of, blocks_of, bytes_of}
-use Rattle.chunk_writer.specs.Tapes.{KeepsCause, TakesOn, EndsOn, MeetsLimit}
+use Rattle.chunk_writer.specs.Tapes.{KeepsCause, seen_store, TakesOn, EndsOn, MeetsLimit}
 use Rattle.feed_lane.specs.declared.report.FeedReport.{FeedReport}
 use Rattle.feed_lane.specs.Feeds.{ListsMessages}
 use Rattle.recorder.specs.declared.options.RecordOptions.{RecordOptions}
@@ -83,7 +83,7 @@ module _ {L X : Type 0} (state : L → LiveState) (tells : X → Option (List �
   -- onto a scribe
   pub onto_scribe : (live : LiveState) (first last : Scribe L) (store : L) (history : List Rec) (report r : Report) → Some report ≡ Some r → store ≡ store_of last
       → Writes state options.file [] live [] first → phase_of first ≡ phases.Going → (state (store_of first)).faults ≡ live.faults → IsReported options.limit options.lossless sources now history report
-      → IsWritten (seen_tape (λ before after records entries. TakesOn state tells size before after records entries) (λ before after closing written end. EndsOn state tells size before after closing written end)
+      → IsWritten (seen_tape (λ before after records entries. TakesOn (seen_store state tells size) before after records entries) (λ before after closing written end. EndsOn (seen_store state tells size) before after closing written end)
       (λ s blocks bytes. MeetsLimit state s blocks bytes) (λ s. phase_of s) (λ s. record { blocks = blocks_of s; bytes = bytes_of s }) (λ s. (state (store_of s)).faults)) first last history report.writer
       → IsAll history report.writer → Recorded options (sides sources live) (sides now (state store)) r
   onto_scribe live first last store history report r is stored stands going still reported written all =
@@ -110,7 +110,7 @@ module _ {L : Type 0} (state : L → LiveState) (options : RecordOptions) (sourc
   -- nothing was begun
   pub onto_nothing : (live : LiveState) (store : L) (stop : Stop) (report r : Report) → Some report ≡ Some r
       → IsReported options.limit options.lossless sources now [] report → report.writer ≡ record { records = 0; blocks = 0; bytes = 0; end = ends.Stopped stop }
-      → StopsAt options.file [] [] live.held (state store).held stop 0 0 → StopCause live.faults (state store).faults stop
+      → StopsAt options.file [] [] live.held (state store).held stop (numbers 0 0) → StopCause live.faults (state store).faults stop
       → Recorded options (sides sources live) (sides now (state store)) r
   onto_nothing live store stop report r is reported written stops cause =
       let none : WriterReport = record { records = 0; blocks = 0; bytes = 0; end = ends.Stopped stop } in

@@ -11,7 +11,7 @@ use Rattle.mcap_model.specs.Tops.{flat}
 use Rattle.mcap_model.specs.File.{front}
 use Rattle.record_cache.specs.Buffers.{IsKept}
 use Rattle.chunk_writer.specs.Limits.{Holds}
-use Rattle.chunk_writer.specs.Stops.{Cause}
+use Rattle.chunk_writer.specs.Stops.{numbers, Cause}
 use Rattle.chunk_writer.specs.Scribes.{Ends}
 use Rattle.feed_lane.specs.declared.report.FeedReport.{FeedReport}
 use Rattle.feed_lane.specs.Pass.{PassState}
@@ -57,7 +57,7 @@ IsBegun options history bytes = (length (front options.profile) ≤ bytes) ⊎ (
 -- all of it is with the system; else the writer stopped at a piece of that file.
 pub record WriterRecorded (options : FileOptions) (before now : LiveState) (history : List Rec) (w : WriterReport) : Type 0 where
   pub records : w.records ≡ length history
-  pub wrote : Ends options [] before.held now.held history w.blocks w.bytes (answer_of w.end)
+  pub wrote : Ends options [] before.held now.held history (numbers w.blocks w.bytes) (answer_of w.end)
   pub within : Holds w.blocks w.bytes
   pub begun : IsBegun options history w.bytes
   pub through : OnOk (answer_of w.end) (now.waiting ≡ 0)

@@ -191,6 +191,32 @@ fn unread<S, T>(feeds: Vec<S>, tape: T) -> Onto<S, T>
     }
 }
 
+// What the writer and the lanes hand back of a recording, with the report.
+fn handed_back<R: Wait, S: Drop, T>(written: Written<'_, T>, lanes: Lanes<'_, R, S>) -> Ran<S, T>
+    ensures { result ≡ record { report = record { feeds = lanes.entry.reports; writer = written.entry.report }; feeds = lanes.entry.feeds; tape = written.entry.tape } }
+{
+    let Written {
+        drain: _,
+        tape,
+        report,
+    } = written;
+    let Lanes {
+        control: _,
+        lossless: _,
+        lanes: _,
+        feeds,
+        reports,
+    } = lanes;
+    Ran {
+        report: Report {
+            feeds: reports,
+            writer: report,
+        },
+        feeds,
+        tape,
+    }
+}
+
 // Runs the lanes beside the writer, and makes the report. The control closes the intake once all lanes have ended, while the
 // writer still takes what is left.
 fn run_beside<R: Threads + Wait + Sync, S: Source + Drop + Send, T: Tape<X: Send> + Drop + Send>(
@@ -218,7 +244,7 @@ fn run_beside<R: Threads + Wait + Sync, S: Source + Drop + Send, T: Tape<X: Send
     ensures listed { Each (λ f. ListsMessages f listed) result.report.feeds.items }
     ensures stays { AllZip S.stays (map (λ lane. lane.source) lanes.entry.lanes.items) result.feeds.items }
 {
-    let (written, lanes) = join(
+    let (mut written, mut lanes) = join(
         rt,
         ||
             requires spare { spare ≡ empty_buffer writer.drain.seat.me.0.pass.limit }
@@ -244,28 +270,9 @@ fn run_beside<R: Threads + Wait + Sync, S: Source + Drop + Send, T: Tape<X: Send
             ensures stays { AllZip S.stays (map (λ lane. lane.source) lanes.entry.lanes.items) result.feeds.items }
         { lanes.run(rt, alloc, listed) },
     );
-    let Written {
-        mut drain,
-        tape,
-        report,
-    } = written;
-    let Lanes {
-        mut control,
-        lossless: _,
-        lanes: _,
-        feeds,
-        reports,
-    } = lanes;
-    meet(&mut control, &mut drain);
+    meet(&mut lanes.control, &mut written.drain);
     places_are_known();
-    Ran {
-        report: Report {
-            feeds: reports,
-            writer: report,
-        },
-        feeds,
-        tape,
-    }
+    handed_back(written, lanes)
 }
 
 impl<'t, R: Threads + Wait + Sync, S: Source + Drop + Send> Ready<'t, R, S> {
