@@ -16,8 +16,7 @@ use Rattle.mcap_model.specs.declared.ends.Stop.TheVariants as stops
 use Rattle.mcap_model.specs.Tops.{Top, Tops, Begins, top_bytes, spelled, offset_behind, flat, flattened, is_flat_kind, is_chunk, inner_tops, chunk_records, records_in, first_records, begins_record, behind_first, first_top}
 use Rattle.mcap_wire.specs.Reading.{text_length, bytes_length}
 use Rattle.mcap_wire.proofs.Framing.{length-framed}
-use Rattle.mcap_scan.proofs.Scanning.{good_stand}
-use Rattle.mcap_recover.proofs.Reading.{read_stand}
+use Rattle.mcap_recover.proofs.Reading.{good_within}
 use Rattle.mcap_recover.specs.declared.answers.Recovered.{Recovered}
 use Rattle.mcap_model.specs.Rules.{V1}
 use Rattle.mcap_model.specs.Kept.{Good, Kept, reading_limits, Halt, at_end, grammar, compressed, beyond, HaltsThere, HaltsAt, Halts, no_magic, behind_kept, at_data_end, short_head, zero_opcode, past_limit, cut_short, packed_chunk, broken_rule}
@@ -32,10 +31,12 @@ use Rattle.mcap_model.proofs.Repairs.{profile_once, repairs_once, repairs_go_on,
 use Rattle.mcap_model.proofs.Pieces.{pieces_make_files, stops_leave_prefixes}
 use Rattle.mcap_scan.specs.declared.reader.Reader.{Reader}
 use Rattle.mcap_scan.specs.declared.reader.Stage.TheVariants as stages
-use Rattle.mcap_scan.specs.declared.answers.ScanRefused.{ScanRefused}
-use Rattle.mcap_scan.specs.declared.answers.ScanRefused.TheVariants as scans
-use Rattle.mcap_scan.specs.Scanning.{Stands, IsDone, HaltsSo, FaultStands, MemoryStands, RefusalStands, IsGoing}
-use Rattle.chunk_writer.specs.Stops.{StopsAt, StopCause}
+use Rattle.mcap_model.specs.declared.refusals.ReadingRefused.{ReadingRefused}
+use Rattle.mcap_model.specs.declared.refusals.ReadingRefused.TheVariants as scans
+use Rattle.mcap_scan.specs.Scanning.{HaltsSo, FaultStands, MemoryStands, RefusalStands}
+use Rattle.record_walk.specs.declared.flat_reader.FlatReader.{FlatReader}
+use Rattle.chunk_writer.specs.declared.tape.Written.{Written}
+use Rattle.chunk_writer.specs.Stops.{numbers, StopsAt, StopCause}
 use Rattle.chunk_writer.specs.Scribes.{ScribeStands, phase_of, blocks_of, bytes_of, store_of}
 use Rattle.chunk_writer.specs.declared.phase.Phase.TheVariants as phases
 use Rattle.chunk_writer.proofs.Writing.{holding}
@@ -48,8 +49,8 @@ use Rattle.mcap_recover.specs.declared.answers.Why.TheVariants as whys
 use Rattle.mcap_recover.specs.declared.answers.RecoverRefused.{RecoverRefused}
 use Rattle.mcap_recover.specs.declared.answers.RecoverRefused.TheVariants as refusals
 use Rattle.mcap_recover.specs.Keeping.{Keeps, counted}
-use Rattle.mcap_recover.specs.Readings.{HasMagic, RefusedBy, GrammarTold, RefusalTold, HaltTold, OverSo, KeepsNone, Repairing, origin, IsOver, IsStopped, Begun}
-use Rattle.mcap_recover.specs.Recovering.{recovered_options, TellsHalt, OfRead, OfBoth, OfRepaired, StandsPart, LacksMagic, FaultRose, FaultsStill, Finishes, Recovers}
+use Rattle.mcap_recover.specs.Readings.{HasMagic, lacks, GrammarTold, RefusalTold, HaltTold, OverSo, KeepsNone, Repairing, KeptOf, origin, IsOver, IsStopped, BeginsFile, Begun}
+use Rattle.mcap_recover.specs.Recovering.{recovered_options, TellsHalt, OfRead, OfBoth, OfRepaired, StandsPart, LacksMagic, FaultsStill, Finishes, Recovers}
 
 -- ---- the first ones of some records
 
@@ -130,7 +131,7 @@ of_part chunk before holds others weaker both = record {
 
 -- ---- first parts of files
 
-pub part_of_stop : (options : FileOptions) (extras : List Top) (history : List Rec) (opened stored : LiveState) (stop : Stop) (blocks bytes : ℕ) → StopsAt options extras history opened.held stored.held stop blocks bytes → StandsPart opened stored options extras history
+pub part_of_stop : (options : FileOptions) (extras : List Top) (history : List Rec) (opened stored : LiveState) (stop : Stop) (blocks bytes : ℕ) → StopsAt options extras history opened.held stored.held stop (numbers blocks bytes) → StandsPart opened stored options extras history
 part_of_stop options extras history opened stored stop blocks bytes stops start told =
     let (text, held, stopped) = stops.took start told in
     (text, held, subst (λ (l : List ℕ). IsPrefix text l) (pieces_make_files options extras history) (stops_leave_prefixes (file_pieces options extras history) stops.place stop text bytes stopped))
@@ -140,38 +141,16 @@ nothing_stands opened options extras history start told = ([], told ∙ ap Some 
 
 -- ---- where the writer stopped
 
-pub stopped_recovers : (chunk : ℕ) (before now : SourceState) (opened stored : LiveState) (stop : Stop) (refusal : RecoverRefused) (blocks bytes : ℕ) → RefusedBy stop refusal → StopCause opened.faults stored.faults stop → now.faults ≡ before.faults → HasMagic before
-    → OfBoth chunk before (λ options extras history. StopsAt options extras history opened.held stored.held stop blocks bytes) → Recovers chunk before now opened stored (Err refusal)
-stopped_recovers chunk before now opened stored (stops.Fault faults) refusal blocks bytes is (rises, carried) still magic_is each =
-    subst (λ (r : RecoverRefused). Recovers chunk before now opened stored (Err r)) (sym is) (
-      inr (rises, carried, still, magic_is),
-      of_part chunk before (λ options extras history. StopsAt options extras history opened.held stored.held (stops.Fault faults) blocks bytes) (StandsPart opened stored)
-          (λ options extras history stopped. part_of_stop options extras history opened stored (stops.Fault faults) blocks bytes stopped) each,
-    )
-stopped_recovers chunk before now opened stored (stops.Limit m n) refusal blocks bytes is cause still magic_is each =
-    subst (λ (r : RecoverRefused). Recovers chunk before now opened stored (Err r)) (sym is) (
-      record { source = still; store = cause },
-      magic_is,
-      of_part chunk before (λ options extras history. StopsAt options extras history opened.held stored.held (stops.Limit m n) blocks bytes) (λ options extras history. StopsAt options extras history opened.held stored.held (stops.Limit m n) m n)
-          (λ options extras history stopped.
-          let why = stopped.why in
-          subst (λ (k : ℕ). StopsAt options extras history opened.held stored.held (stops.Limit m n) k n) (sym why.0)
-          (subst (λ (k : ℕ). StopsAt options extras history opened.held stored.held (stops.Limit m n) blocks k) (sym why.1) stopped)) each,
-    )
-stopped_recovers chunk before now opened stored stops.Memory refusal blocks bytes is cause still magic_is each =
-    subst (λ (r : RecoverRefused). Recovers chunk before now opened stored (Err r)) (sym is) (
-      record { source = still; store = cause },
-      inr magic_is,
-      of_part chunk before (λ options extras history. StopsAt options extras history opened.held stored.held stops.Memory blocks bytes) (StandsPart opened stored)
-          (λ options extras history stopped. part_of_stop options extras history opened stored stops.Memory blocks bytes stopped) each,
-    )
+pub stopped_recovers : (chunk : ℕ) (before now : SourceState) (opened stored : LiveState) (stop : Stop) (written : Written) → StopCause opened.faults stored.faults stop → now.faults ≡ before.faults → HasMagic before
+    → OfBoth chunk before (λ options extras history. StopsAt options extras history opened.held stored.held stop written) → Recovers chunk before now opened stored (Err (refusals.Stopped stop))
+stopped_recovers chunk before now opened stored stop written cause still magic_is each = record { source = still; store = cause; magic = magic_is; written = written; stops = each }
 
-pub is_stopped_recovers : {L : Type 0} (seen : L → LiveState) (chunk : ℕ) (profile : List ℕ) (before now : SourceState) (opened : LiveState) (k : Keeping L) (stop : Stop) (refusal : RecoverRefused) → RefusedBy stop refusal
-    → StopCause opened.faults (seen k.scribe.store).faults stop → IsStopped seen (recovered_options profile chunk) before now opened k stop → Recovers chunk before now opened (seen k.scribe.store) (Err refusal)
-is_stopped_recovers seen chunk profile before now opened k stop refusal is cause it =
-    stopped_recovers chunk before now opened (seen k.scribe.store) stop refusal (blocks_of k.scribe) (bytes_of k.scribe) is cause it.still
+pub is_stopped_recovers : {L : Type 0} (seen : L → LiveState) (chunk : ℕ) (profile : List ℕ) (before now : SourceState) (opened : LiveState) (k : Keeping L) (stop : Stop)
+    → StopCause opened.faults (seen k.scribe.store).faults stop → IsStopped seen (recovered_options profile chunk) before now opened k stop → Recovers chunk before now opened (seen k.scribe.store) (Err (refusals.Stopped stop))
+is_stopped_recovers seen chunk profile before now opened k stop cause it =
+    stopped_recovers chunk before now opened (seen k.scribe.store) stop (numbers (blocks_of k.scribe) (bytes_of k.scribe)) cause it.still
     (λ bytes told. let (rest, there) = it.read bytes told in (spelled it.tops ++ rest, there.split))
-    (of_longer chunk before it.tops it.extras profile it.history (λ options extras history. StopsAt options extras history opened.held (seen k.scribe.store).held stop (blocks_of k.scribe) (bytes_of k.scribe))
+    (of_longer chunk before it.tops it.extras profile it.history (λ options extras history. StopsAt options extras history opened.held (seen k.scribe.store).held stop (numbers (blocks_of k.scribe) (bytes_of k.scribe)))
     it.good (λ bytes told. inr (it.read bytes told)) (λ none. absurd (it.some none)) it.repairs
     (λ others behind. (it.keeps.writes.0.stopped stop it.stopped others behind).stops))
 
@@ -211,18 +190,21 @@ nothing_of : (chunk : ℕ) (before : SourceState) (opened : LiveState) → OfBot
 nothing_of chunk before opened = of_none chunk before (StandsPart opened opened) (λ options extras history. nothing_stands opened options extras history)
 
 -- memory lacked before anything was done
-pub nothing_recovers : (chunk : ℕ) (before now : SourceState) (opened : LiveState) → now.faults ≡ before.faults → Recovers chunk before now opened opened (Err refusals.Memory)
+pub nothing_recovers : (chunk : ℕ) (before now : SourceState) (opened : LiveState) → now.faults ≡ before.faults → Recovers chunk before now opened opened (Err lacks)
 nothing_recovers chunk before now opened still = (record { source = still; store = refl }, inl refl, nothing_of chunk before opened)
 
-pub begun_recovers : (chunk : ℕ) (before now : SourceState) (opened : LiveState) (reader : Reader) (refusal : RecoverRefused) → Begun before now reader (Err refusal) → Recovers chunk before now opened opened (Err refusal)
-begun_recovers chunk before now opened reader (refusals.Fault faults) begun = (inl (begun.rises, begun.carried, refl, inl refl), nothing_of chunk before opened)
-begun_recovers chunk before now opened reader refusals.NoMagic (rule, halts) = (
+pub begun_recovers : (chunk : ℕ) (before now : SourceState) (opened : LiveState) (flat : FlatReader) (refusal : RecoverRefused) → Begun before now flat (Err refusal) → Recovers chunk before now opened opened (Err refusal)
+begun_recovers chunk before now opened flat refusals.NoMagic (rule, halts) = (
   λ bytes told has. no_front bytes [] (grammar 0 rule) rule (halts.halts bytes told).there refl has,
   record { source = halts.still; store = refl },
   refl,
 )
-begun_recovers chunk before now opened reader (refusals.Limit blocks bytes) begun = absurd begun
-begun_recovers chunk before now opened reader refusals.Memory still = nothing_recovers chunk before now opened still
+begun_recovers chunk before now opened flat (refusals.Refused (scans.Fault faults)) begun = (begun.rises, begun.carried, refl, inl refl, nothing_of chunk before opened)
+begun_recovers chunk before now opened flat (refusals.Refused (scans.Grammar at rule)) begun = absurd begun
+begun_recovers chunk before now opened flat (refusals.Refused (scans.Compressed at name)) begun = absurd begun
+begun_recovers chunk before now opened flat (refusals.Refused (scans.Limit at)) begun = absurd begun
+begun_recovers chunk before now opened flat (refusals.Refused scans.Memory) still = nothing_recovers chunk before now opened still
+begun_recovers chunk before now opened flat (refusals.Stopped stop) begun = absurd begun
 
 -- the reading failed behind records that were kept
 pub over_recovers : {L : Type 0} (seen : L → LiveState) (chunk : ℕ) (profile : List ℕ) (before now : SourceState) (opened : LiveState) (reader : Reader) (k : Keeping L) (over : Over) (refusal : RecoverRefused)
@@ -230,22 +212,22 @@ pub over_recovers : {L : Type 0} (seen : L → LiveState) (chunk : ℕ) (profile
     → Recovers chunk before now opened (seen k.scribe.store) (Err refusal)
 over_recovers seen chunk profile before now opened reader k over refusal it told going still = by over it.over_so told
   where
-    was : Repairing seen (recovered_options profile chunk) before now opened reader k
-    was = it.repairing
+    was : KeptOf seen (recovered_options profile chunk) before opened k
+    was = it.kept
 
     part : OfBoth chunk before (StandsPart opened (seen k.scribe.store))
-    part = of_longer chunk before was.tops was.extras profile was.history (StandsPart opened (seen k.scribe.store)) was.good was.read (λ none. (was.begun none).1) was.repairs
+    part = of_longer chunk before was.tops was.extras profile was.history (StandsPart opened (seen k.scribe.store)) was.good was.read was.begun was.repairs
         (going_part seen (recovered_options profile chunk) was.extras opened was.history k going was.keeps)
 
-    refused : (w : ScanRefused) → RefusalStands w before now was.tops → RefusalTold w (Err refusal) → Recovers chunk before now opened (seen k.scribe.store) (Err refusal)
+    refused : (w : ReadingRefused) → RefusalStands w before now was.tops → RefusalTold w (Err refusal) → Recovers chunk before now opened (seen k.scribe.store) (Err refusal)
     refused (scans.Fault faults) stands is =
-        let same : refusal ≡ refusals.Fault faults = cc in
-        subst (λ (r : RecoverRefused). Recovers chunk before now opened (seen k.scribe.store) (Err r)) (sym same) (inl (stands.rises, stands.carried, still, inr was.magic), part)
+        let same : refusal ≡ refusals.Refused (scans.Fault faults) = cc in
+        subst (λ (r : RecoverRefused). Recovers chunk before now opened (seen k.scribe.store) (Err r)) (sym same) (stands.rises, stands.carried, still, inr was.magic, part)
     refused (scans.Grammar at rule) stands (why, kind, is) = absurd (cc)
     refused (scans.Compressed at name) stands is = absurd (cc)
     refused (scans.Limit at) stands is = absurd (cc)
     refused scans.Memory stands is =
-        let same : refusal ≡ refusals.Memory = cc in
+        let same : refusal ≡ lacks = cc in
         subst (λ (r : RecoverRefused). Recovers chunk before now opened (seen k.scribe.store) (Err r)) (sym same) (record { source = stands.still; store = still }, inr was.magic, part)
 
     by : (o : Over) → OverSo reader before now was.tops o → HaltTold reader o (Err refusal) → Recovers chunk before now opened (seen k.scribe.store) (Err refusal)
@@ -264,7 +246,7 @@ over_halts reader before now tops (overs.Ended place) at why so is =
     (at_end place, so, subst (λ (w : Why). TellsHalt at w (at_end place)) (sym same_why) (ap at_end (sym same_at)))
 over_halts reader before now tops overs.Refused at why (w, stage, stands) told = by w stands (told w stage)
   where
-    by : (v : ScanRefused) → RefusalStands v before now tops → RefusalTold v (Ok (at, why)) → (halt : Halt) × HaltsSo before now tops halt × TellsHalt at why halt
+    by : (v : ReadingRefused) → RefusalStands v before now tops → RefusalTold v (Ok (at, why)) → (halt : Halt) × HaltsSo before now tops halt × TellsHalt at why halt
     by (scans.Fault faults) it is = absurd (cc)
     by (scans.Grammar place rule) it (reason, kind, is) =
         let pair = same_ok (Ok (at, why)) (at, why) (place, reason) refl is in
@@ -394,12 +376,12 @@ pub finish_recovers : {L : Type 0} (seen : L → LiveState) (chunk : ℕ) (profi
     → IsOver seen (origin (recovered_options profile chunk) before opened) now reader k over → HaltTold reader over (Ok (at, why)) → (seen k.scribe.store).faults ≡ opened.faults → Finishes seen k stored at why result
     → Recovers chunk before now opened stored result
 finish_recovers seen chunk profile before now opened stored reader k over at why (Ok r) it told still finishes =
-    let was = it.repairing in
+    let was = it.kept in
     let (halt, halts, tells) = over_halts reader before now was.tops over at why it.over_so told in
     let (adds, answers, holds, same, through) = finishes (recovered_options profile chunk) was.extras opened was.history was.keeps in
     let (at_is, why_is, messages, records, others) = answers in
     let few = history_few was.tops was.extras profile was.history was.repairs in
-    let within = was.within in
+    let within = good_within was.tops was.good in
     let extra_size = ap (λ (l : List Top). length l) was.repairs.extras_are in
     record {
       tops = was.tops;
@@ -420,54 +402,36 @@ finish_recovers seen chunk profile before now opened stored reader k over at why
       still = same ∙ still;
       through = through;
     }
-finish_recovers seen chunk profile before now opened stored reader k over at why (Err refusal) it told still finishes =
-    let was = it.repairing in
+finish_recovers seen chunk profile before now opened stored reader k over at why (Err refusals.NoMagic) it told still finishes = let was = it.kept in absurd (finishes (recovered_options profile chunk) was.extras opened was.history was.keeps)
+finish_recovers seen chunk profile before now opened stored reader k over at why (Err (refusals.Refused other)) it told still finishes = let was = it.kept in absurd (finishes (recovered_options profile chunk) was.extras opened was.history was.keeps)
+finish_recovers seen chunk profile before now opened stored reader k over at why (Err (refusals.Stopped stop)) it told still finishes =
+    let was = it.kept in
     let (halt, halts, tells) = over_halts reader before now was.tops over at why it.over_so told in
-    let (stop, blocks, bytes, is, stops, cause) = finishes (recovered_options profile chunk) was.extras opened was.history was.keeps in
-    stopped_recovers chunk before now opened stored stop refusal blocks bytes is (subst (λ (n : ℕ). StopCause n stored.faults stop) still cause) halts.still was.magic
-    (of_exact chunk before was.tops was.extras profile was.history (λ options extras history. StopsAt options extras history opened.held stored.held stop blocks bytes) was.good (λ b known. (halts.halts b known).kept) was.repairs stops)
+    let (written, stops, cause) = finishes (recovered_options profile chunk) was.extras opened was.history was.keeps in
+    stopped_recovers chunk before now opened stored stop written (subst (λ (n : ℕ). StopCause n stored.faults stop) still cause) halts.still was.magic
+    (of_exact chunk before was.tops was.extras profile was.history (λ options extras history. StopsAt options extras history opened.held stored.held stop written) was.good (λ b known. (halts.halts b known).kept) was.repairs stops)
 
 -- ---- the begin of the new file
 
--- what is known of the records that the begin gives
-record BeginsSo (before : SourceState) (tops : List Top) : Type 0 where
-  good : Good reading_limits tops
-  read : (bytes : List ℕ) → before.left ≡ Some bytes → Begins bytes tops
-  magic_is : HasMagic before
-
-begins_so : (before now : SourceState) (reader : Reader) (tops : List Top) → Stands reader before now tops → (tops ≡ [] → IsDone reader × KeepsNone before × HasMagic before) → (tops ≡ []) ⊎ ((tops ≡ [] → ⊥) × IsGoing reader.stage) → BeginsSo before tops
-begins_so before now reader tops stands begun (inl none) = record {
-  good = subst (Good reading_limits) (sym none) (λ n t at. absurd (at_none n t at));
-  read = λ bytes told. inl none;
-  magic_is = (begun none).2;
-}
-begins_so before now reader tops stands begun (inr (some, going)) = record {
-  good = good_stand reader before now tops going stands;
-  read = λ bytes told. let (rest, left, there) = read_stand reader before now tops going stands some bytes told in inr (rest, there);
-  magic_is = λ bytes told. let (rest, left, there) = read_stand reader before now tops going stands some bytes told in (spelled tops ++ rest, there.split);
+pub begin_repairing : {L : Type 0} (seen : L → LiveState) (chunk : ℕ) (profile : List ℕ) (before now : SourceState) (opened : LiveState) (flat : FlatReader) (k : Keeping L) → BeginsFile before now flat profile
+    → Keeps seen (recovered_options profile chunk) [] opened [] k → Repairing seen (recovered_options profile chunk) before now opened flat k
+begin_repairing seen chunk profile before now opened flat k begins keeps = record {
+  tops = begins.tops;
+  given = begins.given;
+  stands = begins.stands;
+  good = begins.good;
+  read = begins.read;
+  magic = begins.magic;
+  begun = begins.begun;
+  extras = [];
+  history = [];
+  repairs = begins.repairs;
+  keeps = keeps;
 }
 
-pub begin_repairing : {L : Type 0} (seen : L → LiveState) (chunk : ℕ) (profile : List ℕ) (before now : SourceState) (opened : LiveState) (reader : Reader) (k : Keeping L) → Begun before now reader (Ok profile)
-    → Keeps seen (recovered_options profile chunk) [] opened [] k → Repairing seen (recovered_options profile chunk) before now opened reader k
-begin_repairing seen chunk profile before now opened reader k (tops, stands, within, begun, repairs, long, some, still) keeps =
-    let so = begins_so before now reader tops stands begun some in
-    record {
-      tops = tops;
-      stands = stands;
-      good = so.good;
-      read = so.read;
-      magic = so.magic_is;
-      within = within;
-      begun = λ none. ((begun none).0, (begun none).1);
-      extras = [];
-      history = [];
-      repairs = repairs;
-      keeps = keeps;
-    }
-
-pub open_recovers : (chunk : ℕ) (profile : List ℕ) (before now : SourceState) (opened stored : LiveState) (reader : Reader) (stop : Stop) (refusal : RecoverRefused) → Begun before now reader (Ok profile) → RefusedBy stop refusal
-    → StopCause opened.faults stored.faults stop → ((extras : List Top) (history : List Rec) → StopsAt (recovered_options profile chunk) extras history opened.held stored.held stop 0 0) → Recovers chunk before now opened stored (Err refusal)
-open_recovers chunk profile before now opened stored reader stop refusal (tops, stands, within, begun, repairs, long, some, still) is cause stops =
-    let so = begins_so before now reader tops stands begun some in
-    stopped_recovers chunk before now opened stored stop refusal 0 0 is cause still so.magic_is
-    (of_longer chunk before tops [] profile [] (λ options extras history. StopsAt options extras history opened.held stored.held stop 0 0) so.good so.read (λ none. (begun none).1) repairs (λ others behind. stops others behind))
+pub open_recovers : (chunk : ℕ) (profile : List ℕ) (before now : SourceState) (opened stored : LiveState) (flat : FlatReader) (stop : Stop) → BeginsFile before now flat profile
+    → StopCause opened.faults stored.faults stop → ((extras : List Top) (history : List Rec) → StopsAt (recovered_options profile chunk) extras history opened.held stored.held stop (numbers 0 0)) → Recovers chunk before now opened stored (Err (refusals.Stopped stop))
+open_recovers chunk profile before now opened stored flat stop begins cause stops =
+    let shows = begins.shows in
+    stopped_recovers chunk before now opened stored stop (numbers 0 0) cause begins.still begins.magic
+    (of_longer chunk before shows.first [] profile [] (λ options extras history. StopsAt options extras history opened.held stored.held stop (numbers 0 0)) shows.good shows.read shows.none shows.repairs (λ others behind. stops others behind))

@@ -31,7 +31,7 @@ use Rattle.chunk_build.specs.Chunker.{AreFramed}
 use Rattle.mcap_recover.specs.declared.keeping.Keeping.{Keeping}
 use Rattle.chunk_writer.specs.declared.phase.Phase.TheVariants as phases
 use Rattle.chunk_writer.specs.Scribes.{Grows, phase_of}
-use Rattle.mcap_recover.specs.Keeping.{is_declared, declared_with, counted, CountsSo, Takes, TakesTop, Adds}
+use Rattle.mcap_recover.specs.Keeping.{is_declared, declared_with, counted, CountsSo, Takes, TakesRecord, Adds}
 use Rattle.mcap_recover.proofs.Keepings.{going_apart, schema_known, channel_known, message_known, adds_put, adds_left, takes_by, schema_counts, channel_counts, message_counts}
 
 pub message_framed : (bytes content : List ℕ) (channel : ℕ) (m : MessageFields) → bytes ≡ framed 5 content → ShowsMessage content channel m → AreFramed bytes (message_of channel m)
@@ -139,54 +139,35 @@ channel_left seen old new content id f shown going known same channels schemas m
       extras_are = others ∙ c.extras_are;
     }))
 
--- ---- the walk
-
-pub walked_flat : (records : List ℕ) (at : ℕ) (rest : List ℕ) (done : List Top) → WalkedSoFar records at rest done → records_in rest ≡ [] → filter is_flat_kind done ≡ filter is_flat_kind (records_in records)
-walked_flat records at rest done was none = ap (filter is_flat_kind) (walked_all records at rest done was none)
-
-pub flat_more : (done : List Top) (t : Top) → filter is_flat_kind (done ++ t ∷ []) ≡ filter is_flat_kind done ++ filter is_flat_kind (t ∷ [])
-flat_more done t = filter-append is_flat_kind done (t ∷ [])
-
-pub flat_split : (records : List ℕ) (at : ℕ) (rest : List ℕ) (done : List Top) → WalkedSoFar records at rest done → filter is_flat_kind (records_in records) ≡ filter is_flat_kind done ++ filter is_flat_kind (records_in rest)
-flat_split records at rest done was = ap (filter is_flat_kind) was.parts ∙ filter-append is_flat_kind done (records_in rest)
-
--- ---- a record of the top level
+-- ---- one record
 
 pub extra_of : (op : ℕ) (content : List ℕ) → V6 (top op content) → V10 (top op content) → (op ≡ 9) ⊎ (op ≡ 12) → IsExtra (top op content)
 extra_of op content v6 v10 kind = record { kind = kind; v6 = v6; v10 = v10 }
 
-pub chunk_taken : {L : Type 0} (seen : L → LiveState) (old new : Keeping L) (op : ℕ) (content : List ℕ) (f : ChunkFields) → op ≡ 6 → IsChunk (top 6 content) f
-    → Takes seen old new (filter is_flat_kind (records_in f.records)) → TakesTop seen old new (top op content)
-chunk_taken seen old new op content f is shown takes =
-    subst (λ (n : ℕ). TakesTop seen old new (top n content)) (sym is)
-    (subst (λ (l : List ℕ). Takes seen old new (filter is_flat_kind (records_in l))) (sym (chunks_are_opened (top 6 content) f shown)) takes)
+pub one_taken : {L : Type 0} (seen : L → LiveState) (old new : Keeping L) (op : ℕ) (content : List ℕ) → ((op ≡ 3) ⊎ ((op ≡ 4) ⊎ (op ≡ 5))) → Takes seen old new (top op content ∷ []) → TakesRecord seen old new (top op content)
+one_taken seen old new op content (inl is) takes = subst (λ (n : ℕ). Takes seen old new (top n content ∷ []) → TakesRecord seen old new (top n content)) (sym is) (λ it. it) takes
+one_taken seen old new op content (inr (inl is)) takes = subst (λ (n : ℕ). Takes seen old new (top n content ∷ []) → TakesRecord seen old new (top n content)) (sym is) (λ it. it) takes
+one_taken seen old new op content (inr (inr is)) takes = subst (λ (n : ℕ). Takes seen old new (top n content ∷ []) → TakesRecord seen old new (top n content)) (sym is) (λ it. it) takes
 
-pub one_taken : {L : Type 0} (seen : L → LiveState) (old new : Keeping L) (op : ℕ) (content : List ℕ) → ((op ≡ 3) ⊎ ((op ≡ 4) ⊎ (op ≡ 5))) → Takes seen old new (top op content ∷ []) → TakesTop seen old new (top op content)
-one_taken seen old new op content (inl is) takes = subst (λ (n : ℕ). Takes seen old new (top n content ∷ []) → TakesTop seen old new (top n content)) (sym is) (λ it. it) takes
-one_taken seen old new op content (inr (inl is)) takes = subst (λ (n : ℕ). Takes seen old new (top n content ∷ []) → TakesTop seen old new (top n content)) (sym is) (λ it. it) takes
-one_taken seen old new op content (inr (inr is)) takes = subst (λ (n : ℕ). Takes seen old new (top n content ∷ []) → TakesTop seen old new (top n content)) (sym is) (λ it. it) takes
-
-pub one_taken_at : {L : Type 0} (seen : L → LiveState) (old new : Keeping L) (op n : ℕ) (content : List ℕ) → ((op ≡ 3) ⊎ ((op ≡ 4) ⊎ (op ≡ 5))) → op ≡ n → Takes seen old new (top n content ∷ []) → TakesTop seen old new (top op content)
+pub one_taken_at : {L : Type 0} (seen : L → LiveState) (old new : Keeping L) (op n : ℕ) (content : List ℕ) → ((op ≡ 3) ⊎ ((op ≡ 4) ⊎ (op ≡ 5))) → op ≡ n → Takes seen old new (top n content ∷ []) → TakesRecord seen old new (top op content)
 one_taken_at seen old new op n content kind is takes = one_taken seen old new op content kind (subst (λ (k : ℕ). Takes seen old new (top k content ∷ [])) (sym is) takes)
 
 none_left : (records : List Rec) → AllZip IsRec [] records → records ≡ []
 none_left [] zip = refl
 none_left (r ∷ rs) zip = absurd zip
 
-pub extra_taken : {L : Type 0} (seen : L → LiveState) (old new : Keeping L) (op : ℕ) (content : List ℕ) → ((op ≡ 9) ⊎ (op ≡ 12)) → Adds seen old new (top op content ∷ []) [] → TakesTop seen old new (top op content)
+pub extra_taken : {L : Type 0} (seen : L → LiveState) (old new : Keeping L) (op : ℕ) (content : List ℕ) → ((op ≡ 9) ⊎ (op ≡ 12)) → Adds seen old new (top op content ∷ []) [] → TakesRecord seen old new (top op content)
 extra_taken seen old new op content (inl is) adds =
-    subst (λ (n : ℕ). Adds seen old new (top n content ∷ []) [] → TakesTop seen old new (top n content)) (sym is) (λ it records zip. subst (λ (l : List Rec). Adds seen old new (top 9 content ∷ []) l) (sym (none_left records zip)) it) adds
+    subst (λ (n : ℕ). Adds seen old new (top n content ∷ []) [] → TakesRecord seen old new (top n content)) (sym is) (λ it records zip. subst (λ (l : List Rec). Adds seen old new (top 9 content ∷ []) l) (sym (none_left records zip)) it) adds
 extra_taken seen old new op content (inr is) adds =
-    subst (λ (n : ℕ). Adds seen old new (top n content ∷ []) [] → TakesTop seen old new (top n content)) (sym is) (λ it records zip. subst (λ (l : List Rec). Adds seen old new (top 12 content ∷ []) l) (sym (none_left records zip)) it) adds
+    subst (λ (n : ℕ). Adds seen old new (top n content ∷ []) [] → TakesRecord seen old new (top n content)) (sym is) (λ it records zip. subst (λ (l : List Rec). Adds seen old new (top 12 content ∷ []) l) (sym (none_left records zip)) it) adds
 
 -- no other kind shows or is anything that is kept
-pub other_taken : {L : Type 0} (seen : L → LiveState) (old : Keeping L) (op : ℕ) (content : List ℕ) → (op ≡ 3 → ⊥) → (op ≡ 4 → ⊥) → (op ≡ 5 → ⊥) → (op ≡ 6 → ⊥) → (op ≡ 9 → ⊥) → (op ≡ 12 → ⊥)
-    → Adds seen old old [] [] → TakesTop seen old old (top op content)
-other_taken seen old op content no3 no4 no5 no6 no9 no12 none records zip =
+pub other_taken : {L : Type 0} (seen : L → LiveState) (old : Keeping L) (op : ℕ) (content : List ℕ) → (op ≡ 3 → ⊥) → (op ≡ 4 → ⊥) → (op ≡ 5 → ⊥) → (op ≡ 9 → ⊥) → (op ≡ 12 → ⊥)
+    → Adds seen old old [] [] → TakesRecord seen old old (top op content)
+other_taken seen old op content no3 no4 no5 no9 no12 none records zip =
     let t = top op content in
-    let alone : opened t ≡ t ∷ [] = ap (λ (b : Bool). if b then inner_tops t else t ∷ []) (ne_eqb op 6 no6) in
-    let kind : is_flat_kind t ≡ false = flat_not op content no3 no4 no5 in
-    let empty : flattened t ≡ [] = ap (filter is_flat_kind) alone ∙ ap (λ (b : Bool). if b then t ∷ [] else []) kind in
+    let empty : filter is_flat_kind (t ∷ []) ≡ [] = ap (λ (b : Bool). if b then t ∷ [] else []) (flat_not op content no3 no4 no5) in
     let silent : filter is_extra (t ∷ []) ≡ [] = ap (λ (b : Bool). if b then t ∷ [] else []) (extra_not op content no9 no12) in
     subst (λ (l : List Top). Adds seen old old l records) (sym silent)
     (subst (λ (l : List Rec). Adds seen old old [] l) (sym (none_left records (subst (λ (l : List Top). AllZip IsRec l records) empty zip))) none)

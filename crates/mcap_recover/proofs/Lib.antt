@@ -1,4 +1,5 @@
 mod Keepings
 mod Inners
+mod Given
 mod Reading
 mod Ending

@@ -1,17 +1,19 @@
 -- What is kept of records as they are read, in a new file that is being written.
-use Rattle.std.specs.Prelude.{◌≡◌, ℕ, ◌^◌, ◌-◌, List, [], ◌∷◌, ◌++◌, length, filter, map, fold, min, Bool, ◌==◌, if◌then◌else◌}
+use Rattle.std.specs.Prelude.{◌≡◌, ℕ, ◌^◌, ◌-◌, List, [], ◌∷◌, ◌++◌, length, filter, map, fold, min, Bool, ◌==◌, if◌then◌else◌, Option, Some, None}
 use Rattle.std.specs.List.{AllZip, list_any}
 use Rattle.rec_data.specs.declared.owned.Rec.{Rec}
 use Rattle.rec_data.specs.declared.owned.Rec.TheVariants.{Schema, Channel, Message}
 use Rattle.mcap_io.specs.Outside.{LiveState}
 use Rattle.mcap_model.specs.declared.options.FileOptions.{FileOptions}
-use Rattle.mcap_model.specs.Tops.{Top, flattened}
+use Rattle.mcap_wire.specs.Layout.{framed}
+use Rattle.mcap_model.specs.Tops.{Top, Placed, is_flat_kind}
 use Rattle.mcap_model.specs.History.{is_schema, is_channel, is_message, kept_with}
 use Rattle.mcap_model.specs.Written.{IsRec}
 use Rattle.mcap_model.specs.Repaired.{is_extra}
 use Rattle.chunk_writer.specs.declared.phase.Phase.TheVariants as phases
 use Rattle.chunk_writer.specs.Scribes.{Writes, phase_of}
 use Rattle.mcap_recover.specs.declared.keeping.Keeping.{Keeping}
+use denote.Ref.{Bor}
 
 -- ---- ids that were declared
 
@@ -56,6 +58,17 @@ Adds seen before after more records = (options : FileOptions) (extras : List Top
 abbrev pub Takes : {L : Type 0} → (L → LiveState) → Keeping L → Keeping L → List Top → Type 0
 Takes seen before after flat = (records : List Rec) → AllZip IsRec flat records → Adds seen before after [] records
 
--- the same of a record of the top level
-abbrev pub TakesTop : {L : Type 0} → (L → LiveState) → Keeping L → Keeping L → Top → Type 0
-TakesTop seen before after t = (records : List Rec) → AllZip IsRec (flattened t) records → Adds seen before after (filter is_extra (t ∷ [])) records
+-- the same of what one record shows or is, of the top level or inside a chunk
+abbrev pub TakesRecord : {L : Type 0} → (L → LiveState) → Keeping L → Keeping L → Top → Type 0
+TakesRecord seen before after t = (records : List Rec) → AllZip IsRec (filter is_flat_kind (t ∷ [])) records → Adds seen before after (filter is_extra (t ∷ [])) records
+
+-- ---- records that are given
+
+-- those at these places
+abbrev pub tops_at : List Placed → List Top
+tops_at given = map (λ (p : Placed). p.top) given
+
+-- the bytes are the record with its head, where they are at hand
+abbrev pub IsFrame : ℕ → List ℕ → Option (Bor (List ℕ)) → Type 0
+IsFrame op content None = Unit {0}
+IsFrame op content (Some bytes) = bytes.now ≡ framed op content

@@ -1,23 +1,24 @@
 -- What is kept of a source that is read, and how its reading ended.
-use Rattle.std.specs.Prelude.{◌≡◌, ◌⊎◌, ℕ, ◌≤◌, List, [], ◌∷◌, ◌++◌, length, Option, Some, Result, Ok, Err}
+use Rattle.std.specs.Prelude.{◌≡◌, ◌⊎◌, ℕ, ◌≤◌, List, [], length, filter, Option, Some, Result, Ok, Err}
+use Rattle.std.specs.List.{AllZip}
 use Rattle.mcap_wire.specs.Layout.{content_limit}
-use Rattle.mcap_wire.specs.Limits.{file_limit}
 use Rattle.rec_data.specs.declared.owned.Rec.{Rec}
 use Rattle.mcap_io.specs.Outside.{SourceState, LiveState}
 use Rattle.mcap_model.specs.declared.options.FileOptions.{FileOptions}
 use Rattle.mcap_model.specs.declared.ends.Stop.{Stop}
-use Rattle.mcap_model.specs.declared.ends.Stop.TheVariants as stops
-use Rattle.mcap_model.specs.Tops.{Top, Tops, Begins, offset_behind}
+use Rattle.mcap_model.specs.Tops.{Top, Placed, Tops, Begins, is_flat_kind, walked}
 use Rattle.mcap_model.specs.Rules.{V1}
 use Rattle.mcap_model.specs.Kept.{Good, Kept, reading_limits, at_end, grammar}
-use Rattle.mcap_model.specs.Repaired.{Repairs}
-use Rattle.mcap_scan.specs.declared.answers.ScanRefused.{ScanRefused}
-use Rattle.mcap_scan.specs.declared.answers.ScanRefused.TheVariants as scans
-use Rattle.mcap_scan.specs.declared.answers.Step.{Step}
-use Rattle.mcap_scan.specs.declared.answers.Step.TheVariants as steps
+use Rattle.mcap_model.specs.History.{without_repeats}
+use Rattle.mcap_model.specs.Written.{IsRec}
+use Rattle.mcap_model.specs.Repaired.{is_extra, ProfileIs, Repairs}
+use Rattle.mcap_model.specs.declared.refusals.ReadingRefused.{ReadingRefused}
+use Rattle.mcap_model.specs.declared.refusals.ReadingRefused.TheVariants as scans
 use Rattle.mcap_scan.specs.declared.reader.Reader.{Reader}
 use Rattle.mcap_scan.specs.declared.reader.Stage.TheVariants as stages
-use Rattle.mcap_scan.specs.Scanning.{Stands, HaltsSo, RefusalStands, FaultStands, IsDone, IsGoing}
+use Rattle.mcap_scan.specs.Scanning.{HaltsSo, RefusalStands, FaultStands, IsGoing}
+use Rattle.record_walk.specs.declared.flat_reader.FlatReader.{FlatReader}
+use Rattle.record_walk.specs.Walking.{FlatStands, IsFlatDone}
 use Rattle.chunk_writer.specs.declared.phase.Phase.TheVariants as phases
 use Rattle.chunk_writer.specs.Scribes.{phase_of}
 use Rattle.mcap_recover.specs.declared.keeping.Keeping.{Keeping}
@@ -27,13 +28,11 @@ use Rattle.mcap_recover.specs.declared.answers.Why.{Why}
 use Rattle.mcap_recover.specs.declared.answers.Why.TheVariants as whys
 use Rattle.mcap_recover.specs.declared.answers.RecoverRefused.{RecoverRefused}
 use Rattle.mcap_recover.specs.declared.answers.RecoverRefused.TheVariants as refusals
-use Rattle.mcap_recover.specs.Keeping.{Keeps}
+use Rattle.mcap_recover.specs.Keeping.{Keeps, tops_at}
 
--- why a writer stopped, as it is answered
-abbrev pub RefusedBy : Stop → RecoverRefused → Type 0
-RefusedBy (stops.Fault faults) refusal = refusal ≡ refusals.Fault faults
-RefusedBy (stops.Limit blocks bytes) refusal = refusal ≡ refusals.Limit blocks bytes
-RefusedBy stops.Memory refusal = refusal ≡ refusals.Memory
+-- the answer where memory lacked beside the writer's own
+abbrev pub lacks : RecoverRefused
+lacks = refusals.Refused scans.Memory
 
 -- ---- how a reading ended
 
@@ -41,21 +40,21 @@ RefusedBy stops.Memory refusal = refusal ≡ refusals.Memory
 abbrev pub GrammarTold : ℕ → Why → Type 0
 GrammarTold rule why = ((rule ≡ 4) × (why ≡ whys.Short)) ⊎ ((rule ≡ 4 → ⊥) × (why ≡ whys.Grammar))
 
-abbrev pub RefusalTold : ScanRefused → Result (ℕ × Why) RecoverRefused → Type 0
-RefusalTold (scans.Fault faults) result = result ≡ Err (refusals.Fault faults)
+abbrev pub RefusalTold : ReadingRefused → Result (ℕ × Why) RecoverRefused → Type 0
+RefusalTold (scans.Fault faults) result = result ≡ Err (refusals.Refused (scans.Fault faults))
 RefusalTold (scans.Grammar offset rule) result = (why : Why) × GrammarTold rule why × (result ≡ Ok (offset, why))
 RefusalTold (scans.Compressed offset name) result = result ≡ Ok (offset, whys.Compressed)
 RefusalTold (scans.Limit offset) result = result ≡ Ok (offset, whys.Limit)
-RefusalTold scans.Memory result = result ≡ Err refusals.Memory
+RefusalTold scans.Memory result = result ≡ Err lacks
 
 abbrev pub HaltTold : Reader → Over → Result (ℕ × Why) RecoverRefused → Type 0
 HaltTold reader (overs.Ended at) result = result ≡ Ok (at, whys.Complete)
-HaltTold reader overs.Refused result = (why : ScanRefused) → reader.stage ≡ stages.Stopped why → RefusalTold why result
+HaltTold reader overs.Refused result = (why : ReadingRefused) → reader.stage ≡ stages.Stopped why → RefusalTold why result
 
 -- what an end of a reading says of the records before it
 abbrev pub OverSo : Reader → SourceState → SourceState → List Top → Over → Type 0
 OverSo reader before now tops (overs.Ended at) = HaltsSo before now tops (at_end at)
-OverSo reader before now tops overs.Refused = (why : ScanRefused) × (reader.stage ≡ stages.Stopped why) × RefusalStands why before now tops
+OverSo reader before now tops overs.Refused = (why : ReadingRefused) × (reader.stage ≡ stages.Stopped why) × RefusalStands why before now tops
 
 -- ---- what is kept of it
 
@@ -67,16 +66,37 @@ KeepsNone before = (bytes : List ℕ) → before.left ≡ Some bytes → Kept re
 abbrev pub HasMagic : SourceState → Type 0
 HasMagic before = (bytes : List ℕ) → before.left ≡ Some bytes → V1 bytes
 
--- These good records were read, with which the source's bytes begin where it tells them, and what repairing makes of them was
--- kept. The source and the store were in these states before.
-pub record Repairing {L : Type 0} (seen : L → LiveState) (options : FileOptions) (before now : SourceState) (opened : LiveState) (reader : Reader) (k : Keeping L) : Type 0 where
+-- What repairing makes of records that were given in their places, those inside chunks too: the same as of the records at top
+-- level, where all were given.
+pub record RepairsGiven (given : List Placed) (profile : List ℕ) (extras : List Top) (history : List Rec) : Type 0 where
+  pub profile_is : ProfileIs (tops_at given) profile
+  pub extras_are : extras ≡ filter is_extra (tops_at given)
+  pub flattened : List Rec
+  pub are_flattened : AllZip IsRec (filter is_flat_kind (tops_at given)) flattened
+  pub history_is : history ≡ without_repeats flattened
+
+-- These good records were read, with which the source's bytes begin where it tells them, and what repairing makes of those that
+-- were given was kept. The source and the store were in these states before.
+pub record Repairing {L : Type 0} (seen : L → LiveState) (options : FileOptions) (before now : SourceState) (opened : LiveState) (flat : FlatReader) (k : Keeping L) : Type 0 where
   pub tops : List Top
-  pub stands : Stands reader before now tops
+  pub given : List Placed
+  pub stands : FlatStands flat before now tops given
   pub good : Good reading_limits tops
   pub read : (bytes : List ℕ) → before.left ≡ Some bytes → Begins bytes tops
   pub magic : HasMagic before
-  pub within : offset_behind tops ≤ file_limit
-  pub begun : tops ≡ [] → IsDone reader × KeepsNone before
+  pub begun : given ≡ [] → IsFlatDone flat × (tops ≡ []) × KeepsNone before
+  pub extras : List Top
+  pub history : List Rec
+  pub repairs : RepairsGiven given options.profile extras history
+  pub keeps : Keeps seen options extras opened history k
+
+-- these good records were read, and what repairing makes of them was kept
+pub record KeptOf {L : Type 0} (seen : L → LiveState) (options : FileOptions) (before : SourceState) (opened : LiveState) (k : Keeping L) : Type 0 where
+  pub tops : List Top
+  pub good : Good reading_limits tops
+  pub read : (bytes : List ℕ) → before.left ≡ Some bytes → Begins bytes tops
+  pub magic : HasMagic before
+  pub begun : tops ≡ [] → KeepsNone before
   pub extras : List Top
   pub history : List Rec
   pub repairs : Repairs tops options.profile extras history
@@ -93,10 +113,10 @@ origin options before opened = record { options = options; before = before; open
 
 -- the reading came to its end
 pub record IsOver {L : Type 0} (seen : L → LiveState) (from : Origin) (now : SourceState) (reader : Reader) (k : Keeping L) (over : Over) : Type 0 where
-  pub repairing : Repairing seen from.options from.before now from.opened reader k
-  pub over_so : OverSo reader from.before now repairing.tops over
+  pub kept : KeptOf seen from.options from.before from.opened k
+  pub over_so : OverSo reader from.before now kept.tops over
 
--- the writer stopped at what the last of these records shows
+-- The writer stopped at what one of these records shows or holds. Of extras it was given those before.
 pub record IsStopped {L : Type 0} (seen : L → LiveState) (options : FileOptions) (before now : SourceState) (opened : LiveState) (k : Keeping L) (stop : Stop) : Type 0 where
   pub tops : List Top
   pub good : Good reading_limits tops
@@ -106,37 +126,72 @@ pub record IsStopped {L : Type 0} (seen : L → LiveState) (options : FileOption
   pub extras : List Top
   pub history : List Rec
   pub repairs : Repairs tops options.profile extras history
-  pub keeps : Keeps seen options extras opened history k
+  pub earlier : List Top
+  pub keeps : Keeps seen options earlier opened history k
   pub stopped : phase_of k.scribe ≡ phases.Stopped stop
 
-abbrev pub ReadsOn : {L : Type 0} → (L → LiveState) → Origin → SourceState → Reader → Keeping L → Result Over Stop → Type 0
-ReadsOn seen from now reader k (Ok over) = IsOver seen from now reader k over
-ReadsOn seen from now reader k (Err stop) = IsStopped seen from.options from.before now from.opened k stop
+abbrev pub ReadsOn : {L : Type 0} → (L → LiveState) → Origin → SourceState → FlatReader → Keeping L → Result Over Stop → Type 0
+ReadsOn seen from now flat k (Ok over) = IsOver seen from now flat.reader k over
+ReadsOn seen from now flat k (Err stop) = IsStopped seen from.options from.before now from.opened k stop
 
 -- ---- the first record
 
 -- the reading came to a halt there, and not for want of the magic
-abbrev pub HaltsStart : ScanRefused → Type 0
+abbrev pub HaltsStart : ReadingRefused → Type 0
 HaltsStart (scans.Fault faults) = ⊥
 HaltsStart (scans.Grammar offset rule) = offset ≡ 0 → ⊥
 HaltsStart (scans.Compressed offset name) = Unit {0}
 HaltsStart (scans.Limit offset) = Unit {0}
 HaltsStart scans.Memory = ⊥
 
--- why the first record was refused, and what begins then
-abbrev pub StartsSo : ScanRefused → Result (List ℕ) RecoverRefused → Type 0
-StartsSo why (Ok profile) = (profile ≡ []) × HaltsStart why
-StartsSo why (Err (refusals.Fault faults)) = why ≡ scans.Fault faults
-StartsSo why (Err refusals.NoMagic) = (rule : ℕ) × (why ≡ scans.Grammar 0 rule)
-StartsSo why (Err (refusals.Limit blocks bytes)) = ⊥
-StartsSo why (Err refusals.Memory) = (faults : ℕ) → why ≡ scans.Fault faults → ⊥
+-- what is told of why it was refused, where nothing begins
+abbrev pub StartsUntold : ReadingRefused → ReadingRefused → Type 0
+StartsUntold why (scans.Fault faults) = why ≡ scans.Fault faults
+StartsUntold why (scans.Grammar offset rule) = ⊥
+StartsUntold why (scans.Compressed offset name) = ⊥
+StartsUntold why (scans.Limit offset) = ⊥
+StartsUntold why scans.Memory = (faults : ℕ) → why ≡ scans.Fault faults → ⊥
 
--- The profile that is written, of a Header or none, behind which the reading goes on; or why nothing is written: the source failed,
--- or it doesn't begin with the magic, or memory lacked.
-abbrev pub Begun : SourceState → SourceState → Reader → Result (List ℕ) RecoverRefused → Type 0
-Begun before now reader (Ok profile) = (tops : List Top) × Stands reader before now tops × (offset_behind tops ≤ file_limit) × (tops ≡ [] → IsDone reader × KeepsNone before × HasMagic before) × Repairs tops profile [] [] × (length profile ≤ content_limit)
-    × ((tops ≡ []) ⊎ ((tops ≡ [] → ⊥) × IsGoing reader.stage)) × (now.faults ≡ before.faults)
-Begun before now reader (Err (refusals.Fault faults)) = FaultStands faults before now []
-Begun before now reader (Err refusals.NoMagic) = (rule : ℕ) × HaltsSo before now [] (grammar 0 rule)
-Begun before now reader (Err (refusals.Limit blocks bytes)) = ⊥
-Begun before now reader (Err refusals.Memory) = now.faults ≡ before.faults
+-- why the first record was refused, and what begins then
+abbrev pub StartsSo : ReadingRefused → Result (List ℕ) RecoverRefused → Type 0
+StartsSo why (Ok profile) = (profile ≡ []) × HaltsStart why
+StartsSo why (Err refusals.NoMagic) = (rule : ℕ) × (why ≡ scans.Grammar 0 rule)
+StartsSo why (Err (refusals.Refused told)) = StartsUntold why told
+StartsSo why (Err (refusals.Stopped stop)) = ⊥
+
+-- these first ones of the source's records are a Header or none, and repairing makes nothing of them but that profile
+pub record FirstShows (before : SourceState) (profile : List ℕ) : Type 0 where
+  pub first : List Top
+  pub good : Good reading_limits first
+  pub read : (bytes : List ℕ) → before.left ≡ Some bytes → Begins bytes first
+  pub none : first ≡ [] → KeepsNone before
+  pub repairs : Repairs first profile [] []
+
+-- the profile that is written, of a Header or none, behind which the reading goes on
+pub record BeginsFile (before now : SourceState) (flat : FlatReader) (profile : List ℕ) : Type 0 where
+  pub tops : List Top
+  pub given : List Placed
+  pub stands : FlatStands flat before now tops given
+  pub good : Good reading_limits tops
+  pub read : (bytes : List ℕ) → before.left ≡ Some bytes → Begins bytes tops
+  pub magic : HasMagic before
+  pub begun : given ≡ [] → IsFlatDone flat × (tops ≡ []) × KeepsNone before
+  pub repairs : RepairsGiven given profile [] []
+  pub shows : FirstShows before profile
+  pub short : length profile ≤ content_limit
+  pub still : now.faults ≡ before.faults
+
+-- why nothing is written: the source failed, or memory lacked
+abbrev pub UnbegunSo : SourceState → SourceState → ReadingRefused → Type 0
+UnbegunSo before now (scans.Fault faults) = FaultStands faults before now []
+UnbegunSo before now (scans.Grammar offset rule) = ⊥
+UnbegunSo before now (scans.Compressed offset name) = ⊥
+UnbegunSo before now (scans.Limit offset) = ⊥
+UnbegunSo before now scans.Memory = now.faults ≡ before.faults
+
+-- That; or the source doesn't begin with the magic.
+abbrev pub Begun : SourceState → SourceState → FlatReader → Result (List ℕ) RecoverRefused → Type 0
+Begun before now flat (Ok profile) = BeginsFile before now flat profile
+Begun before now flat (Err refusals.NoMagic) = (rule : ℕ) × HaltsSo before now [] (grammar 0 rule)
+Begun before now flat (Err (refusals.Refused why)) = UnbegunSo before now why
+Begun before now flat (Err (refusals.Stopped stop)) = ⊥

@@ -4,7 +4,8 @@ use Rattle.rec_data.specs.declared.owned.Rec.{Rec}
 use Rattle.mcap_io.specs.Outside.{SourceState, LiveState, RisesOnce, Adds}
 use Rattle.mcap_model.specs.declared.options.FileOptions.{FileOptions}
 use Rattle.mcap_model.specs.declared.ends.Stop.{Stop}
-use Rattle.mcap_model.specs.declared.ends.Stop.TheVariants as stops
+use Rattle.mcap_model.specs.declared.refusals.ReadingRefused.{ReadingRefused}
+use Rattle.mcap_model.specs.declared.refusals.ReadingRefused.TheVariants as scans
 use Rattle.mcap_model.specs.Tops.{Top, Begins}
 use Rattle.mcap_model.specs.Rules.{V1}
 use Rattle.mcap_model.specs.Kept.{Good, reading_limits, Halt, at_end, grammar, compressed, beyond}
@@ -14,9 +15,10 @@ use Rattle.mcap_model.specs.File.{file_of, IsPrefix}
 use Rattle.mcap_model.specs.Repaired.{Repairs, Repaired}
 use Rattle.mcap_scan.specs.Scanning.{HaltsSo}
 use Rattle.chunk_writer.specs.Limits.{Holds}
+use Rattle.chunk_writer.specs.declared.tape.Written.{Written}
 use Rattle.chunk_writer.specs.Stops.{StopsAt, StopCause}
 use Rattle.mcap_recover.specs.Keeping.{counted, Keeps}
-use Rattle.mcap_recover.specs.Readings.{RefusedBy, HasMagic}
+use Rattle.mcap_recover.specs.Readings.{HasMagic}
 use Rattle.mcap_recover.specs.declared.keeping.Keeping.{Keeping}
 use Rattle.mcap_recover.specs.declared.answers.Why.{Why}
 use Rattle.mcap_recover.specs.declared.answers.Why.TheVariants as whys
@@ -74,8 +76,9 @@ repair options extras history = record { options = options; extras = extras; his
 abbrev pub Finished : LiveState → Repair → LiveState → LiveState → ℕ → Why → Result Recovered RecoverRefused → Type 0
 Finished last new opened stored at why (Ok r) = Adds opened.held stored.held (file_of new.options new.extras new.history) × AnswersSo new.extras new.history at why r
     × Holds (length (blocks_in (pieces_of new.options.chunk new.history))) (length (file_of new.options new.extras new.history)) × (stored.faults ≡ last.faults) × (stored.waiting ≡ 0)
-Finished last new opened stored at why (Err refusal) = (stop : Stop) × (blocks : ℕ) × (bytes : ℕ) × RefusedBy stop refusal × StopsAt new.options new.extras new.history opened.held stored.held stop blocks bytes
-    × StopCause last.faults stored.faults stop
+Finished last new opened stored at why (Err refusals.NoMagic) = ⊥
+Finished last new opened stored at why (Err (refusals.Refused told)) = ⊥
+Finished last new opened stored at why (Err (refusals.Stopped stop)) = (written : Written) × StopsAt new.options new.extras new.history opened.held stored.held stop written × StopCause last.faults stored.faults stop
 
 -- The new file was ended behind extras and a history for which the writer stands, and this is answered; or the writer stopped.
 abbrev pub Finishes : {L : Type 0} → (L → LiveState) → Keeping L → LiveState → ℕ → Why → Result Recovered RecoverRefused → Type 0
@@ -116,20 +119,32 @@ LacksMagic before = (bytes : List ℕ) → before.left ≡ Some bytes → V1 byt
 abbrev pub ChangedBehindMagic : SourceState → LiveState → LiveState → Type 0
 ChangedBehindMagic before opened stored = (stored ≡ opened) ⊎ HasMagic before
 
--- the count of the source rose by one, or that of the store, and it is the one which is told
-abbrev pub FaultRose : ℕ → SourceState → SourceState → LiveState → LiveState → Type 0
-FaultRose faults before now opened stored = (RisesOnce before.faults now.faults × (faults ≡ now.faults) × (stored.faults ≡ opened.faults) × ChangedBehindMagic before opened stored)
-    ⊎ (RisesOnce opened.faults stored.faults × (faults ≡ stored.faults) × (now.faults ≡ before.faults) × HasMagic before)
-
 -- both stand still
 pub record FaultsStill (before now : SourceState) (opened stored : LiveState) : Type 0 where
   pub source : now.faults ≡ before.faults
   pub store : stored.faults ≡ opened.faults
 
+-- The source failed, its count rose by one, and it is the one which is told; or memory lacked. Nothing else that halts a reading
+-- is a refusal. The store holds a first part of the file, and its count stands still.
+abbrev pub IsUnrecovered : ℕ → SourceState → SourceState → LiveState → LiveState → ReadingRefused → Type 0
+IsUnrecovered chunk before now opened stored (scans.Fault faults) = RisesOnce before.faults now.faults × (faults ≡ now.faults) × (stored.faults ≡ opened.faults) × ChangedBehindMagic before opened stored
+    × OfBoth chunk before (StandsPart opened stored)
+IsUnrecovered chunk before now opened stored (scans.Grammar offset rule) = ⊥
+IsUnrecovered chunk before now opened stored (scans.Compressed offset name) = ⊥
+IsUnrecovered chunk before now opened stored (scans.Limit offset) = ⊥
+IsUnrecovered chunk before now opened stored scans.Memory = FaultsStill before now opened stored × ChangedBehindMagic before opened stored × OfBoth chunk before (StandsPart opened stored)
+
+-- The writer stopped at a piece of the file: the count of the store rose by one where it failed, and is the one which is told, and
+-- stands still else. That of the source stands still.
+pub record IsUnwritten (chunk : ℕ) (before now : SourceState) (opened stored : LiveState) (stop : Stop) : Type 0 where
+  pub source : now.faults ≡ before.faults
+  pub store : StopCause opened.faults stored.faults stop
+  pub magic : HasMagic before
+  pub written : Written
+  pub stops : OfBoth chunk before (λ options extras history. StopsAt options extras history opened.held stored.held stop written)
+
 abbrev pub Recovers : ℕ → SourceState → SourceState → LiveState → LiveState → Result Recovered RecoverRefused → Type 0
 Recovers chunk before now opened stored (Ok r) = IsRecovered chunk before now opened stored r
-Recovers chunk before now opened stored (Err (refusals.Fault faults)) = FaultRose faults before now opened stored × OfBoth chunk before (StandsPart opened stored)
 Recovers chunk before now opened stored (Err refusals.NoMagic) = LacksMagic before × FaultsStill before now opened stored × (stored ≡ opened)
-Recovers chunk before now opened stored (Err (refusals.Limit blocks bytes)) = FaultsStill before now opened stored × HasMagic before
-    × OfBoth chunk before (λ options extras history. StopsAt options extras history opened.held stored.held (stops.Limit blocks bytes) blocks bytes)
-Recovers chunk before now opened stored (Err refusals.Memory) = FaultsStill before now opened stored × ChangedBehindMagic before opened stored × OfBoth chunk before (StandsPart opened stored)
+Recovers chunk before now opened stored (Err (refusals.Refused why)) = IsUnrecovered chunk before now opened stored why
+Recovers chunk before now opened stored (Err (refusals.Stopped stop)) = IsUnwritten chunk before now opened stored stop

@@ -1,4 +1,5 @@
 //! What a recovery answers.
+use mcap_model::{ReadingRefused, Stop};
 
 /// Why the reading stopped: its Data End was read; the bytes end within a record; a rule is broken; a chunk is compressed; or a
 /// limit is passed.
@@ -22,12 +23,14 @@ pub struct Recovered {
     pub why: Why,
 }
 
-/// Why nothing is recovered, or not all: the source or the store failed, with its count of faults; the source doesn't begin with
-/// the magic; the new file would pass a limit, with the blocks and bytes that stand; or memory lacked.
-#[derive(Clone, Copy, Debug, PartialEq, Eq)]
+/// Why nothing is recovered, or not all.
+#[derive(Debug, Drop)]
 pub enum RecoverRefused {
-    Fault { faults: u64 },
+    /// The source doesn't begin with the magic.
     NoMagic,
-    Limit { blocks: u64, bytes: u64 },
-    Memory,
+    /// The source failed, with its count of faults; or memory lacked before the writer began or while the source was read. What
+    /// else halts a reading ends a recovery well.
+    Refused { why: ReadingRefused },
+    /// The writer of the new file stopped: its store failed, the file would pass a limit, or memory lacked.
+    Stopped { stop: Stop },
 }

@@ -1,28 +1,26 @@
 //! Keeping what records show, in a new file that is being written.
-ghost use Rattle.std.specs.Prelude.{◌≡◌, ◌≤◌, ◌+◌, ◌∷◌, [], ℕ, List, length, take, drop, IfErr, OnOk, OnErr};
+ghost use Rattle.std.specs.Prelude.{◌≡◌, ◌+◌, ◌∷◌, [], ℕ, List, IfErr, OnOk, OnErr};
 ghost use Rattle.mcap_wire.specs.Layout.{framed};
 ghost use Rattle.rec_data.specs.declared.owned.Rec.{Rec};
 ghost use Rattle.mcap_io.specs.Outside.{LiveState};
-ghost use Rattle.mcap_model.specs.Tops.{Top, records_in, is_flat_kind};
+ghost use Rattle.mcap_model.specs.Tops.{Top};
 ghost use Rattle.mcap_model.specs.Made.{top};
 ghost use Rattle.mcap_model.specs.History.{is_message};
 ghost use Rattle.mcap_model.specs.Laws.{IsExtra};
 ghost use Rattle.mcap_model.specs.Rules.{V6, V10};
-ghost use Rattle.std.specs.Prelude.{filter};
 ghost use Rattle.chunk_build.specs.Chunker.{AreFramed};
 ghost use Rattle.chunk_writer.specs.declared.phase.Phase.TheVariants as phases;
 ghost use Rattle.chunk_writer.specs.Stops.{Cause};
 ghost use Rattle.chunk_writer.specs.Scribes.{Grows, Gathers, store_of, phase_of};
-ghost use Rattle.mcap_recover.specs.Keeping.{Takes, TakesTop, counted};
+ghost use Rattle.mcap_recover.specs.Keeping.{Takes, TakesRecord, IsFrame, counted};
 
 use crate::ids::declare;
 use chunk_writer::Scribe;
 use indexmap::IndexSet;
 use mcap_io::LiveStore;
-use mcap_model::{InnerWalk, Stop};
+use mcap_model::Stop;
 use mcap_wire::{add_bytes, add_head, make_room};
 use rec_data::{ATTACHMENT, CHANNEL, Channel, MESSAGE, METADATA, Message, SCHEMA, Schema};
-use rec_index::{CHUNK, Chunk};
 use std::alloc::Global;
 
 /// The scribe of the new file, the ids of the Schemas and of the Channels in it, and how many messages, records and extras it
@@ -149,56 +147,6 @@ fn keep_channel<L: LiveStore>(alloc: Global, k: &mut Keeping<L>, content: &[u8])
     return put(k, bytes.as_slice());
 }
 
-// So many bytes from a place on.
-fn part_of(bytes: &[u8], at: usize, len: usize) -> &[u8]
-    requires { at + len ≤ length bytes.now }
-    ensures { result.now ≡ take len (drop at bytes.now) }
-{
-    &bytes[at..at + len]
-}
-
-// Keeps what the records of a chunk show, one by one, where they stand.
-fn keep_inside<L: LiveStore>(alloc: Global, k: &mut Keeping<L>, records: &[u8]) -> Result<(), Stop>
-    requires going { phase_of k.old.scribe ≡ phases.Going }
-    ensures takes { Takes L.state k.old k.new (filter is_flat_kind (records_in records.now)) }
-    ensures goes_on { OnOk result (phase_of k.new.scribe ≡ phases.Going) }
-    ensures stopped { IfErr result (λ stop. phase_of k.new.scribe ≡ phases.Stopped stop) }
-    ensures cause { Cause (L.state (store_of k.old.scribe)).faults (L.state (store_of k.new.scribe)).faults result }
-{
-    let mut walk = InnerWalk::new(records);
-    'records: while let Some(inner) = walk.next() {
-        let bytes = part_of(records, inner.offset as usize, 9 + inner.content.len());
-        match keep_inner(alloc, k, inner.op, bytes, inner.content) {
-            Ok(()) => {}
-            Err(stop) => return Err(stop),
-        }
-    }
-    return Ok(());
-}
-
-// Keeps what a record inside a chunk shows.
-fn keep_inner<L: LiveStore>(
-    alloc: Global,
-    k: &mut Keeping<L>,
-    op: u8,
-    bytes: &[u8],
-    content: &[u8],
-) -> Result<(), Stop>
-    requires going { phase_of k.old.scribe ≡ phases.Going }
-    requires is { bytes.now ≡ framed op content.now }
-    ensures takes { Takes L.state k.old k.new (filter is_flat_kind (top op content.now ∷ [])) }
-    ensures goes_on { OnOk result (phase_of k.new.scribe ≡ phases.Going) }
-    ensures stopped { IfErr result (λ stop. phase_of k.new.scribe ≡ phases.Stopped stop) }
-    ensures cause { Cause (L.state (store_of k.old.scribe)).faults (L.state (store_of k.new.scribe)).faults result }
-{
-    match op {
-        MESSAGE => return keep_message(k, bytes, content),
-        SCHEMA => return keep_schema(alloc, k, content),
-        CHANNEL => return keep_channel(alloc, k, content),
-        _ => return Ok(()),
-    }
-}
-
 // Keeps an Attachment or a Metadata for the end of the file.
 fn keep_extra<L: LiveStore>(k: &mut Keeping<L>, op: u8, content: &[u8]) -> Result<(), Stop>
     requires going { phase_of k.old.scribe ≡ phases.Going }
@@ -218,29 +166,30 @@ fn keep_extra<L: LiveStore>(k: &mut Keeping<L>, op: u8, content: &[u8]) -> Resul
     return Ok(());
 }
 
-/// Keeps what a record of the top level shows or holds.
+/// Keeps what a record shows, of the top level or inside a chunk. The frame is the record with its head, where that is at hand.
 pub(crate) fn keep_record<L: LiveStore>(
     alloc: Global,
     k: &mut Keeping<L>,
     op: u8,
     content: &[u8],
+    frame: Option<&[u8]>,
 ) -> Result<(), Stop>
     requires going { phase_of k.old.scribe ≡ phases.Going }
     requires v6 { V6 (top op content.now) }
     requires v10 { V10 (top op content.now) }
-    ensures takes { TakesTop L.state k.old k.new (top op content.now) }
+    requires framed { IsFrame op content.now frame }
+    ensures takes { TakesRecord L.state k.old k.new (top op content.now) }
     ensures goes_on { OnOk result (phase_of k.new.scribe ≡ phases.Going) }
     ensures stopped { IfErr result (λ stop. phase_of k.new.scribe ≡ phases.Stopped stop) }
     ensures cause { Cause (L.state (store_of k.old.scribe)).faults (L.state (store_of k.new.scribe)).faults result }
 {
     match op {
-        MESSAGE => return keep_lone_message(alloc, k, content),
+        MESSAGE => match frame {
+            Some(bytes) => return keep_message(k, bytes, content),
+            None => return keep_lone_message(alloc, k, content),
+        },
         SCHEMA => return keep_schema(alloc, k, content),
         CHANNEL => return keep_channel(alloc, k, content),
-        CHUNK => match Chunk::parse(content) {
-            Ok(chunk) => return keep_inside(alloc, k, chunk.records),
-            Err(_) => unreachable!(),
-        },
         ATTACHMENT => return keep_extra(k, op, content),
         METADATA => return keep_extra(k, op, content),
         _ => return Ok(()),

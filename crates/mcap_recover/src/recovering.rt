@@ -4,14 +4,13 @@ ghost use Rattle.mcap_wire.specs.Limits.{chunk_size_limit};
 ghost use Rattle.mcap_io.specs.Outside.{SourceState, LiveState};
 ghost use Rattle.rec_data.specs.Fields.{HeaderFields};
 ghost use Rattle.rec_data.specs.Records.{ShowsHeader};
-ghost use Rattle.mcap_scan.specs.Scanning.{Advanced};
+ghost use Rattle.record_walk.specs.Walking.{FlatAdvanced};
 ghost use Rattle.chunk_writer.specs.declared.phase.Phase.TheVariants as phases;
 ghost use Rattle.chunk_writer.specs.Stops.{Cause};
 ghost use Rattle.chunk_writer.specs.Scribes.{store_of, phase_of};
 ghost use Rattle.mcap_recover.specs.Recovering.{Recovers};
-ghost use Rattle.mcap_recover.specs.Readings.{Begun, StartsSo, GrammarTold, HaltTold, Repairing, origin, ReadsOn, RefusedBy};
+ghost use Rattle.mcap_recover.specs.Readings.{lacks, Begun, StartsSo, GrammarTold, HaltTold, Repairing, origin, ReadsOn};
 ghost use Rattle.mcap_recover.specs.Keeping.{CountsSo};
-ghost use Rattle.mcap_recover.specs.declared.answers.RecoverRefused.TheVariants as refusals;
 ghost use Rattle.mcap_recover.specs.Recovering.{Finishes};
 ghost use Rattle.mcap_model.specs.declared.options.FileOptions.{FileOptions as Options};
 
@@ -20,10 +19,10 @@ use crate::keeping::{Keeping, keep_record};
 use chunk_writer::Scribe;
 use indexmap::IndexSet;
 use mcap_io::{LiveStore, Source};
-use mcap_model::{FileOptions, Stop};
-use mcap_scan::{Reader, ScanRefused, Step};
+use mcap_model::{FileOptions, ReadingRefused, Stop};
 use mcap_wire::{Memory, Text};
 use rec_data::Header;
+use record_walk::{FlatReader, FlatStep};
 use std::alloc::Global;
 
 /// Where the reading came to its end: behind the Data End, or at a refusal that the reader keeps.
@@ -33,32 +32,37 @@ pub(crate) enum Over {
     Refused,
 }
 
-// Why the writer stopped, as a recovery answers it.
-fn refused_by(stop: Stop) -> RecoverRefused
-    ensures { RefusedBy stop result }
+// Memory lacked beside the writer's own.
+fn lacked() -> RecoverRefused
+    ensures { result ≡ lacks }
 {
-    match stop {
-        Stop::Fault { faults } => return RecoverRefused::Fault { faults },
-        Stop::Limit { blocks, bytes } => return RecoverRefused::Limit { blocks, bytes },
-        Stop::Memory => return RecoverRefused::Memory,
+    RecoverRefused::Refused {
+        why: ReadingRefused::Memory,
     }
 }
 
 // Where and why the reading halted, or that it failed.
-fn ending_of(reader: Reader, over: Over) -> Result<(u64, Why), RecoverRefused>
-    ensures { HaltTold reader over result }
+fn ending_of(reader: FlatReader, over: Over) -> Result<(u64, Why), RecoverRefused>
+    ensures { HaltTold reader.reader over result }
 {
     match over {
         Over::Ended { at } => return Ok((at, Why::Complete)),
         Over::Refused => {}
     }
     match reader.into_refusal() {
-        Some(ScanRefused::Fault { faults }) => return Err(RecoverRefused::Fault { faults }),
-        Some(ScanRefused::Grammar { offset, rule }) => return Ok((offset, why_of(rule))),
-        Some(ScanRefused::Compressed { offset, name: _ }) => return Ok((offset, Why::Compressed)),
-        Some(ScanRefused::Limit { offset }) => return Ok((offset, Why::Limit)),
-        Some(ScanRefused::Memory) => return Err(RecoverRefused::Memory),
-        None => return Err(RecoverRefused::Memory),
+        Some(ReadingRefused::Fault { faults }) => {
+            return Err(RecoverRefused::Refused {
+                why: ReadingRefused::Fault { faults },
+            });
+        }
+        Some(ReadingRefused::Grammar { offset, rule }) => return Ok((offset, why_of(rule))),
+        Some(ReadingRefused::Compressed { offset, name: _ }) => return Ok((
+            offset,
+            Why::Compressed,
+        )),
+        Some(ReadingRefused::Limit { offset }) => return Ok((offset, Why::Limit)),
+        Some(ReadingRefused::Memory) => return Err(lacked()),
+        None => return Err(lacked()),
     }
 }
 
@@ -76,7 +80,7 @@ fn why_of(rule: u8) -> Why
 fn read_on<S: Source, L: LiveStore>(
     alloc: Global,
     source: &mut S,
-    reader: &mut Reader,
+    reader: &mut FlatReader,
     k: &mut Keeping<L>,
 ) -> Result<Over, Stop>
     requires going { phase_of k.old.scribe ≡ phases.Going }
@@ -89,12 +93,14 @@ fn read_on<S: Source, L: LiveStore>(
 {
     'records: loop {
         match reader.advance(source) {
-            Step::Record { op, offset: _ } => match keep_record(alloc, k, op, reader.content()) {
-                Ok(()) => {}
-                Err(stop) => return Err(stop),
-            },
-            Step::End { offset } => return Ok(Over::Ended { at: offset }),
-            Step::Refused => return Ok(Over::Refused),
+            FlatStep::Record { op, place: _ } => {
+                match keep_record(alloc, k, op, reader.content(), reader.frame()) {
+                    Ok(()) => {}
+                    Err(stop) => return Err(stop),
+                }
+            }
+            FlatStep::End { offset } => return Ok(Over::Ended { at: offset }),
+            FlatStep::Refused => return Ok(Over::Refused),
         }
     }
 }
@@ -110,48 +116,52 @@ fn profile_in(alloc: Global, content: &[u8]) -> Result<Text, Memory>
 }
 
 // The profile of the new file: that of the Header, or an empty one; or why there is no new file.
-fn profile_of(alloc: Global, reader: &Reader, first: Step) -> Result<Text, RecoverRefused>
-    ensures { (before now : SourceState) → Advanced reader.now before now [] first → Begun before now reader.now result }
+fn profile_of(alloc: Global, reader: &FlatReader, first: FlatStep) -> Result<Text, RecoverRefused>
+    ensures { (before now : SourceState) → FlatAdvanced reader.now before now [] [] first → Begun before now reader.now result }
 {
     match first {
-        Step::Record { .. } => match profile_in(alloc, reader.content()) {
+        FlatStep::Record { .. } => match profile_in(alloc, reader.content()) {
             Ok(profile) => return Ok(profile),
-            Err(_) => return Err(RecoverRefused::Memory),
+            Err(_) => return Err(lacked()),
         },
-        Step::End { .. } => return Err(RecoverRefused::Memory),
-        Step::Refused => match reader.refusal() {
+        FlatStep::End { .. } => return Err(lacked()),
+        FlatStep::Refused => match reader.refusal() {
             Some(why) => return profile_behind(alloc, why),
-            None => return Err(RecoverRefused::Memory),
+            None => return Err(lacked()),
         },
     }
 }
 
 // An empty profile, where the reading was refused at the first record; or why there is no new file.
-fn profile_behind(alloc: Global, why: &ScanRefused) -> Result<Text, RecoverRefused>
+fn profile_behind(alloc: Global, why: &ReadingRefused) -> Result<Text, RecoverRefused>
     ensures { StartsSo why.now result }
 {
     match why {
-        ScanRefused::Fault { faults } => return Err(RecoverRefused::Fault { faults: *faults }),
-        ScanRefused::Grammar { offset, rule: _ } => {
+        ReadingRefused::Fault { faults } => {
+            return Err(RecoverRefused::Refused {
+                why: ReadingRefused::Fault { faults: *faults },
+            });
+        }
+        ReadingRefused::Grammar { offset, rule: _ } => {
             if *offset == 0 {
                 return Err(RecoverRefused::NoMagic);
             }
             return no_profile(alloc);
         }
-        ScanRefused::Compressed { .. } => return no_profile(alloc),
-        ScanRefused::Limit { .. } => return no_profile(alloc),
-        ScanRefused::Memory => return Err(RecoverRefused::Memory),
+        ReadingRefused::Compressed { .. } => return no_profile(alloc),
+        ReadingRefused::Limit { .. } => return no_profile(alloc),
+        ReadingRefused::Memory => return Err(lacked()),
     }
 }
 
 // An empty profile.
 fn no_profile(alloc: Global) -> Result<Text, RecoverRefused>
     ensures ok { IfOk result (λ profile. profile ≡ []) }
-    ensures err { IfErr result (λ refusal. refusal ≡ refusals.Memory) }
+    ensures err { IfErr result (λ refusal. refusal ≡ lacks) }
 {
     match Text::copied(alloc, "") {
         Ok(profile) => return Ok(profile),
-        Err(_) => return Err(RecoverRefused::Memory),
+        Err(_) => return Err(lacked()),
     }
 }
 
@@ -182,7 +192,7 @@ fn finish<L: LiveStore>(k: Keeping<L>, at: u64, why: Why) -> (L, Result<Recovere
             };
             return (store, Ok(recovered));
         }
-        Err(stop) => return (store, Err(refused_by(stop))),
+        Err(stop) => return (store, Err(RecoverRefused::Stopped { stop })),
     }
 }
 
@@ -216,9 +226,9 @@ pub fn recover<S: Source, L: LiveStore>(
     ensures recovers { Recovers chunk (S.state source.old) (S.state source.new) (L.state store) (L.state result.0) result.1 }
     ensures stays { S.stays source.old source.new }
 {
-    let mut reader = match Reader::new(alloc) {
+    let mut reader = match FlatReader::new(alloc) {
         Ok(reader) => reader,
-        Err(_) => return (store, Err(RecoverRefused::Memory)),
+        Err(_) => return (store, Err(lacked())),
     };
     let first = reader.advance(source);
     let profile = match profile_of(alloc, &reader, first) {
@@ -231,7 +241,7 @@ pub fn recover<S: Source, L: LiveStore>(
     };
     let scribe = match Scribe::open(alloc, store, &options) {
         Ok(scribe) => scribe,
-        Err((store, stop)) => return (store, Err(refused_by(stop))),
+        Err((store, stop)) => return (store, Err(RecoverRefused::Stopped { stop })),
     };
     let mut k = keeping_of(alloc, scribe);
     match read_on(alloc, source, &mut reader, &mut k) {
@@ -239,6 +249,6 @@ pub fn recover<S: Source, L: LiveStore>(
             Ok((at, why)) => return finish(k, at, why),
             Err(refusal) => return (k.scribe.into_store(), Err(refusal)),
         },
-        Err(stop) => return (k.scribe.into_store(), Err(refused_by(stop))),
+        Err(stop) => return (k.scribe.into_store(), Err(RecoverRefused::Stopped { stop })),
     }
 }

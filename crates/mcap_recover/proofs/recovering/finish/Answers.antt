@@ -1,7 +1,7 @@
 -- The writer stopped at the end of the file.
 use Rattle.std.proofs.Common.{Result, sym, subst}
 use Rattle.mcap_model.specs.declared.ends.Stop.{Stop}
-use Rattle.chunk_writer.specs.Stops.{StopsAt, StopCause, Cause}
+use Rattle.chunk_writer.specs.Stops.{numbers, StopsAt, StopCause, Cause}
 use Rattle.chunk_writer.specs.Scribes.{Ends}
 use Rattle.mcap_recover.proofs.recovering.finish.Goals as goal
 
@@ -13,12 +13,9 @@ returns-in-Err g c = record {
       let stop = c.in-Err.stop in
       let same = sym c.into_store-store.ensures in
       let ended = (f.ensures.ends options extras opened history keeps.writes).0 in (
-        stop,
-        f.result.blocks,
-        f.result.bytes,
-        c.refused_by.ensures,
-        subst (λ (s : g.row.L.Denot). StopsAt options extras history opened.held (state s).held stop f.result.blocks f.result.bytes) same
-            (subst (λ (e : Result Unit Stop). Ends options extras opened.held (state f.new.self.store).held history f.result.blocks f.result.bytes e) c.in-Err.is ended),
+        numbers f.result.blocks f.result.bytes,
+        subst (λ (s : g.row.L.Denot). StopsAt options extras history opened.held (state s).held stop (numbers f.result.blocks f.result.bytes)) same
+            (subst (λ (e : Result Unit Stop). Ends options extras opened.held (state f.new.self.store).held history (numbers f.result.blocks f.result.bytes) e) c.in-Err.is ended),
         subst (λ (s : g.row.L.Denot). StopCause (state c.args.k.scribe.store).faults (state s).faults stop) same
             (subst (λ (e : Result Unit Stop). Cause (state c.args.k.scribe.store).faults (state f.new.self.store).faults e) c.in-Err.is (f.ensures.cause c.requires.going)),
       );

@@ -1,12 +1,11 @@
--- A record more was read and kept, or the reading came to its end.
+-- A record more was given and kept, or the reading came to its end.
 use Rattle.std.proofs.Common.{List, ℕ, refl, sym, subst, ◌∙◌}
 use Rattle.mcap_model.specs.Made.{top}
 use Rattle.mcap_model.specs.Rules.{V6, V10}
 use Rattle.chunk_writer.specs.Stops.{StopCause}
-use Rattle.mcap_scan.specs.Scanning.{content_of, IsDone}
-use Rattle.mcap_scan.proofs.Scanning.{good_stand}
-use Rattle.mcap_recover.specs.Keeping.{TakesTop}
-use Rattle.mcap_recover.proofs.Reading.{last_fits, repairing_on, stopped_on_it, ended_some, refused_stand, refused_done}
+use Rattle.record_walk.specs.Walking.{IsFlatDone}
+use Rattle.mcap_recover.specs.Keeping.{TakesRecord}
+use Rattle.mcap_recover.proofs.Reading.{repairing_on, stopped_on_it, ended_over, refused_over, frame_held}
 use Rattle.mcap_recover.proofs.recovering.read_on.Goals as goal
 
 pub records-init : goal.records-init
@@ -19,27 +18,32 @@ pub keep_record-requires-clause-v6 : goal.keep_record-requires-clause-v6
 keep_record-requires-clause-v6 g c =
     let (some, each, going, still, stays) = c.records.invariant in
     let (options, before, opened, was) = some in
-    let gives = c.in-Record.ensures.steps before was.tops was.stands in
-    let good = good_stand c.advance.new.self before (g.S.Source.state c.advance.new.source) _ gives.going gives.stands in
-    subst (λ (l : List ℕ). V6 (top c.in-Record.op l)) (sym c.content.ensures) (last_fits was.tops (top c.in-Record.op (content_of c.advance.new.self)) good).v6
+    let gives = c.in-Record.ensures.steps before was.tops was.given was.stands in
+    subst (λ (l : List ℕ). V6 (top c.in-Record.op l)) (sym c.content.ensures) gives.v6
 
 pub keep_record-requires-clause-v10 : goal.keep_record-requires-clause-v10
 keep_record-requires-clause-v10 g c =
     let (some, each, going, still, stays) = c.records.invariant in
     let (options, before, opened, was) = some in
-    let gives = c.in-Record.ensures.steps before was.tops was.stands in
-    let good = good_stand c.advance.new.self before (g.S.Source.state c.advance.new.source) _ gives.going gives.stands in
-    subst (λ (l : List ℕ). V10 (top c.in-Record.op l)) (sym c.content.ensures) (last_fits was.tops (top c.in-Record.op (content_of c.advance.new.self)) good).v10
+    let gives = c.in-Record.ensures.steps before was.tops was.given was.stands in
+    subst (λ (l : List ℕ). V10 (top c.in-Record.op l)) (sym c.content.ensures) gives.v10
+
+pub keep_record-requires-clause-framed : goal.keep_record-requires-clause-framed
+keep_record-requires-clause-framed g c =
+    let (some, each, going, still, stays) = c.records.invariant in
+    let (options, before, opened, was) = some in
+    let gives = c.in-Record.ensures.steps before was.tops was.given was.stands in
+    frame_held c.advance.new.self c.in-Record.op c.content.result.now c.frame.result c.content.ensures c.frame.ensures gives.frame
 
 pub records-preserved : goal.records-preserved
 records-preserved g c =
     let (some, each, going, still, stays) = c.records.invariant in
     let (options, before, opened, was) = some in
-    let undone : IsDone c.records.reader → ⊥ = λ done. (c.in-Record.ensures.over done).2 in
-    let takes = subst (λ (l : List ℕ). TakesTop g.L.LiveStore.state c.records.k c.keep_record.new.k (top c.in-Record.op l)) c.content.ensures c.in-Ok.ensures.takes in (
-      (options, before, opened, repairing_on g.L.LiveStore.state options before _ _ opened c.records.reader c.advance.new.self c.records.k c.keep_record.new.k c.in-Record.op c.in-Record.offset was undone (c.in-Record.ensures.steps before was.tops was.stands) takes),
+    let undone : IsFlatDone c.records.reader → ⊥ = λ done. (c.in-Record.ensures.over done).2 in
+    let takes = subst (λ (l : List ℕ). TakesRecord g.L.LiveStore.state c.records.k c.keep_record.new.k (top c.in-Record.op l)) c.content.ensures c.in-Ok.ensures.takes in (
+      (options, before, opened, repairing_on g.L.LiveStore.state options before _ _ opened c.records.reader c.advance.new.self c.records.k c.keep_record.new.k c.in-Record.op c.in-Record.place was undone (c.in-Record.ensures.steps before was.tops was.given was.stands) takes),
       λ o b l first. let later = each o b l first in
-          repairing_on g.L.LiveStore.state o b _ _ l c.records.reader c.advance.new.self c.records.k c.keep_record.new.k c.in-Record.op c.in-Record.offset later undone (c.in-Record.ensures.steps b later.tops later.stands) takes,
+          repairing_on g.L.LiveStore.state o b _ _ l c.records.reader c.advance.new.self c.records.k c.keep_record.new.k c.in-Record.op c.in-Record.place later undone (c.in-Record.ensures.steps b later.tops later.given later.stands) takes,
       c.in-Ok.ensures.goes_on,
       c.in-Ok.ensures.cause ∙ still,
       g.S.Source.stays_on c.args.source.now c.records.source c.advance.new.source stays c.in-Record.ensures.stays,
@@ -48,10 +52,10 @@ records-preserved g c =
 pub returns-in-Err-clause-reads : goal.returns-in-Err-clause-reads
 returns-in-Err-clause-reads g c =
     let (some, each, going, still, stays) = c.records.invariant in
-    let undone : IsDone c.records.reader → ⊥ = λ done. (c.in-Record.ensures.over done).2 in
-    let takes = subst (λ (l : List ℕ). TakesTop g.L.LiveStore.state c.records.k c.keep_record.new.k (top c.in-Record.op l)) c.content.ensures c.in-Err.ensures.takes in
+    let undone : IsFlatDone c.records.reader → ⊥ = λ done. (c.in-Record.ensures.over done).2 in
+    let takes = subst (λ (l : List ℕ). TakesRecord g.L.LiveStore.state c.records.k c.keep_record.new.k (top c.in-Record.op l)) c.content.ensures c.in-Err.ensures.takes in
     λ o b l first. let later = each o b l first in
-    stopped_on_it g.L.LiveStore.state o b _ _ l c.records.reader c.advance.new.self c.records.k c.keep_record.new.k c.in-Record.op c.in-Record.offset c.in-Err.stop later undone (c.in-Record.ensures.steps b later.tops later.stands) takes c.in-Err.ensures.stopped
+    stopped_on_it g.L.LiveStore.state o b _ _ l c.records.reader c.advance.new.self c.records.k c.keep_record.new.k c.in-Record.op c.in-Record.place c.in-Err.stop later undone (c.in-Record.ensures.steps b later.tops later.given later.stands) takes c.in-Err.ensures.stopped
 
 pub returns-in-Err-clause-cause : goal.returns-in-Err-clause-cause
 returns-in-Err-clause-cause g c =
@@ -62,18 +66,10 @@ pub returns-in-End-clause-reads : goal.returns-in-End-clause-reads
 returns-in-End-clause-reads g c =
     let (some, each, going, still, stays) = c.records.invariant in
     λ o b l first. let later = each o b l first in
-    let finds = c.in-End.ensures.steps b later.tops later.stands in
-    record {
-      repairing = record { tops = later.tops; stands = finds.stands; good = later.good; read = later.read; magic = later.magic; within = later.within; begun = λ none. absurd (ended_some later.tops finds.is.ended none); extras = later.extras; history = later.history; repairs = later.repairs; keeps = later.keeps };
-      over_so = finds.halts;
-    }
+    ended_over g.L.LiveStore.state o b _ _ l c.records.reader c.advance.new.self c.records.k c.in-End.offset later (c.in-End.ensures.steps b later.tops later.given later.stands)
 
 pub returns-in-Refused-clause-reads : goal.returns-in-Refused-clause-reads
 returns-in-Refused-clause-reads g c =
     let (some, each, going, still, stays) = c.records.invariant in
     λ o b l first. let later = each o b l first in
-    let refuses = c.in-Refused.ensures.steps b later.tops later.stands in
-    record {
-      repairing = record { tops = later.tops; stands = refused_stand c.advance.new.self b _ later.tops refuses; good = later.good; read = later.read; magic = later.magic; within = later.within; begun = λ none. (refused_done c.advance.new.self b _ later.tops refuses, (later.begun none).1); extras = later.extras; history = later.history; repairs = later.repairs; keeps = later.keeps };
-      over_so = (refuses.why, refuses.stage, refuses.stands);
-    }
+    refused_over g.L.LiveStore.state o b _ _ l c.records.reader c.advance.new.self c.records.k later (c.in-Refused.ensures.steps b later.tops later.given later.stands)

@@ -1,13 +1,13 @@
-use Rattle.std.proofs.Common.{◌≡◌, ◌-◌, ◌≤◌}
+use Rattle.std.proofs.Common.{◌≡◌}
 use Rattle.mcap_io.specs.Outside.{SourceState, LiveState}
 use Rattle.mcap_model.specs.declared.options.FileOptions.{FileOptions}
-use Rattle.mcap_scan.specs.Scanning.{offset_of}
+use Rattle.record_walk.specs.Walking.{flat_left}
 use Rattle.chunk_writer.specs.declared.phase.Phase.TheVariants as phases
 use Rattle.mcap_recover.specs.Readings.{Repairing}
 use Rattle.mcap_recover.proofs.recovering.read_on.Given as goal
 
 abbrev pub decreases-records : goal.decreases-records
-decreases-records g l = 2199023255552 - offset_of l.reader
+decreases-records g l = flat_left l.reader
 
 abbrev pub invariant-records : goal.invariant-records
 invariant-records g l =

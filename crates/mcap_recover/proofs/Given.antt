@@ -1,0 +1,188 @@
+-- What repairing makes of records that were given in their places.
+use Rattle.std.proofs.Common.{◌≡◌, ◌⊎◌, ℕ, zero, suc, ◌+◌, Bool, true, false, List, [], ◌∷◌, ◌++◌, length, map, refl, sym, ap, subst, inl, inr, ◌∙◌, cond, arith}
+use Rattle.std.specs.Prelude.{filter, fold, if◌then◌else◌}
+use Rattle.std.specs.List.{AllZip}
+use Rattle.std.proofs.lemmas.Bool.{eqb-true, false≢true}
+use Rattle.std.proofs.lemmas.List.{map-append}
+use Rattle.std.proofs.lemmas.List.Elements.{filter-append}
+use Rattle.rec_data.specs.declared.owned.Rec.{Rec}
+use Rattle.mcap_model.specs.Places.{At, Each}
+use Rattle.mcap_model.proofs.Places.{at_none}
+use Rattle.mcap_model.specs.Tops.{Top, Placed, top_bytes, flat, records_in, inner_tops, is_chunk, is_flat_kind, placed_inside, walked_one, walked_from, walked}
+use Rattle.mcap_model.specs.Fields.{IsHeader}
+use Rattle.mcap_model.specs.Rules.{V6, V8, stands_in_chunk}
+use Rattle.mcap_model.specs.Kept.{NamesCompression, Good, reading_limits}
+use Rattle.mcap_model.specs.History.{kept_with, schema_of, channel_of, message_of}
+use Rattle.mcap_model.specs.Written.{IsRec}
+use Rattle.mcap_model.specs.Repaired.{is_extra, ProfileIs, Repairs}
+use Rattle.mcap_model.proofs.Repairs.{fold_more, zip_join}
+use Rattle.mcap_model.proofs.Flat.{named_or}
+use Rattle.mcap_model.proofs.Unpacking.{chunks_are_opened}
+use Rattle.mcap_model.proofs.OpenedChunks.{inside_back}
+use Rattle.record_walk.proofs.Walked.{walked_flat_tops}
+use Rattle.mcap_recover.specs.Keeping.{tops_at}
+use Rattle.mcap_recover.specs.Readings.{RepairsGiven}
+
+-- ---- some and none
+
+pub not_none : {X : Type 0} (xs : List X) (x : X) → xs ++ x ∷ [] ≡ [] → ⊥
+not_none [] x is = cc
+not_none (u ∷ us) x is = cc
+
+none_front : {X : Type 0} (xs ys : List X) → xs ++ ys ≡ [] → xs ≡ []
+none_front [] ys is = refl
+none_front (x ∷ xs) ys is = absurd (cc)
+
+tops_none : (given : List Placed) → tops_at given ≡ [] → given ≡ []
+tops_none [] is = refl
+tops_none (p ∷ ps) is = absurd (cc)
+
+pub given_none : (tops : List Top) (given ahead : List Placed) → walked tops ≡ given ++ ahead → tops ≡ [] → given ≡ []
+given_none tops given ahead all none = none_front given ahead (sym all ∙ ap walked none)
+
+pub tops_some : (tops : List Top) (given ahead : List Placed) (p : Placed) → walked tops ≡ (given ++ p ∷ []) ++ ahead → tops ≡ [] → ⊥
+tops_some tops given ahead p all none = not_none given p (given_none tops (given ++ p ∷ []) ahead all none)
+
+-- ---- Schemas, Channels and Messages
+
+map_filter : (ps : List Placed) → map (λ (p : Placed). p.top) (filter (λ (p : Placed). is_flat_kind p.top) ps) ≡ filter is_flat_kind (tops_at ps)
+map_filter [] = refl
+map_filter (p ∷ ps) = by (is_flat_kind p.top) (map_filter ps)
+  where
+    by : (b : Bool) → map (λ (q : Placed). q.top) (filter (λ (q : Placed). is_flat_kind q.top) ps) ≡ filter is_flat_kind (tops_at ps)
+        → map (λ (q : Placed). q.top) (if b then p ∷ filter (λ (q : Placed). is_flat_kind q.top) ps else filter (λ (q : Placed). is_flat_kind q.top) ps) ≡ (if b then p.top ∷ filter is_flat_kind (tops_at ps) else filter is_flat_kind (tops_at ps))
+    by true rest = ap (λ (l : List Top). p.top ∷ l) rest
+    by false rest = rest
+
+flat_walked : (tops : List Top) → filter is_flat_kind (tops_at (walked tops)) ≡ flat tops
+flat_walked tops = sym (map_filter (walked tops)) ∙ walked_flat_tops tops
+
+tops_joined : (ps qs : List Placed) → tops_at (ps ++ qs) ≡ tops_at ps ++ tops_at qs
+tops_joined ps qs = map-append (λ (p : Placed). p.top) ps qs
+
+pub flat_given : (tops : List Top) (ps qs : List Placed) → walked tops ≡ ps ++ qs → flat tops ≡ filter is_flat_kind (tops_at ps) ++ filter is_flat_kind (tops_at qs)
+flat_given tops ps qs all =
+    sym (flat_walked tops) ∙ ap (λ (l : List Placed). filter is_flat_kind (tops_at l)) all ∙ ap (filter is_flat_kind) (tops_joined ps qs) ∙ filter-append is_flat_kind (tops_at ps) (tops_at qs)
+
+flat_rec : (u : Top) → is_flat_kind u ≡ true → V6 u → (r : Rec) × IsRec u r
+flat_rec u is v6 = by (kind_of u is)
+  where
+    kind_of : (t : Top) → is_flat_kind t ≡ true → (t.op ≡ 3) ⊎ ((t.op ≡ 4) ⊎ (t.op ≡ 5))
+    kind_of t flat_is = grind arith
+
+    by : (u.op ≡ 3) ⊎ ((u.op ≡ 4) ⊎ (u.op ≡ 5)) → (r : Rec) × IsRec u r
+    by (inl three) = let (id, f, shown) = v6.schema three in (schema_of id f, (three, shown.layout))
+    by (inr (inl four)) = let (id, f, shown) = v6.channel four in (channel_of id f, (four, shown.layout))
+    by (inr (inr five)) = let (id, m, shown) = v6.message five in (message_of id m, (five, shown.layout))
+
+rec_more : (t : Top) (us : List Top) (rs : List Rec) → V6 t → AllZip IsRec us rs → (ss : List Rec) × AllZip IsRec (if is_flat_kind t then t ∷ us else us) ss
+rec_more t us rs v6 zip = by (is_flat_kind t) refl
+  where
+    by : (b : Bool) → is_flat_kind t ≡ b → (ss : List Rec) × AllZip IsRec (if b then t ∷ us else us) ss
+    by true is = let (r, shown) = flat_rec t is v6 in (r ∷ rs, (shown, zip))
+    by false is = (rs, zip)
+
+-- what records show that meet their layouts
+pub recs_ahead : (ps : List Placed) → Each (λ (p : Placed). V6 p.top) ps → (rs : List Rec) × AllZip IsRec (filter is_flat_kind (tops_at ps)) rs
+recs_ahead [] meets = ([], tt)
+recs_ahead (p ∷ ps) meets =
+    let (rs, zip) = recs_ahead ps (λ n x at. meets (suc n) x at) in
+    rec_more p.top (filter is_flat_kind (tops_at ps)) rs (meets zero p refl) zip
+
+pub recs_one : (t : Top) → V6 t → (rs : List Rec) × AllZip IsRec (filter is_flat_kind (t ∷ [])) rs
+recs_one t v6 = rec_more t [] [] v6 tt
+
+-- ---- Attachments and Metadata
+
+-- neither stands in a chunk
+no_extra : (t : Top) → stands_in_chunk t.op ≡ true → is_extra t ≡ false
+no_extra t stands = by (is_extra t) refl
+  where
+    kind_of : (b : Top) → is_extra b ≡ true → (b.op ≡ 9) ⊎ (b.op ≡ 12)
+    kind_of b is = grind arith
+
+    none : (t.op ≡ 9) ⊎ (t.op ≡ 12) → ⊥
+    none (inl is) = false≢true (ap stands_in_chunk (sym is) ∙ stands)
+    none (inr is) = false≢true (ap stands_in_chunk (sym is) ∙ stands)
+
+    by : (b : Bool) → is_extra t ≡ b → b ≡ false
+    by true is = absurd (none (kind_of t is))
+    by false is = refl
+
+no_extras : (ps : List Placed) → Each (λ (p : Placed). stands_in_chunk p.top.op ≡ true) ps → filter is_extra (tops_at ps) ≡ []
+no_extras [] each = refl
+no_extras (p ∷ ps) each =
+    ap (λ (b : Bool). if b then p.top ∷ filter is_extra (tops_at ps) else filter is_extra (tops_at ps)) (no_extra p.top (each zero p refl))
+    ∙ no_extras ps (λ n q at. each (suc n) q at)
+
+record KeepsChunks (t : Top) : Type 0 where
+  v6 : V6 t
+  v8 : V8 t
+  plain : (name : List ℕ) → NamesCompression t name → ⊥
+
+one_extras : (at : ℕ) (t : Top) → KeepsChunks t → filter is_extra (tops_at (walked_one at t)) ≡ filter is_extra (t ∷ [])
+one_extras at t keeps = ap (λ (l : List Top). if is_extra t then t ∷ l else l) (by (is_chunk t) refl)
+  where
+    by : (b : Bool) → is_chunk t ≡ b → filter is_extra (tops_at (if b then placed_inside at 0 (inner_tops t) else [])) ≡ []
+    by true is =
+        let shown = let v6 = keeps.v6 in v6.chunk (eqb-true t.op 6 is) in
+        let f = shown.0 in
+        let right = let v8 = keeps.v8 in v8 f shown.1 (named_or t f f.compression shown.1 refl keeps.plain) in
+        let same : records_in f.records ≡ inner_tops t = ap records_in (sym (chunks_are_opened t f shown.1)) in
+        let kinds : Each (λ (u : Top). stands_in_chunk u.op ≡ true) (inner_tops t) = subst (Each (λ (u : Top). stands_in_chunk u.op ≡ true)) same right.kinds in
+        no_extras (placed_inside at 0 (inner_tops t)) (λ j p here. kinds j p.top (inside_back at 0 (inner_tops t) j p here).0)
+    by false is = refl
+
+from_extras : (at : ℕ) (tops : List Top) → Each KeepsChunks tops → filter is_extra (tops_at (walked_from at tops)) ≡ filter is_extra tops
+from_extras at [] each = refl
+from_extras at (t ∷ ts) each =
+    let next = at + length (top_bytes t) in
+    ap (filter is_extra) (tops_joined (walked_one at t) (walked_from next ts))
+    ∙ filter-append is_extra (tops_at (walked_one at t)) (tops_at (walked_from next ts))
+    ∙ ap (λ (l : List Top). l ++ filter is_extra (tops_at (walked_from next ts))) (one_extras at t (each zero t refl))
+    ∙ ap (λ (l : List Top). filter is_extra (t ∷ []) ++ l) (from_extras next ts (λ n u here. each (suc n) u here))
+    ∙ sym (filter-append is_extra (t ∷ []) ts)
+
+pub extras_walked : (tops : List Top) → Good reading_limits tops → filter is_extra (tops_at (walked tops)) ≡ filter is_extra tops
+extras_walked tops good = from_extras 8 tops (λ n t here. let fits = good n t here in record { v6 = fits.v6; v8 = fits.v8; plain = fits.plain })
+
+-- ---- the profile
+
+profile_front : (us more : List Top) (profile : List ℕ) → (us ≡ [] → ⊥) → ProfileIs us profile → ProfileIs (us ++ more) profile
+profile_front [] more profile some is = absurd (some refl)
+profile_front (t ∷ ts) more profile some is = is
+
+profile_walked : (tops : List Top) (profile : List ℕ) → ProfileIs (tops_at (walked tops)) profile → ProfileIs tops profile
+profile_walked [] profile is = is
+profile_walked (t ∷ ts) profile is = is
+
+pub profile_given : (tops : List Top) (given ahead : List Placed) (profile : List ℕ) → walked tops ≡ given ++ ahead → (given ≡ [] → ⊥) → ProfileIs (tops_at given) profile → ProfileIs tops profile
+profile_given tops given ahead profile all some is =
+    profile_walked tops profile
+    (subst (λ (l : List Top). ProfileIs l profile) (sym (tops_joined given ahead) ∙ ap tops_at (sym all))
+    (profile_front (tops_at given) (tops_at ahead) profile (λ none. some (tops_none given none)) is))
+
+-- ---- a record more, and all of them
+
+given_more : (given : List Placed) (p : Placed) → tops_at (given ++ p ∷ []) ≡ tops_at given ++ p.top ∷ []
+given_more given p = tops_joined given (p ∷ [])
+
+pub repairs_more : (given : List Placed) (p : Placed) (profile : List ℕ) (extras : List Top) (history rs : List Rec) → (given ≡ [] → ⊥) → RepairsGiven given profile extras history → AllZip IsRec (filter is_flat_kind (p.top ∷ [])) rs
+    → RepairsGiven (given ++ p ∷ []) profile (extras ++ filter is_extra (p.top ∷ [])) (fold kept_with history rs)
+repairs_more given p profile extras history rs some was zip = record {
+  profile_is = subst (λ (l : List Top). ProfileIs l profile) (sym (given_more given p)) (profile_front (tops_at given) (p.top ∷ []) profile (λ none. some (tops_none given none)) was.profile_is);
+  extras_are = ap (λ (l : List Top). l ++ filter is_extra (p.top ∷ [])) was.extras_are ∙ sym (filter-append is_extra (tops_at given) (p.top ∷ [])) ∙ ap (filter is_extra) (sym (given_more given p));
+  flattened = was.flattened ++ rs;
+  are_flattened = subst (λ (l : List Top). AllZip IsRec l (was.flattened ++ rs)) (sym (filter-append is_flat_kind (tops_at given) (p.top ∷ [])) ∙ ap (filter is_flat_kind) (sym (given_more given p)))
+      (zip_join IsRec (filter is_flat_kind (tops_at given)) (filter is_flat_kind (p.top ∷ [])) was.flattened rs was.are_flattened zip);
+  history_is = ap (λ (l : List Rec). fold kept_with l rs) was.history_is ∙ sym (fold_more [] was.flattened rs);
+}
+
+pub repairs_whole : (tops : List Top) (given : List Placed) (profile : List ℕ) (extras : List Top) (history : List Rec) → given ≡ walked tops → Good reading_limits tops → RepairsGiven given profile extras history → Repairs tops profile extras history
+repairs_whole tops given profile extras history whole good was = record {
+  profile_is = profile_walked tops profile (subst (λ (l : List Placed). ProfileIs (tops_at l) profile) whole was.profile_is);
+  extras_are = was.extras_are ∙ ap (λ (l : List Placed). filter is_extra (tops_at l)) whole ∙ extras_walked tops good;
+  flattened = was.flattened;
+  are_flattened = subst (λ (l : List Top). AllZip IsRec l was.flattened) (ap (λ (l : List Placed). filter is_flat_kind (tops_at l)) whole ∙ flat_walked tops) was.are_flattened;
+  history_is = was.history_is;
+}
