@@ -3,8 +3,8 @@ use Rattle.std.specs.Prelude.{◌≡◌, ◌⊎◌, ℕ, List, [], Option, Resul
 use mathlib.Core.List.{IsPrefix}
 use Rattle.mcap_io.specs.Outside.{SinkState, RisesOnce, Adds, AddsPart}
 use Rattle.live_entry.specs.declared.entry.Entry.{Entry}
-use Rattle.live_replay.specs.declared.answers.LiveRefused.{LiveRefused}
-use Rattle.live_replay.specs.declared.answers.LiveRefused.TheVariants as refusals
+use Rattle.mcap_model.specs.declared.refusals.ReadingRefused.{ReadingRefused}
+use Rattle.mcap_model.specs.declared.refusals.ReadingRefused.TheVariants as refusals
 use Rattle.watching.specs.declared.report.WatchEnd.{WatchEnd}
 use Rattle.watching.specs.declared.report.WatchEnd.TheVariants as watch_ends
 use Rattle.watching.specs.Watching.{Takes, IsUntold}
@@ -52,7 +52,9 @@ PutsBytes before now bytes (Ok it) = (now.faults ≡ before.faults) × Adds befo
 PutsBytes before now bytes (Err why) = RisesOnce before.faults now.faults × (why ≡ watch_ends.Fault now.faults) × AddsPart before.took now.took 0 bytes
 
 -- why a watcher ends whose replay was refused
-abbrev pub ended_by : LiveRefused → WatchEnd
-ended_by (refusals.Fault faults) = watch_ends.Fault faults
-ended_by (refusals.Flaw rule offset) = watch_ends.Flaw rule offset
-ended_by refusals.Memory = watch_ends.Memory
+abbrev pub IsEndedBy : ReadingRefused → WatchEnd → Type 0
+IsEndedBy (refusals.Fault faults) end = end ≡ watch_ends.Fault faults
+IsEndedBy (refusals.Grammar offset rule) end = end ≡ watch_ends.Flaw rule offset
+IsEndedBy (refusals.Compressed offset name) end = ⊥
+IsEndedBy (refusals.Limit offset) end = ⊥
+IsEndedBy refusals.Memory end = end ≡ watch_ends.Memory

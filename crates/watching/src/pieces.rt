@@ -2,15 +2,16 @@
 ghost use Rattle.std.specs.Prelude.{◌≡◌, ◌++◌, length, IfOk, MatchResult};
 ghost use Rattle.live_entry.specs.Following.{EntriesFollow};
 ghost use Rattle.watching.specs.Text.{sealed_by, unsealed, unsealed_line, IsReplayText, IsFrontLineOf, IsEndTextOf};
-ghost use Rattle.watching.specs.Putting.{sides, ended_by, Lacks, Puts, PutsBytes};
+ghost use Rattle.live_replay.specs.Answering.{RefusesReplay};
+ghost use Rattle.watching.specs.Putting.{sides, IsEndedBy, Lacks, Puts, PutsBytes};
 
 use crate::lines::{line_of_end, line_of_front};
 use crate::report::WatchEnd;
 use command_base::Line;
 use live_entry::Entry;
-use live_replay::{LiveRefused, replay_blocks};
+use live_replay::replay_blocks;
 use mcap_io::{Extent, LiveView, Short, Sink, write_all_of};
-use mcap_model::{End, Range};
+use mcap_model::{End, Range, ReadingRefused};
 use mcap_wire::Memory;
 use std::alloc::Global;
 use time_player::Printer;
@@ -23,13 +24,16 @@ struct Replayed {
 }
 
 // Why a watcher ends whose replay was refused.
-fn end_of_replay(why: LiveRefused) -> WatchEnd
-    ensures { result ≡ ended_by why }
+fn end_of_replay(why: ReadingRefused) -> WatchEnd
+    requires { RefusesReplay why }
+    ensures { IsEndedBy why result }
 {
     match why {
-        LiveRefused::Fault { faults } => WatchEnd::Fault { faults },
-        LiveRefused::Flaw { rule, offset } => WatchEnd::Flaw { rule, offset },
-        LiveRefused::Memory => WatchEnd::Memory,
+        ReadingRefused::Fault { faults } => return WatchEnd::Fault { faults },
+        ReadingRefused::Grammar { offset, rule } => return WatchEnd::Flaw { rule, offset },
+        ReadingRefused::Memory => return WatchEnd::Memory,
+        ReadingRefused::Compressed { .. } => unreachable!(),
+        ReadingRefused::Limit { .. } => unreachable!(),
     }
 }
 
