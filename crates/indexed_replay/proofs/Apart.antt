@@ -15,8 +15,10 @@ use Rattle.mcap_model.proofs.Places.{at_none, at_within, at_one, at_read, at_mor
 use Rattle.mcap_model.proofs.Once.{chunk_index_once}
 use Rattle.summary_read.specs.Parts.{Parts, IsLoaded, of_kind, offsets_of_kind}
 use Rattle.indexed_replay.specs.declared.repeats.Lead.{Lead}
-use Rattle.indexed_replay.specs.declared.answers.ReplayRefused.{ReplayRefused}
-use Rattle.indexed_replay.specs.declared.answers.ReplayRefused.TheVariants as refusals
+use Rattle.mcap_model.specs.declared.refusals.ReadingRefused.{ReadingRefused}
+use Rattle.mcap_model.specs.declared.refusals.ReadingRefused.TheVariants as refusals
+use Rattle.mcap_model.specs.declared.refusals.IndexedRefused.{IndexedRefused}
+use Rattle.mcap_model.specs.declared.refusals.IndexedRefused.TheVariants as by_index
 use Rattle.indexed_replay.specs.Reaching.{HasChunkIndex, Breaks, second_index}
 use Rattle.indexed_replay.specs.Replaying.{IsReason, RefusalCause, HaveOneIndex, HasOneIndex}
 use Rattle.indexed_replay.specs.Apart.{Leads, AreLeads, HaveOne, HaveTwo, Ascend, FoundTwo, ApartRefused}
@@ -203,10 +205,9 @@ module _ (file : List ℕ) (p : Parts) (loaded : IsLoaded file p) where
       let listed = loaded.listed in
       are_indexed file (p.footer).summary_start loaded.tops p.chunk_indexes p.chunk_index_offsets (loaded_summary file p loaded) listed.chunk_indexes loaded.placed k l.top l.shown lead.at l.there l.is l.at
 
-  pub apart_reason : (range : Range) (why : ReplayRefused) → ApartRefused p.chunk_indexes p.chunk_index_offsets why → IsReason file range why
+  pub apart_reason : (range : Range) (why : ReadingRefused) → ApartRefused p.chunk_indexes p.chunk_index_offsets why → IsReason file range (by_index.Refused why)
   apart_reason range (refusals.Fault faults) refused = tt
-  apart_reason range (refusals.NotIndexed why) refused = absurd refused
-  apart_reason range (refusals.Flaw rule offset) refused =
+  apart_reason range (refusals.Grammar offset rule) refused =
       let two = refused.1 in
       let a = two.first in
       let b = two.second in
@@ -243,14 +244,13 @@ module _ (file : List ℕ) (p : Parts) (loaded : IsLoaded file p) where
       let (k, b) = led second two.other two.second_there in
       have j k (record { chunk = (two.one).offset; at = first }) (record { chunk = (two.other).offset; at = second }) a b two.same
 
-  pub tells_one : (result : Result Replayed ReplayRefused) → HaveOne p.chunk_indexes p.chunk_index_offsets → HasOneIndex file result
+  pub tells_one : (result : Result Replayed IndexedRefused) → HaveOne p.chunk_indexes p.chunk_index_offsets → HasOneIndex file result
   tells_one (Ok played) have = one_index have
   tells_one (Err why) have = tt
 
-pub apart_cause : (tops : List Top) (offsets : List ℕ) (why : ReplayRefused) (before now : ℕ) → ApartRefused tops offsets why → now ≡ before → RefusalCause before now why
+pub apart_cause : (tops : List Top) (offsets : List ℕ) (why : ReadingRefused) (before now : ℕ) → ApartRefused tops offsets why → now ≡ before → RefusalCause before now why
 apart_cause tops offsets (refusals.Fault faults) before now refused same = absurd refused
-apart_cause tops offsets (refusals.NotIndexed why) before now refused same = same
-apart_cause tops offsets (refusals.Flaw rule offset) before now refused same = same
+apart_cause tops offsets (refusals.Grammar offset rule) before now refused same = same
 apart_cause tops offsets (refusals.Compressed offset name) before now refused same = same
 apart_cause tops offsets (refusals.Limit offset) before now refused same = same
 apart_cause tops offsets refusals.Memory before now refused same = same

@@ -16,29 +16,52 @@ use Rattle.mcap_model.proofs.Places.{at_none}
 use Rattle.mcap_model.proofs.Lists.{filter_has}
 use Rattle.mcap_model.proofs.Readings.{length-top}
 use Rattle.mcap_laws.proofs.Leading.{section_first, led_replays_are_scans}
-use Rattle.summary_read.specs.declared.refusals.LoadRefused.{LoadRefused}
-use Rattle.summary_read.specs.declared.refusals.LoadRefused.TheVariants as load_refusals
-use Rattle.summary_read.specs.Reached.{StartsAt}
+use Rattle.summary_read.specs.Reached.{HasNoSummary, StartsAt}
 use Rattle.summary_read.specs.Parts.{Parts, IsLoaded, of_kind}
-use Rattle.summary_read.specs.Loading.{IsRefused, AskedFor}
-use Rattle.indexed_replay.specs.declared.answers.NotIndexed.{NotIndexed}
-use Rattle.indexed_replay.specs.declared.answers.NotIndexed.TheVariants as lacks
-use Rattle.indexed_replay.specs.declared.answers.ReplayRefused.{ReplayRefused}
+use Rattle.summary_read.specs.Loading.{IsRefused, LoadCause, AskedFor}
+use Rattle.mcap_model.specs.declared.refusals.NotIndexed.{NotIndexed}
+use Rattle.mcap_model.specs.declared.refusals.NotIndexed.TheVariants as lacks
+use Rattle.mcap_model.specs.declared.refusals.ReadingRefused.TheVariants as refusals
+use Rattle.mcap_model.specs.declared.refusals.IndexedRefused.{IndexedRefused}
+use Rattle.mcap_model.specs.declared.refusals.IndexedRefused.TheVariants as by_index
 use Rattle.indexed_replay.specs.Reaching.{IsNotIndexed, at_loading, while_loading, nothing, AskedBeside}
-use Rattle.indexed_replay.specs.Replaying.{IsReason, FileIsLed, IsScanReplayed, PlaysAll}
-use Rattle.indexed_replay.specs.Played.{PartsAgree, CountsJudged, refused_by}
+use Rattle.indexed_replay.specs.Replaying.{IsReason, FileIsLed, SaysNoSummary, IsScanReplayed, PlaysAll, ReplayCause}
+use Rattle.indexed_replay.specs.Played.{PartsAgree, CountsJudged}
 use Rattle.indexed_replay.proofs.Headed.{there_begun}
 use Rattle.indexed_replay.proofs.Full.{none_refuses}
 use Rattle.indexed_replay.proofs.Summed.{loaded_summary, start_same}
 
 -- ---- refusals
 
-pub load_reason : (file : List ℕ) (range : Range) (why : LoadRefused) → IsRefused file why → IsReason file range (refused_by why)
-load_reason file range (load_refusals.Fault faults) is = tt
-load_reason file range load_refusals.NoSummary is = is
-load_reason file range (load_refusals.Grammar offset rule) is = at_loading rule offset is.0
-load_reason file range (load_refusals.Limit offset) is = while_loading offset is.0
-load_reason file range load_refusals.Memory is = tt
+pub load_reason : (file : List ℕ) (range : Range) (why : IndexedRefused) → IsRefused file why → IsReason file range why
+load_reason file range (by_index.NotIndexed lacks.NoSummary) is = is.1
+load_reason file range (by_index.NotIndexed lacks.NoStatistics) is = absurd is.0
+load_reason file range (by_index.NotIndexed (lacks.ChunkCount stated found)) is = absurd is.0
+load_reason file range (by_index.NotIndexed (lacks.NoMessageIndex chunk)) is = absurd is.0
+load_reason file range (by_index.NotIndexed (lacks.NoChannel id)) is = absurd is.0
+load_reason file range (by_index.Refused (refusals.Fault faults)) is = tt
+load_reason file range (by_index.Refused (refusals.Grammar offset rule)) is = at_loading rule offset is.0
+load_reason file range (by_index.Refused (refusals.Compressed offset name)) is = absurd is
+load_reason file range (by_index.Refused (refusals.Limit offset)) is = while_loading offset is.0
+load_reason file range (by_index.Refused refusals.Memory) is = tt
+
+-- a loading fails as a replay does
+pub load_cause : (P X : Type 0) (before now : ℕ) (why : IndexedRefused) → LoadCause {P = P} before now (Err why) → ReplayCause {P = X} before now (Err why)
+load_cause P X before now (by_index.NotIndexed why) cause = cause.1
+load_cause P X before now (by_index.Refused (refusals.Fault faults)) cause = cause
+load_cause P X before now (by_index.Refused (refusals.Grammar offset rule)) cause = cause
+load_cause P X before now (by_index.Refused (refusals.Compressed offset name)) cause = absurd cause
+load_cause P X before now (by_index.Refused (refusals.Limit offset)) cause = cause
+load_cause P X before now (by_index.Refused refusals.Memory) cause = cause
+
+-- of a file without a summary that is told
+pub load_unsummed : (file : List ℕ) (why : IndexedRefused) → IsRefused file why → HasNoSummary file → SaysNoSummary (Err why)
+load_unsummed file (by_index.NotIndexed why) is none = is.0
+load_unsummed file (by_index.Refused (refusals.Fault faults)) is none = tt
+load_unsummed file (by_index.Refused (refusals.Grammar offset rule)) is none = is.1 none
+load_unsummed file (by_index.Refused (refusals.Compressed offset name)) is none = is
+load_unsummed file (by_index.Refused (refusals.Limit offset)) is none = is.1 none
+load_unsummed file (by_index.Refused refusals.Memory) is none = tt
 
 none_first : (xs : List Top) → slice_get (of_kind 11 xs) 0 ≡ None → Each (λ t. t.op ≢ 11) xs
 none_first xs none n t at = λ kind. by (of_kind 11 xs) none (filter_has (λ (u : Top). u.op == 11) xs n t at (eq-eqb t.op 11 kind))
@@ -69,7 +92,7 @@ counts_reason file range p (lacks.NoChannel id) l judged = absurd judged
 
 -- ---- fully indexed files
 
-pub scan_replayed : (file : List ℕ) (tops : List Top) (end : ℕ) (messages : List Seen) (range : Range) (topic : Option (List ℕ)) (result : Result Replayed ReplayRefused) → length file < 2 ^ 64 → IsFullyIndexed file → Halts reading_limits file tops (at_end end) → Scan tops messages
+pub scan_replayed : (file : List ℕ) (tops : List Top) (end : ℕ) (messages : List Seen) (range : Range) (topic : Option (List ℕ)) (result : Result Replayed IndexedRefused) → length file < 2 ^ 64 → IsFullyIndexed file → Halts reading_limits file tops (at_end end) → Scan tops messages
     → FileIsLed file range topic result → IsScanReplayed range topic messages result
 scan_replayed file tops end messages range topic (Ok played) few full halts scan led = (led.shown, (led_replays_are_scans file tops end messages range full halts scan topic led.shown).0 led.replay, led.shows)
 scan_replayed file tops end messages range topic (Err why) few (all, full) halts scan is =
@@ -107,7 +130,7 @@ asked_played file range start summary header first before mid now cost has there
 
 -- ---- how many chunks are stated
 
-pub counts_agree : (file : List ℕ) (p : Parts) (result : Result Replayed ReplayRefused) → IsLoaded file p → PartsAgree p → PlaysAll file result
+pub counts_agree : (file : List ℕ) (p : Parts) (result : Result Replayed IndexedRefused) → IsLoaded file p → PartsAgree p → PlaysAll file result
 counts_agree file p (Ok played) l agrees =
     let listed = l.listed in
     record {

@@ -20,10 +20,11 @@ use Rattle.mcap_model.proofs.Flat.{named_or}
 use Rattle.mcap_model.proofs.TakenRecords.{ended_front}
 use Rattle.mcap_laws.proofs.Leading.{Ends, ends_of, summary_of, in_summary, from_summary, summary_there, from_there, there_same, is_there, opened, named_of, index_right, index_stands}
 use Rattle.summary_read.specs.Parts.{of_kind}
-use Rattle.indexed_replay.specs.declared.answers.NotIndexed.{NotIndexed}
-use Rattle.indexed_replay.specs.declared.answers.NotIndexed.TheVariants as lacks
-use Rattle.indexed_replay.specs.declared.answers.ReplayRefused.{ReplayRefused}
-use Rattle.indexed_replay.specs.declared.answers.ReplayRefused.TheVariants as refusals
+use Rattle.mcap_model.specs.declared.refusals.NotIndexed.{NotIndexed}
+use Rattle.mcap_model.specs.declared.refusals.NotIndexed.TheVariants as lacks
+use Rattle.mcap_model.specs.declared.refusals.ReadingRefused.TheVariants as refusals
+use Rattle.mcap_model.specs.declared.refusals.IndexedRefused.{IndexedRefused}
+use Rattle.mcap_model.specs.declared.refusals.IndexedRefused.TheVariants as by_index
 use Rattle.indexed_replay.specs.Reaching.{HasChunkIndex, IsReached, Names, LeadsTo, LacksChunk, LacksIndex, LacksMessage, IsElsewhere, Breaks, at_loading, second_index, no_chunk, no_index, index_elsewhere, IsApart, index_apart, LeadsNowhere, no_message, IsPacked, CountsDiffer, NamesNone, LacksChannel, IsNotIndexed}
 use Rattle.indexed_replay.specs.Replaying.{IsReason, IsScanReplayed}
 use Rattle.indexed_replay.proofs.Summed.{summary_once}
@@ -230,10 +231,10 @@ module _ (file : List ℕ) (tops : List Top) (full : FullyIndexed file tops) (se
   none_breaks few rule offset (index_apart spot f channel place names apart) = none_apart spot f channel place names apart
   none_breaks few rule offset (no_message spot f channel place nowhere own) = none_astray spot f channel place nowhere
 
-  pub none_refuses : length file < 2 ^ 64 → (topic : Option (List ℕ)) (why : ReplayRefused) → IsReason file range why → IsScanReplayed range topic messages (Err why)
-  none_refuses few topic (refusals.Fault faults) is = tt
-  none_refuses few topic (refusals.NotIndexed why) is = none_lacks why is
-  none_refuses few topic (refusals.Flaw rule offset) is = none_breaks few rule offset is
-  none_refuses few topic (refusals.Compressed offset name) is = none_packed offset name is
-  none_refuses few topic (refusals.Limit offset) is = tt
-  none_refuses few topic refusals.Memory is = tt
+  pub none_refuses : length file < 2 ^ 64 → (topic : Option (List ℕ)) (why : IndexedRefused) → IsReason file range why → IsScanReplayed range topic messages (Err why)
+  none_refuses few topic (by_index.NotIndexed why) is = none_lacks why is
+  none_refuses few topic (by_index.Refused (refusals.Fault faults)) is = tt
+  none_refuses few topic (by_index.Refused (refusals.Grammar offset rule)) is = none_breaks few rule offset is
+  none_refuses few topic (by_index.Refused (refusals.Compressed offset name)) is = none_packed offset name is
+  none_refuses few topic (by_index.Refused (refusals.Limit offset)) is = tt
+  none_refuses few topic (by_index.Refused refusals.Memory) is = tt

@@ -10,7 +10,7 @@ use Rattle.mcap_model.specs.Led.{Meets}
 use Rattle.mcap_model.proofs.Places.{at_none}
 use Rattle.mcap_model.proofs.Lists.{has_taken}
 use Rattle.mcap_model.proofs.Once.{chunk_index_once}
-use Rattle.indexed_replay.specs.declared.answers.ReplayRefused.{ReplayRefused}
+use Rattle.mcap_model.specs.declared.refusals.IndexedRefused.{IndexedRefused}
 use Rattle.indexed_replay.specs.declared.spots.Request.{Request}
 use Rattle.indexed_replay.specs.Steps.{Adds}
 use Rattle.indexed_replay.specs.Lists.{IsNamed}
@@ -54,7 +54,7 @@ from_apart file request tops i t f at shows apart s from among =
     omega (arith, less, same)
 
 -- of which there is no room for those of one more
-pub from_over : (file : List ℕ) (request : Request) (tops : List Top) (i : ℕ) (t : Top) (f : ChunkIndexFields) (old mid : List Shown) (why : ReplayRefused) → At tops i t → IsChunkIndex t f → Meets request.range f → AreApart tops → Adds (IsLedFrom file request (take i tops)) old mid
+pub from_over : (file : List ℕ) (request : Request) (tops : List Top) (i : ℕ) (t : Top) (f : ChunkIndexFields) (old mid : List Shown) (why : IndexedRefused) → At tops i t → IsChunkIndex t f → Meets request.range f → AreApart tops → Adds (IsLedFrom file request (take i tops)) old mid
     → NameFills file request f mid why → IndexFills file request tops old why
 from_over file request tops i t f old mid why at shows meets apart first name =
     let (is, over) = name.fills in

@@ -10,10 +10,12 @@ use Rattle.mcap_model.specs.Plain.{asked_topic}
 use Rattle.mcap_model.specs.Led.{IsThere}
 use Rattle.rec_index.specs.Records.{ShowsMessageIndex}
 use Rattle.mcap_model.proofs.Readings.{length-top}
-use Rattle.indexed_replay.specs.declared.answers.ReplayRefused.{ReplayRefused}
-use Rattle.indexed_replay.specs.declared.answers.ReplayRefused.TheVariants as refusals
-use Rattle.indexed_replay.specs.declared.answers.NotIndexed.{NotIndexed}
-use Rattle.indexed_replay.specs.declared.answers.NotIndexed.TheVariants as lacks
+use Rattle.mcap_model.specs.declared.refusals.ReadingRefused.{ReadingRefused}
+use Rattle.mcap_model.specs.declared.refusals.ReadingRefused.TheVariants as refusals
+use Rattle.mcap_model.specs.declared.refusals.IndexedRefused.{IndexedRefused}
+use Rattle.mcap_model.specs.declared.refusals.IndexedRefused.TheVariants as by_index
+use Rattle.mcap_model.specs.declared.refusals.NotIndexed.{NotIndexed}
+use Rattle.mcap_model.specs.declared.refusals.NotIndexed.TheVariants as lacks
 use Rattle.indexed_replay.specs.declared.spots.Spot.{Spot}
 use Rattle.indexed_replay.specs.declared.spots.Request.{Request}
 use Rattle.indexed_replay.specs.Reaching.{Names, LeadsTo, LacksIndex, LacksMessage, no_index, IsTooLong, at_index, at_message, head_length}
@@ -28,8 +30,13 @@ use Rattle.mcap_model.proofs.Once.{message_index_once}
 
 -- ---- a content
 
-pub content_shown : (file : List ℕ) (request : Request) (spot : Spot) (entries : List (ℕ × ℕ)) (shown : List Shown × List Shown) (result : Result Bool ReplayRefused) → Wanted request.tables.now.channels spot.channel (asked_topic request.topic)
-    → EntriesShown file request.range spot entries shown result → ContentShown file request spot entries shown result
+-- the same answer, as that of a replay
+abbrev pub passed : Result Bool ReadingRefused → Result Bool IndexedRefused
+passed (Ok all) = Ok all
+passed (Err why) = Err (by_index.Refused why)
+
+pub content_shown : (file : List ℕ) (request : Request) (spot : Spot) (entries : List (ℕ × ℕ)) (shown : List Shown × List Shown) (result : Result Bool ReadingRefused) → Wanted request.tables.now.channels spot.channel (asked_topic request.topic)
+    → EntriesShown file request.range spot entries shown result → ContentShown file request spot entries shown (passed result)
 content_shown file request spot entries shown (Ok true) wanted adds =
     adds_same (IsListed file request.range spot entries) (IsShownBy file request spot entries) shown.0 shown.1 adds
     (λ s listed. record { listed = listed; wanted = subst (λ (c : ℕ). Wanted request.tables.now.channels c (asked_topic request.topic)) (sym listed.channel_is) wanted })
@@ -38,7 +45,7 @@ content_shown file request spot entries shown (Ok false) wanted lacks = lacks
 content_shown file request spot entries shown (Err why) wanted (inl refused) = at_entry why refused
 content_shown file request spot entries shown (Err why) wanted (inr (is, over)) =
     let shows : (s : Shown) → IsListed file request.range spot entries s → IsShownBy file request spot entries s = λ s listed. record { listed = listed; wanted = subst (λ (c : ℕ). Wanted request.tables.now.channels c (asked_topic request.topic)) (sym listed.channel_is) wanted } in
-    too_much why (is, over_same (IsListed file request.range spot entries) (IsListed file request.range spot entries) (IsShownBy file request spot entries) (IsShownBy file request spot entries) file shown.0 over shows shows)
+    too_much (by_index.Refused why) (is, over_same (IsListed file request.range spot entries) (IsListed file request.range spot entries) (IsShownBy file request spot entries) (IsShownBy file request spot entries) file shown.0 over shows shows)
 
 pub content_none : (file : List ℕ) (request : Request) (spot : Spot) (entries : List (ℕ × ℕ)) (old : List Shown) → (Wanted request.tables.now.channels spot.channel (asked_topic request.topic) → ⊥) → Adds (IsShownBy file request spot entries) old old
 content_none file request spot entries old unwanted =
@@ -46,8 +53,8 @@ content_none file request spot entries old unwanted =
     (λ s is. let listed = is.listed in unwanted (subst (λ (c : ℕ). Wanted request.tables.now.channels c (asked_topic request.topic)) listed.channel_is is.wanted))
 
 pub content_lacks : (file : List ℕ) (request : Request) (spot : Spot) (entries : List (ℕ × ℕ)) (old : List Shown) (why : NotIndexed) → (why ≡ lacks.NoChannel spot.channel) × HasTimely request.range entries × Undeclared request.tables.now.channels spot.channel
-    → ContentRefused file request spot entries old (refusals.NotIndexed why)
-content_lacks file request spot entries old why (is, timely, none) = subst (λ (w : NotIndexed). ContentRefused file request spot entries old (refusals.NotIndexed w)) (sym is) (no_channel timely none)
+    → ContentRefused file request spot entries old (by_index.NotIndexed why)
+content_lacks file request spot entries old why (is, timely, none) = subst (λ (w : NotIndexed). ContentRefused file request spot entries old (by_index.NotIndexed w)) (sym is) (no_channel timely none)
 
 -- ---- a Message Index
 
@@ -89,10 +96,9 @@ module _ (file : List ℕ) (request : Request) (at : ℕ) (spot : Spot) (content
   leads : (f : ChunkIndexFields) (entry : ℕ × ℕ) → Names file request.range at f spot.channel spot.list → Has {X = ℕ × ℕ} entries entry → Rattle.mcap_model.specs.Scan.InRange request.range entry.0 → LeadsTo file request.range at f spot.channel spot.list entry
   leads f entry names has in_range = record { names = names; list = top 7 content; entries = entries; there = there; is = is_index; entry_there = has; in_range = in_range }
 
-  entry_reason : (why : ReplayRefused) (f : ChunkIndexFields) (entry : ℕ × ℕ) → f.offset ≡ spot.chunk → LeadsTo file request.range at f spot.channel spot.list entry → EntryRefused file spot.chunk entry why → IsReason file request.range why
+  entry_reason : (why : ReadingRefused) (f : ChunkIndexFields) (entry : ℕ × ℕ) → f.offset ≡ spot.chunk → LeadsTo file request.range at f spot.channel spot.list entry → EntryRefused file spot.chunk entry why → IsReason file request.range (by_index.Refused why)
   entry_reason (refusals.Fault faults) f entry place to refused = tt
-  entry_reason (refusals.NotIndexed why) f entry place to refused = absurd refused
-  entry_reason (refusals.Flaw rule offset) f entry place to refused = absurd refused
+  entry_reason (refusals.Grammar offset rule) f entry place to refused = absurd refused
   entry_reason (refusals.Compressed offset name) f entry place to refused = absurd refused
   entry_reason (refusals.Limit offset) f entry place to (here, past) = at_message at f spot.channel spot.list offset entry to (here ∙ ap (λ (o : ℕ). o + 49 + entry.1) (sym place)) past
   entry_reason refusals.Memory f entry place to refused = tt
@@ -100,7 +106,7 @@ module _ (file : List ℕ) (request : Request) (at : ℕ) (spot : Spot) (content
   named : (s : Shown) → IsShownBy file request spot entries s → IsNamed file request spot s
   named s is = let listed = is.listed in record { led = led s is; own = listed.channel_is }
 
-  content_reason : (old : List Shown) (why : ReplayRefused) → Knows file request.tables.now.channels → ContentRefused file request spot entries old why → ListRefused file request at spot why ⊎ Fills (IsNamed file request spot) (IsNamed file request spot) spot.list file old why
+  content_reason : (old : List Shown) (why : IndexedRefused) → Knows file request.tables.now.channels → ContentRefused file request spot entries old why → ListRefused file request at spot why ⊎ Fills (IsNamed file request spot) (IsNamed file request spot) spot.list file old why
   content_reason old why knows (at_entry w (entry, has, in_range, refused)) = inl (λ f place names. entry_reason w f entry place (leads f entry names has in_range) refused)
   content_reason old why knows (too_much w (is, over)) = inr (is, over_same (IsShownBy file request spot entries) (IsShownBy file request spot entries) (IsNamed file request spot) (IsNamed file request spot) file old over named named)
   content_reason old why knows (no_channel timely none) = inl (λ f place names. record {
@@ -115,19 +121,19 @@ module _ (file : List ℕ) (request : Request) (at : ℕ) (spot : Spot) (content
     none = λ n t found g is. let covers = knows.covers in let (k, d, here, same) = covers t spot.channel g (n, found) is in none k d here same;
   })
 
-  pub list_shown : (shown : List Shown × List Shown) (result : Result Bool ReplayRefused) → Knows file request.tables.now.channels → ContentShown file request spot entries shown result → ListShown file request at spot shown result
+  pub list_shown : (shown : List Shown × List Shown) (result : Result Bool IndexedRefused) → Knows file request.tables.now.channels → ContentShown file request spot entries shown result → ListShown file request at spot shown result
   list_shown shown (Ok true) knows adds = adds_same (IsShownBy file request spot entries) (IsLedBy file request spot) shown.0 shown.1 adds led listed
   list_shown shown (Ok false) knows (entry, has, in_range, lacking) = λ f place names. record { entry = entry; leads = leads f entry names has in_range; lacks = subst (λ (o : ℕ). LacksMessage file o spot.channel entry) (sym place) lacking }
   list_shown shown (Err why) knows refused = content_reason shown.0 why knows refused
 
-pub lacks_reason : (file : List ℕ) (request : Request) (at : ℕ) (spot : Spot) → LacksIndex file spot.channel spot.list → ListRefused file request at spot (refusals.Flaw 12 at)
+pub lacks_reason : (file : List ℕ) (request : Request) (at : ℕ) (spot : Spot) → LacksIndex file spot.channel spot.list → ListRefused file request at spot (by_index.Refused (refusals.Grammar at 12))
 lacks_reason file request at spot none = λ f place names. no_index at f spot.channel spot.list names none
 
-pub limit_reason : (file : List ℕ) (request : Request) (at : ℕ) (spot : Spot) (offset : ℕ) → (offset ≡ spot.list) × IsTooLong file offset → ListRefused file request at spot (refusals.Limit offset)
+pub limit_reason : (file : List ℕ) (request : Request) (at : ℕ) (spot : Spot) (offset : ℕ) → (offset ≡ spot.list) × IsTooLong file offset → ListRefused file request at spot (by_index.Refused (refusals.Limit offset))
 limit_reason file request at spot offset (here, past) = λ f place names. at_index at f spot.channel offset (subst (λ (o : ℕ). Names file request.range at f spot.channel o) (sym here) names) past
 
 -- where messages are shown, or one of them is missing, the Message Index is there
-pub list_found : (file : List ℕ) (spot : Spot) (content : List ℕ) (entries : List (ℕ × ℕ)) (result : Result Bool ReplayRefused) → IsThere file spot.list (top 7 content) → ShowsMessageIndex content spot.channel entries → IsFound file spot result
+pub list_found : (file : List ℕ) (spot : Spot) (content : List ℕ) (entries : List (ℕ × ℕ)) (result : Result Bool IndexedRefused) → IsThere file spot.list (top 7 content) → ShowsMessageIndex content spot.channel entries → IsFound file spot result
 list_found file spot content entries (Ok it) there shows = λ lacks. lacks (top 7 content) entries there (record { kind = refl; layout = shows })
 list_found file spot content entries (Err why) there shows = tt
 

@@ -14,8 +14,10 @@ use Rattle.mcap_model.specs.Fields.{ChunkIndexFields, IsMessageIndex}
 use Rattle.mcap_model.proofs.Places.{at_none}
 use Rattle.mcap_model.proofs.Lists.{has_taken, pairs_at}
 use Rattle.mcap_model.proofs.Once.{message_index_once}
-use Rattle.indexed_replay.specs.declared.answers.ReplayRefused.{ReplayRefused}
-use Rattle.indexed_replay.specs.declared.answers.ReplayRefused.TheVariants as refusals
+use Rattle.mcap_model.specs.declared.refusals.ReadingRefused.{ReadingRefused}
+use Rattle.mcap_model.specs.declared.refusals.ReadingRefused.TheVariants as refusals
+use Rattle.mcap_model.specs.declared.refusals.IndexedRefused.{IndexedRefused}
+use Rattle.mcap_model.specs.declared.refusals.IndexedRefused.TheVariants as by_index
 use Rattle.indexed_replay.specs.declared.spots.Request.{Request}
 use Rattle.indexed_replay.specs.declared.spots.Spot.{Spot}
 use Rattle.indexed_replay.specs.Reaching.{IsReached, EndsAt, LacksIndex, Breaks, no_chunk, at_chunk, NamesNone, AskedBeside}
@@ -91,7 +93,7 @@ found_more file indexes i k p at is before here named has lacks = elim (taken_or
 ]
 
 -- of which there is no room for those of the last one
-pub names_over : (file : List ℕ) (request : Request) (f : ChunkIndexFields) (i : ℕ) (p : ℕ × ℕ) (old mid : List Shown) (why : ReplayRefused) → KeysDiffer {K = ℕ} {V = ℕ} f.indexes → At {X = ℕ × ℕ} f.indexes i p
+pub names_over : (file : List ℕ) (request : Request) (f : ChunkIndexFields) (i : ℕ) (p : ℕ × ℕ) (old mid : List Shown) (why : IndexedRefused) → KeysDiffer {K = ℕ} {V = ℕ} f.indexes → At {X = ℕ × ℕ} f.indexes i p
     → ((named : ℕ × ℕ) → Has {X = ℕ × ℕ} (take i f.indexes) named → LacksIndex file named.0 named.1 → ⊥) → Adds (IsLedAmong file request f.offset (take i f.indexes)) old mid
     → Fills (IsNamed file request (spot_of f.offset p)) (IsNamed file request (spot_of f.offset p)) p.1 file mid why → NameFills file request f old why
 names_over file request f i p old mid why keys at found first (is, over) = record {
@@ -120,10 +122,9 @@ names_none file request at f none timed reached = record { at = at; index = f; r
 
 -- ---- a chunk that is refused
 
-pub chunk_reason : (file : List ℕ) (request : Request) (at : ℕ) (f : ChunkIndexFields) (why : ReplayRefused) → ChunkRefused file at f.offset why → IsReached file request.range at f → IsReason file request.range why
+pub chunk_reason : (file : List ℕ) (request : Request) (at : ℕ) (f : ChunkIndexFields) (why : ReadingRefused) → ChunkRefused file at f.offset why → IsReached file request.range at f → IsReason file request.range (by_index.Refused why)
 chunk_reason file request at f (refusals.Fault faults) refused reached = tt
-chunk_reason file request at f (refusals.NotIndexed why) refused reached = absurd refused
-chunk_reason file request at f (refusals.Flaw rule offset) (twelve, here, lacks) reached =
+chunk_reason file request at f (refusals.Grammar offset rule) (twelve, here, lacks) reached =
     subst (λ (r : ℕ). Breaks file request.range r offset) (sym twelve) (subst (λ (o : ℕ). Breaks file request.range 12 o) (sym here) (no_chunk at f reached lacks))
 chunk_reason file request at f (refusals.Compressed offset name) (here, packed) reached = record { at = at; index = f; reached = reached; place = sym here; chunk = packed.chunk; there = subst (λ (o : ℕ). Rattle.mcap_model.specs.Led.IsThere file o packed.chunk) (sym here) packed.there; packed = packed.packed }
 chunk_reason file request at f (refusals.Limit offset) (here, past) reached = at_chunk at f offset reached (sym here) past
@@ -173,11 +174,11 @@ front_enough file range f cost ends before now some (compressed_chunk size more 
 front_enough file range f cost ends before now some (lacking_chunk more no_end no_pack) asked = let few = asked.plain in few no_pack
 
 -- what was asked for of a chunk's front, and then of its Message Indexes
-asked_chunk : (file : List ℕ) (request : Request) (at : ℕ) (f : ChunkIndexFields) (names : ℕ) (ends : Bool) (before mid now : ℕ) (result : Result Unit ReplayRefused) → mid ≤ before + plain_length → ChunkAsked file request at f (names, ends) (mid, now) result → ChunkAsked file request at f (plain_length + names, ends) (before, now) result
+asked_chunk : (file : List ℕ) (request : Request) (at : ℕ) (f : ChunkIndexFields) (names : ℕ) (ends : Bool) (before mid now : ℕ) (result : Result Unit IndexedRefused) → mid ≤ before + plain_length → ChunkAsked file request at f (names, ends) (mid, now) result → ChunkAsked file request at f (plain_length + names, ends) (before, now) result
 asked_chunk file request at f names ends before mid now (Ok it) first more = (omega (arith, first, more.0), more.1)
 asked_chunk file request at f names ends before mid now (Err why) first more = λ knows reached. let (beside, is, few) = more knows reached in (beside, is, omega (arith, first, few))
 
-pub names_enough : (file : List ℕ) (request : Request) (at : ℕ) (f : ChunkIndexFields) (end cost : ℕ) (ends : Bool) (before mid now : ℕ) (result : Result Unit ReplayRefused) → (length f.indexes ≡ 0 → ⊥) → EndsAt file f.offset end → FrontAsked file f.offset before mid
+pub names_enough : (file : List ℕ) (request : Request) (at : ℕ) (f : ChunkIndexFields) (end cost : ℕ) (ends : Bool) (before mid now : ℕ) (result : Result Unit IndexedRefused) → (length f.indexes ≡ 0 → ⊥) → EndsAt file f.offset end → FrontAsked file f.offset before mid
     → ((names : ℕ) (last : Bool) → NamesCost file request.range f.offset f.indexes names last → ChunkAsked file request at f (names, last) (mid, now) result) → ChunkCost file request.range f cost ends → ChunkAsked file request at f (cost, ends) (before, now) result
 names_enough file request at f end cost ends before mid now result some stands asked more (empty_map is) = absurd (some (ap (λ (l : List (ℕ × ℕ)). length l) is))
 names_enough file request at f end cost ends before mid now result some stands asked more (plain_chunk other names last there are) =

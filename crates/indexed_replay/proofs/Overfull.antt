@@ -10,7 +10,6 @@ use Rattle.mcap_model.specs.declared.replay.Range.{Range}
 use Rattle.mcap_model.specs.declared.replay.Shown.{Shown}
 use Rattle.mcap_model.specs.Places.{At}
 use Rattle.mcap_model.specs.Tops.{Top, top_bytes}
-use Rattle.mcap_model.specs.Fields.{ChunkIndexFields, IsChunkIndex}
 use Rattle.mcap_model.specs.Scan.{Seen}
 use Rattle.mcap_model.specs.Showing.{shown_as}
 use Rattle.mcap_model.specs.Led.{LedByIndex, Led}
@@ -20,7 +19,7 @@ use Rattle.mcap_model.proofs.NamedTopics.{zip_front, zip_back}
 use Rattle.mcap_model.proofs.Readings.{length-top}
 use Rattle.time_player.specs.Keeping.{data_in}
 use Rattle.summary_read.specs.Parts.{Parts, IsLoaded, of_kind, offsets_of_kind}
-use Rattle.indexed_replay.specs.declared.answers.ReplayRefused.{ReplayRefused}
+use Rattle.mcap_model.specs.declared.refusals.IndexedRefused.{IndexedRefused}
 use Rattle.indexed_replay.specs.declared.spots.Request.{Request}
 use Rattle.indexed_replay.specs.Reaching.{IsReached, data_of, too_much_data}
 use Rattle.indexed_replay.specs.Replaying.{IsReason}
@@ -111,7 +110,7 @@ module _ (file : List ℕ) (range : Range) where
 
 -- ---- why
 
-pub fills_reason : (file : List ℕ) (request : Request) (p : Parts) (old : List Shown) (why : ReplayRefused) → IsLoaded file p → Knows file request.tables.now.channels → AreIndexed file p.chunk_indexes p.chunk_index_offsets → old ≡ []
+pub fills_reason : (file : List ℕ) (request : Request) (p : Parts) (old : List Shown) (why : IndexedRefused) → IsLoaded file p → Knows file request.tables.now.channels → AreIndexed file p.chunk_indexes p.chunk_index_offsets → old ≡ []
     → IndexFills file request p.chunk_indexes old why → IsReason file request.range why
 fills_reason file request p old why loaded known indexed none fills =
     let (is, over) = fills.fills in

@@ -1,5 +1,5 @@
 -- The messages of a file that is read to its Data End have no more data than the file.
-use Rattle.std.proofs.Common.{◌≡◌, ℕ, zero, suc, ◌+◌, ◌<◌, ◌≤◌, Bool, true, false, cond, List, [], ◌∷◌, ◌++◌, length, take, drop, filter, refl, sym, ap, subst, inl, inr, arith}
+use Rattle.std.proofs.Common.{◌≡◌, ℕ, zero, suc, ◌+◌, ◌≤◌, Bool, true, false, cond, List, [], ◌∷◌, ◌++◌, length, take, drop, filter, refl, ap, subst, inl, inr, arith}
 use Rattle.std.specs.Prelude.{◌≢◌, AllPairs, sum_by, if◌then◌else◌}
 use Rattle.std.specs.List.{AllZip}
 use Rattle.std.proofs.lemmas.List.{length-append, length-take, length-drop}
@@ -9,14 +9,13 @@ use Rattle.rec_data.proofs.Contents.{length-message_text}
 use Rattle.mcap_wire.specs.Layout.{magic}
 use Rattle.mcap_model.specs.Places.{At, Has}
 use Rattle.mcap_model.specs.Tops.{Top, Placed, top_bytes, spelled, begins_record, first_top, behind_first, declared_length, first_records, records_in, chunk_records, inner_tops, is_chunk, is_flat_kind, placed_inside, placed_one, placed_from}
-use Rattle.mcap_model.specs.Kept.{reading_limits, at_end, Halts}
 use Rattle.mcap_model.specs.Scan.{Seen, IsSeen, Scan, is_message_top, tops_of}
 use Rattle.mcap_model.proofs.FewRecords.{chunk_short}
-use Rattle.mcap_model.proofs.Places.{at_none, at_kept}
+use Rattle.mcap_model.proofs.Places.{at_kept}
 use Rattle.mcap_model.proofs.Lists.{at_either, at_second, cut_at, pairs_at, pairs_from}
 use Rattle.mcap_model.proofs.Readings.{length-top}
 use Rattle.mcap_laws.proofs.Leading.{indexes_lead_to_the_scan}
-use Rattle.indexed_replay.specs.Reaching.{data_of, IsTooMuch}
+use Rattle.indexed_replay.specs.Reaching.{data_of}
 use Rattle.indexed_replay.specs.Laws.{FullFilesHaveRoom}
 
 -- ---- messages among others

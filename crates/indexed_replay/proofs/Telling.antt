@@ -17,7 +17,8 @@ use Rattle.mcap_model.proofs.Places.{at_none, at_within, at_kept, at_last, at_on
 use Rattle.mcap_model.proofs.Lists.{cut_flat, at_taken}
 use Rattle.mcap_model.proofs.Readings.{Begun, top_of, all_short, one_follows, begun, length-top}
 use Rattle.mcap_laws.proofs.Leading.{Ends, summary_of, front_of, whole_bytes, start_is, summary_there, at_dropped}
-use Rattle.summary_read.specs.declared.refusals.LoadRefused.TheVariants as load_refusals
+use Rattle.mcap_model.specs.declared.refusals.ReadingRefused.TheVariants as refusals
+use Rattle.mcap_model.specs.declared.refusals.IndexedRefused.TheVariants as by_index
 use Rattle.summary_read.specs.Reached.{ShowsFooter, HasNoSummary, EndsIn, StartsAt, summary_part, BreaksFirst, breaks_4, breaks_5, breaks_6, FailsInside, Fails, at_ends, by_start, inside}
 use Rattle.summary_read.proofs.Flawed.{flawed}
 use Rattle.summary_read.proofs.FileEnds.{no_other}
@@ -197,11 +198,12 @@ module _ (file : List ℕ) (tops : List Top) (whole : IsWhole file tops) (e : En
   tells few rule offset (inside v1 start number place starts fails) = inside_tells few start number place starts fails
 
 pub flawless_loaded : FlawlessFilesAreLoaded
-flawless_loaded file tops footer flawless few ends some (load_refusals.Fault faults) refused = tt
-flawless_loaded file tops footer flawless few ends some load_refusals.NoSummary refused = some (no_other file footer ends refused)
-flawless_loaded file tops footer flawless few ends some (load_refusals.Grammar offset rule) refused =
+flawless_loaded file tops footer flawless few ends some (by_index.NotIndexed why) refused = some (no_other file footer ends refused.1)
+flawless_loaded file tops footer flawless few ends some (by_index.Refused (refusals.Fault faults)) refused = tt
+flawless_loaded file tops footer flawless few ends some (by_index.Refused (refusals.Grammar offset rule)) refused =
     let none = flawless.none in
     let ordered = flawless.ordered in
     none rule offset (tells file tops ordered.whole (ends_in_order file tops ordered refused.1) few rule offset refused.0)
-flawless_loaded file tops footer flawless few ends some (load_refusals.Limit offset) refused = tt
-flawless_loaded file tops footer flawless few ends some load_refusals.Memory refused = tt
+flawless_loaded file tops footer flawless few ends some (by_index.Refused (refusals.Compressed offset name)) refused = absurd refused
+flawless_loaded file tops footer flawless few ends some (by_index.Refused (refusals.Limit offset)) refused = tt
+flawless_loaded file tops footer flawless few ends some (by_index.Refused refusals.Memory) refused = tt

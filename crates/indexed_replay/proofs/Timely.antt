@@ -11,7 +11,7 @@ use Rattle.mcap_model.specs.Places.{At, Has}
 use Rattle.mcap_model.specs.Plain.{is_within}
 use Rattle.mcap_model.proofs.Places.{at_none, at_more, has_kept, has_last}
 use Rattle.mcap_model.proofs.Replays.{range_decided}
-use Rattle.indexed_replay.specs.declared.answers.ReplayRefused.{ReplayRefused}
+use Rattle.mcap_model.specs.declared.refusals.ReadingRefused.{ReadingRefused}
 use Rattle.indexed_replay.specs.declared.spots.Spot.{Spot}
 use Rattle.indexed_replay.specs.Steps.{IsListed, EntriesShown, entry_cost, AreTimely}
 use Rattle.indexed_replay.proofs.Adding.{taken_or, taken_front, taken_last, sum_next, adds_same}
@@ -66,7 +66,7 @@ timely_moved range entries timely moved moves was = record {
 }
 
 -- what they add is what all entries do
-pub timely_shown : (file : List ℕ) (range : Range) (spot : Spot) (entries timely : List Pair) (shown : List Shown × List Shown) (result : Result Bool ReplayRefused) → AreTimely range entries timely
+pub timely_shown : (file : List ℕ) (range : Range) (spot : Spot) (entries timely : List Pair) (shown : List Shown × List Shown) (result : Result Bool ReadingRefused) → AreTimely range entries timely
     → EntriesShown file range spot timely shown result → EntriesShown file range spot entries shown result
 timely_shown file range spot entries timely shown (Ok true) are adds =
     adds_same (IsListed file range spot timely) (IsListed file range spot entries) shown.0 shown.1 adds

@@ -5,8 +5,8 @@ use Rattle.mcap_model.specs.Places.{At, Has}
 use Rattle.mcap_model.specs.Tops.{Top}
 use Rattle.mcap_model.specs.Fields.{ChunkIndexFields, IsChunkIndex}
 use Rattle.indexed_replay.specs.declared.repeats.Lead.{Lead}
-use Rattle.indexed_replay.specs.declared.answers.ReplayRefused.{ReplayRefused}
-use Rattle.indexed_replay.specs.declared.answers.ReplayRefused.TheVariants as refusals
+use Rattle.mcap_model.specs.declared.refusals.ReadingRefused.{ReadingRefused}
+use Rattle.mcap_model.specs.declared.refusals.ReadingRefused.TheVariants as refusals
 
 -- one of these records is a Chunk Index that leads there, and stands at the offset beside it
 pub record Leads (tops : List Top) (offsets : List ℕ) (k : ℕ) (lead : Lead) : Type 0 where
@@ -59,14 +59,13 @@ FindsTwo leads None = (one other : Lead) → Has leads one → Has leads other �
 
 -- ---- what is answered
 
-abbrev pub ApartRefused : List Top → List ℕ → ReplayRefused → Type 0
+abbrev pub ApartRefused : List Top → List ℕ → ReadingRefused → Type 0
 ApartRefused tops offsets (refusals.Fault faults) = ⊥
-ApartRefused tops offsets (refusals.NotIndexed why) = ⊥
-ApartRefused tops offsets (refusals.Flaw rule offset) = (rule ≡ 12) × HaveTwo tops offsets offset
+ApartRefused tops offsets (refusals.Grammar offset rule) = (rule ≡ 12) × HaveTwo tops offsets offset
 ApartRefused tops offsets (refusals.Compressed offset name) = ⊥
 ApartRefused tops offsets (refusals.Limit offset) = ⊥
 ApartRefused tops offsets refusals.Memory = Unit {0}
 
-abbrev pub ApartJudged : List Top → List ℕ → Result Unit ReplayRefused → Type 0
+abbrev pub ApartJudged : List Top → List ℕ → Result Unit ReadingRefused → Type 0
 ApartJudged tops offsets (Ok it) = HaveOne tops offsets
 ApartJudged tops offsets (Err why) = ApartRefused tops offsets why

@@ -10,8 +10,9 @@ use Rattle.mcap_model.specs.Tops.{Top}
 use Rattle.mcap_model.specs.Fields.{ChunkIndexFields}
 use Rattle.mcap_model.specs.Kept.{NamesCompression}
 use Rattle.mcap_model.specs.Led.{IsThere}
-use Rattle.indexed_replay.specs.declared.answers.ReplayRefused.{ReplayRefused}
-use Rattle.indexed_replay.specs.declared.answers.ReplayRefused.TheVariants as refusals
+use Rattle.mcap_model.specs.declared.refusals.ReadingRefused.{ReadingRefused}
+use Rattle.mcap_model.specs.declared.refusals.ReadingRefused.TheVariants as refusals
+use Rattle.mcap_model.specs.declared.refusals.IndexedRefused.{IndexedRefused}
 use Rattle.indexed_replay.specs.declared.spots.Spot.{Spot}
 use Rattle.indexed_replay.specs.declared.spots.Request.{Request}
 use Rattle.indexed_replay.specs.Reaching.{IsReached, EndsAt, LacksChunk, LacksIndex, IsTooLong, head_length, AskedBeside}
@@ -37,23 +38,22 @@ pub record PackedAt (file : List ℕ) (offset : ℕ) (name : List ℕ) : Type 0 
   pub packed : NamesCompression chunk name
 
 -- why a chunk that a Chunk Index at the first offset leads to, at the other, isn't looked into
-abbrev pub ChunkRefused : List ℕ → ℕ → ℕ → ReplayRefused → Type 0
+abbrev pub ChunkRefused : List ℕ → ℕ → ℕ → ReadingRefused → Type 0
 ChunkRefused file index at (refusals.Fault faults) = Unit {0}
-ChunkRefused file index at (refusals.NotIndexed why) = ⊥
-ChunkRefused file index at (refusals.Flaw rule offset) = (rule ≡ 12) × (offset ≡ index) × LacksChunk file at
+ChunkRefused file index at (refusals.Grammar offset rule) = (rule ≡ 12) × (offset ≡ index) × LacksChunk file at
 ChunkRefused file index at (refusals.Compressed offset name) = (offset ≡ at) × PackedAt file at name
 ChunkRefused file index at (refusals.Limit offset) = (offset ≡ at) × IsTooLong file offset
 ChunkRefused file index at refusals.Memory = Unit {0}
 
-abbrev pub ChunkChecked : List ℕ → ℕ → ℕ → Result ℕ ReplayRefused → Type 0
+abbrev pub ChunkChecked : List ℕ → ℕ → ℕ → Result ℕ ReadingRefused → Type 0
 ChunkChecked file index at (Ok end) = EndsAt file at end
 ChunkChecked file index at (Err why) = ChunkRefused file index at why
 
-abbrev pub ChecksChunk : Option (List ℕ) → ℕ → ℕ → ℕ → Result ℕ ReplayRefused → Type 0
+abbrev pub ChecksChunk : Option (List ℕ) → ℕ → ℕ → ℕ → Result ℕ ReadingRefused → Type 0
 ChecksChunk told len index at result = (file : List ℕ) → told ≡ Some file → length file ≡ len → ChunkChecked file index at result
 
 -- where a record of a chunk's opcode stands there, of a content of the first length and with a compression of the other
-abbrev pub NamesPack : Option (List ℕ) → ℕ → ℕ → ℕ → ℕ → ReplayRefused → Type 0
+abbrev pub NamesPack : Option (List ℕ) → ℕ → ℕ → ℕ → ℕ → ReadingRefused → Type 0
 NamesPack told index at len size why = (file : List ℕ) (t : Top) → told ≡ Some file → IsThere file at t → t.op ≡ 6 → length t.content ≡ len → text_length t.content 28 ≡ size → size ≢ 0 → ChunkRefused file index at why
 
 -- ---- what is asked for of it
@@ -96,21 +96,21 @@ pub record IsLedAmong (file : List ℕ) (request : Request) (chunk : ℕ) (index
   pub led : IsLedBy file request (spot_of chunk named) s
 
 -- the data of its messages is too much, beside these: that is told at a Message Index that it names
-pub record NameFills (file : List ℕ) (request : Request) (f : ChunkIndexFields) (old : List Shown) (why : ReplayRefused) : Type 0 where
+pub record NameFills (file : List ℕ) (request : Request) (f : ChunkIndexFields) (old : List Shown) (why : IndexedRefused) : Type 0 where
   pub named : ℕ × ℕ
   pub there : Has {X = ℕ × ℕ} f.indexes named
   pub fills : Fills (IsLedAmong file request f.offset f.indexes) (IsNamed file request (spot_of f.offset named)) named.1 file old why
 
 -- a Chunk Index at that offset
-abbrev pub ChunkShown : List ℕ → Request → ℕ → ChunkIndexFields → (List Shown × List Shown) → Result Unit ReplayRefused → Type 0
+abbrev pub ChunkShown : List ℕ → Request → ℕ → ChunkIndexFields → (List Shown × List Shown) → Result Unit IndexedRefused → Type 0
 ChunkShown file request at f shown (Ok it) = Adds (IsLedAmong file request f.offset f.indexes) shown.0 shown.1
 ChunkShown file request at f shown (Err why) = (IsReached file request.range at f → IsReason file request.range why) ⊎ NameFills file request f shown.0 why
 
-abbrev pub ShowsChunk : Option (List ℕ) → Request → ℕ → ChunkIndexFields → (List Shown × List Shown) → Result Unit ReplayRefused → Type 0
+abbrev pub ShowsChunk : Option (List ℕ) → Request → ℕ → ChunkIndexFields → (List Shown × List Shown) → Result Unit IndexedRefused → Type 0
 ShowsChunk told request at f shown result = (file : List ℕ) → told ≡ Some file → length file ≡ request.len → Knows file request.tables.now.channels → ChunkShown file request at f shown result
 
 -- the same where the chunk ends at that offset
-abbrev pub ShowsNames : Option (List ℕ) → Request → ℕ → ℕ → ChunkIndexFields → (List Shown × List Shown) → Result Unit ReplayRefused → Type 0
+abbrev pub ShowsNames : Option (List ℕ) → Request → ℕ → ℕ → ChunkIndexFields → (List Shown × List Shown) → Result Unit IndexedRefused → Type 0
 ShowsNames told request at end f shown result = (file : List ℕ) → told ≡ Some file → length file ≡ request.len → Knows file request.tables.now.channels → EndsAt file f.offset end → ChunkShown file request at f shown result
 
 -- ---- what is asked for
@@ -124,12 +124,12 @@ pub data NamesCost (file : List ℕ) (range : Range) (chunk : ℕ) : List (ℕ �
 
 -- What a Chunk Index at that offset leads to was asked for; where it is refused, more beside. Behind one at which a replay ends
 -- it doesn't go on.
-abbrev pub ChunkAsked : List ℕ → Request → ℕ → ChunkIndexFields → (ℕ × Bool) → (ℕ × ℕ) → Result Unit ReplayRefused → Type 0
+abbrev pub ChunkAsked : List ℕ → Request → ℕ → ChunkIndexFields → (ℕ × Bool) → (ℕ × ℕ) → Result Unit IndexedRefused → Type 0
 ChunkAsked file request at f cost asked (Ok it) = (asked.1 ≤ asked.0 + cost.0) × (cost.1 ≡ false)
 ChunkAsked file request at f cost asked (Err why) = Knows file request.tables.now.channels → IsReached file request.range at f → AskedBeside file request.range asked.0 asked.1 cost.0
 
 -- the same where the chunk ends at that offset
-abbrev pub AsksNames : Request → ℕ → ℕ → ChunkIndexFields → StoreState → StoreState → Result Unit ReplayRefused → Type 0
+abbrev pub AsksNames : Request → ℕ → ℕ → ChunkIndexFields → StoreState → StoreState → Result Unit IndexedRefused → Type 0
 AsksNames request at end f old new result = (file : List ℕ) (cost : ℕ) (ends : Bool) → old.bytes ≡ Some file → length file ≡ request.len → EndsAt file f.offset end → NamesCost file request.range f.offset f.indexes cost ends
     → ChunkAsked file request at f (cost, ends) (old.asked, new.asked) result
 
@@ -142,5 +142,5 @@ pub data ChunkCost (file : List ℕ) (range : Range) (f : ChunkIndexFields) : �
   compressed_chunk : (size : ℕ) → f.indexes ≢ [] → IsPackedAs file f.offset size → ChunkCost file range f (plain_length + (front_length + size)) true
   lacking_chunk : f.indexes ≢ [] → ((end : ℕ) → EndsAt file f.offset end → ⊥) → ((size : ℕ) → IsPackedAs file f.offset size → ⊥) → ChunkCost file range f plain_length true
 
-abbrev pub AsksChunk : Request → ℕ → ChunkIndexFields → StoreState → StoreState → Result Unit ReplayRefused → Type 0
+abbrev pub AsksChunk : Request → ℕ → ChunkIndexFields → StoreState → StoreState → Result Unit IndexedRefused → Type 0
 AsksChunk request at f old new result = (file : List ℕ) (cost : ℕ) (ends : Bool) → old.bytes ≡ Some file → length file ≡ request.len → ChunkCost file request.range f cost ends → ChunkAsked file request at f (cost, ends) (old.asked, new.asked) result

@@ -10,7 +10,7 @@ use Rattle.mcap_model.specs.Made.{top}
 use Rattle.mcap_model.specs.Fields.{ChannelFields, IsChannel, ChunkIndexFields, IsChunkIndex}
 use Rattle.mcap_model.specs.Plain.{DeclareChannels}
 use Rattle.mcap_model.specs.Led.{Meets}
-use Rattle.indexed_replay.specs.declared.answers.ReplayRefused.{ReplayRefused}
+use Rattle.mcap_model.specs.declared.refusals.IndexedRefused.{IndexedRefused}
 use Rattle.indexed_replay.specs.declared.spots.Request.{Request}
 use Rattle.indexed_replay.specs.Reaching.{HasChunkIndex, AskedBeside}
 use Rattle.indexed_replay.specs.Replaying.{IsReason}
@@ -62,7 +62,7 @@ abbrev pub AreApart : List Top → Type 0
 AreApart tops = (j k : ℕ) (t u : Top) (f g : ChunkIndexFields) → At tops j t → At tops k u → IsChunkIndex t f → IsChunkIndex u g → f.offset ≡ g.offset → j ≡ k
 
 -- the data of their messages is too much, beside these: that is told at a Message Index that one of them names
-pub record IndexFills (file : List ℕ) (request : Request) (tops : List Top) (old : List Shown) (why : ReplayRefused) : Type 0 where
+pub record IndexFills (file : List ℕ) (request : Request) (tops : List Top) (old : List Shown) (why : IndexedRefused) : Type 0 where
   pub place : ℕ
   pub index : Top
   pub shown : ChunkIndexFields
@@ -73,11 +73,11 @@ pub record IndexFills (file : List ℕ) (request : Request) (tops : List Top) (o
   pub there : Has {X = ℕ × ℕ} shown.indexes named
   pub fills : Fills (IsLedFrom file request tops) (IsNamed file request (spot_of shown.offset named)) named.1 file old why
 
-abbrev pub AllShown : List ℕ → Request → List Top → List ℕ → (List Shown × List Shown) → Result Unit ReplayRefused → Type 0
+abbrev pub AllShown : List ℕ → Request → List Top → List ℕ → (List Shown × List Shown) → Result Unit IndexedRefused → Type 0
 AllShown file request tops offsets shown (Ok it) = Adds (IsLedFrom file request tops) shown.0 shown.1
 AllShown file request tops offsets shown (Err why) = (AreIndexed file tops offsets → IsReason file request.range why) ⊎ IndexFills file request tops shown.0 why
 
-abbrev pub Gathers : Option (List ℕ) → Request → List Top → List ℕ → (List Shown × List Shown) → Result Unit ReplayRefused → Type 0
+abbrev pub Gathers : Option (List ℕ) → Request → List Top → List ℕ → (List Shown × List Shown) → Result Unit IndexedRefused → Type 0
 Gathers told request tops offsets shown result = (file : List ℕ) → told ≡ Some file → length file ≡ request.len → Knows file request.tables.now.channels → AreApart tops → AllShown file request tops offsets shown result
 
 -- ---- what is asked for
@@ -93,9 +93,9 @@ pub data IndexesCost (file : List ℕ) (range : Range) : List Top → ℕ → Ty
   last_index : (t : Top) (others : List Top) (f : ChunkIndexFields) (cost : ℕ) → IsChunkIndex t f → Meets range f → ChunkCost file range f cost true → IndexesCost file range (t ∷ others) cost
 
 -- what the Chunk Indexes lead to was asked for; where one is refused, more beside
-abbrev pub AllAsked : List ℕ → Request → List Top → List ℕ → ℕ → (ℕ × ℕ) → Result Unit ReplayRefused → Type 0
+abbrev pub AllAsked : List ℕ → Request → List Top → List ℕ → ℕ → (ℕ × ℕ) → Result Unit IndexedRefused → Type 0
 AllAsked file request tops offsets cost asked (Ok it) = asked.1 ≤ asked.0 + cost
 AllAsked file request tops offsets cost asked (Err why) = Knows file request.tables.now.channels → AreIndexed file tops offsets → AskedBeside file request.range asked.0 asked.1 cost
 
-abbrev pub AsksAll : Request → List Top → List ℕ → StoreState → StoreState → Result Unit ReplayRefused → Type 0
+abbrev pub AsksAll : Request → List Top → List ℕ → StoreState → StoreState → Result Unit IndexedRefused → Type 0
 AsksAll request tops offsets old new result = (file : List ℕ) (cost : ℕ) → old.bytes ≡ Some file → length file ≡ request.len → IndexesCost file request.range tops cost → AllAsked file request tops offsets cost (old.asked, new.asked) result

@@ -6,8 +6,9 @@ use Rattle.mcap_model.specs.declared.replay.Replayed.{Replayed}
 use Rattle.mcap_model.specs.Places.{Has}
 use Rattle.time_player.specs.declared.kept.Kept.{Kept}
 use Rattle.time_player.specs.Keeping.{data_in, held_in, kept_in}
-use Rattle.indexed_replay.specs.declared.answers.ReplayRefused.{ReplayRefused}
-use Rattle.indexed_replay.specs.declared.answers.ReplayRefused.TheVariants as refusals
+use Rattle.mcap_model.specs.declared.refusals.ReadingRefused.TheVariants as refusals
+use Rattle.mcap_model.specs.declared.refusals.IndexedRefused.{IndexedRefused}
+use Rattle.mcap_model.specs.declared.refusals.IndexedRefused.TheVariants as by_index
 
 -- ---- while it reads
 
@@ -17,7 +18,7 @@ pub record Fits (room : ℕ) (k : Kept) : Type 0 where
   pub within : held_in k ≤ room
 
 -- so it is behind a step; where that is refused, no more than so many bytes are held
-abbrev pub HoldsWithin : {X : Type 0} → ℕ → Kept → Result X ReplayRefused → Type 0
+abbrev pub HoldsWithin : {X E : Type 0} → ℕ → Kept → Result X E → Type 0
 HoldsWithin room k (Ok it) = Fits room k
 HoldsWithin room k (Err why) = held_in k ≤ room
 
@@ -35,15 +36,15 @@ pub record Overfull (P Q : Shown → Type 0) (file : List ℕ) (old : List Shown
   pub past : length file < data_in old + data_in more
 
 -- that is why the limit is told there
-abbrev pub Fills : (Shown → Type 0) → (Shown → Type 0) → ℕ → List ℕ → List Shown → ReplayRefused → Type 0
-Fills P Q at file old why = (why ≡ refusals.Limit at) × Overfull P Q file old
+abbrev pub Fills : (Shown → Type 0) → (Shown → Type 0) → ℕ → List ℕ → List Shown → IndexedRefused → Type 0
+Fills P Q at file old why = (why ≡ by_index.Refused (refusals.Limit at)) × Overfull P Q file old
 
 -- ---- what is played
 
-abbrev pub HasRoom : List ℕ → Result Replayed ReplayRefused → Type 0
+abbrev pub HasRoom : List ℕ → Result Replayed IndexedRefused → Type 0
 HasRoom file (Ok played) = data_in played.shown.items ≤ length file
 HasRoom file (Err why) = Unit {0}
 
 -- the messages that are played have no more bytes of data than the file
-abbrev pub TellsRoom : Option (List ℕ) → Result Replayed ReplayRefused → Type 0
+abbrev pub TellsRoom : Option (List ℕ) → Result Replayed IndexedRefused → Type 0
 TellsRoom told result = (file : List ℕ) → told ≡ Some file → HasRoom file result

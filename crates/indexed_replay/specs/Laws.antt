@@ -10,11 +10,11 @@ use Rattle.mcap_model.specs.Whole.{IsWhole, StandsAt, V11, V17}
 use Rattle.mcap_model.specs.Kept.{reading_limits, at_end, Halts}
 use Rattle.mcap_model.specs.Scan.{Seen, Scan}
 use Rattle.mcap_model.specs.Valid.{Keeps, IsPlain, Valid, IsFullyIndexed, Flaw}
-use Rattle.summary_read.specs.declared.refusals.LoadRefused.{LoadRefused}
-use Rattle.summary_read.specs.declared.refusals.LoadRefused.TheVariants as load_refusals
 use Rattle.summary_read.specs.Reached.{HasNoSummary, EndsIn}
 use Rattle.summary_read.specs.Loading.{IsRefused}
-use Rattle.indexed_replay.specs.declared.answers.ReplayRefused.TheVariants as refusals
+use Rattle.mcap_model.specs.declared.refusals.ReadingRefused.TheVariants as refusals
+use Rattle.mcap_model.specs.declared.refusals.IndexedRefused.{IndexedRefused}
+use Rattle.mcap_model.specs.declared.refusals.IndexedRefused.TheVariants as by_index
 use Rattle.indexed_replay.specs.Reaching.{IsTooMuch}
 use Rattle.indexed_replay.specs.Replaying.{IsReason}
 
@@ -27,7 +27,7 @@ pub record IsInOrder (file : List ℕ) (tops : List Top) : Type 0 where
 
 -- a rule for which the summary of such a file isn't loaded fails in the file
 abbrev pub LoadsTellFlaws : Type 0
-LoadsTellFlaws = (file : List ℕ) (tops : List Top) → IsInOrder file tops → length file < 2 ^ 64 → (rule offset : ℕ) → IsRefused file (load_refusals.Grammar offset rule) → Flaw file rule offset
+LoadsTellFlaws = (file : List ℕ) (tops : List Top) → IsInOrder file tops → length file < 2 ^ 64 → (rule offset : ℕ) → IsRefused file (by_index.Refused (refusals.Grammar offset rule)) → Flaw file rule offset
 
 -- Besides no rule fails anywhere: the file is valid, but perhaps for chunks that name a compression.
 pub record IsFlawless (file : List ℕ) (tops : List Top) : Type 0 where
@@ -38,17 +38,18 @@ abbrev pub ValidFilesAreFlawless : Type 0
 ValidFilesAreFlawless = (file : List ℕ) (tops : List Top) → Valid file tops → IsFlawless file tops
 
 -- the store failed, a limit is passed, or memory lacked
-abbrev pub IsOutside : LoadRefused → Type 0
-IsOutside (load_refusals.Fault faults) = Unit {0}
-IsOutside load_refusals.NoSummary = ⊥
-IsOutside (load_refusals.Grammar offset rule) = ⊥
-IsOutside (load_refusals.Limit offset) = Unit {0}
-IsOutside load_refusals.Memory = Unit {0}
+abbrev pub IsOutside : IndexedRefused → Type 0
+IsOutside (by_index.NotIndexed why) = ⊥
+IsOutside (by_index.Refused (refusals.Fault faults)) = Unit {0}
+IsOutside (by_index.Refused (refusals.Grammar offset rule)) = ⊥
+IsOutside (by_index.Refused (refusals.Compressed offset name)) = ⊥
+IsOutside (by_index.Refused (refusals.Limit offset)) = Unit {0}
+IsOutside (by_index.Refused refusals.Memory) = Unit {0}
 
 -- a file in which no rule fails and whose Footer names a summary isn't refused for what stands in it
 abbrev pub FlawlessFilesAreLoaded : Type 0
 FlawlessFilesAreLoaded = (file : List ℕ) (tops : List Top) (footer : Footer) → IsFlawless file tops → length file < 2 ^ 64 → EndsIn file footer → footer.summary_start ≢ 0
-    → (why : LoadRefused) → IsRefused file why → IsOutside why
+    → (why : IndexedRefused) → IsRefused file why → IsOutside why
 
 -- Besides each content can be read (V6), each chunk is right (V8), and none names a compression; and where a Chunk Index leads
 -- to, a record of the file stands.
@@ -61,7 +62,7 @@ pub record IsReadable (file : List ℕ) (tops : List Top) : Type 0 where
 
 -- a rule for which such a file isn't replayed by its index fails in the file, unless it has no summary
 abbrev pub ReplaysTellFlaws : Type 0
-ReplaysTellFlaws = (file : List ℕ) (tops : List Top) (range : Range) → IsReadable file tops → (HasNoSummary file → ⊥) → length file < 2 ^ 64 → (rule offset : ℕ) → IsReason file range (refusals.Flaw rule offset) → Flaw file rule offset
+ReplaysTellFlaws = (file : List ℕ) (tops : List Top) (range : Range) → IsReadable file tops → (HasNoSummary file → ⊥) → length file < 2 ^ 64 → (rule offset : ℕ) → IsReason file range (by_index.Refused (refusals.Grammar offset rule)) → Flaw file rule offset
 
 -- the messages of a fully indexed file that is read to its Data End are never too much
 abbrev pub FullFilesHaveRoom : Type 0

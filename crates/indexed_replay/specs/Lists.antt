@@ -12,9 +12,10 @@ use Rattle.mcap_model.specs.Made.{top}
 use Rattle.mcap_model.specs.Plain.{DeclareChannels, asked_topic}
 use Rattle.mcap_model.specs.Scan.{InRange, OnTopic}
 use Rattle.mcap_model.specs.Led.{HasSummary, FirstTopic, IsThere, LedByIndex}
-use Rattle.indexed_replay.specs.declared.answers.ReplayRefused.{ReplayRefused}
-use Rattle.indexed_replay.specs.declared.answers.ReplayRefused.TheVariants as refusals
-use Rattle.indexed_replay.specs.declared.answers.NotIndexed.TheVariants as lacks
+use Rattle.mcap_model.specs.declared.refusals.ReadingRefused.{ReadingRefused}
+use Rattle.mcap_model.specs.declared.refusals.IndexedRefused.{IndexedRefused}
+use Rattle.mcap_model.specs.declared.refusals.IndexedRefused.TheVariants as by_index
+use Rattle.mcap_model.specs.declared.refusals.NotIndexed.TheVariants as lacks
 use Rattle.indexed_replay.specs.declared.spots.Spot.{Spot}
 use Rattle.indexed_replay.specs.declared.spots.Request.{Request}
 use Rattle.indexed_replay.specs.Reaching.{Names, LeadsNowhere, LacksIndex, head_length}
@@ -62,17 +63,17 @@ pub record IsShownBy (file : List ℕ) (request : Request) (spot : Spot) (entrie
 
 -- why its messages aren't shown: that of an entry in the range can't be read, or there is one and no Channel; or there is too much
 -- data beside these
-pub data ContentRefused (file : List ℕ) (request : Request) (spot : Spot) (entries : List (ℕ × ℕ)) (old : List Shown) : ReplayRefused → Type 0 where
-  at_entry : (why : ReplayRefused) → EntriesRefused file request.range spot entries why → ContentRefused file request spot entries old why
-  no_channel : HasTimely request.range entries → Undeclared request.tables.now.channels spot.channel → ContentRefused file request spot entries old (refusals.NotIndexed (lacks.NoChannel spot.channel))
-  too_much : (why : ReplayRefused) → Fills (IsShownBy file request spot entries) (IsShownBy file request spot entries) spot.list file old why → ContentRefused file request spot entries old why
+pub data ContentRefused (file : List ℕ) (request : Request) (spot : Spot) (entries : List (ℕ × ℕ)) (old : List Shown) : IndexedRefused → Type 0 where
+  at_entry : (why : ReadingRefused) → EntriesRefused file request.range spot entries why → ContentRefused file request spot entries old (by_index.Refused why)
+  no_channel : HasTimely request.range entries → Undeclared request.tables.now.channels spot.channel → ContentRefused file request spot entries old (by_index.NotIndexed (lacks.NoChannel spot.channel))
+  too_much : (why : IndexedRefused) → Fills (IsShownBy file request spot entries) (IsShownBy file request spot entries) spot.list file old why → ContentRefused file request spot entries old why
 
-abbrev pub ContentShown : List ℕ → Request → Spot → List (ℕ × ℕ) → (List Shown × List Shown) → Result Bool ReplayRefused → Type 0
+abbrev pub ContentShown : List ℕ → Request → Spot → List (ℕ × ℕ) → (List Shown × List Shown) → Result Bool IndexedRefused → Type 0
 ContentShown file request spot entries shown (Ok true) = Adds (IsShownBy file request spot entries) shown.0 shown.1
 ContentShown file request spot entries shown (Ok false) = LacksListed file request.range spot entries
 ContentShown file request spot entries shown (Err why) = ContentRefused file request spot entries shown.0 why
 
-abbrev pub ShowsContent : Option (List ℕ) → Request → Spot → List ℕ → (List Shown × List Shown) → Result Bool ReplayRefused → Type 0
+abbrev pub ShowsContent : Option (List ℕ) → Request → Spot → List ℕ → (List Shown × List Shown) → Result Bool IndexedRefused → Type 0
 ShowsContent told request spot content shown result = (file : List ℕ) (entries : List (ℕ × ℕ)) → told ≡ Some file → length file ≡ request.len → DeclareChannels request.tables.now.channels → ShowsMessageIndex content spot.channel entries
     → ContentShown file request spot entries shown result
 
@@ -92,19 +93,19 @@ pub record IsNamed (file : List ℕ) (request : Request) (spot : Spot) (s : Show
   pub own : s.channel ≡ spot.channel
 
 -- why its messages aren't shown, where a Chunk Index that is reached at that offset names it
-abbrev pub ListRefused : List ℕ → Request → ℕ → Spot → ReplayRefused → Type 0
+abbrev pub ListRefused : List ℕ → Request → ℕ → Spot → IndexedRefused → Type 0
 ListRefused file request at spot why = (f : ChunkIndexFields) → f.offset ≡ spot.chunk → Names file request.range at f spot.channel spot.list → IsReason file request.range why
 
 -- one of its entries leads to no message, where a Chunk Index that is reached at that offset names it
 abbrev pub ListAstray : List ℕ → Request → ℕ → Spot → Type 0
 ListAstray file request at spot = (f : ChunkIndexFields) → f.offset ≡ spot.chunk → Names file request.range at f spot.channel spot.list → LeadsNowhere file request.range at f spot.channel spot.list
 
-abbrev pub ListShown : List ℕ → Request → ℕ → Spot → (List Shown × List Shown) → Result Bool ReplayRefused → Type 0
+abbrev pub ListShown : List ℕ → Request → ℕ → Spot → (List Shown × List Shown) → Result Bool IndexedRefused → Type 0
 ListShown file request at spot shown (Ok true) = Adds (IsLedBy file request spot) shown.0 shown.1
 ListShown file request at spot shown (Ok false) = ListAstray file request at spot
 ListShown file request at spot shown (Err why) = ListRefused file request at spot why ⊎ Fills (IsNamed file request spot) (IsNamed file request spot) spot.list file shown.0 why
 
-abbrev pub Shows : Option (List ℕ) → Request → ℕ → Spot → (List Shown × List Shown) → Result Bool ReplayRefused → Type 0
+abbrev pub Shows : Option (List ℕ) → Request → ℕ → Spot → (List Shown × List Shown) → Result Bool IndexedRefused → Type 0
 Shows told request at spot shown result = (file : List ℕ) → told ≡ Some file → length file ≡ request.len → Knows file request.tables.now.channels → ListShown file request at spot shown result
 
 -- What its reading asks for: all of it and the messages in the range; or all of what stands there as a Message Index, which
@@ -118,9 +119,9 @@ abbrev pub AsksList : Request → Spot → StoreState → StoreState → Type 0
 AsksList request spot old new = (file : List ℕ) (cost : ℕ) → old.bytes ≡ Some file → length file ≡ request.len → ListCost file request.range spot cost → new.asked ≤ old.asked + cost
 
 -- it is there, unless its messages aren't shown
-abbrev pub IsFound : List ℕ → Spot → Result Bool ReplayRefused → Type 0
+abbrev pub IsFound : List ℕ → Spot → Result Bool IndexedRefused → Type 0
 IsFound file spot (Ok it) = LacksIndex file spot.channel spot.list → ⊥
 IsFound file spot (Err why) = Unit {0}
 
-abbrev pub FindsList : Option (List ℕ) → ℕ → Spot → Result Bool ReplayRefused → Type 0
+abbrev pub FindsList : Option (List ℕ) → ℕ → Spot → Result Bool IndexedRefused → Type 0
 FindsList told len spot result = (file : List ℕ) → told ≡ Some file → length file ≡ len → IsFound file spot result

@@ -10,12 +10,9 @@ use Rattle.mcap_model.specs.Valid.{IsFullyIndexed}
 use Rattle.mcap_model.specs.Led.{HasSummary, IsThere, AskedBound}
 use Rattle.summary_read.specs.Parts.{Parts, IsLoaded, of_kind}
 use Rattle.summary_read.specs.Loading.{AskedFor}
-use Rattle.summary_read.specs.declared.refusals.LoadRefused.{LoadRefused}
-use Rattle.summary_read.specs.declared.refusals.LoadRefused.TheVariants as load_refusals
-use Rattle.indexed_replay.specs.declared.answers.NotIndexed.{NotIndexed}
-use Rattle.indexed_replay.specs.declared.answers.NotIndexed.TheVariants as lacks
-use Rattle.indexed_replay.specs.declared.answers.ReplayRefused.{ReplayRefused}
-use Rattle.indexed_replay.specs.declared.answers.ReplayRefused.TheVariants as refusals
+use Rattle.mcap_model.specs.declared.refusals.NotIndexed.{NotIndexed}
+use Rattle.mcap_model.specs.declared.refusals.NotIndexed.TheVariants as lacks
+use Rattle.mcap_model.specs.declared.refusals.IndexedRefused.{IndexedRefused}
 use Rattle.indexed_replay.specs.Reaching.{AskedBeside}
 use Rattle.indexed_replay.specs.Replaying.{FileIsLed}
 use Rattle.indexed_replay.specs.Gathering.{IndexesCost}
@@ -48,19 +45,10 @@ CountsJudged parts (Err (lacks.ChunkCount stated found)) = PartsDiffer parts sta
 CountsJudged parts (Err (lacks.NoMessageIndex chunk)) = ⊥
 CountsJudged parts (Err (lacks.NoChannel id)) = ⊥
 
--- ---- loading
-
-abbrev pub refused_by : LoadRefused → ReplayRefused
-refused_by (load_refusals.Fault faults) = refusals.Fault faults
-refused_by load_refusals.NoSummary = refusals.NotIndexed lacks.NoSummary
-refused_by (load_refusals.Grammar offset rule) = refusals.Flaw rule offset
-refused_by (load_refusals.Limit offset) = refusals.Limit offset
-refused_by load_refusals.Memory = refusals.Memory
-
 -- ---- what was loaded
 
 -- a file of these parts is played
-abbrev pub PlaysLoaded : Option (List ℕ) → Parts → Range → Option (List ℕ) → Result Replayed ReplayRefused → Type 0
+abbrev pub PlaysLoaded : Option (List ℕ) → Parts → Range → Option (List ℕ) → Result Replayed IndexedRefused → Type 0
 PlaysLoaded told parts range topic result = (file : List ℕ) → told ≡ Some file → IsLoaded file parts → FileIsLed file range topic result
 
 abbrev pub AsksLoaded : Parts → Range → StoreState → StoreState → Type 0

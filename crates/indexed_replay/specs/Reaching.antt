@@ -13,8 +13,8 @@ use Rattle.mcap_model.specs.Whole.{AreShort, offset_among}
 use Rattle.mcap_model.specs.Led.{HasSummary, IsThere, LedByIndex, Led, Meets}
 use Rattle.summary_read.specs.Reached.{HasNoSummary, StartsAt, Fails, Passes}
 use Rattle.summary_read.specs.Parts.{of_kind, first_of_kind}
-use Rattle.indexed_replay.specs.declared.answers.NotIndexed.{NotIndexed}
-use Rattle.indexed_replay.specs.declared.answers.NotIndexed.TheVariants as lacks
+use Rattle.mcap_model.specs.declared.refusals.NotIndexed.{NotIndexed}
+use Rattle.mcap_model.specs.declared.refusals.NotIndexed.TheVariants as lacks
 
 -- ---- what is reached
 

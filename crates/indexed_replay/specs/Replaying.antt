@@ -11,23 +11,28 @@ use Rattle.mcap_model.specs.Showing.{Shows}
 use Rattle.mcap_model.specs.Valid.{IsFullyIndexed}
 use Rattle.mcap_model.specs.Led.{HasSummary, LedReplay}
 use Rattle.summary_read.specs.Reached.{HasNoSummary}
+use Rattle.summary_read.specs.Loading.{IsUnsummed}
 use Rattle.summary_read.specs.Parts.{of_kind, first_of_kind}
-use Rattle.indexed_replay.specs.declared.answers.ReplayRefused.{ReplayRefused}
-use Rattle.indexed_replay.specs.declared.answers.ReplayRefused.TheVariants as refusals
-use Rattle.indexed_replay.specs.declared.answers.NotIndexed.{NotIndexed}
-use Rattle.indexed_replay.specs.declared.answers.NotIndexed.TheVariants as lacks
+use Rattle.mcap_model.specs.declared.refusals.ReadingRefused.{ReadingRefused}
+use Rattle.mcap_model.specs.declared.refusals.ReadingRefused.TheVariants as refusals
+use Rattle.mcap_model.specs.declared.refusals.IndexedRefused.{IndexedRefused}
+use Rattle.mcap_model.specs.declared.refusals.IndexedRefused.TheVariants as by_index
 use Rattle.indexed_replay.specs.Reaching.{AreOfOne, IsNotIndexed, Breaks, IsPacked, PassesLimit}
 
 -- ---- what is answered
 
+-- why what the summary leads to isn't read
+abbrev pub IsUnread : List ℕ → Range → ReadingRefused → Type 0
+IsUnread file range (refusals.Fault faults) = Unit {0}
+IsUnread file range (refusals.Grammar offset rule) = Breaks file range rule offset
+IsUnread file range (refusals.Compressed offset name) = IsPacked file range offset name
+IsUnread file range (refusals.Limit offset) = PassesLimit file range offset
+IsUnread file range refusals.Memory = Unit {0}
+
 -- why a replay is refused
-abbrev pub IsReason : List ℕ → Range → ReplayRefused → Type 0
-IsReason file range (refusals.Fault faults) = Unit {0}
-IsReason file range (refusals.NotIndexed why) = IsNotIndexed file range why
-IsReason file range (refusals.Flaw rule offset) = Breaks file range rule offset
-IsReason file range (refusals.Compressed offset name) = IsPacked file range offset name
-IsReason file range (refusals.Limit offset) = PassesLimit file range offset
-IsReason file range refusals.Memory = Unit {0}
+abbrev pub IsReason : List ℕ → Range → IndexedRefused → Type 0
+IsReason file range (by_index.NotIndexed why) = IsNotIndexed file range why
+IsReason file range (by_index.Refused why) = IsUnread file range why
 
 -- the messages to which the indexes lead are shown
 pub record IsLed (file : List ℕ) (range : Range) (topic : Option (List ℕ)) (played : Replayed) : Type 0 where
@@ -35,12 +40,12 @@ pub record IsLed (file : List ℕ) (range : Range) (topic : Option (List ℕ)) (
   pub replay : LedReplay file range topic shown
   pub shows : Shows played shown
 
-abbrev pub FileIsLed : List ℕ → Range → Option (List ℕ) → Result Replayed ReplayRefused → Type 0
+abbrev pub FileIsLed : List ℕ → Range → Option (List ℕ) → Result Replayed IndexedRefused → Type 0
 FileIsLed file range topic (Ok played) = IsLed file range topic played
 FileIsLed file range topic (Err why) = IsReason file range why
 
 -- where the store tells its bytes, these are the file
-abbrev pub Plays : Option (List ℕ) → Range → Option (List ℕ) → Result Replayed ReplayRefused → Type 0
+abbrev pub Plays : Option (List ℕ) → Range → Option (List ℕ) → Result Replayed IndexedRefused → Type 0
 Plays told range topic result = (file : List ℕ) → told ≡ Some file → FileIsLed file range topic result
 
 -- ---- what is played
@@ -56,76 +61,73 @@ pub record StatesChunks (file : List ℕ) : Type 0 where
   pub is : IsStatistics statistics shown
   pub agree : shown.chunks ≡ length (of_kind 8 summary)
 
-abbrev pub PlaysAll : List ℕ → Result Replayed ReplayRefused → Type 0
+abbrev pub PlaysAll : List ℕ → Result Replayed IndexedRefused → Type 0
 PlaysAll file (Ok played) = StatesChunks file
 PlaysAll file (Err why) = Unit {0}
 
 -- no file is played whose summary lacks the index of a chunk
-abbrev pub TellsChunks : Option (List ℕ) → Result Replayed ReplayRefused → Type 0
+abbrev pub TellsChunks : Option (List ℕ) → Result Replayed IndexedRefused → Type 0
 TellsChunks told result = (file : List ℕ) → told ≡ Some file → PlaysAll file result
 
 -- no chunk has two Chunk Indexes
 abbrev pub HaveOneIndex : List ℕ → Type 0
 HaveOneIndex file = (first second : ℕ) → AreOfOne file first second → first ≡ second
 
-abbrev pub HasOneIndex : List ℕ → Result Replayed ReplayRefused → Type 0
+abbrev pub HasOneIndex : List ℕ → Result Replayed IndexedRefused → Type 0
 HasOneIndex file (Ok played) = HaveOneIndex file
 HasOneIndex file (Err why) = Unit {0}
 
 -- no file is played in which a chunk has two
-abbrev pub TellsOneIndex : Option (List ℕ) → Result Replayed ReplayRefused → Type 0
+abbrev pub TellsOneIndex : Option (List ℕ) → Result Replayed IndexedRefused → Type 0
 TellsOneIndex told result = (file : List ℕ) → told ≡ Some file → HasOneIndex file result
 
 -- ---- files without a summary
 
-abbrev pub SaysNotIndexed : NotIndexed → Type 0
-SaysNotIndexed lacks.NoSummary = Unit {0}
-SaysNotIndexed lacks.NoStatistics = ⊥
-SaysNotIndexed (lacks.ChunkCount stated found) = ⊥
-SaysNotIndexed (lacks.NoMessageIndex chunk) = ⊥
-SaysNotIndexed (lacks.NoChannel id) = ⊥
-
 -- the answer is that there is no summary, unless the store failed or memory lacked
-abbrev pub SaysNoSummary : Result Replayed ReplayRefused → Type 0
+abbrev pub SaysNoSummary : Result Replayed IndexedRefused → Type 0
 SaysNoSummary (Ok played) = ⊥
-SaysNoSummary (Err (refusals.Fault faults)) = Unit {0}
-SaysNoSummary (Err (refusals.NotIndexed why)) = SaysNotIndexed why
-SaysNoSummary (Err (refusals.Flaw rule offset)) = ⊥
-SaysNoSummary (Err (refusals.Compressed offset name)) = ⊥
-SaysNoSummary (Err (refusals.Limit offset)) = ⊥
-SaysNoSummary (Err refusals.Memory) = Unit {0}
+SaysNoSummary (Err (by_index.NotIndexed why)) = IsUnsummed why
+SaysNoSummary (Err (by_index.Refused (refusals.Fault faults))) = Unit {0}
+SaysNoSummary (Err (by_index.Refused (refusals.Grammar offset rule))) = ⊥
+SaysNoSummary (Err (by_index.Refused (refusals.Compressed offset name))) = ⊥
+SaysNoSummary (Err (by_index.Refused (refusals.Limit offset))) = ⊥
+SaysNoSummary (Err (by_index.Refused refusals.Memory)) = Unit {0}
 
-abbrev pub TellsNoSummary : Option (List ℕ) → Result Replayed ReplayRefused → Type 0
+abbrev pub TellsNoSummary : Option (List ℕ) → Result Replayed IndexedRefused → Type 0
 TellsNoSummary told result = (file : List ℕ) → told ≡ Some file → HasNoSummary file → SaysNoSummary result
 
 -- ---- fully indexed files
 
-abbrev pub IsScanReplayed : Range → Option (List ℕ) → List Seen → Result Replayed ReplayRefused → Type 0
+abbrev pub IsScanReplayed : Range → Option (List ℕ) → List Seen → Result Replayed IndexedRefused → Type 0
 IsScanReplayed range topic messages (Ok played) = (shown : List Seen) × Replay range topic messages shown × Shows played shown
-IsScanReplayed range topic messages (Err (refusals.Fault faults)) = Unit {0}
-IsScanReplayed range topic messages (Err (refusals.NotIndexed why)) = ⊥
-IsScanReplayed range topic messages (Err (refusals.Flaw rule offset)) = ⊥
-IsScanReplayed range topic messages (Err (refusals.Compressed offset name)) = ⊥
-IsScanReplayed range topic messages (Err (refusals.Limit offset)) = Unit {0}
-IsScanReplayed range topic messages (Err refusals.Memory) = Unit {0}
+IsScanReplayed range topic messages (Err (by_index.NotIndexed why)) = ⊥
+IsScanReplayed range topic messages (Err (by_index.Refused (refusals.Fault faults))) = Unit {0}
+IsScanReplayed range topic messages (Err (by_index.Refused (refusals.Grammar offset rule))) = ⊥
+IsScanReplayed range topic messages (Err (by_index.Refused (refusals.Compressed offset name))) = ⊥
+IsScanReplayed range topic messages (Err (by_index.Refused (refusals.Limit offset))) = Unit {0}
+IsScanReplayed range topic messages (Err (by_index.Refused refusals.Memory)) = Unit {0}
 
 -- Of a fully indexed file that is read to its Data End the replay of its scan is played, unless the store failed, a limit
 -- is passed or memory lacked.
-abbrev pub PlaysScan : Option (List ℕ) → Range → Option (List ℕ) → Result Replayed ReplayRefused → Type 0
+abbrev pub PlaysScan : Option (List ℕ) → Range → Option (List ℕ) → Result Replayed IndexedRefused → Type 0
 PlaysScan told range topic result = (file : List ℕ) (tops : List Top) (end : ℕ) (messages : List Seen) → told ≡ Some file → IsFullyIndexed file → Halts reading_limits file tops (at_end end) → Scan tops messages
     → IsScanReplayed range topic messages result
 
 -- ---- faults
 
 -- a fault comes where the store failed, and has the count; otherwise the count stands still
-abbrev pub RefusalCause : ℕ → ℕ → ReplayRefused → Type 0
+abbrev pub RefusalCause : ℕ → ℕ → ReadingRefused → Type 0
 RefusalCause before now (refusals.Fault faults) = RisesOnce before now × (faults ≡ now)
-RefusalCause before now (refusals.NotIndexed why) = now ≡ before
-RefusalCause before now (refusals.Flaw rule offset) = now ≡ before
+RefusalCause before now (refusals.Grammar offset rule) = now ≡ before
 RefusalCause before now (refusals.Compressed offset name) = now ≡ before
 RefusalCause before now (refusals.Limit offset) = now ≡ before
 RefusalCause before now refusals.Memory = now ≡ before
 
-abbrev pub ReplayCause : {P : Type 0} → ℕ → ℕ → Result P ReplayRefused → Type 0
+abbrev pub ReadingCause : {P : Type 0} → ℕ → ℕ → Result P ReadingRefused → Type 0
+ReadingCause before now (Ok it) = now ≡ before
+ReadingCause before now (Err why) = RefusalCause before now why
+
+abbrev pub ReplayCause : {P : Type 0} → ℕ → ℕ → Result P IndexedRefused → Type 0
 ReplayCause before now (Ok played) = now ≡ before
-ReplayCause before now (Err why) = RefusalCause before now why
+ReplayCause before now (Err (by_index.NotIndexed why)) = now ≡ before
+ReplayCause before now (Err (by_index.Refused why)) = RefusalCause before now why

@@ -13,8 +13,9 @@ use Rattle.mcap_model.specs.Plain.{is_within}
 use Rattle.mcap_model.specs.Scan.{InRange}
 use Rattle.mcap_model.specs.Led.{IsThere, IsInChunk}
 use Rattle.time_player.specs.Ordering.{led_as}
-use Rattle.indexed_replay.specs.declared.answers.ReplayRefused.{ReplayRefused}
-use Rattle.indexed_replay.specs.declared.answers.ReplayRefused.TheVariants as refusals
+use Rattle.mcap_model.specs.declared.refusals.ReadingRefused.{ReadingRefused}
+use Rattle.mcap_model.specs.declared.refusals.ReadingRefused.TheVariants as refusals
+use Rattle.mcap_model.specs.declared.refusals.IndexedRefused.TheVariants as by_index
 use Rattle.indexed_replay.specs.declared.fronts.Front.{Front}
 use Rattle.indexed_replay.specs.declared.fronts.Front.TheVariants as fronts
 use Rattle.indexed_replay.specs.declared.spots.Spot.{Spot}
@@ -76,21 +77,20 @@ pub record Adds (P : Shown → Type 0) (old new : List Shown) : Type 0 where
   pub once : AllPairs (λ s r. s ≢ r) more
 
 -- why the message of an entry can't be read
-abbrev pub EntryRefused : List ℕ → ℕ → ℕ × ℕ → ReplayRefused → Type 0
+abbrev pub EntryRefused : List ℕ → ℕ → ℕ × ℕ → ReadingRefused → Type 0
 EntryRefused file chunk entry (refusals.Fault faults) = Unit {0}
-EntryRefused file chunk entry (refusals.NotIndexed why) = ⊥
-EntryRefused file chunk entry (refusals.Flaw rule offset) = ⊥
+EntryRefused file chunk entry (refusals.Grammar offset rule) = ⊥
 EntryRefused file chunk entry (refusals.Compressed offset name) = ⊥
 EntryRefused file chunk entry (refusals.Limit offset) = (offset ≡ chunk + 49 + entry.1) × IsTooLong file offset
 EntryRefused file chunk entry refusals.Memory = Unit {0}
 
 -- the message of an entry is added; or none stands there; or why it can't be read, or isn't, since the data is too much
-abbrev pub MessageIs : List ℕ → Spot → ℕ × ℕ → (List Shown × List Shown) → Result Bool ReplayRefused → Type 0
+abbrev pub MessageIs : List ℕ → Spot → ℕ × ℕ → (List Shown × List Shown) → Result Bool ReadingRefused → Type 0
 MessageIs file spot entry shown (Ok true) = Adds (IsFound file spot.chunk spot.channel entry) shown.0 shown.1
 MessageIs file spot entry shown (Ok false) = LacksMessage file spot.chunk spot.channel entry
-MessageIs file spot entry shown (Err why) = EntryRefused file spot.chunk entry why ⊎ Fills (IsFound file spot.chunk spot.channel entry) (IsFound file spot.chunk spot.channel entry) spot.list file shown.0 why
+MessageIs file spot entry shown (Err why) = EntryRefused file spot.chunk entry why ⊎ Fills (IsFound file spot.chunk spot.channel entry) (IsFound file spot.chunk spot.channel entry) spot.list file shown.0 (by_index.Refused why)
 
-abbrev pub TellsMessage : Option (List ℕ) → ℕ → Spot → ℕ × ℕ → (List Shown × List Shown) → Result Bool ReplayRefused → Type 0
+abbrev pub TellsMessage : Option (List ℕ) → ℕ → Spot → ℕ × ℕ → (List Shown × List Shown) → Result Bool ReadingRefused → Type 0
 TellsMessage told len spot entry shown result = (file : List ℕ) → told ≡ Some file → length file ≡ len → MessageIs file spot entry shown result
 
 -- what the reading of a message asks for: 31 bytes, and the rest of the record, where a whole one stands there
@@ -114,16 +114,16 @@ abbrev pub LacksListed : List ℕ → Range → Spot → List (ℕ × ℕ) → T
 LacksListed file range spot entries = (entry : ℕ × ℕ) × Has entries entry × InRange range entry.0 × LacksMessage file spot.chunk spot.channel entry
 
 -- one of them can't be read, for that reason
-abbrev pub EntriesRefused : List ℕ → Range → Spot → List (ℕ × ℕ) → ReplayRefused → Type 0
+abbrev pub EntriesRefused : List ℕ → Range → Spot → List (ℕ × ℕ) → ReadingRefused → Type 0
 EntriesRefused file range spot entries why = (entry : ℕ × ℕ) × Has entries entry × InRange range entry.0 × EntryRefused file spot.chunk entry why
 
 -- the messages of the entries are added; or one of them isn't there; or why one can't be read, or isn't
-abbrev pub EntriesShown : List ℕ → Range → Spot → List (ℕ × ℕ) → (List Shown × List Shown) → Result Bool ReplayRefused → Type 0
+abbrev pub EntriesShown : List ℕ → Range → Spot → List (ℕ × ℕ) → (List Shown × List Shown) → Result Bool ReadingRefused → Type 0
 EntriesShown file range spot entries shown (Ok true) = Adds (IsListed file range spot entries) shown.0 shown.1
 EntriesShown file range spot entries shown (Ok false) = LacksListed file range spot entries
-EntriesShown file range spot entries shown (Err why) = EntriesRefused file range spot entries why ⊎ Fills (IsListed file range spot entries) (IsListed file range spot entries) spot.list file shown.0 why
+EntriesShown file range spot entries shown (Err why) = EntriesRefused file range spot entries why ⊎ Fills (IsListed file range spot entries) (IsListed file range spot entries) spot.list file shown.0 (by_index.Refused why)
 
-abbrev pub TellsEntries : Option (List ℕ) → ℕ → Range → Spot → List (ℕ × ℕ) → (List Shown × List Shown) → Result Bool ReplayRefused → Type 0
+abbrev pub TellsEntries : Option (List ℕ) → ℕ → Range → Spot → List (ℕ × ℕ) → (List Shown × List Shown) → Result Bool ReadingRefused → Type 0
 TellsEntries told len range spot entries shown result = (file : List ℕ) → told ≡ Some file → length file ≡ len → EntriesShown file range spot entries shown result
 
 -- what the reading of the messages in the range asks for
@@ -156,31 +156,29 @@ abbrev pub LacksList : List ℕ → ℕ → Type 0
 LacksList file at = (t : Top) → IsThere file at t → t.op ≡ 7 → ⊥
 
 -- the content of the Message Index that stands there, or none does
-abbrev pub ListIs : {Y : Type 0} → List ℕ → ℕ → Result (Option (Vec ℕ Y)) ReplayRefused → Type 0
+abbrev pub ListIs : {Y : Type 0} → List ℕ → ℕ → Result (Option (Vec ℕ Y)) ReadingRefused → Type 0
 ListIs file at (Ok (Some content)) = IsThere file at (top 7 content.items)
 ListIs file at (Ok None) = LacksList file at
 ListIs file at (Err (refusals.Fault faults)) = Unit {0}
-ListIs file at (Err (refusals.NotIndexed why)) = ⊥
-ListIs file at (Err (refusals.Flaw rule offset)) = ⊥
+ListIs file at (Err (refusals.Grammar offset rule)) = ⊥
 ListIs file at (Err (refusals.Compressed offset name)) = ⊥
 ListIs file at (Err (refusals.Limit offset)) = (offset ≡ at) × IsTooLong file offset
 ListIs file at (Err refusals.Memory) = Unit {0}
 
-abbrev pub TellsList : {Y : Type 0} → Option (List ℕ) → ℕ → ℕ → Result (Option (Vec ℕ Y)) ReplayRefused → Type 0
+abbrev pub TellsList : {Y : Type 0} → Option (List ℕ) → ℕ → ℕ → Result (Option (Vec ℕ Y)) ReadingRefused → Type 0
 TellsList told len at result = (file : List ℕ) → told ≡ Some file → length file ≡ len → ListIs file at result
 
 -- the content of the Message Index of that channel that stands there, or none does
-abbrev pub IndexIs : {Y : Type 0} → List ℕ → Spot → Result (Option (Vec ℕ Y)) ReplayRefused → Type 0
+abbrev pub IndexIs : {Y : Type 0} → List ℕ → Spot → Result (Option (Vec ℕ Y)) ReadingRefused → Type 0
 IndexIs file spot (Ok (Some content)) = IsThere file spot.list (top 7 content.items) × ((entries : List (ℕ × ℕ)) × ShowsMessageIndex content.items spot.channel entries)
 IndexIs file spot (Ok None) = LacksIndex file spot.channel spot.list
 IndexIs file spot (Err (refusals.Fault faults)) = Unit {0}
-IndexIs file spot (Err (refusals.NotIndexed why)) = ⊥
-IndexIs file spot (Err (refusals.Flaw rule offset)) = ⊥
+IndexIs file spot (Err (refusals.Grammar offset rule)) = ⊥
 IndexIs file spot (Err (refusals.Compressed offset name)) = ⊥
 IndexIs file spot (Err (refusals.Limit offset)) = (offset ≡ spot.list) × IsTooLong file offset
 IndexIs file spot (Err refusals.Memory) = Unit {0}
 
-abbrev pub TellsIndex : {Y : Type 0} → Option (List ℕ) → ℕ → Spot → Result (Option (Vec ℕ Y)) ReplayRefused → Type 0
+abbrev pub TellsIndex : {Y : Type 0} → Option (List ℕ) → ℕ → Spot → Result (Option (Vec ℕ Y)) ReadingRefused → Type 0
 TellsIndex told len spot result = (file : List ℕ) → told ≡ Some file → length file ≡ len → IndexIs file spot result
 
 -- from the one count on no more was asked for than the Message Index that stands there, or the head of what does

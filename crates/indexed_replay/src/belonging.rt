@@ -2,11 +2,11 @@
 ghost use Rattle.std.specs.Prelude.{◌≤◌};
 ghost use Rattle.mcap_io.specs.Stores.{StoreStays};
 ghost use Rattle.indexed_replay.specs.Belonging.{AsksHeads, JudgesAstray, TellsWalk};
-ghost use Rattle.indexed_replay.specs.Replaying.{RefusalCause, ReplayCause};
+ghost use Rattle.indexed_replay.specs.Replaying.{RefusalCause, ReadingCause};
 
-use crate::answers::ReplayRefused;
 use crate::fronts::{Front, read_front};
 use mcap_io::{Failed, Store};
+use mcap_model::ReadingRefused;
 use rec_index::MESSAGE_INDEX;
 
 /// The bytes of a record in front of its content.
@@ -18,10 +18,10 @@ fn indexes_stand<T: Store>(
     len: u64,
     from: u64,
     to: u64,
-) -> Result<bool, ReplayRefused>
+) -> Result<bool, ReadingRefused>
     requires { len ≤ (T.state store.old).known }
     ensures told { TellsWalk (T.state store.old).bytes len from to result }
-    ensures cause { ReplayCause (T.state store.old).faults (T.state store.new).faults result }
+    ensures cause { ReadingCause (T.state store.old).faults (T.state store.new).faults result }
     ensures stays { StoreStays (T.state store.old) (T.state store.new) }
     ensures asks { AsksHeads len from (T.state store.old) (T.state store.new) }
 {
@@ -30,10 +30,10 @@ fn indexes_stand<T: Store>(
         let mut front = [0; 9];
         let head = match read_front(store, len, at, &mut front) {
             Ok(Front::Whole(head)) => head,
-            Ok(Front::Long) => return Err(ReplayRefused::Limit { offset: at }),
+            Ok(Front::Long) => return Err(ReadingRefused::Limit { offset: at }),
             Ok(Front::Absent) => return Ok(false),
             Err(Failed) => {
-                return Err(ReplayRefused::Fault {
+                return Err(ReadingRefused::Fault {
                     faults: store.faults(),
                 });
             }
@@ -57,7 +57,7 @@ pub(crate) fn refuse_astray<T: Store>(
     at: u64,
     end: u64,
     list: u64,
-) -> ReplayRefused
+) -> ReadingRefused
     requires { len ≤ (T.state store.old).known }
     ensures told { JudgesAstray (T.state store.old).bytes len at end list result }
     ensures cause { RefusalCause (T.state store.old).faults (T.state store.new).faults result }
@@ -65,13 +65,13 @@ pub(crate) fn refuse_astray<T: Store>(
     ensures asks { AsksHeads len end (T.state store.old) (T.state store.new) }
 {
     match indexes_stand(store, len, end, list) {
-        Ok(true) => return ReplayRefused::Flaw {
-            rule: 9,
+        Ok(true) => return ReadingRefused::Grammar {
             offset: list,
+            rule: 9,
         },
-        Ok(false) => return ReplayRefused::Flaw {
-            rule: 12,
+        Ok(false) => return ReadingRefused::Grammar {
             offset: at,
+            rule: 12,
         },
         Err(why) => return why,
     }

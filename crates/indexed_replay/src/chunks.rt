@@ -2,19 +2,19 @@
 ghost use Rattle.std.specs.Prelude.{◌+◌, ◌^◌, ◌<◌, ◌≤◌};
 ghost use Rattle.mcap_io.specs.Stores.{StoreStays};
 ghost use Rattle.rec_index.specs.Parsed.{chunk_index_fields};
-ghost use Rattle.indexed_replay.specs.Replaying.{RefusalCause, ReplayCause};
+ghost use Rattle.indexed_replay.specs.Replaying.{ReadingCause, RefusalCause, ReplayCause};
 ghost use Rattle.indexed_replay.specs.Reaching.{head_length};
 ghost use Rattle.indexed_replay.specs.Holding.{Fits, HoldsWithin};
 ghost use Rattle.indexed_replay.specs.Chunks.{AsksChunk, AsksFront, AsksNames, ChecksChunk, NamesPack, ShowsChunk, ShowsNames, front_length};
 ghost use Rattle.time_player.specs.Keeping.{kept_in};
 
-use crate::answers::{NotIndexed, ReplayRefused};
 use crate::belonging::refuse_astray;
 use crate::fronts::{Front, read_front};
 use crate::lists::show_list;
 use crate::packings::take_packing;
 use crate::spots::{Request, Spot};
 use mcap_io::{Failed, ReadRefused, Store, read_part};
+use mcap_model::{IndexedRefused, NotIndexed, ReadingRefused};
 use mcap_wire::{Memory, Text, take_u32};
 use rec_index::{CHUNK, ChunkIndex};
 use std::alloc::Global;
@@ -36,7 +36,7 @@ fn refuse_packed<T: Store>(
     offset: u64,
     len: u64,
     name_length: u64,
-) -> ReplayRefused
+) -> ReadingRefused
     requires inside { front_length + name_length ≤ len }
     requires fits { offset + head_length + len < 2 ^ 64 }
     requires known { offset + head_length + len ≤ (T.state store.old).known }
@@ -45,19 +45,19 @@ fn refuse_packed<T: Store>(
     ensures stays { StoreStays (T.state store.old) (T.state store.new) }
     ensures asks { (T.state store.new).asked ≤ (T.state store.old).asked + (front_length + name_length) }
 {
-    let missing = ReplayRefused::Flaw {
-        rule: 12,
+    let missing = ReadingRefused::Grammar {
         offset: index,
+        rule: 12,
     };
     let front_length = FRONT_LENGTH + name_length;
     let front = match read_part(alloc, store, offset + HEAD_LENGTH, front_length) {
         Ok(front) => front,
         Err(ReadRefused::Failed) => {
-            return ReplayRefused::Fault {
+            return ReadingRefused::Fault {
                 faults: store.faults(),
             };
         }
-        Err(ReadRefused::Memory) => return ReplayRefused::Memory,
+        Err(ReadRefused::Memory) => return ReadingRefused::Memory,
     };
     let (name, size) = match take_packing(&front) {
         Ok(taken) => taken,
@@ -67,8 +67,8 @@ fn refuse_packed<T: Store>(
         return missing;
     }
     match Text::copied(alloc, name) {
-        Ok(name) => return ReplayRefused::Compressed { offset, name },
-        Err(Memory) => return ReplayRefused::Memory,
+        Ok(name) => return ReadingRefused::Compressed { offset, name },
+        Err(Memory) => return ReadingRefused::Memory,
     }
 }
 
@@ -80,29 +80,29 @@ fn check_chunk<T: Store>(
     len: u64,
     index: u64,
     offset: u64,
-) -> Result<u64, ReplayRefused>
+) -> Result<u64, ReadingRefused>
     requires { len ≤ (T.state store.old).known }
     ensures told { ChecksChunk (T.state store.old).bytes len index offset result }
-    ensures cause { ReplayCause (T.state store.old).faults (T.state store.new).faults result }
+    ensures cause { ReadingCause (T.state store.old).faults (T.state store.new).faults result }
     ensures stays { StoreStays (T.state store.old) (T.state store.new) }
     ensures asks { AsksFront len offset (T.state store.old) (T.state store.new) }
 {
-    let missing = ReplayRefused::Flaw {
-        rule: 12,
+    let missing = ReadingRefused::Grammar {
         offset: index,
+        rule: 12,
     };
     let mut front = [0; 49];
     let found = match read_front(store, len, offset, &mut front) {
         Ok(found) => found,
         Err(Failed) => {
-            return Err(ReplayRefused::Fault {
+            return Err(ReadingRefused::Fault {
                 faults: store.faults(),
             });
         }
     };
     let head = match found {
         Front::Whole(head) => head,
-        Front::Long => return Err(ReplayRefused::Limit { offset }),
+        Front::Long => return Err(ReadingRefused::Limit { offset }),
         Front::Absent => return Err(missing),
     };
     if head.op != CHUNK {
@@ -132,7 +132,7 @@ fn show_names<T: Store>(
     end: u64,
     index: &ChunkIndex,
     shown: &mut Kept,
-) -> Result<(), ReplayRefused>
+) -> Result<(), IndexedRefused>
     requires known { request.now.len ≤ (T.state store.old).known }
     requires fits { Fits request.now.len shown.old }
     ensures told { ShowsNames (T.state store.old).bytes request.now at end (chunk_index_fields index.now) (kept_in shown.old, kept_in shown.new) result }
@@ -149,16 +149,18 @@ fn show_names<T: Store>(
             channel,
         };
         if list < end || list - end >= index.message_index_length {
-            return Err(ReplayRefused::Flaw {
-                rule: 12,
-                offset: at,
+            return Err(IndexedRefused::Refused {
+                why: ReadingRefused::Grammar {
+                    offset: at,
+                    rule: 12,
+                },
             });
         }
         match show_list(alloc, store, request, at, spot, shown) {
             Ok(true) => {}
             Ok(false) => {
-                let astray = refuse_astray(store, request.len, at, end, list);
-                return Err(astray);
+                let why = refuse_astray(store, request.len, at, end, list);
+                return Err(IndexedRefused::Refused { why });
             }
             Err(why) => return Err(why),
         }
@@ -174,7 +176,7 @@ pub(crate) fn show_chunk<T: Store>(
     at: u64,
     index: &ChunkIndex,
     shown: &mut Kept,
-) -> Result<(), ReplayRefused>
+) -> Result<(), IndexedRefused>
     requires known { request.now.len ≤ (T.state store.old).known }
     requires fits { Fits request.now.len shown.old }
     ensures told { ShowsChunk (T.state store.old).bytes request.now at (chunk_index_fields index.now) (kept_in shown.old, kept_in shown.new) result }
@@ -187,7 +189,7 @@ pub(crate) fn show_chunk<T: Store>(
         if index.message_start_time == 0 && index.message_end_time == 0 {
             return Ok(());
         }
-        return Err(ReplayRefused::NotIndexed {
+        return Err(IndexedRefused::NotIndexed {
             why: NotIndexed::NoMessageIndex {
                 chunk: index.chunk_start_offset,
             },
@@ -195,7 +197,7 @@ pub(crate) fn show_chunk<T: Store>(
     }
     let end = match check_chunk(alloc, store, request.len, at, index.chunk_start_offset) {
         Ok(end) => end,
-        Err(why) => return Err(why),
+        Err(why) => return Err(IndexedRefused::Refused { why }),
     };
     return show_names(alloc, store, request, at, end, index, shown);
 }

@@ -1,17 +1,16 @@
 //! The messages to which the entries of a Message Index lead.
 ghost use Rattle.std.specs.Prelude.{◌≡◌, ◌<◌, ◌≤◌, ℕ, length, false, true, Some, slice_get, IfOk, OnErr};
 ghost use Rattle.mcap_io.specs.Stores.{StoreStays};
-ghost use Rattle.indexed_replay.specs.Replaying.{ReplayCause};
+ghost use Rattle.indexed_replay.specs.Replaying.{ReadingCause};
 ghost use Rattle.indexed_replay.specs.Holding.{Fits, HoldsWithin};
 ghost use Rattle.indexed_replay.specs.Steps.{AreTimely, AsksEntries, EntriesAscend, TellsEntries};
 ghost use Rattle.indexed_replay.specs.Lists.{HasTimely};
 ghost use Rattle.time_player.specs.Keeping.{kept_in};
 
-use crate::answers::ReplayRefused;
 use crate::messages::add_message;
 use crate::spots::Spot;
 use mcap_io::Store;
-use mcap_model::{Range, is_within};
+use mcap_model::{Range, ReadingRefused, is_within};
 use mcap_wire::{EntriesRef, Memory};
 use std::alloc::Global;
 use time_player::Kept;
@@ -66,13 +65,13 @@ fn show_each<T: Store>(
     spot: Spot,
     entries: &[(u64, u64)],
     shown: &mut Kept,
-) -> Result<bool, ReplayRefused>
+) -> Result<bool, ReadingRefused>
     requires known { len ≤ (T.state store.old).known }
     requires ascend { EntriesAscend entries.now }
     requires fits { Fits len shown.old }
     ensures told { TellsEntries (T.state store.old).bytes len range spot entries.now (kept_in shown.old, kept_in shown.new) result }
     ensures holds { HoldsWithin len shown.new result }
-    ensures cause { ReplayCause (T.state store.old).faults (T.state store.new).faults result }
+    ensures cause { ReadingCause (T.state store.old).faults (T.state store.new).faults result }
     ensures stays { StoreStays (T.state store.old) (T.state store.new) }
     ensures asks { AsksEntries len range spot.chunk entries.now (T.state store.old) (T.state store.new) }
 {
@@ -104,18 +103,18 @@ pub(crate) fn show_entries<T: Store>(
     spot: Spot,
     entries: &EntriesRef,
     shown: &mut Kept,
-) -> Result<bool, ReplayRefused>
+) -> Result<bool, ReadingRefused>
     requires known { len ≤ (T.state store.old).known }
     requires fits { Fits len shown.old }
     ensures told { TellsEntries (T.state store.old).bytes len range spot entries.now (kept_in shown.old, kept_in shown.new) result }
     ensures holds { HoldsWithin len shown.new result }
-    ensures cause { ReplayCause (T.state store.old).faults (T.state store.new).faults result }
+    ensures cause { ReadingCause (T.state store.old).faults (T.state store.new).faults result }
     ensures stays { StoreStays (T.state store.old) (T.state store.new) }
     ensures asks { AsksEntries len range spot.chunk entries.now (T.state store.old) (T.state store.new) }
 {
     let mut listed = match timely(alloc, range, entries) {
         Ok(listed) => listed,
-        Err(Memory) => return Err(ReplayRefused::Memory),
+        Err(Memory) => return Err(ReadingRefused::Memory),
     };
     listed.sort_unstable_by_key(|entry| (entry.1, entry.0));
     return show_each(store, len, range, spot, &listed, shown);

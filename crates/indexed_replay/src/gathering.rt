@@ -8,11 +8,10 @@ ghost use Rattle.indexed_replay.specs.Gathering.{AsksAll, Gathers};
 ghost use Rattle.indexed_replay.specs.Holding.{Fits, HoldsWithin};
 ghost use Rattle.time_player.specs.Keeping.{kept_in};
 
-use crate::answers::ReplayRefused;
 use crate::chunks::show_chunk;
 use crate::spots::Request;
 use mcap_io::Store;
-use mcap_model::{Range, is_within};
+use mcap_model::{IndexedRefused, Range, is_within};
 use rec_index::ChunkIndex;
 use std::alloc::Global;
 use summary_read::Loaded;
@@ -36,7 +35,7 @@ pub(crate) fn gather<T: Store>(
     request: &Request,
     loaded: &Loaded,
     shown: &mut Kept,
-) -> Result<(), ReplayRefused>
+) -> Result<(), IndexedRefused>
     requires known { request.now.len ≤ (T.state store.old).known }
     requires fits { Fits request.now.len shown.old }
     ensures holds { HoldsWithin request.now.len shown.new result }

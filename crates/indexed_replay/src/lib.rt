@@ -2,7 +2,6 @@
 //! the messages in the range are read.
 #![tactic(auto)]
 
-mod answers;
 mod belonging;
 mod channels;
 mod chunks;
@@ -17,5 +16,4 @@ mod repeats;
 mod replaying;
 mod spots;
 
-pub use answers::{NotIndexed, ReplayRefused};
 pub use replaying::{replay_indexed, replay_kept};

@@ -3,18 +3,17 @@ ghost use Rattle.std.specs.Prelude.{◌≡◌, ◌≤◌, ◌↔◌, ℕ, List, 
 ghost use Rattle.mcap_io.specs.Stores.{StoreStays};
 ghost use Rattle.rec_index.specs.Records.{ShowsMessageIndex};
 ghost use Rattle.mcap_model.specs.Plain.{asked_topic, DeclareChannels};
-ghost use Rattle.indexed_replay.specs.Replaying.{ReplayCause};
+ghost use Rattle.indexed_replay.specs.Replaying.{ReadingCause, ReplayCause};
 ghost use Rattle.indexed_replay.specs.Holding.{Fits, HoldsWithin};
 ghost use Rattle.indexed_replay.specs.Steps.{AsksListAt, TellsIndex, TellsList};
 ghost use Rattle.indexed_replay.specs.Lists.{AsksContent, AsksList, FindsList, HasTimely, Shows, ShowsContent, Undeclared, Wanted};
 ghost use Rattle.time_player.specs.Keeping.{kept_in};
 
-use crate::answers::{NotIndexed, ReplayRefused};
 use crate::entries::show_entries;
 use crate::fronts::{Front, read_front};
 use crate::spots::{Request, Spot};
 use mcap_io::{Failed, ReadRefused, Store, read_part};
-use mcap_model::{Range, Tables, is_within};
+use mcap_model::{IndexedRefused, NotIndexed, Range, ReadingRefused, Tables, is_within};
 use mcap_wire::{EntriesRef, Text};
 use rec_data::Channel;
 use rec_index::{MESSAGE_INDEX, MessageIndex};
@@ -27,10 +26,10 @@ fn read_list<T: Store>(
     store: &mut T,
     len: u64,
     at: u64,
-) -> Result<Option<Vec<u8>>, ReplayRefused>
+) -> Result<Option<Vec<u8>>, ReadingRefused>
     requires { len ≤ (T.state store.old).known }
     ensures told { TellsList (T.state store.old).bytes len at result }
-    ensures cause { ReplayCause (T.state store.old).faults (T.state store.new).faults result }
+    ensures cause { ReadingCause (T.state store.old).faults (T.state store.new).faults result }
     ensures stays { StoreStays (T.state store.old) (T.state store.new) }
     ensures asks { AsksListAt len at (T.state store.old) (T.state store.new) }
 {
@@ -38,14 +37,14 @@ fn read_list<T: Store>(
     let found = match read_front(store, len, at, &mut front) {
         Ok(found) => found,
         Err(Failed) => {
-            return Err(ReplayRefused::Fault {
+            return Err(ReadingRefused::Fault {
                 faults: store.faults(),
             });
         }
     };
     let head = match found {
         Front::Whole(head) => head,
-        Front::Long => return Err(ReplayRefused::Limit { offset: at }),
+        Front::Long => return Err(ReadingRefused::Limit { offset: at }),
         Front::Absent => return Ok(None),
     };
     if head.op != MESSAGE_INDEX {
@@ -54,11 +53,11 @@ fn read_list<T: Store>(
     match read_part(alloc, store, at + 9, head.len) {
         Ok(content) => return Ok(Some(content)),
         Err(ReadRefused::Failed) => {
-            return Err(ReplayRefused::Fault {
+            return Err(ReadingRefused::Fault {
                 faults: store.faults(),
             });
         }
-        Err(ReadRefused::Memory) => return Err(ReplayRefused::Memory),
+        Err(ReadRefused::Memory) => return Err(ReadingRefused::Memory),
     }
 }
 
@@ -68,11 +67,11 @@ fn read_index<T: Store>(
     store: &mut T,
     len: u64,
     spot: Spot,
-) -> Result<Option<Vec<u8>>, ReplayRefused>
+) -> Result<Option<Vec<u8>>, ReadingRefused>
     requires { len ≤ (T.state store.old).known }
     ensures told { TellsIndex (T.state store.old).bytes len spot result }
     ensures is { IfOk result (λ found. IfSome found (λ content. (entries : List (ℕ × ℕ)) × ShowsMessageIndex content.items spot.channel entries)) }
-    ensures cause { ReplayCause (T.state store.old).faults (T.state store.new).faults result }
+    ensures cause { ReadingCause (T.state store.old).faults (T.state store.new).faults result }
     ensures stays { StoreStays (T.state store.old) (T.state store.new) }
     ensures asks { AsksListAt len spot.list (T.state store.old) (T.state store.new) }
 {
@@ -157,7 +156,7 @@ fn show_content<T: Store>(
     spot: Spot,
     content: &[u8],
     shown: &mut Kept,
-) -> Result<bool, ReplayRefused>
+) -> Result<bool, IndexedRefused>
     requires known { request.now.len ≤ (T.state store.old).known }
     requires is { (entries : List (ℕ × ℕ)) × ShowsMessageIndex content.now spot.channel entries }
     requires fits { Fits request.now.len shown.old }
@@ -172,19 +171,23 @@ fn show_content<T: Store>(
         Err(_) => unreachable!(),
     };
     if is_wanted(request.tables, spot.channel, request.topic) {
-        return show_entries(
+        let entries = &index.entries;
+        match show_entries(
             alloc,
             store,
             request.len,
             request.range,
             spot,
-            &index.entries,
+            entries,
             shown,
-        );
+        ) {
+            Ok(all) => return Ok(all),
+            Err(why) => return Err(IndexedRefused::Refused { why }),
+        }
     }
     match check_channel(request.tables, spot.channel, &index.entries, request.range) {
         Ok(()) => return Ok(true),
-        Err(why) => return Err(ReplayRefused::NotIndexed { why }),
+        Err(why) => return Err(IndexedRefused::NotIndexed { why }),
     }
 }
 
@@ -197,7 +200,7 @@ pub(crate) fn show_list<T: Store>(
     at: u64,
     spot: Spot,
     shown: &mut Kept,
-) -> Result<bool, ReplayRefused>
+) -> Result<bool, IndexedRefused>
     requires known { request.now.len ≤ (T.state store.old).known }
     requires fits { Fits request.now.len shown.old }
     ensures told { Shows (T.state store.old).bytes request.now at spot (kept_in shown.old, kept_in shown.new) result }
@@ -209,14 +212,16 @@ pub(crate) fn show_list<T: Store>(
 {
     let found = match read_index(alloc, store, request.len, spot) {
         Ok(found) => found,
-        Err(why) => return Err(why),
+        Err(why) => return Err(IndexedRefused::Refused { why }),
     };
     match found {
         Some(content) => return show_content(alloc, store, request, spot, &content, shown),
         None => {
-            return Err(ReplayRefused::Flaw {
-                rule: 12,
-                offset: at,
+            return Err(IndexedRefused::Refused {
+                why: ReadingRefused::Grammar {
+                    offset: at,
+                    rule: 12,
+                },
             });
         }
     }

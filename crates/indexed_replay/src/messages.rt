@@ -1,16 +1,15 @@
 //! One message, read at its place in a chunk.
 ghost use Rattle.std.specs.Prelude.{◌+◌, ◌≤◌};
 ghost use Rattle.mcap_io.specs.Stores.{StoreStays};
-ghost use Rattle.indexed_replay.specs.Replaying.{ReplayCause};
+ghost use Rattle.indexed_replay.specs.Replaying.{ReadingCause};
 ghost use Rattle.indexed_replay.specs.Holding.{Fits, HoldsWithin};
 ghost use Rattle.indexed_replay.specs.Steps.{AsksMessage, TellsMessage};
 ghost use Rattle.time_player.specs.Keeping.{kept_in};
 
-use crate::answers::ReplayRefused;
 use crate::fronts::{Front, read_front};
 use crate::spots::Spot;
 use mcap_io::{Failed, ReadRefused, Store};
-use mcap_model::Place;
+use mcap_model::{Place, ReadingRefused};
 use rec_data::{MESSAGE, Message};
 use time_player::Kept;
 
@@ -26,12 +25,12 @@ pub(crate) fn add_message<T: Store>(
     spot: Spot,
     entry: (u64, u64),
     shown: &mut Kept,
-) -> Result<bool, ReplayRefused>
+) -> Result<bool, ReadingRefused>
     requires known { len ≤ (T.state store.old).known }
     requires fits { Fits len shown.old }
     ensures told { TellsMessage (T.state store.old).bytes len spot entry (kept_in shown.old, kept_in shown.new) result }
     ensures holds { HoldsWithin len shown.new result }
-    ensures cause { ReplayCause (T.state store.old).faults (T.state store.new).faults result }
+    ensures cause { ReadingCause (T.state store.old).faults (T.state store.new).faults result }
     ensures stays { StoreStays (T.state store.old) (T.state store.new) }
     ensures asks { AsksMessage len (spot.chunk + 49 + entry.1) (T.state store.old) (T.state store.new) }
 {
@@ -49,10 +48,10 @@ pub(crate) fn add_message<T: Store>(
     let mut front = [0; 31];
     let head = match read_front(store, len, at, &mut front) {
         Ok(Front::Whole(head)) => head,
-        Ok(Front::Long) => return Err(ReplayRefused::Limit { offset: at }),
+        Ok(Front::Long) => return Err(ReadingRefused::Limit { offset: at }),
         Ok(Front::Absent) => return Ok(false),
         Err(Failed) => {
-            return Err(ReplayRefused::Fault {
+            return Err(ReadingRefused::Fault {
                 faults: store.faults(),
             });
         }
@@ -69,15 +68,15 @@ pub(crate) fn add_message<T: Store>(
     }
     let size = head.len - 22;
     if size > len - shown.data_len() as u64 {
-        return Err(ReplayRefused::Limit { offset: spot.list });
+        return Err(ReadingRefused::Limit { offset: spot.list });
     }
     match shown.add_part_of(store, place, &message, at + 31, size) {
         Ok(()) => return Ok(true),
         Err(ReadRefused::Failed) => {
-            return Err(ReplayRefused::Fault {
+            return Err(ReadingRefused::Fault {
                 faults: store.faults(),
             });
         }
-        Err(ReadRefused::Memory) => return Err(ReplayRefused::Memory),
+        Err(ReadRefused::Memory) => return Err(ReadingRefused::Memory),
     }
 }

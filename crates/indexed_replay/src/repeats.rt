@@ -2,7 +2,7 @@
 ghost use Rattle.std.specs.Prelude.{◌≡◌, ◌≢◌, ◌↔◌, ◌<◌, length, IsTrue, IfOk};
 ghost use Rattle.indexed_replay.specs.Apart.{Leads, AreLeads, HaveOne, Ascend, FindsTwo, ApartJudged};
 
-use crate::answers::ReplayRefused;
+use mcap_model::ReadingRefused;
 use mcap_wire::Memory;
 use std::alloc::Global;
 use summary_read::Loaded;
@@ -79,7 +79,7 @@ fn find_two(leads: &[Lead]) -> Option<u64>
 
 /// Says of a chunk with two Chunk Indexes that V12 fails at the later one. Where the chunks stand in the order of their indexes, as
 /// writers leave them, that costs a comparison each.
-pub(crate) fn check_apart(alloc: Global, loaded: &Loaded) -> Result<(), ReplayRefused>
+pub(crate) fn check_apart(alloc: Global, loaded: &Loaded) -> Result<(), ReadingRefused>
     ensures { ApartJudged loaded.now.chunk_indexes loaded.now.chunk_index_offsets result }
 {
     if are_rising(loaded) {
@@ -87,11 +87,11 @@ pub(crate) fn check_apart(alloc: Global, loaded: &Loaded) -> Result<(), ReplayRe
     }
     let mut leads = match leads_of(alloc, loaded) {
         Ok(leads) => leads,
-        Err(Memory) => return Err(ReplayRefused::Memory),
+        Err(Memory) => return Err(ReadingRefused::Memory),
     };
     leads.sort_unstable_by_key(|lead| lead.chunk);
     match find_two(&leads) {
-        Some(offset) => return Err(ReplayRefused::Flaw { rule: 12, offset }),
+        Some(offset) => return Err(ReadingRefused::Grammar { offset, rule: 12 }),
         None => return Ok(()),
     }
 }

@@ -4,19 +4,18 @@ ghost use Rattle.mcap_io.specs.Stores.{LeavesStore, TellsLength};
 ghost use Rattle.mcap_model.specs.Plain.{asked_topic};
 ghost use Rattle.indexed_replay.specs.Apart.{HaveOne};
 ghost use Rattle.indexed_replay.specs.Holding.{TellsRoom};
-ghost use Rattle.indexed_replay.specs.Played.{AsksBound, AsksIndexed, AsksLoaded, AsksUnloaded, CountsJudged, PlaysLoaded, refused_by};
+ghost use Rattle.indexed_replay.specs.Played.{AsksBound, AsksIndexed, AsksLoaded, AsksUnloaded, CountsJudged, PlaysLoaded};
 ghost use Rattle.indexed_replay.specs.Replaying.{Plays, PlaysScan, ReplayCause, TellsChunks, TellsNoSummary, TellsOneIndex};
 
-use crate::answers::{NotIndexed, ReplayRefused};
 use crate::channels::take_channels;
 use crate::gathering::gather;
 use crate::repeats::check_apart;
 use crate::spots::Request;
 use mcap_io::{Failed, Store};
-use mcap_model::{Range, Replayed};
+use mcap_model::{IndexedRefused, NotIndexed, Range, ReadingRefused, Replayed};
 use mcap_wire::{Memory, Text};
 use std::alloc::Global;
-use summary_read::{LoadRefused, Loaded, load};
+use summary_read::{Loaded, load};
 use time_player::{Kept, KeptReplay, topics_of_kept};
 
 // Whether the summary has a Statistics that states as many chunks as there are Chunk Indexes.
@@ -37,21 +36,6 @@ fn judge_counts(loaded: &Loaded) -> Result<(), NotIndexed>
     return Ok(());
 }
 
-// The refusal of a replay where loading is refused.
-fn refuse_load(why: LoadRefused) -> ReplayRefused
-    ensures { result ≡ refused_by why }
-{
-    match why {
-        LoadRefused::Fault { faults } => return ReplayRefused::Fault { faults },
-        LoadRefused::NoSummary => return ReplayRefused::NotIndexed {
-            why: NotIndexed::NoSummary,
-        },
-        LoadRefused::Grammar { offset, rule } => return ReplayRefused::Flaw { rule, offset },
-        LoadRefused::Limit { offset } => return ReplayRefused::Limit { offset },
-        LoadRefused::Memory => return ReplayRefused::Memory,
-    }
-}
-
 // The messages to which the summary leads that was loaded of a store of that length, in their order, with the topics of
 // their channels.
 fn play<T: Store>(
@@ -61,7 +45,7 @@ fn play<T: Store>(
     len: u64,
     range: Range,
     topic: Option<&Text>,
-) -> Result<KeptReplay, ReplayRefused>
+) -> Result<KeptReplay, IndexedRefused>
     requires known { len ≤ (T.state store.old).known }
     requires measured { TellsLength (T.state store.old).bytes (Ok len) }
     requires apart { HaveOne loaded.now.chunk_indexes loaded.now.chunk_index_offsets }
@@ -73,7 +57,11 @@ fn play<T: Store>(
 {
     let tables = match take_channels(alloc, loaded) {
         Ok(tables) => tables,
-        Err(Memory) => return Err(ReplayRefused::Memory),
+        Err(Memory) => {
+            return Err(IndexedRefused::Refused {
+                why: ReadingRefused::Memory,
+            });
+        }
     };
     let request = Request {
         len,
@@ -89,20 +77,25 @@ fn play<T: Store>(
     shown.put_in_order_without_doubles();
     match topics_of_kept(alloc, &tables, &shown) {
         Ok(topics) => return Ok(KeptReplay::new(topics, shown)),
-        Err(Memory) => return Err(ReplayRefused::Memory),
+        Err(Memory) => {
+            return Err(IndexedRefused::Refused {
+                why: ReadingRefused::Memory,
+            });
+        }
     }
 }
 
 /// The messages of the range, and of the topic if one is given, to which the indexes of the file lead that the store
 /// holds, in the order of log time and place (MCAP specification, "Summary Section"). Of the file only the ends, the
 /// summary, and of each chunk that meets the range the front, the Message Indexes and the messages in the range are asked
-/// for. Their payloads stand in one vector, and never more of them than the store has bytes.
+/// for. Their payloads stand in one vector, and never more of them than the store has bytes: else a limit is passed at the
+/// Message Index.
 pub fn replay_kept<T: Store>(
     alloc: Global,
     store: &mut T,
     range: Range,
     topic: Option<&Text>,
-) -> Result<KeptReplay, ReplayRefused>
+) -> Result<KeptReplay, IndexedRefused>
     ensures plays { Plays (T.state store.old).bytes range (asked_topic topic.entry) result }
     ensures counted { TellsChunks (T.state store.old).bytes result }
     ensures apart { TellsOneIndex (T.state store.old).bytes result }
@@ -118,22 +111,24 @@ pub fn replay_kept<T: Store>(
     let len = match store.len() {
         Ok(len) => len,
         Err(Failed) => {
-            return Err(ReplayRefused::Fault {
-                faults: store.faults(),
+            return Err(IndexedRefused::Refused {
+                why: ReadingRefused::Fault {
+                    faults: store.faults(),
+                },
             });
         }
     };
     let loaded = match load(alloc, store) {
         Ok(loaded) => loaded,
-        Err(why) => return Err(refuse_load(why)),
+        Err(why) => return Err(why),
     };
     match judge_counts(&loaded) {
         Ok(()) => {}
-        Err(why) => return Err(ReplayRefused::NotIndexed { why }),
+        Err(why) => return Err(IndexedRefused::NotIndexed { why }),
     }
     match check_apart(alloc, &loaded) {
         Ok(()) => {}
-        Err(why) => return Err(why),
+        Err(why) => return Err(IndexedRefused::Refused { why }),
     }
     return play(alloc, store, &loaded, len, range, topic);
 }
@@ -144,7 +139,7 @@ pub fn replay_indexed<T: Store>(
     store: &mut T,
     range: Range,
     topic: Option<&Text>,
-) -> Result<Replayed, ReplayRefused>
+) -> Result<Replayed, IndexedRefused>
     ensures plays { Plays (T.state store.old).bytes range (asked_topic topic.entry) result }
     ensures counted { TellsChunks (T.state store.old).bytes result }
     ensures apart { TellsOneIndex (T.state store.old).bytes result }
@@ -163,6 +158,10 @@ pub fn replay_indexed<T: Store>(
     };
     match kept.into_replayed(alloc) {
         Ok(replayed) => return Ok(replayed),
-        Err(Memory) => return Err(ReplayRefused::Memory),
+        Err(Memory) => {
+            return Err(IndexedRefused::Refused {
+                why: ReadingRefused::Memory,
+            });
+        }
     }
 }

@@ -7,11 +7,11 @@ use Rattle.mcap_model.specs.Tops.{declared_length, spelled, StandsIn}
 use Rattle.mcap_model.specs.Fields.{IsHeader}
 use Rattle.mcap_model.specs.Made.{top}
 use Rattle.mcap_model.specs.Rules.{V1}
-use Rattle.summary_read.specs.declared.refusals.LoadRefused.{LoadRefused}
-use Rattle.summary_read.specs.declared.refusals.LoadRefused.TheVariants as refusals
+use Rattle.mcap_model.specs.declared.refusals.ReadingRefused.{ReadingRefused}
+use Rattle.mcap_model.specs.declared.refusals.ReadingRefused.TheVariants as refusals
 use Rattle.summary_read.specs.Reached.{EndsIn, StartsAt, summary_part, inside, record_passes, FailsInside, PassesInside}
 use Rattle.summary_read.specs.Parts.{Parts, IsLoaded, IsListed, offsets_of_kind, tops_of}
-use Rattle.summary_read.specs.Loading.{IsRefused, AskedFor}
+use Rattle.summary_read.specs.Loading.{IsUnloaded, AskedFor}
 use Rattle.summary_read.specs.Steps.{NamesPart, HasHeader, AreCut, SummaryCut}
 
 pub starts : (file : List ℕ) (f : Footer) → NamesPart file f → StartsAt file f.summary_start
@@ -21,9 +21,9 @@ starts file f names = record { footer = f; ends = names.ends; named = refl; behi
 pub part_is : (file bytes : List ℕ) (len start : ℕ) → length file ≡ len → bytes ≡ take (len - 37 - start) (drop start file) → bytes ≡ summary_part file start
 part_is file bytes len start size is = is ∙ ap (λ (n : ℕ). take (n - 37 - start) (drop start file)) (sym size)
 
-pub refused_inside : (Y : Type 0) (file bytes : List ℕ) (f : Footer) (why : LoadRefused) → V1 file → NamesPart file f → bytes ≡ summary_part file f.summary_start → SummaryCut {Y = Y} bytes f.summary_start (Err why) → IsRefused file why
+pub refused_inside : (Y : Type 0) (file bytes : List ℕ) (f : Footer) (why : ReadingRefused) → V1 file → NamesPart file f → bytes ≡ summary_part file f.summary_start → SummaryCut {Y = Y} bytes f.summary_start (Err why) → IsUnloaded file why
 refused_inside Y file bytes f (refusals.Fault faults) v1 names is cut = tt
-refused_inside Y file bytes f refusals.NoSummary v1 names is cut = absurd cut
+refused_inside Y file bytes f (refusals.Compressed offset name) v1 names is cut = absurd cut
 refused_inside Y file bytes f (refusals.Grammar offset rule) v1 names is cut =
     (inside v1 f.summary_start rule offset (starts file f names) (subst (λ (l : List ℕ). FailsInside l f.summary_start rule offset) is cut), names.some)
 refused_inside Y file bytes f (refusals.Limit offset) v1 names is cut =

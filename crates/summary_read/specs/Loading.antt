@@ -3,35 +3,61 @@ use Rattle.std.specs.Prelude.{◌≡◌, ◌⊎◌, ℕ, ◌+◌, ◌-◌, ◌�
 use Rattle.mcap_io.specs.Outside.{RisesOnce}
 use Rattle.mcap_io.specs.Stores.{StoreState}
 use Rattle.mcap_model.specs.Tops.{declared_length}
-use Rattle.summary_read.specs.declared.refusals.LoadRefused.{LoadRefused}
-use Rattle.summary_read.specs.declared.refusals.LoadRefused.TheVariants as refusals
+use Rattle.mcap_model.specs.declared.refusals.ReadingRefused.{ReadingRefused}
+use Rattle.mcap_model.specs.declared.refusals.ReadingRefused.TheVariants as refusals
+use Rattle.mcap_model.specs.declared.refusals.NotIndexed.{NotIndexed}
+use Rattle.mcap_model.specs.declared.refusals.NotIndexed.TheVariants as lacks
+use Rattle.mcap_model.specs.declared.refusals.IndexedRefused.{IndexedRefused}
+use Rattle.mcap_model.specs.declared.refusals.IndexedRefused.TheVariants as by_index
 use Rattle.summary_read.specs.Reached.{HasNoSummary, StartsAt, Fails, Passes}
 use Rattle.summary_read.specs.Parts.{Parts, IsLoaded}
 
--- why a file isn't loaded
-abbrev pub IsRefused : List ℕ → LoadRefused → Type 0
-IsRefused file (refusals.Fault faults) = Unit {0}
-IsRefused file refusals.NoSummary = HasNoSummary file
-IsRefused file (refusals.Grammar offset rule) = Fails file rule offset × (HasNoSummary file → ⊥)
-IsRefused file (refusals.Limit offset) = Passes file offset × (HasNoSummary file → ⊥)
-IsRefused file refusals.Memory = Unit {0}
+-- no other reason than that there is no summary
+abbrev pub IsUnsummed : NotIndexed → Type 0
+IsUnsummed lacks.NoSummary = Unit {0}
+IsUnsummed lacks.NoStatistics = ⊥
+IsUnsummed (lacks.ChunkCount stated found) = ⊥
+IsUnsummed (lacks.NoMessageIndex chunk) = ⊥
+IsUnsummed (lacks.NoChannel id) = ⊥
 
-abbrev pub LoadsFile : List ℕ → Result Parts LoadRefused → Type 0
+-- why a file isn't loaded whose Footer doesn't say that there is no summary
+abbrev pub IsUnloaded : List ℕ → ReadingRefused → Type 0
+IsUnloaded file (refusals.Fault faults) = Unit {0}
+IsUnloaded file (refusals.Grammar offset rule) = Fails file rule offset × (HasNoSummary file → ⊥)
+IsUnloaded file (refusals.Compressed offset name) = ⊥
+IsUnloaded file (refusals.Limit offset) = Passes file offset × (HasNoSummary file → ⊥)
+IsUnloaded file refusals.Memory = Unit {0}
+
+-- why a file isn't loaded
+abbrev pub IsRefused : List ℕ → IndexedRefused → Type 0
+IsRefused file (by_index.NotIndexed why) = IsUnsummed why × HasNoSummary file
+IsRefused file (by_index.Refused why) = IsUnloaded file why
+
+abbrev pub LoadsFile : List ℕ → Result Parts IndexedRefused → Type 0
 LoadsFile file (Ok parts) = IsLoaded file parts × (HasNoSummary file → ⊥)
 LoadsFile file (Err why) = IsRefused file why
 
 -- where the store tells its bytes, these are the file
-abbrev pub Loads : Option (List ℕ) → Result Parts LoadRefused → Type 0
+abbrev pub Loads : Option (List ℕ) → Result Parts IndexedRefused → Type 0
 Loads told result = (file : List ℕ) → told ≡ Some file → LoadsFile file result
 
--- a fault comes where the store failed, and has the count; otherwise the count stands still
-abbrev pub LoadCause : {P : Type 0} → ℕ → ℕ → Result P LoadRefused → Type 0
+-- A fault comes where the store failed, and has the count; otherwise the count stands still. No compression is told.
+abbrev pub PlainCause : ℕ → ℕ → ReadingRefused → Type 0
+PlainCause before now (refusals.Fault faults) = RisesOnce before now × (faults ≡ now)
+PlainCause before now (refusals.Grammar offset rule) = now ≡ before
+PlainCause before now (refusals.Compressed offset name) = ⊥
+PlainCause before now (refusals.Limit offset) = now ≡ before
+PlainCause before now refusals.Memory = now ≡ before
+
+abbrev pub StepCause : {P : Type 0} → ℕ → ℕ → Result P ReadingRefused → Type 0
+StepCause before now (Ok it) = now ≡ before
+StepCause before now (Err why) = PlainCause before now why
+
+-- so it is of a loading, by which a file is only said not to be indexed where it has no summary
+abbrev pub LoadCause : {P : Type 0} → ℕ → ℕ → Result P IndexedRefused → Type 0
 LoadCause before now (Ok parts) = now ≡ before
-LoadCause before now (Err (refusals.Fault faults)) = RisesOnce before now × (faults ≡ now)
-LoadCause before now (Err refusals.NoSummary) = now ≡ before
-LoadCause before now (Err (refusals.Grammar offset rule)) = now ≡ before
-LoadCause before now (Err (refusals.Limit offset)) = now ≡ before
-LoadCause before now (Err refusals.Memory) = now ≡ before
+LoadCause before now (Err (by_index.NotIndexed why)) = IsUnsummed why × (now ≡ before)
+LoadCause before now (Err (by_index.Refused why)) = PlainCause before now why
 
 -- The bytes that were asked for: at most the last 37 and the first eight; or the last 37, the magic with the head of the
 -- Header, the content that the Header declares, and the summary.

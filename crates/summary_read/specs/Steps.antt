@@ -12,22 +12,28 @@ use Rattle.mcap_model.specs.Rules.{V1, V6}
 use Rattle.mcap_model.specs.Whole.{V2, stands_in_summary}
 use Rattle.mcap_model.specs.Made.{top}
 use Rattle.mcap_model.specs.Plain.{cut_top}
-use Rattle.summary_read.specs.declared.refusals.LoadRefused.{LoadRefused}
-use Rattle.summary_read.specs.declared.refusals.LoadRefused.TheVariants as refusals
+use Rattle.mcap_model.specs.declared.refusals.ReadingRefused.{ReadingRefused}
+use Rattle.mcap_model.specs.declared.refusals.ReadingRefused.TheVariants as refusals
+use Rattle.mcap_model.specs.declared.refusals.IndexedRefused.{IndexedRefused}
+use Rattle.mcap_model.specs.declared.refusals.IndexedRefused.TheVariants as by_index
 use Rattle.mcap_wire.specs.Limits.{file_limit}
 use Rattle.summary_read.specs.Reached.{summary_limit, ShowsFooter, EndsIn, HasNoSummary, BreaksFirst, DeclaresPast, Fails, Passes, FailsInside, PassesInside}
 use Rattle.summary_read.specs.Parts.{tops_of, AreInside, IsSound}
-use Rattle.summary_read.specs.Loading.{IsRefused}
+use Rattle.summary_read.specs.Loading.{IsUnsummed, IsUnloaded, IsRefused}
 
 -- ---- the ends of a file
 
 -- a refusal that comes of the bytes alone
-abbrev pub IsOfBytes : LoadRefused → Type 0
+abbrev pub IsOfBytes : ReadingRefused → Type 0
 IsOfBytes (refusals.Fault faults) = ⊥
-IsOfBytes refusals.NoSummary = Unit {0}
 IsOfBytes (refusals.Grammar offset rule) = Unit {0}
+IsOfBytes (refusals.Compressed offset name) = ⊥
 IsOfBytes (refusals.Limit offset) = Unit {0}
 IsOfBytes refusals.Memory = Unit {0}
+
+abbrev pub IsOfEnd : IndexedRefused → Type 0
+IsOfEnd (by_index.NotIndexed why) = IsUnsummed why
+IsOfEnd (by_index.Refused why) = IsOfBytes why
 
 -- bytes begin with that Footer, or with none
 abbrev pub BeginsWithFooter : List ℕ → Option Footer → Type 0
@@ -45,18 +51,23 @@ pub record NamesPart (file : List ℕ) (f : Footer) : Type 0 where
   pub some : HasNoSummary file → ⊥
 
 -- why a file isn't loaded by its end, where it begins with the magic
-abbrev pub EndRefused : List ℕ → LoadRefused → Type 0
-EndRefused file (refusals.Fault faults) = Unit {0}
-EndRefused file refusals.NoSummary = HasNoSummary file
-EndRefused file (refusals.Grammar offset rule) = (V1 file → Fails file rule offset) × (HasNoSummary file → ⊥)
-EndRefused file (refusals.Limit offset) = Passes file offset × (HasNoSummary file → ⊥)
-EndRefused file refusals.Memory = Unit {0}
+abbrev pub EndStops : List ℕ → ReadingRefused → Type 0
+EndStops file (refusals.Fault faults) = Unit {0}
+EndStops file (refusals.Grammar offset rule) = (V1 file → Fails file rule offset) × (HasNoSummary file → ⊥)
+EndStops file (refusals.Compressed offset name) = ⊥
+EndStops file (refusals.Limit offset) = Passes file offset × (HasNoSummary file → ⊥)
+EndStops file refusals.Memory = Unit {0}
 
-abbrev pub EndJudged : List ℕ → Result Footer LoadRefused → Type 0
+abbrev pub FooterJudged : List ℕ → Result Footer ReadingRefused → Type 0
+FooterJudged file (Ok f) = NamesPart file f
+FooterJudged file (Err why) = EndStops file why
+
+abbrev pub EndJudged : List ℕ → Result Footer IndexedRefused → Type 0
 EndJudged file (Ok f) = NamesPart file f
-EndJudged file (Err why) = EndRefused file why
+EndJudged file (Err (by_index.NotIndexed why)) = IsUnsummed why × HasNoSummary file
+EndJudged file (Err (by_index.Refused why)) = EndStops file why
 
-abbrev pub FooterFound : List ℕ → Result Footer LoadRefused → Type 0
+abbrev pub FooterFound : List ℕ → Result Footer IndexedRefused → Type 0
 FooterFound file (Ok f) = NamesPart file f
 FooterFound file (Err why) = IsRefused file why
 
@@ -67,9 +78,9 @@ pub record HasHead (file : List ℕ) (len : ℕ) : Type 0 where
   pub within : len ≤ content_limit
   pub whole : 25 + len ≤ length file
 
-abbrev pub FrontJudged : List ℕ → Result ℕ LoadRefused → Type 0
+abbrev pub FrontJudged : List ℕ → Result ℕ ReadingRefused → Type 0
 FrontJudged file (Ok len) = HasHead file len
-FrontJudged file (Err why) = IsRefused file why
+FrontJudged file (Err why) = IsUnloaded file why
 
 -- ---- what was read of a store
 
@@ -86,10 +97,10 @@ pub record IsInside (len : ℕ) (f : Footer) : Type 0 where
   pub before : f.summary_start + 37 ≤ len
 
 -- where the store tells a file of that length, its end is judged
-abbrev pub TellsEnd : Option (List ℕ) → ℕ → Result Footer LoadRefused → Type 0
+abbrev pub TellsEnd : Option (List ℕ) → ℕ → Result Footer IndexedRefused → Type 0
 TellsEnd told len result = (file : List ℕ) → told ≡ Some file → length file ≡ len → EndJudged file result
 
-abbrev pub TellsFooter : Option (List ℕ) → ℕ → Result Footer LoadRefused → Type 0
+abbrev pub TellsFooter : Option (List ℕ) → ℕ → Result Footer IndexedRefused → Type 0
 TellsFooter told len result = (file : List ℕ) → told ≡ Some file → length file ≡ len → FooterFound file result
 
 -- whether it begins with the magic
@@ -101,19 +112,19 @@ abbrev pub TellsMagic : Option (List ℕ) → ℕ → Result Bool Failed → Typ
 TellsMagic told len result = (file : List ℕ) → told ≡ Some file → length file ≡ len → BeginsIs file result
 
 -- a rule that fails by the end is told, or the first magic isn't there
-abbrev pub TellsRefused : Option (List ℕ) → ℕ → ℕ → ℕ → Result Footer LoadRefused → Type 0
-TellsRefused told len offset rule result = (file : List ℕ) → told ≡ Some file → length file ≡ len → EndRefused file (refusals.Grammar offset rule) → FooterFound file result
+abbrev pub TellsRefused : Option (List ℕ) → ℕ → ℕ → ℕ → ReadingRefused → Type 0
+TellsRefused told len offset rule why = (file : List ℕ) → told ≡ Some file → length file ≡ len → EndStops file (refusals.Grammar offset rule) → IsUnloaded file why
 
 -- its front
-abbrev pub TellsFront : Option (List ℕ) → ℕ → Result ℕ LoadRefused → Type 0
+abbrev pub TellsFront : Option (List ℕ) → ℕ → Result ℕ ReadingRefused → Type 0
 TellsFront told len result = (file : List ℕ) → told ≡ Some file → length file ≡ len → (HasNoSummary file → ⊥) → FrontJudged file result
 
 -- so many bytes from there on, where the store tells; or it failed, or memory lacked
-abbrev pub TellsPart : {Y : Type 0} → Option (List ℕ) → ℕ → ℕ → Result (Vec ℕ Y) LoadRefused → Type 0
+abbrev pub TellsPart : {Y : Type 0} → Option (List ℕ) → ℕ → ℕ → Result (Vec ℕ Y) ReadingRefused → Type 0
 TellsPart told at len (Ok part) = (vec_len part ≡ len) × ((file : List ℕ) → told ≡ Some file → part.items ≡ take len (drop at file))
 TellsPart told at len (Err (refusals.Fault faults)) = Unit {0}
-TellsPart told at len (Err refusals.NoSummary) = ⊥
 TellsPart told at len (Err (refusals.Grammar offset rule)) = ⊥
+TellsPart told at len (Err (refusals.Compressed offset name)) = ⊥
 TellsPart told at len (Err (refusals.Limit offset)) = ⊥
 TellsPart told at len (Err refusals.Memory) = Unit {0}
 
@@ -122,11 +133,11 @@ pub record HasHeader (file content : List ℕ) : Type 0 where
   pub v1 : V1 file
   pub stands : StandsIn file 8 (top 1 content)
 
-abbrev pub HeaderJudged : {Y : Type 0} → List ℕ → Result (Vec ℕ Y) LoadRefused → Type 0
+abbrev pub HeaderJudged : {Y : Type 0} → List ℕ → Result (Vec ℕ Y) ReadingRefused → Type 0
 HeaderJudged file (Ok content) = HasHeader file content.items
-HeaderJudged file (Err why) = IsRefused file why
+HeaderJudged file (Err why) = IsUnloaded file why
 
-abbrev pub TellsHeader : {Y : Type 0} → Option (List ℕ) → ℕ → Result (Vec ℕ Y) LoadRefused → Type 0
+abbrev pub TellsHeader : {Y : Type 0} → Option (List ℕ) → ℕ → Result (Vec ℕ Y) ReadingRefused → Type 0
 TellsHeader told len result = (file : List ℕ) → told ≡ Some file → length file ≡ len → (HasNoSummary file → ⊥) → HeaderJudged file result
 
 -- the magic, the head of the Header and the content that it declares were asked for
@@ -146,11 +157,11 @@ pub record IsTaken (bytes : List ℕ) (at : ℕ) (c : Cut) : Type 0 where
   pub kind : stands_in_summary c.op ≡ true
   pub layout : V6 (cut_top bytes c)
 
-abbrev pub RecordTaken : List ℕ → ℕ → ℕ → Result Cut LoadRefused → Type 0
+abbrev pub RecordTaken : List ℕ → ℕ → ℕ → Result Cut ReadingRefused → Type 0
 RecordTaken bytes at start (Ok c) = IsTaken bytes at c
 RecordTaken bytes at start (Err (refusals.Fault faults)) = ⊥
-RecordTaken bytes at start (Err refusals.NoSummary) = ⊥
 RecordTaken bytes at start (Err (refusals.Grammar offset rule)) = (offset ≡ start + at) × BreaksFirst (drop at bytes) rule
+RecordTaken bytes at start (Err (refusals.Compressed offset name)) = ⊥
 RecordTaken bytes at start (Err (refusals.Limit offset)) = (offset ≡ start + at) × DeclaresPast (drop at bytes)
 RecordTaken bytes at start (Err refusals.Memory) = ⊥
 
@@ -175,10 +186,10 @@ pub record AreCut (bytes : List ℕ) (cuts : List Cut) : Type 0 where
   pub inside : AreInside bytes cuts
   pub sound : Each IsSound (tops_of bytes cuts)
 
-abbrev pub SummaryCut : {Y : Type 0} → List ℕ → ℕ → Result (Vec Cut Y) LoadRefused → Type 0
+abbrev pub SummaryCut : {Y : Type 0} → List ℕ → ℕ → Result (Vec Cut Y) ReadingRefused → Type 0
 SummaryCut bytes start (Ok cuts) = AreCut bytes cuts.items
 SummaryCut bytes start (Err (refusals.Fault faults)) = ⊥
-SummaryCut bytes start (Err refusals.NoSummary) = ⊥
 SummaryCut bytes start (Err (refusals.Grammar offset rule)) = FailsInside bytes start rule offset
+SummaryCut bytes start (Err (refusals.Compressed offset name)) = ⊥
 SummaryCut bytes start (Err (refusals.Limit offset)) = PassesInside bytes start offset
 SummaryCut bytes start (Err refusals.Memory) = Unit {0}

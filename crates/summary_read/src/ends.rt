@@ -1,13 +1,13 @@
 //! What stands at the ends of a file: the magics, the Header and the Footer.
-ghost use Rattle.std.specs.Prelude.{◌≡◌, ◌+◌, ◌-◌, ◌≤◌, ◌↔◌, ℕ, List, length, take, drop, IsTrue, IfOk, IfErr};
+ghost use Rattle.std.specs.Prelude.{◌≡◌, ◌≢◌, ◌+◌, ◌-◌, ◌≤◌, ◌↔◌, ℕ, List, length, take, drop, IsTrue, IfOk, IfErr};
 ghost use Rattle.mcap_model.specs.Fields.{IsHeader};
 ghost use Rattle.mcap_model.specs.Made.{top};
 ghost use Rattle.mcap_model.specs.Rules.{V1};
 ghost use Rattle.summary_read.specs.Reached.{EndsIn, HasNoSummary};
 ghost use Rattle.mcap_model.specs.Whole.{EndsWithMagic};
-ghost use Rattle.summary_read.specs.Steps.{IsOfBytes, IsInside, BeginsWithFooter, EndJudged, EndRefused, FrontJudged};
+ghost use Rattle.summary_read.specs.Steps.{IsOfBytes, IsOfEnd, IsInside, BeginsWithFooter, EndJudged, EndStops, FooterJudged, FrontJudged};
 
-use crate::refusals::LoadRefused;
+use mcap_model::{IndexedRefused, NotIndexed, ReadingRefused};
 use mcap_wire::{CONTENT_LIMIT, MAGIC, cut, take_head};
 use rec_data::{FOOTER, Footer, HEADER, Header};
 
@@ -58,50 +58,48 @@ fn footer_in(bytes: &[u8]) -> Option<Footer>
 }
 
 // Why a file whose end has no Footer isn't loaded.
-fn judge_without_footer(end: &[u8], len: u64) -> LoadRefused
+fn judge_without_footer(end: &[u8], len: u64) -> ReadingRefused
     requires size { length end.now ≡ 37 }
     requires whole { 37 ≤ len }
-    ensures judged { (file : List ℕ) → length file ≡ len → drop (len - 37) file ≡ end.now → ((f : Footer) → EndsIn file f → ⊥) → EndRefused file result }
+    ensures judged { (file : List ℕ) → length file ≡ len → drop (len - 37) file ≡ end.now → ((f : Footer) → EndsIn file f → ⊥) → EndStops file result }
     ensures of_bytes { IsOfBytes result }
 {
     if len > FILE_LIMIT {
-        return LoadRefused::Limit { offset: FILE_LIMIT };
+        return ReadingRefused::Limit { offset: FILE_LIMIT };
     }
     if !ends_with_magic(end) {
-        return LoadRefused::Grammar {
+        return ReadingRefused::Grammar {
             offset: len - MAGIC.len() as u64,
             rule: 2,
         };
     }
-    return LoadRefused::Grammar {
+    return ReadingRefused::Grammar {
         offset: len - END_LENGTH,
         rule: 17,
     };
 }
 
-// Judges a file whose end has this Footer.
-fn judge_footer(end: &[u8], len: u64, footer: Footer) -> Result<Footer, LoadRefused>
+// Judges a file whose end has this Footer, which names a summary.
+fn judge_footer(end: &[u8], len: u64, footer: Footer) -> Result<Footer, ReadingRefused>
     requires size { length end.now ≡ 37 }
     requires whole { 37 ≤ len }
-    ensures judged { (file : List ℕ) → length file ≡ len → drop (len - 37) file ≡ end.now → EndsIn file footer → (HasNoSummary file → footer.summary_start ≡ 0) → EndJudged file result }
+    requires some { footer.summary_start ≢ 0 }
+    ensures judged { (file : List ℕ) → length file ≡ len → drop (len - 37) file ≡ end.now → EndsIn file footer → (HasNoSummary file → ⊥) → FooterJudged file result }
     ensures inside { IfOk result (IsInside len) }
     ensures of_bytes { IfErr result IsOfBytes }
 {
     let start = footer.summary_start;
     let footer_offset = len - END_LENGTH;
-    if start == 0 {
-        return Err(LoadRefused::NoSummary);
-    }
     if len > FILE_LIMIT {
-        return Err(LoadRefused::Limit { offset: FILE_LIMIT });
+        return Err(ReadingRefused::Limit { offset: FILE_LIMIT });
     }
     if !ends_with_magic(end) {
-        return Err(LoadRefused::Grammar {
+        return Err(ReadingRefused::Grammar {
             offset: len - MAGIC.len() as u64,
             rule: 2,
         });
     }
-    let misplaced = LoadRefused::Grammar {
+    let misplaced = ReadingRefused::Grammar {
         offset: footer_offset,
         rule: 11,
     };
@@ -112,27 +110,40 @@ fn judge_footer(end: &[u8], len: u64, footer: Footer) -> Result<Footer, LoadRefu
         return Err(misplaced);
     }
     if footer_offset - start > SUMMARY_LIMIT {
-        return Err(LoadRefused::Limit { offset: start });
+        return Err(ReadingRefused::Limit { offset: start });
     }
     return Ok(footer);
 }
 
 /// The Footer of a file of that length, judged by its last 37 bytes.
-pub(crate) fn judge_end(end: &[u8], len: u64) -> Result<Footer, LoadRefused>
+pub(crate) fn judge_end(end: &[u8], len: u64) -> Result<Footer, IndexedRefused>
     requires size { length end.now ≡ 37 }
     requires whole { 37 ≤ len }
     ensures judged { (file : List ℕ) → length file ≡ len → drop (len - 37) file ≡ end.now → EndJudged file result }
     ensures inside { IfOk result (IsInside len) }
-    ensures of_bytes { IfErr result IsOfBytes }
+    ensures of_bytes { IfErr result IsOfEnd }
 {
-    match footer_in(end) {
-        Some(footer) => return judge_footer(end, len, footer),
-        None => return Err(judge_without_footer(end, len)),
+    let footer = match footer_in(end) {
+        Some(footer) => footer,
+        None => {
+            return Err(IndexedRefused::Refused {
+                why: judge_without_footer(end, len),
+            });
+        }
+    };
+    if footer.summary_start == 0 {
+        return Err(IndexedRefused::NotIndexed {
+            why: NotIndexed::NoSummary,
+        });
+    }
+    match judge_footer(end, len, footer) {
+        Ok(footer) => return Ok(footer),
+        Err(why) => return Err(IndexedRefused::Refused { why }),
     }
 }
 
 /// The length of the Header's content, judged by the first 17 bytes of a file of that length.
-pub(crate) fn judge_front(front: &[u8], len: u64) -> Result<u64, LoadRefused>
+pub(crate) fn judge_front(front: &[u8], len: u64) -> Result<u64, ReadingRefused>
     requires size { length front.now ≡ 17 }
     requires whole { 37 ≤ len }
     ensures judged { (file : List ℕ) → length file ≡ len → take 17 file ≡ front.now → (HasNoSummary file → ⊥) → FrontJudged file result }
@@ -140,21 +151,21 @@ pub(crate) fn judge_front(front: &[u8], len: u64) -> Result<u64, LoadRefused>
     ensures of_bytes { IfErr result IsOfBytes }
 {
     if !begins_with_magic(front) {
-        return Err(LoadRefused::Grammar { offset: 0, rule: 1 });
+        return Err(ReadingRefused::Grammar { offset: 0, rule: 1 });
     }
     let offset = HEADER_OFFSET;
     let head = match take_head(front, 8) {
         Ok(head) => head,
-        Err(_) => return Err(LoadRefused::Grammar { offset, rule: 3 }),
+        Err(_) => return Err(ReadingRefused::Grammar { offset, rule: 3 }),
     };
     if head.op != HEADER {
-        return Err(LoadRefused::Grammar { offset, rule: 3 });
+        return Err(ReadingRefused::Grammar { offset, rule: 3 });
     }
     if head.len > CONTENT_LIMIT {
-        return Err(LoadRefused::Limit { offset });
+        return Err(ReadingRefused::Limit { offset });
     }
     if FRONT_LENGTH + head.len + 8 > len {
-        return Err(LoadRefused::Grammar { offset, rule: 4 });
+        return Err(ReadingRefused::Grammar { offset, rule: 4 });
     }
     return Ok(head.len);
 }

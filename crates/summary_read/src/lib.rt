@@ -7,10 +7,8 @@ mod lists;
 mod loaded;
 mod loading;
 mod records;
-mod refusals;
 mod walk;
 
 pub use loaded::Loaded;
 pub use loading::load;
 pub use records::breaks;
-pub use refusals::LoadRefused;

@@ -4,23 +4,23 @@ ghost use Rattle.mcap_io.specs.Outside.{HasCause};
 ghost use Rattle.mcap_io.specs.Stores.{LeavesStore};
 ghost use Rattle.mcap_model.specs.Fields.{IsHeader};
 ghost use Rattle.mcap_model.specs.Made.{top};
-ghost use Rattle.summary_read.specs.Loading.{Loads, LoadCause, AsksLittle};
+ghost use Rattle.summary_read.specs.Loading.{Loads, LoadCause, PlainCause, StepCause, AsksLittle};
 ghost use Rattle.summary_read.specs.Parts.{IsListed};
 ghost use Rattle.summary_read.specs.Steps.{AreCut, IsInside, TellsEnd, TellsFooter, TellsFront, TellsHeader, TellsMagic, TellsRefused, HeaderAsks, TellsPart, Takes};
 
 use crate::ends::{END_LENGTH, FRONT_LENGTH, begins_with_magic, is_header, judge_end, judge_front};
 use crate::lists::of_kind;
 use crate::loaded::Loaded;
-use crate::refusals::LoadRefused;
 use crate::walk::cut_records;
 use mcap_io::{Failed, ReadRefused, Store, read_part};
+use mcap_model::{IndexedRefused, ReadingRefused};
 use mcap_wire::{Cut, MAGIC, Memory};
 use rec_data::{CHANNEL, Footer, SCHEMA};
 use rec_index::{ATTACHMENT_INDEX, CHUNK_INDEX, METADATA_INDEX, STATISTICS, SUMMARY_OFFSET};
 use std::alloc::Global;
 
 // The Footer of a store of that length, judged by the last 37 bytes.
-fn read_end<T: Store>(store: &mut T, len: u64) -> Result<Footer, LoadRefused>
+fn read_end<T: Store>(store: &mut T, len: u64) -> Result<Footer, IndexedRefused>
     requires { len ≤ (T.state store.old).known }
     ensures judged { TellsEnd (T.state store.old).bytes len result }
     ensures inside { IfOk result (IsInside len) }
@@ -28,17 +28,21 @@ fn read_end<T: Store>(store: &mut T, len: u64) -> Result<Footer, LoadRefused>
     ensures takes { Takes (T.state store.old) (T.state store.new) 37 }
 {
     if len < END_LENGTH {
-        return Err(LoadRefused::Grammar {
-            offset: 0,
-            rule: 17,
+        return Err(IndexedRefused::Refused {
+            why: ReadingRefused::Grammar {
+                offset: 0,
+                rule: 17,
+            },
         });
     }
     let mut end = [0; 37];
     match store.read_at(len - END_LENGTH, &mut end) {
         Ok(()) => return judge_end(&end, len),
         Err(Failed) => {
-            return Err(LoadRefused::Fault {
-                faults: store.faults(),
+            return Err(IndexedRefused::Refused {
+                why: ReadingRefused::Fault {
+                    faults: store.faults(),
+                },
             });
         }
     }
@@ -62,31 +66,25 @@ fn read_magic<T: Store>(store: &mut T, len: u64) -> Result<bool, Failed>
 }
 
 // Refuses a store of that length at whose end a rule fails, if it begins with the magic: else it is refused for that.
-fn refuse_end<T: Store>(
-    store: &mut T,
-    len: u64,
-    offset: u64,
-    rule: u8,
-) -> Result<Footer, LoadRefused>
+fn refuse_end<T: Store>(store: &mut T, len: u64, offset: u64, rule: u8) -> ReadingRefused
     requires { len ≤ (T.state store.old).known }
     ensures judged { TellsRefused (T.state store.old).bytes len offset rule result }
-    ensures refused { OnOk result ⊥ }
-    ensures cause { LoadCause (T.state store.old).faults (T.state store.new).faults result }
+    ensures cause { PlainCause (T.state store.old).faults (T.state store.new).faults result }
     ensures takes { Takes (T.state store.old) (T.state store.new) 8 }
 {
     match read_magic(store, len) {
-        Ok(true) => return Err(LoadRefused::Grammar { offset, rule }),
-        Ok(false) => return Err(LoadRefused::Grammar { offset: 0, rule: 1 }),
+        Ok(true) => return ReadingRefused::Grammar { offset, rule },
+        Ok(false) => return ReadingRefused::Grammar { offset: 0, rule: 1 },
         Err(Failed) => {
-            return Err(LoadRefused::Fault {
+            return ReadingRefused::Fault {
                 faults: store.faults(),
-            });
+            };
         }
     }
 }
 
 // The Footer of a store of that length. What is wrong with its end is told only of a file that begins with the magic.
-fn find_footer<T: Store>(store: &mut T, len: u64) -> Result<Footer, LoadRefused>
+fn find_footer<T: Store>(store: &mut T, len: u64) -> Result<Footer, IndexedRefused>
     requires { len ≤ (T.state store.old).known }
     ensures judged { TellsFooter (T.state store.old).bytes len result }
     ensures inside { IfOk result (IsInside len) }
@@ -96,28 +94,33 @@ fn find_footer<T: Store>(store: &mut T, len: u64) -> Result<Footer, LoadRefused>
 {
     match read_end(store, len) {
         Ok(footer) => return Ok(footer),
-        Err(LoadRefused::Grammar { offset, rule }) => return refuse_end(store, len, offset, rule),
-        Err(LoadRefused::Fault { faults }) => return Err(LoadRefused::Fault { faults }),
-        Err(LoadRefused::NoSummary) => return Err(LoadRefused::NoSummary),
-        Err(LoadRefused::Limit { offset }) => return Err(LoadRefused::Limit { offset }),
-        Err(LoadRefused::Memory) => return Err(LoadRefused::Memory),
+        Err(
+            IndexedRefused::Refused {
+                why: ReadingRefused::Grammar { offset, rule },
+            },
+        ) => {
+            return Err(IndexedRefused::Refused {
+                why: refuse_end(store, len, offset, rule),
+            });
+        }
+        Err(why) => return Err(why),
     }
 }
 
 // The length of the content of the Header of a store of that length.
-fn read_front<T: Store>(store: &mut T, len: u64) -> Result<u64, LoadRefused>
+fn read_front<T: Store>(store: &mut T, len: u64) -> Result<u64, ReadingRefused>
     requires known { len ≤ (T.state store.old).known }
     requires whole { 37 ≤ len }
     ensures judged { TellsFront (T.state store.old).bytes len result }
     ensures inside { IfOk result (λ n. 25 + n ≤ len) }
-    ensures cause { LoadCause (T.state store.old).faults (T.state store.new).faults result }
+    ensures cause { StepCause (T.state store.old).faults (T.state store.new).faults result }
     ensures takes { Takes (T.state store.old) (T.state store.new) 17 }
 {
     let mut front = [0; 17];
     match store.read_at(0, &mut front) {
         Ok(()) => return judge_front(&front, len),
         Err(Failed) => {
-            return Err(LoadRefused::Fault {
+            return Err(ReadingRefused::Fault {
                 faults: store.faults(),
             });
         }
@@ -130,30 +133,30 @@ fn take_part<T: Store>(
     store: &mut T,
     at: u64,
     len: u64,
-) -> Result<Vec<u8>, LoadRefused>
+) -> Result<Vec<u8>, ReadingRefused>
     requires { at + len ≤ (T.state store.old).known }
     ensures given { TellsPart (T.state store.old).bytes at len result }
-    ensures cause { LoadCause (T.state store.old).faults (T.state store.new).faults result }
+    ensures cause { StepCause (T.state store.old).faults (T.state store.new).faults result }
     ensures takes { Takes (T.state store.old) (T.state store.new) len }
 {
     match read_part(alloc, store, at, len) {
         Ok(part) => return Ok(part),
         Err(ReadRefused::Failed) => {
-            return Err(LoadRefused::Fault {
+            return Err(ReadingRefused::Fault {
                 faults: store.faults(),
             });
         }
-        Err(ReadRefused::Memory) => return Err(LoadRefused::Memory),
+        Err(ReadRefused::Memory) => return Err(ReadingRefused::Memory),
     }
 }
 
 // The content of the Header of a store of that length.
-fn read_header<T: Store>(alloc: Global, store: &mut T, len: u64) -> Result<Vec<u8>, LoadRefused>
+fn read_header<T: Store>(alloc: Global, store: &mut T, len: u64) -> Result<Vec<u8>, ReadingRefused>
     requires known { len ≤ (T.state store.old).known }
     requires whole { 37 ≤ len }
     ensures judged { TellsHeader (T.state store.old).bytes len result }
     ensures is { IfOk result (λ content. IsHeader (top 1 content.items)) }
-    ensures cause { LoadCause (T.state store.old).faults (T.state store.new).faults result }
+    ensures cause { StepCause (T.state store.old).faults (T.state store.new).faults result }
     ensures takes { Takes (T.state store.old) (T.state store.new) len }
     ensures asks { HeaderAsks (T.state store.old) (T.state store.new) len }
 {
@@ -168,7 +171,7 @@ fn read_header<T: Store>(alloc: Global, store: &mut T, len: u64) -> Result<Vec<u
     if is_header(&content) {
         return Ok(content);
     }
-    return Err(LoadRefused::Grammar { offset: 8, rule: 3 });
+    return Err(ReadingRefused::Grammar { offset: 8, rule: 3 });
 }
 
 // Lists the records that were cut from the summary.
@@ -220,8 +223,9 @@ fn list_records(
 }
 
 /// Loads the summary of the file that the store holds. It asks for the last 37 bytes, for the magic and the Header, and for
-/// the summary. Of a file that doesn't begin with the magic that is told before any other rule.
-pub fn load<T: Store>(alloc: Global, store: &mut T) -> Result<Loaded, LoadRefused>
+/// the summary. Of a file that doesn't begin with the magic that is told before any other rule. A limit is passed by a file of more
+/// than 2^40 bytes, by a summary that is too long, and by a content that is longer than a record's may be.
+pub fn load<T: Store>(alloc: Global, store: &mut T) -> Result<Loaded, IndexedRefused>
     ensures loads { Loads (T.state store.old).bytes result }
     ensures cause { LoadCause (T.state store.old).faults (T.state store.new).faults result }
     ensures asks { AsksLittle (T.state store.old) (T.state store.new) }
@@ -230,8 +234,10 @@ pub fn load<T: Store>(alloc: Global, store: &mut T) -> Result<Loaded, LoadRefuse
     let len = match store.len() {
         Ok(len) => len,
         Err(Failed) => {
-            return Err(LoadRefused::Fault {
-                faults: store.faults(),
+            return Err(IndexedRefused::Refused {
+                why: ReadingRefused::Fault {
+                    faults: store.faults(),
+                },
             });
         }
     };
@@ -241,19 +247,23 @@ pub fn load<T: Store>(alloc: Global, store: &mut T) -> Result<Loaded, LoadRefuse
     };
     let header = match read_header(alloc, store, len) {
         Ok(header) => header,
-        Err(why) => return Err(why),
+        Err(why) => return Err(IndexedRefused::Refused { why }),
     };
     let start = footer.summary_start;
     let summary = match take_part(alloc, store, start, len - END_LENGTH - start) {
         Ok(summary) => summary,
-        Err(why) => return Err(why),
+        Err(why) => return Err(IndexedRefused::Refused { why }),
     };
     let cuts = match cut_records(alloc, &summary, start) {
         Ok(cuts) => cuts,
-        Err(why) => return Err(why),
+        Err(why) => return Err(IndexedRefused::Refused { why }),
     };
     match list_records(alloc, header, footer, summary, &cuts) {
         Ok(loaded) => return Ok(loaded),
-        Err(Memory) => return Err(LoadRefused::Memory),
+        Err(Memory) => {
+            return Err(IndexedRefused::Refused {
+                why: ReadingRefused::Memory,
+            });
+        }
     }
 }

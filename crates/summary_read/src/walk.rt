@@ -3,12 +3,12 @@ ghost use Rattle.std.specs.Prelude.{◌+◌, ◌^◌, ◌<◌, length, IfErr};
 ghost use Rattle.summary_read.specs.Steps.{IsOfBytes, RecordTaken, SummaryCut};
 
 use crate::records::breaks;
-use crate::refusals::LoadRefused;
+use mcap_model::ReadingRefused;
 use mcap_wire::{Cut, CutFault, cut};
 use std::alloc::Global;
 
 // The record that stands there in a summary that starts at `start`.
-fn take_record(bytes: &[u8], at: usize, start: u64) -> Result<Cut, LoadRefused>
+fn take_record(bytes: &[u8], at: usize, start: u64) -> Result<Cut, ReadingRefused>
     requires inside { at < length bytes.now }
     requires fits { start + length bytes.now < 2 ^ 64 }
     ensures { RecordTaken bytes.now at start result }
@@ -16,18 +16,22 @@ fn take_record(bytes: &[u8], at: usize, start: u64) -> Result<Cut, LoadRefused>
     let offset = start + at as u64;
     let cut = match cut(bytes, at) {
         Ok(cut) => cut,
-        Err(CutFault::Short) => return Err(LoadRefused::Grammar { offset, rule: 4 }),
-        Err(CutFault::ZeroOp) => return Err(LoadRefused::Grammar { offset, rule: 5 }),
-        Err(CutFault::TooLong { len: _ }) => return Err(LoadRefused::Limit { offset }),
+        Err(CutFault::Short) => return Err(ReadingRefused::Grammar { offset, rule: 4 }),
+        Err(CutFault::ZeroOp) => return Err(ReadingRefused::Grammar { offset, rule: 5 }),
+        Err(CutFault::TooLong { len: _ }) => return Err(ReadingRefused::Limit { offset }),
     };
     match breaks(cut.op, &bytes[cut.from as usize..cut.to as usize]) {
         None => return Ok(cut),
-        Some(rule) => return Err(LoadRefused::Grammar { offset, rule }),
+        Some(rule) => return Err(ReadingRefused::Grammar { offset, rule }),
     }
 }
 
 /// All records of a summary that starts at `start`.
-pub(crate) fn cut_records(alloc: Global, bytes: &[u8], start: u64) -> Result<Vec<Cut>, LoadRefused>
+pub(crate) fn cut_records(
+    alloc: Global,
+    bytes: &[u8],
+    start: u64,
+) -> Result<Vec<Cut>, ReadingRefused>
     requires { start + length bytes.now < 2 ^ 64 }
     ensures cut { SummaryCut bytes.now start result }
     ensures of_bytes { IfErr result IsOfBytes }
@@ -41,7 +45,7 @@ pub(crate) fn cut_records(alloc: Global, bytes: &[u8], start: u64) -> Result<Vec
         };
         match cuts.push(cut) {
             Ok(()) => {}
-            Err(_) => return Err(LoadRefused::Memory),
+            Err(_) => return Err(ReadingRefused::Memory),
         }
         at = cut.to as usize;
     }

@@ -64,8 +64,8 @@ returns-in-Ok-false-clause-told g c = λ file told size knows ends.
     let e = c.in-Ok-false.ensures in
     let f = Rattle.rec_index.specs.Parsed.chunk_index_fields c.args.index.now in
     let astray = rw c.in-Ok-false.field-0-test at c.in-Ok-false.ensures.told file (i.stays.bytes ∙ told) size knows in
-    astray_shown file c.args.request.now c.args.at f c.item-channel.result.0 c.item-channel.result.1 c.args.end ((kept_in c.args.shown.now), (kept_in c.show_list.new.shown)) c.refuse_astray-astray.result
-    (λ reached. astray f refl (record { reached = reached; named = (c.names.i, c.item-channel.ensures) })) ends (c.refuse_astray-astray.ensures.told file (e.stays.bytes ∙ (i.stays.bytes ∙ told)) size)
+    astray_shown file c.args.request.now c.args.at f c.item-channel.result.0 c.item-channel.result.1 c.args.end ((kept_in c.args.shown.now), (kept_in c.show_list.new.shown)) c.refuse_astray-why.result
+    (λ reached. astray f refl (record { reached = reached; named = (c.names.i, c.item-channel.ensures) })) ends (c.refuse_astray-why.ensures.told file (e.stays.bytes ∙ (i.stays.bytes ∙ told)) size)
 
 pub returns-in-Ok-false-clause-asks : goal.returns-in-Ok-false-clause-asks
 returns-in-Ok-false-clause-asks g c = λ file cost ends told size stands are.
@@ -79,9 +79,9 @@ returns-in-Ok-false-clause-asks g c = λ file cost ends told size stands are.
     let e = c.in-Ok-false.ensures in
     let f = Rattle.rec_index.specs.Parsed.chunk_index_fields c.args.index.now in
     let told_2 = e.stays.bytes ∙ (i.stays.bytes ∙ told) in
-    astray_asked file c.args.request.now c.args.at f c.item-channel.result.0 c.item-channel.result.1 c.args.end cost ends (g.T.Store.state c.args.store.now).asked (g.T.Store.state c.show_list.new.store).asked (g.T.Store.state c.refuse_astray-astray.new.store).asked c.refuse_astray-astray.result
+    astray_asked file c.args.request.now c.args.at f c.item-channel.result.0 c.item-channel.result.1 c.args.end cost ends (g.T.Store.state c.args.store.now).asked (g.T.Store.state c.show_list.new.store).asked (g.T.Store.state c.refuse_astray-why.new.store).asked c.refuse_astray-why.result
     (λ knows reached. let astray = rw c.in-Ok-false.field-0-test at c.in-Ok-false.ensures.told file (i.stays.bytes ∙ told) size knows in astray f refl (record { reached = reached; named = (c.names.i, c.item-channel.ensures) }))
-    stands (omega (arith, few, one.within, e.asks file one.cost (i.stays.bytes ∙ told) size one.is)) (c.refuse_astray-astray.ensures.asks file told_2 size)
+    stands (omega (arith, few, one.within, e.asks file one.cost (i.stays.bytes ∙ told) size one.is)) (c.refuse_astray-why.ensures.asks file told_2 size)
 
 pub names-preserved : goal.names-preserved
 names-preserved g c =

@@ -1,4 +1,4 @@
-use Rattle.std.proofs.Common.{ℕ, List, ◌≤◌, ◌+◌, subst}
+use Rattle.std.proofs.Common.{ℕ, List, ◌≤◌, ◌+◌, Ok, Err, subst}
 use Rattle.std.proofs.lemmas.Bool.{both_ways}
 use Rattle.indexed_replay.specs.Steps.{EntriesShown, entries_cost}
 use Rattle.indexed_replay.specs.Lists.{ContentRefused}
@@ -10,16 +10,27 @@ use Rattle.indexed_replay.proofs.lists.show_content.Goals as goal
 pub unreachable-requires : goal.unreachable-requires
 unreachable-requires g c = c.in-Err.ensures.none c.args.spot.channel c.requires.is.0 c.requires.is.1
 
-pub returns-then-is_wanted-clause-told : goal.returns-then-is_wanted-clause-told
-returns-then-is_wanted-clause-told g c = λ file entries told size declare shows.
+pub returns-in-Ok-show_entries-clause-told : goal.returns-in-Ok-show_entries-clause-told
+returns-in-Ok-show_entries-clause-told g c = λ file entries told size declare shows.
     let same = (index_once c.args.content.now c.in-Ok.index.channel_id c.args.spot.channel c.in-Ok.index.entries entries c.in-Ok.ensures.shown shows).1 in
-    content_shown file c.args.request.now c.args.spot entries ((kept_in c.args.shown.now), (kept_in c.show_entries.new.shown)) c.show_entries.result ((c.is_wanted.ensures declare).0 c.if-is_wanted.true)
-    (subst (λ (l : List (ℕ × ℕ)). EntriesShown file c.args.request.now.range c.args.spot l ((kept_in c.args.shown.now), (kept_in c.show_entries.new.shown)) c.show_entries.result) same (c.show_entries.ensures.told file told size))
+    content_shown file c.args.request.now c.args.spot entries ((kept_in c.args.shown.now), (kept_in c.show_entries.new.shown)) (Ok c.in-Ok-show_entries.all) ((c.is_wanted.ensures declare).0 c.if-is_wanted.true)
+    (subst (λ (l : List (ℕ × ℕ)). EntriesShown file c.args.request.now.range c.args.spot l ((kept_in c.args.shown.now), (kept_in c.show_entries.new.shown)) (Ok c.in-Ok-show_entries.all)) same (c.in-Ok-show_entries.ensures.told file told size))
 
-pub returns-then-is_wanted-clause-asks : goal.returns-then-is_wanted-clause-asks
-returns-then-is_wanted-clause-asks g c = λ file entries told size shows.
+pub returns-in-Ok-show_entries-clause-asks : goal.returns-in-Ok-show_entries-clause-asks
+returns-in-Ok-show_entries-clause-asks g c = λ file entries told size shows.
     let same = (index_once c.args.content.now c.in-Ok.index.channel_id c.args.spot.channel c.in-Ok.index.entries entries c.in-Ok.ensures.shown shows).1 in
-    subst (λ (l : List (ℕ × ℕ)). (g.T.Store.state c.show_entries.new.store).asked ≤ (g.T.Store.state c.args.store.now).asked + entries_cost file c.args.request.now.range c.args.spot.chunk l) same (c.show_entries.ensures.asks file told size)
+    subst (λ (l : List (ℕ × ℕ)). (g.T.Store.state c.show_entries.new.store).asked ≤ (g.T.Store.state c.args.store.now).asked + entries_cost file c.args.request.now.range c.args.spot.chunk l) same (c.in-Ok-show_entries.ensures.asks file told size)
+
+pub returns-in-Err-show_entries-clause-told : goal.returns-in-Err-show_entries-clause-told
+returns-in-Err-show_entries-clause-told g c = λ file entries told size declare shows.
+    let same = (index_once c.args.content.now c.in-Ok.index.channel_id c.args.spot.channel c.in-Ok.index.entries entries c.in-Ok.ensures.shown shows).1 in
+    content_shown file c.args.request.now c.args.spot entries ((kept_in c.args.shown.now), (kept_in c.show_entries.new.shown)) (Err c.in-Err-show_entries.why) ((c.is_wanted.ensures declare).0 c.if-is_wanted.true)
+    (subst (λ (l : List (ℕ × ℕ)). EntriesShown file c.args.request.now.range c.args.spot l ((kept_in c.args.shown.now), (kept_in c.show_entries.new.shown)) (Err c.in-Err-show_entries.why)) same (c.in-Err-show_entries.ensures.told file told size))
+
+pub returns-in-Err-show_entries-clause-asks : goal.returns-in-Err-show_entries-clause-asks
+returns-in-Err-show_entries-clause-asks g c = λ file entries told size shows.
+    let same = (index_once c.args.content.now c.in-Ok.index.channel_id c.args.spot.channel c.in-Ok.index.entries entries c.in-Ok.ensures.shown shows).1 in
+    subst (λ (l : List (ℕ × ℕ)). (g.T.Store.state c.show_entries.new.store).asked ≤ (g.T.Store.state c.args.store.now).asked + entries_cost file c.args.request.now.range c.args.spot.chunk l) same (c.in-Err-show_entries.ensures.asks file told size)
 
 pub returns-in-Ok-check_channel-clause-told : goal.returns-in-Ok-check_channel-clause-told
 returns-in-Ok-check_channel-clause-told g c = λ file entries told size declare shows.

@@ -1,7 +1,8 @@
 use Rattle.std.proofs.Common.{Global, ◌≡◌, ℕ, List, ◌≤◌, ◌+◌, ◌∙◌, inl, sym, subst}
 use Rattle.rec_index.specs.Records.{ShowsMessageIndex}
-use Rattle.indexed_replay.specs.declared.answers.ReplayRefused.{ReplayRefused}
-use Rattle.indexed_replay.specs.declared.answers.ReplayRefused.TheVariants as refusals
+use Rattle.mcap_model.specs.declared.refusals.ReadingRefused.{ReadingRefused}
+use Rattle.mcap_model.specs.declared.refusals.ReadingRefused.TheVariants as refusals
+use Rattle.mcap_model.specs.declared.refusals.IndexedRefused.TheVariants as by_index
 use Rattle.indexed_replay.specs.declared.spots.Spot.{Spot}
 use Rattle.indexed_replay.specs.declared.spots.Request.{Request}
 use Rattle.indexed_replay.specs.Steps.{IndexIs}
@@ -10,10 +11,9 @@ use Rattle.indexed_replay.proofs.Listing.{list_shown, list_found, lacks_reason, 
 use Rattle.time_player.specs.Keeping.{kept_in}
 use Rattle.indexed_replay.proofs.lists.show_list.Goals as goal
 
-index_reason : (file : List ℕ) (request : Request) (at : ℕ) (spot : Spot) (why : ReplayRefused) → IndexIs {Y = Global} file spot (Rattle.std.proofs.Common.Err why) → ListRefused file request at spot why
+index_reason : (file : List ℕ) (request : Request) (at : ℕ) (spot : Spot) (why : ReadingRefused) → IndexIs {Y = Global} file spot (Rattle.std.proofs.Common.Err why) → ListRefused file request at spot (by_index.Refused why)
 index_reason file request at spot (refusals.Fault faults) is = λ f place names. tt
-index_reason file request at spot (refusals.NotIndexed why) is = absurd is
-index_reason file request at spot (refusals.Flaw rule offset) is = absurd is
+index_reason file request at spot (refusals.Grammar offset rule) is = absurd is
 index_reason file request at spot (refusals.Compressed offset name) is = absurd is
 index_reason file request at spot (refusals.Limit offset) is = limit_reason file request at spot offset is
 index_reason file request at spot refusals.Memory is = λ f place names. tt

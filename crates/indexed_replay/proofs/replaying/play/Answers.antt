@@ -1,4 +1,4 @@
-use Rattle.std.proofs.Common.{◌≤◌, List, inl, inr, sym, subst, ap, ◌∙◌, arith}
+use Rattle.std.proofs.Common.{List, inl, inr, sym, subst, ap, ◌∙◌, arith}
 use Rattle.mcap_model.specs.declared.replay.Shown.{Shown}
 use Rattle.mcap_model.specs.declared.replay.Topic.{Topic}
 use Rattle.mcap_model.specs.Plain.{AreNamed}

@@ -1,27 +1,35 @@
 use Rattle.std.proofs.Common.{ℕ, ◌^◌, ◌<◌, Err, List, length, inl, sym, subst, ◌∙◌, arith}
+use Rattle.mcap_model.specs.declared.replay.Replayed.{Replayed}
 use Rattle.mcap_model.specs.Tops.{Top}
 use Rattle.mcap_model.specs.Plain.{asked_topic}
-use Rattle.indexed_replay.specs.declared.answers.ReplayRefused.{ReplayRefused}
-use Rattle.indexed_replay.specs.declared.answers.ReplayRefused.TheVariants as refusals
+use Rattle.mcap_model.specs.declared.refusals.IndexedRefused.TheVariants as by_index
 use Rattle.indexed_replay.specs.Reaching.{nothing}
-use Rattle.indexed_replay.specs.Replaying.{IsReason}
 use Rattle.indexed_replay.specs.Gathering.{IndexesCost}
-use Rattle.summary_read.specs.Parts.{of_kind}
-use Rattle.summary_read.specs.Loading.{AskedFor}
+use Rattle.summary_read.specs.Parts.{Parts, of_kind}
+use Rattle.summary_read.specs.Loading.{AskedFor, LoadCause}
 use Rattle.indexed_replay.proofs.Summed.{loaded_summary, summary_once}
 use Rattle.indexed_replay.proofs.Bounded.{asked_bound}
 use Rattle.indexed_replay.proofs.Apart.{apart_reason, tells_one}
-use Rattle.indexed_replay.proofs.Ending.{load_reason, counts_reason, counts_agree, scan_replayed, asked_unplayed, asked_played}
+use Rattle.indexed_replay.proofs.Ending.{load_reason, load_cause, load_unsummed, counts_reason, counts_agree, scan_replayed, asked_unplayed, asked_played}
 use Rattle.indexed_replay.proofs.replaying.replay_kept.Goals as goal
 
 pub returns-in-Err-load-clause-plays : goal.returns-in-Err-load-clause-plays
-returns-in-Err-load-clause-plays g c = λ file told. subst (λ (w : ReplayRefused). IsReason file c.args.range w) (sym c.refuse_load.ensures) (load_reason file c.args.range c.in-Err-load.why (c.in-Err-load.ensures.loads file (c.in-Ok.ensures.bytes ∙ told)))
+returns-in-Err-load-clause-plays g c = λ file told. load_reason file c.args.range c.in-Err-load.why (c.in-Err-load.ensures.loads file (c.in-Ok.ensures.bytes ∙ told))
 
 pub returns-in-Err-load-clause-scanned : goal.returns-in-Err-load-clause-scanned
 returns-in-Err-load-clause-scanned g c = λ file tops end messages told full halts scan.
     let few : length file < 2 ^ 64 = omega (arith, c.in-Ok.ensures.tells file told) in
     let reason = load_reason file c.args.range c.in-Err-load.why (c.in-Err-load.ensures.loads file (c.in-Ok.ensures.bytes ∙ told)) in
-    scan_replayed file tops end messages c.args.range (asked_topic c.args.topic) (Err c.refuse_load.result) few full halts scan (subst (λ (w : ReplayRefused). IsReason file c.args.range w) (sym c.refuse_load.ensures) reason)
+    scan_replayed file tops end messages c.args.range (asked_topic c.args.topic) (Err c.in-Err-load.why) few full halts scan reason
+
+pub returns-in-Err-load-clause-cause : goal.returns-in-Err-load-clause-cause
+returns-in-Err-load-clause-cause g c =
+    let now = (g.T.Store.state c.load.new.store).faults in
+    let measured = c.in-Ok.ensures.cause in
+    load_cause Parts Replayed (g.T.Store.state c.args.store.now).faults now c.in-Err-load.why (subst (λ (n : ℕ). LoadCause {P = Parts} n now (Err c.in-Err-load.why)) measured.still c.in-Err-load.ensures.cause)
+
+pub returns-in-Err-load-clause-unsummed : goal.returns-in-Err-load-clause-unsummed
+returns-in-Err-load-clause-unsummed g c = λ file told none. load_unsummed file c.in-Err-load.why (c.in-Err-load.ensures.loads file (c.in-Ok.ensures.bytes ∙ told)) none
 
 pub returns-in-Err-load-clause-asks : goal.returns-in-Err-load-clause-asks
 returns-in-Err-load-clause-asks g c = λ file start summary header cost told has there are.
@@ -37,7 +45,7 @@ returns-in-Err-judge_counts-clause-plays g c = λ file told. counts_reason file 
 pub returns-in-Err-judge_counts-clause-scanned : goal.returns-in-Err-judge_counts-clause-scanned
 returns-in-Err-judge_counts-clause-scanned g c = λ file tops end messages told full halts scan.
     let few : length file < 2 ^ 64 = omega (arith, c.in-Ok.ensures.tells file told) in
-    scan_replayed file tops end messages c.args.range (asked_topic c.args.topic) (Err (refusals.NotIndexed c.in-Err-judge_counts.why)) few full halts scan
+    scan_replayed file tops end messages c.args.range (asked_topic c.args.topic) (Err (by_index.NotIndexed c.in-Err-judge_counts.why)) few full halts scan
     (counts_reason file c.args.range c.in-Ok-load.loaded c.in-Err-judge_counts.why (c.in-Ok-load.ensures.loads file (c.in-Ok.ensures.bytes ∙ told)).0 c.in-Err-judge_counts.ensures)
 
 pub returns-in-Err-judge_counts-clause-asks : goal.returns-in-Err-judge_counts-clause-asks
@@ -91,7 +99,7 @@ returns-in-Err-check_apart-clause-plays g c = λ file told. apart_reason file c.
 pub returns-in-Err-check_apart-clause-scanned : goal.returns-in-Err-check_apart-clause-scanned
 returns-in-Err-check_apart-clause-scanned g c = λ file tops end messages told full halts scan.
     let few : length file < 2 ^ 64 = omega (arith, c.in-Ok.ensures.tells file told) in
-    scan_replayed file tops end messages c.args.range (asked_topic c.args.topic) (Err c.in-Err-check_apart.why) few full halts scan
+    scan_replayed file tops end messages c.args.range (asked_topic c.args.topic) (Err (by_index.Refused c.in-Err-check_apart.why)) few full halts scan
     (apart_reason file c.in-Ok-load.loaded (c.in-Ok-load.ensures.loads file (c.in-Ok.ensures.bytes ∙ told)).0 c.args.range c.in-Err-check_apart.why c.in-Err-check_apart.ensures)
 
 pub returns-in-Err-check_apart-clause-asks : goal.returns-in-Err-check_apart-clause-asks
