@@ -1,18 +1,16 @@
 -- The counts of one record more.
-use Rattle.std.proofs.Common.{◌≡◌, ◌⊎◌, ℕ, suc, ◌+◌, ◌^◌, ◌<◌, ◌≤◌, Bool, true, false, eqb, List, [], ◌∷◌, ◌++◌, length, filter, cond, refl, sym, ap, subst, inl, inr, ◌∙◌, append_assoc, arith}
+use Rattle.std.proofs.Common.{◌≡◌, ◌⊎◌, ℕ, suc, ◌+◌, ◌^◌, ◌<◌, ◌≤◌, Bool, true, false, eqb, List, [], ◌∷◌, ◌++◌, length, filter, cond, refl, sym, ap, subst, inl, inr, ◌∙◌, arith}
 use Rattle.std.specs.Prelude.{◌≢◌, slice_index}
 use Rattle.std.specs.List.{AllZip}
 use Rattle.std.proofs.lemmas.Bool.{ne_eqb, eq-eqb, eqb-true, eqb-false}
 use Rattle.std.proofs.lemmas.List.{append-nil, length-append}
 use Rattle.std.proofs.lemmas.List.Elements.{filter-append}
-use Rattle.mcap_model.specs.Places.{At, Has, Each}
-use Rattle.mcap_model.specs.Tops.{Top, records_in, is_flat_kind}
+use Rattle.mcap_model.specs.Places.{At, Has}
+use Rattle.mcap_model.specs.Tops.{Top}
 use Rattle.mcap_model.specs.Fields.{SchemaFields, IsSchema, ChannelFields, IsChannel, MessageFields, IsMessage}
-use Rattle.mcap_model.specs.Rules.{V6, HasSchema, HasChannel}
+use Rattle.mcap_model.specs.Rules.{HasSchema, HasChannel}
 use Rattle.mcap_model.specs.Scan.{is_message_top}
 use Rattle.mcap_model.specs.Whole.{count_of, on_channel, AreIds}
-use Rattle.mcap_model.specs.Walk.{inner_top, StepsOver}
-use Rattle.mcap_model.specs.declared.inner.Inner.{Inner}
 use Rattle.mcap_model.proofs.Places.{at_kept, at_last, at_more, has_kept, has_last, pairs_more}
 use Rattle.mcap_model.proofs.Logging.{few_filtered}
 use Rattle.mcap_model.proofs.Maps.{schema_once, shows_once}
@@ -163,45 +161,3 @@ counted_message records t old new by_channel channel m was is few more hears = r
     by id false apart =
         let other = eqb-false id channel apart in
         more.others id other ∙ was.by_channel id ∙ sym (on_other was.channels_of channel id (λ e. other (sym e)))
-
--- ---- the records of a chunk
-
--- a walk over the records came so far, and counted them
-pub record CountedTo (records : List Top) (bytes rest : List ℕ) (c : RecordCounts) : Type 0 where
-  pub done : List Top
-  pub split : records_in bytes ≡ done ++ records_in rest
-  pub counts : CountsOf (records ++ filter is_flat_kind done) c
-
-pub counted_none : (records : List Top) (bytes rest : List ℕ) (c : RecordCounts) → rest ≡ bytes → CountsOf records c → CountedTo records bytes rest c
-counted_none records bytes rest c all was = record { done = []; split = ap records_in (sym all); counts = subst (λ (l : List Top). CountsOf l c) (sym (append-nil records)) was }
-
-pub counted_here : (records : List Top) (bytes rest rest_new : List ℕ) (at at_new : ℕ) (inner : Inner) (old new : RecordCounts) → (to : CountedTo records bytes rest old) → StepsOver at rest at_new rest_new inner → Each V6 (records_in bytes)
-    → length records + length (records_in bytes) < 2 ^ 64
-    → ((l : List Top) → CountsOf l old → V6 (inner_top inner) → length l + 1 < 2 ^ 64 → CountsOf (l ++ filter is_flat_kind (inner_top inner ∷ [])) new) → CountedTo records bytes rest_new new
-counted_here records bytes rest rest_new at at_new inner old new to steps meets few takes = record {
-  done = to.done ++ t ∷ [];
-  split = there ∙ sym (append_assoc to.done (t ∷ []) (records_in rest_new));
-  counts = subst (λ (l : List Top). CountsOf l new) joined (takes (records ++ filter is_flat_kind to.done) to.counts here short);
-}
-  where
-    t : Top
-    t = inner_top inner
-
-    there : records_in bytes ≡ to.done ++ inner_top inner ∷ records_in rest_new
-    there = to.split ∙ ap (λ (l : List Top). to.done ++ l) steps.first
-
-    here : V6 (inner_top inner)
-    here = meets (length to.done) (inner_top inner) (subst (λ (l : List Top). At l (length to.done) (inner_top inner)) (sym there) (at_last to.done (inner_top inner) (records_in rest_new)))
-
-    short : length (records ++ filter is_flat_kind to.done) + 1 < 2 ^ 64
-    short =
-        let all = ap length there in
-        omega (arith, few, all, length-append to.done (inner_top inner ∷ records_in rest_new), length-append records (filter is_flat_kind to.done), few_filtered is_flat_kind to.done)
-
-    joined : (records ++ filter is_flat_kind to.done) ++ filter is_flat_kind (inner_top inner ∷ []) ≡ records ++ filter is_flat_kind (to.done ++ inner_top inner ∷ [])
-    joined = append_assoc records (filter is_flat_kind to.done) (filter is_flat_kind (inner_top inner ∷ [])) ∙ ap (λ (l : List Top). records ++ l) (sym (filter-append is_flat_kind to.done (inner_top inner ∷ [])))
-
-pub counted_all : (records : List Top) (bytes rest : List ℕ) (c : RecordCounts) → CountedTo records bytes rest c → records_in rest ≡ [] → CountsOf (records ++ filter is_flat_kind (records_in bytes)) c
-counted_all records bytes rest c to none =
-    let all : to.done ≡ records_in bytes = sym (to.split ∙ ap (λ (l : List Top). to.done ++ l) none ∙ append-nil to.done) in
-    subst (λ (l : List Top). CountsOf (records ++ filter is_flat_kind l) c) all to.counts

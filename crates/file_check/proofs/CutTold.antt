@@ -1,5 +1,5 @@
 -- What is told of a file that lacks one of its magics.
-use Rattle.std.proofs.Common.{◌≡◌, ℕ, ◌+◌, ◌-◌, ◌<◌, ◌≤◌, Bool, List, [], ◌++◌, Option, length, take, Some, Ok, Err, false, refl, sym, ap, subst, inl, inr, ◌∙◌, arith}
+use Rattle.std.proofs.Common.{◌≡◌, ℕ, ◌+◌, ◌-◌, ◌<◌, Bool, List, [], Option, length, take, Some, Ok, Err, false, refl, sym, ap, subst, inl, inr, ◌∙◌, arith}
 use Rattle.std.specs.Prelude.{if◌then◌else◌}
 use Rattle.std.proofs.lemmas.Bool.{false_from_ne_true, leb-true, le-leb}
 use Rattle.std.proofs.lemmas.List.{take_all, length-append}
@@ -15,12 +15,12 @@ use Rattle.mcap_model.proofs.TakenRecords.{none_good, halted, ended}
 use Rattle.mcap_scan.specs.Scanning.{HaltsSo}
 use Rattle.index_check.specs.declared.section.Section.{Section}
 use Rattle.file_check.specs.declared.flaws.FailedRule.{FailedRule}
-use Rattle.file_check.specs.declared.refusals.CheckRefused.{CheckRefused}
-use Rattle.file_check.specs.declared.refusals.CheckRefused.TheVariants as refusals
+use Rattle.mcap_model.specs.declared.refusals.ReadingRefused.{ReadingRefused}
+use Rattle.mcap_model.specs.declared.refusals.ReadingRefused.TheVariants as refusals
 use Rattle.file_check.specs.Reading.{IndexIsWrong, Reads}
 use Rattle.file_check.specs.Halting.{failed_at, lacks_magic}
 use Rattle.file_check.specs.Checking.{IsFault, front_of}
-use Rattle.file_check.specs.CutFiles.{told_of, HaltIsTold, IndexIsTold, NamesCut}
+use Rattle.file_check.specs.CutFiles.{told_of, NamesCut}
 use Rattle.file_check.proofs.Refusing.{halted_at}
 
 all_taken : (file : List ℕ) (len : ℕ) → length file ≡ len → take len file ≡ file
@@ -63,8 +63,9 @@ short_told file len (rest, split) size short =
     magic_told file len [] (grammar 8 4) size (halted file [] rest (grammar 8 4) (record { split = split }) none_good (λ none. none) (short_head headless))
     (ap (λ (b : Bool). if b then lacks_magic len else failed_at 8 4) (le-leb (len - 8) 8 (omega (arith, short))))
 
-pub fault_cut : (file : List ℕ) (why : CheckRefused) → IsFault why → NamesCut file (Err why)
+pub fault_cut : (file : List ℕ) (why : ReadingRefused) → IsFault why → NamesCut file (Err why)
 fault_cut file (refusals.Fault faults) is = tt
+fault_cut file (refusals.Grammar offset rule) is = absurd is
 fault_cut file (refusals.Compressed offset name) is = absurd is
 fault_cut file (refusals.Limit offset) is = absurd is
 fault_cut file refusals.Memory is = absurd is

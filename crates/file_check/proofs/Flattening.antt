@@ -1,7 +1,7 @@
 -- The Schemas, Channels and Messages of one record more, and how few they are.
-use Rattle.std.proofs.Common.{◌≡◌, ◌+◌, ◌<◌, ◌≤◌, Bool, true, false, List, [], ◌∷◌, length, cond, refl, ap, ◌∙◌, arith}
+use Rattle.std.proofs.Common.{◌≡◌, ◌+◌, ◌<◌, ◌≤◌, Bool, true, false, List, [], ◌∷◌, length, cond, refl, sym, ap, subst, arith}
 use Rattle.std.specs.Prelude.{nat_lt}
-use Rattle.std.proofs.lemmas.Bool.{or_parts, ltb-false, ne_eqb, eq-eqb}
+use Rattle.std.proofs.lemmas.Bool.{or_parts, ltb-false, ne_eqb}
 use Rattle.std.proofs.lemmas.List.{length-append}
 use Rattle.mcap_model.specs.Places.{Each}
 use Rattle.mcap_model.specs.Tops.{Top, top_bytes, spelled, offset_behind, records_in, chunk_records, is_chunk, inner_tops, opened, is_flat_kind, flattened, flat}
@@ -19,14 +19,15 @@ use Rattle.mcap_model.proofs.FewRecords.{records_short, chunk_short}
 pub opened_other : (t : Top) → (t.op ≡ 6 → ⊥) → opened t ≡ t ∷ []
 opened_other t other = ap (λ (b : Bool). cond b (inner_tops t) (t ∷ [])) (ne_eqb t.op 6 other)
 
-pub opened_chunk : (t : Top) (f : ChunkFields) → IsChunk t f → opened t ≡ records_in f.records
-opened_chunk t f is =
-    let six = is.kind in
-    ap (λ (b : Bool). cond b (inner_tops t) (t ∷ [])) (eq-eqb t.op 6 six) ∙ ap records_in (chunks_are_opened t f is)
-
 -- each record of a chunk keeps the rule on layouts
 pub chunk_meets : (tops : List Top) (t : Top) (f : ChunkFields) → IsChunk t f → Fits reading_limits tops t → Each V6 (records_in f.records)
 chunk_meets tops t f is fits = (fits.v8 f is (named_or t f f.compression is refl fits.plain)).layouts
+
+-- so do those that a chunk is opened to
+pub inner_meets : (tops : List Top) (t : Top) → t.op ≡ 6 → Fits reading_limits tops t → Each V6 (inner_tops t)
+inner_meets tops t six fits =
+    let (f, is) = fits.v6.chunk six in
+    subst (Each V6) (sym (ap records_in (chunks_are_opened t f is))) (chunk_meets tops t f is fits)
 
 -- ---- they are fewer than the bytes
 

@@ -16,13 +16,14 @@ use Rattle.mcap_model.specs.Valid.{Keeps}
 use Rattle.mcap_model.proofs.Places.{at_none, at_within, at_kept, at_last, at_more, has_kept, has_last, last_apart}
 use Rattle.mcap_model.proofs.Lists.{each_cons, each_joined, take_while_front}
 use Rattle.mcap_model.proofs.Unpacking.{chunks_are_opened}
-use Rattle.index_check.specs.declared.chunk_messages.ChunkMessage.{ChunkMessage}
+use Rattle.record_walk.specs.declared.heads.MessageHead.{MessageHead}
 use Rattle.index_check.specs.Behind.{IsOpen}
 use Rattle.index_check.specs.Chunks.{EndsWithChunk}
 use Rattle.index_check.specs.Messages.{HoldsMessages}
 use Rattle.index_check.proofs.Followers.{as_index, behind_open}
 use Rattle.index_check.proofs.Spotted.{offset_last}
-use Rattle.file_check.specs.LastChunk.{IndexFails}
+use Rattle.file_check.specs.declared.last_chunk.LastChunk.{LastChunk}
+use Rattle.file_check.specs.LastChunk.{LastOf, IndexFails}
 
 -- ---- lists
 
@@ -121,7 +122,7 @@ keeps_apart tops t keeps other none = keeps_more tops t keeps (λ e. absurd (oth
     (λ n u at six not followed. absurd (none (record { others = take n tops; chunk = u; earlier = drop (suc n) tops; joined = cut_drop tops n u at; kind = six; indexes = unfollowed tops n not })))
 
 -- another record behind the last chunk and its Message Indexes
-pub keeps_closed : (tops : List Top) (t : Top) (messages : List ChunkMessage) (channels : List ℕ) (o : IsOpen tops messages channels) → Keeps V9 tops → (t.op ≡ 7 → ⊥) → IsIndexed (tops ++ t ∷ []) (length o.others) o.chunk → Keeps V9 (tops ++ t ∷ [])
+pub keeps_closed : (tops : List Top) (t : Top) (messages : List MessageHead) (channels : List ℕ) (o : IsOpen tops messages channels) → Keeps V9 tops → (t.op ≡ 7 → ⊥) → IsIndexed (tops ++ t ∷ []) (length o.others) o.chunk → Keeps V9 (tops ++ t ∷ [])
 keeps_closed tops t messages channels o keeps other indexed = keeps_more tops t keeps (λ e. absurd (other e)) (λ n u at six not followed.
     let own = o.kind in
     let cut = cut_drop tops n u at in
@@ -132,34 +133,34 @@ keeps_closed tops t messages channels o keeps other indexed = keeps_more tops t 
 
 -- ---- V9 fails
 
-pub fails_closed : (tops : List Top) (t : Top) (messages : List ChunkMessage) (channels : List ℕ) (o : IsOpen tops messages channels) → (t.op ≡ 7 → ⊥) → (IsIndexed (tops ++ t ∷ []) (length o.others) o.chunk → ⊥) → IndexFails (tops ++ t ∷ []) (offset_behind o.others)
-fails_closed tops t messages channels o other lacks = record {
+pub fails_closed : (tops more : List Top) (t : Top) (messages : List MessageHead) (channels : List ℕ) (o : IsOpen tops messages channels) → (t.op ≡ 7 → ⊥) → (IsIndexed (tops ++ t ∷ more) (length o.others) o.chunk → ⊥) → IndexFails (tops ++ t ∷ more) (offset_behind o.others)
+fails_closed tops more t messages channels o other lacks = record {
   place = length o.others;
   top = o.chunk;
-  at = at_kept tops (t ∷ []) (length o.others) o.chunk (subst (λ (l : List Top). At l (length o.others) o.chunk) (sym o.joined) (at_last o.others o.chunk o.earlier));
+  at = at_kept tops (t ∷ more) (length o.others) o.chunk (subst (λ (l : List Top). At l (length o.others) o.chunk) (sym o.joined) (at_last o.others o.chunk o.earlier));
   there = ap offset_behind (sym front);
   breaks = λ v9. lacks (v9.1 o.kind followed);
 }
   where
-    front : take (length o.others) (tops ++ t ∷ []) ≡ o.others
+    front : take (length o.others) (tops ++ t ∷ more) ≡ o.others
     front =
-        ap (λ (l : List Top). take (length o.others) (l ++ t ∷ [])) o.joined
-        ∙ ap (take (length o.others)) (append_assoc o.others (o.chunk ∷ o.earlier) (t ∷ []))
-        ∙ take-append_seam o.others (o.chunk ∷ (o.earlier ++ t ∷ []))
+        ap (λ (l : List Top). take (length o.others) (l ++ t ∷ more)) o.joined
+        ∙ ap (take (length o.others)) (append_assoc o.others (o.chunk ∷ o.earlier) (t ∷ more))
+        ∙ take-append_seam o.others (o.chunk ∷ (o.earlier ++ t ∷ more))
 
-    followed : IsFollowed (tops ++ t ∷ []) (length o.others)
+    followed : IsFollowed (tops ++ t ∷ more) (length o.others)
     followed =
-        let behind = ap length (behind_open tops [] t messages channels o other) in
+        let behind = ap length (behind_open tops more t messages channels o other) in
         let long = ap length o.joined in
-        omega (arith, behind, long, length-append o.others (o.chunk ∷ o.earlier), length-append tops (t ∷ []))
+        omega (arith, behind, long, length-append o.others (o.chunk ∷ o.earlier), length-append tops (t ∷ more))
 
-pub fails_index : (tops : List Top) (t : Top) → t.op ≡ 7 → (BelongsTo tops t → ⊥) → IndexFails (tops ++ t ∷ []) (offset_behind tops)
-fails_index tops t seven lacks = record {
+pub fails_index : (tops more : List Top) (t : Top) → t.op ≡ 7 → (BelongsTo tops t → ⊥) → IndexFails (tops ++ t ∷ more) (offset_behind tops)
+fails_index tops more t seven lacks = record {
   place = length tops;
   top = t;
-  at = at_last tops t [];
-  there = sym (offset_last tops (t ∷ []));
-  breaks = λ v9. lacks (subst (λ (l : List Top). BelongsTo l t) (take-append_seam tops (t ∷ [])) (v9.0 seven));
+  at = at_last tops t more;
+  there = sym (offset_last tops (t ∷ more));
+  breaks = λ v9. lacks (subst (λ (l : List Top). BelongsTo l t) (take-append_seam tops (t ∷ more)) (v9.0 seven));
 }
 
 -- ---- a Message Index that belongs there stands behind a chunk
@@ -217,10 +218,23 @@ ends_other tops t six seven e =
     let same = last_apart (λ (u : Top). u.op ≡ 7) tops e.others t e.chunk [] e.earlier e.joined seven (λ is. omega (arith, is, kind)) (λ n u at. absurd (at_none n u at)) e.indexes in
     six (ap (λ (u : Top). u.op) same.0 ∙ kind)
 
-pub ends_open : (tops : List Top) (messages : List ChunkMessage) (channels : List ℕ) → IsOpen tops messages channels → EndsWithChunk tops
+pub ends_open : (tops : List Top) (messages : List MessageHead) (channels : List ℕ) → IsOpen tops messages channels → EndsWithChunk tops
 ends_open tops messages channels o = record { others = o.others; chunk = o.chunk; earlier = o.earlier; joined = o.joined; kind = o.kind; indexes = o.indexes }
 
-pub open_chunk : (tops : List Top) (t : Top) (f : ChunkFields) (messages : List ChunkMessage) (channels : List ℕ) → IsChunk t f → HoldsMessages (records_in f.records) messages → channels ≡ [] → (o : IsOpen (tops ++ t ∷ []) messages channels) × (o.others ≡ tops)
+-- where the last record is a chunk, its Messages are held
+pub open_last : (tops : List Top) (t : Top) (last : LastChunk) → LastOf (tops ++ t ∷ []) last → t.op ≡ 6 → HoldsMessages (inner_tops t) last.messages
+open_last tops t last of six = by last.is_open refl
+  where
+    by : (b : Bool) → last.is_open ≡ b → HoldsMessages (inner_tops t) last.messages
+    by true opened =
+        let kept = of.kept opened in
+        let o = kept.is in
+        let kind = o.kind in
+        let same = last_apart (λ (u : Top). u.op ≡ 7) tops o.others t o.chunk [] o.earlier o.joined (λ e. omega (arith, e, six)) (λ e. omega (arith, e, kind)) (λ n u at. absurd (at_none n u at)) o.indexes in
+        subst (λ (u : Top). HoldsMessages (inner_tops u) last.messages) (sym same.0) o.holds
+    by false closed = absurd (of.none closed (record { others = tops; chunk = t; earlier = []; joined = refl; kind = six; indexes = λ n u at. absurd (at_none n u at) }))
+
+pub open_chunk : (tops : List Top) (t : Top) (f : ChunkFields) (messages : List MessageHead) (channels : List ℕ) → IsChunk t f → HoldsMessages (records_in f.records) messages → channels ≡ [] → (o : IsOpen (tops ++ t ∷ []) messages channels) × (o.others ≡ tops)
 open_chunk tops t f messages channels is holds none = (
   record {
     others = tops;
@@ -236,7 +250,7 @@ open_chunk tops t f messages channels is holds none = (
   refl,
 )
 
-pub open_index : (tops : List Top) (messages : List ChunkMessage) (channels more content : List ℕ) (channel : ℕ) (entries : List (ℕ × ℕ)) → (o : IsOpen tops messages channels) → ShowsMessageIndex content channel entries → more ≡ channels ++ channel ∷ []
+pub open_index : (tops : List Top) (messages : List MessageHead) (channels more content : List ℕ) (channel : ℕ) (entries : List (ℕ × ℕ)) → (o : IsOpen tops messages channels) → ShowsMessageIndex content channel entries → more ≡ channels ++ channel ∷ []
     → (n : IsOpen (tops ++ top 7 content ∷ []) messages more) × (n.others ≡ o.others)
 open_index tops messages channels more content channel entries o shows same = (
   record {

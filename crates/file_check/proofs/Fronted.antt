@@ -7,13 +7,13 @@ use Rattle.mcap_io.specs.Stores.{StoreState}
 use Rattle.mcap_io.specs.StoreSources.{front_left}
 use Rattle.mcap_model.specs.declared.checked.Verdict.{Verdict}
 use Rattle.mcap_model.proofs.Flaws.{left_size}
-use Rattle.mcap_scan.specs.declared.answers.ScanRefused.TheVariants as scans
+use Rattle.mcap_model.specs.declared.refusals.ReadingRefused.TheVariants as scans
 use Rattle.store_front.specs.Fronts.{WasRead}
 use Rattle.store_front.proofs.Lent.{asks_front}
 use Rattle.index_check.specs.declared.section.Section.{Section}
 use Rattle.file_check.specs.declared.reading.SectionRefused.{SectionRefused}
 use Rattle.file_check.specs.declared.reading.SectionRefused.TheVariants as sections
-use Rattle.file_check.specs.declared.refusals.CheckRefused.{CheckRefused}
+use Rattle.mcap_model.specs.declared.refusals.ReadingRefused.{ReadingRefused}
 use Rattle.file_check.specs.Reading.{Reads}
 use Rattle.file_check.specs.Checking.{front_of, SectionCause, SectionAsks, CheckCause, RefusedCause}
 
@@ -50,9 +50,9 @@ front_asks old new now next end (Ok section) was left (tops, is) = λ file told 
 
 -- ---- what is told of a refusal
 
-pub told_cause : (before read now : ℕ) (why : SectionRefused) (result : Result Verdict CheckRefused) → SectionCause before read (Err why) → RefusedCause read now why result → CheckCause before now result
+pub told_cause : (before read now : ℕ) (why : SectionRefused) (result : Result Verdict ReadingRefused) → SectionCause before read (Err why) → RefusedCause read now why result → CheckCause before now result
 told_cause before read now (sections.Scan (scans.Fault faults)) result rises (same, is) =
-    subst (λ (r : Result Verdict CheckRefused). CheckCause before now r) (sym is) (subst (λ (n : ℕ). RisesOnce before n) (sym same) rises, refl)
+    subst (λ (r : Result Verdict ReadingRefused). CheckCause before now r) (sym is) (subst (λ (n : ℕ). RisesOnce before n) (sym same) rises, refl)
 told_cause before read now (sections.Scan (scans.Grammar offset rule)) result same cause = subst (λ (n : ℕ). CheckCause n now result) same cause
 told_cause before read now (sections.Scan (scans.Compressed offset name)) result same cause = subst (λ (n : ℕ). CheckCause n now result) same cause
 told_cause before read now (sections.Scan (scans.Limit offset)) result same cause = subst (λ (n : ℕ). CheckCause n now result) same cause

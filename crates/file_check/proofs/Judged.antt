@@ -9,8 +9,8 @@ use Rattle.mcap_model.specs.Tops.{Top, Tops}
 use Rattle.mcap_model.specs.Valid.{Valid, FullyIndexed, IsFullyIndexed}
 use Rattle.mcap_model.proofs.Flaws.{left_size, whole_once}
 use Rattle.index_check.specs.declared.section.Section.{Section}
-use Rattle.summary_check.specs.declared.refusals.SummaryRefused.{SummaryRefused}
-use Rattle.summary_check.specs.declared.refusals.SummaryRefused.TheVariants as summaries
+use Rattle.mcap_model.specs.declared.refusals.ReadingRefused.{ReadingRefused}
+use Rattle.mcap_model.specs.declared.refusals.ReadingRefused.TheVariants as refusals
 use Rattle.summary_check.specs.Files.{file_of, IsRefused}
 use Rattle.summary_check.specs.Judging.{IsJudged}
 use Rattle.summary_check.specs.Sectioned.{IsSectioned}
@@ -52,7 +52,7 @@ module _ (file : List ℕ) (end : ℕ) (section : Section) (ended : EndsAtMagic 
       let behind = kept.behind in
       omega (arith, left_size (take end file) front.tops front.rest front.stand, inner_size file end ended, behind)
 
-pub judges : (section : Section) (bytes : List ℕ) (judged : Result Bool SummaryRefused) → IfOk judged (λ indexed. (tops : List Top) → IsSectioned tops section → IsJudged tops bytes indexed)
+pub judges : (section : Section) (bytes : List ℕ) (judged : Result Bool ReadingRefused) → IfOk judged (λ indexed. (tops : List Top) → IsSectioned tops section → IsJudged tops bytes indexed)
     → IfErr judged (λ why. (tops : List Top) → IsSectioned tops section → IsRefused (file_of tops bytes) why) → (tops : List Top) → IsSectioned tops section → Judges tops bytes judged
 judges section bytes (Ok indexed) ok err = ok
 judges section bytes (Err why) ok err = err
@@ -83,16 +83,18 @@ never_full file tops valid none (others, full) =
     let other = full.valid in
     none (subst (FullyIndexed file) (whole_once file others tops other.v4 valid.v4) full)
 
-told : (tops : List Top) (rest : List ℕ) (judged : Result Bool SummaryRefused) (c : Counts) → Counted tops c → Judges tops rest judged → Checked (file_of tops rest) (told_by judged c)
+told : (tops : List Top) (rest : List ℕ) (judged : Result Bool ReadingRefused) (c : Counts) → Counted tops c → Judges tops rest judged → Checked (file_of tops rest) (told_by judged c)
 told tops rest (Ok true) c counted is = (tops ++ is.behind, let full = is.full in full.0 refl, counted_more tops is.behind c counted)
 told tops rest (Ok false) c counted is =
     let full = is.full in
     (tops ++ is.behind, is.valid, never_full (file_of tops rest) (tops ++ is.behind) is.valid (λ f. both_ways false refl (full.1 f)), counted_more tops is.behind c counted)
-told tops rest (Err (summaries.Flawed rule offset)) c counted is = is
-told tops rest (Err (summaries.Limit offset)) c counted is = inr is
-told tops rest (Err summaries.Memory) c counted is = tt
+told tops rest (Err (refusals.Fault faults)) c counted is = absurd is
+told tops rest (Err (refusals.Grammar offset rule)) c counted is = is
+told tops rest (Err (refusals.Compressed offset name)) c counted is = absurd is
+told tops rest (Err (refusals.Limit offset)) c counted is = inr is
+told tops rest (Err refusals.Memory) c counted is = tt
 
-pub told_file : (file : List ℕ) (end : ℕ) (section : Section) (ended : EndsAtMagic file end) (front : FrontIs file end section) (bytes : List ℕ) (judged : Result Bool SummaryRefused) (c : Counts)
+pub told_file : (file : List ℕ) (end : ℕ) (section : Section) (ended : EndsAtMagic file end) (front : FrontIs file end section) (bytes : List ℕ) (judged : Result Bool ReadingRefused) (c : Counts)
     → bytes ≡ take (end - section.behind) (drop section.behind file) → ((tops : List Top) → IsSectioned tops section → Judges tops bytes judged) → Counted front.tops c → Checked file (told_by judged c)
 told_file file end section ended front bytes judged c is judges counted =
     let so = subst (λ (l : List ℕ). Judges front.tops l judged) (rest_is file end section ended front bytes is) (judges front.tops (sectioned file end section ended front)) in

@@ -2,10 +2,12 @@ pub mod Answering
 pub mod Listing
 pub mod Flattening
 pub mod Counting
+pub mod Given
 pub mod Followed
 pub mod Noted
 pub mod Gathered
 pub mod Finished
+pub mod Taken
 pub mod ReadOut
 pub mod Flawed
 pub mod Halted

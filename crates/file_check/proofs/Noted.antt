@@ -1,24 +1,20 @@
 -- The records that an index can repeat, with one record more.
-use Rattle.std.proofs.Common.{◌≡◌, ℕ, ◌+◌, ◌-◌, ◌^◌, min, Bool, false, List, [], ◌∷◌, ◌++◌, length, refl, sym, ap, subst, ◌∙◌, append_assoc, arith}
-use Rattle.std.specs.Prelude.{◌↔◌, true}
-use Rattle.std.proofs.lemmas.List.{append-nil, length-append}
-use Rattle.mcap_model.specs.Places.{At, Each}
-use Rattle.mcap_model.specs.Tops.{Top, top_bytes, inner_tops, records_in}
+use Rattle.std.proofs.Common.{◌≡◌, ℕ, ◌+◌, ◌-◌, ◌^◌, min, false, List, [], ◌∷◌, ◌++◌, length, refl, sym, ap, subst, ◌∙◌, arith}
+use Rattle.std.proofs.lemmas.List.{length-append}
+use Rattle.mcap_model.specs.Places.{Each}
+use Rattle.mcap_model.specs.Tops.{Top, top_bytes}
 use Rattle.mcap_model.specs.Fields.{ChunkFields, IsChunk}
 use Rattle.mcap_model.specs.Kept.{reading_limits, Fits}
-use Rattle.mcap_model.specs.Walk.{inner_top, StepsOver}
-use Rattle.mcap_model.specs.declared.inner.Inner.{Inner}
 use Rattle.mcap_model.proofs.Flat.{named_or}
 use Rattle.mcap_model.proofs.Lists.{each_cons, each_joined}
-use Rattle.mcap_model.proofs.Places.{at_none, at_last}
+use Rattle.mcap_model.proofs.Places.{at_none}
 use Rattle.mcap_model.proofs.Readings.{length-top}
-use Rattle.mcap_model.proofs.Unpacking.{chunks_are_opened}
 use Rattle.index_check.specs.declared.spots.Spot.{Spot}
 use Rattle.index_check.specs.declared.chunk_indexes.Chunks.{Chunks}
 use Rattle.index_check.specs.declared.extras.Attachments.{Attachments}
 use Rattle.index_check.specs.declared.extras.MetadataList.{MetadataList}
 use Rattle.index_check.specs.Spots.{spot}
-use Rattle.index_check.specs.Chunks.{HasMessage, ChunksOf}
+use Rattle.index_check.specs.Chunks.{ChunksOf}
 use Rattle.index_check.specs.Extras.{NotesAttachment, NotesMetadata, AttachmentsOf, MetadataOf}
 use Rattle.index_check.proofs.Spotted.{spots_other, notes_other}
 use Rattle.index_check.proofs.Tracked.{chunks_other}
@@ -128,34 +124,3 @@ plain_chunk tops t f is fits = named_or t f f.compression is refl fits.plain
 
 pub sized_chunk : (tops : List Top) (t : Top) (f : ChunkFields) → IsChunk t f → Fits reading_limits tops t → f.size ≡ length f.records
 sized_chunk tops t f is fits = (fits.v8 f is (plain_chunk tops t f is fits)).size
-
-pub heard_chunk : (t : Top) (f : ChunkFields) (b : Bool) → IsChunk t f → (b ≡ true) ↔ HasMessage (records_in f.records) → (b ≡ true) ↔ HasMessage (inner_tops t)
-heard_chunk t f b is heard = subst (λ (l : List ℕ). (b ≡ true) ↔ HasMessage (records_in l)) (sym (chunks_are_opened t f is)) heard
-
--- ---- a Message among the records of a chunk
-
--- a walk over the records came so far, and came to none
-pub record NoneTo (bytes rest : List ℕ) : Type 0 where
-  pub done : List Top
-  pub split : records_in bytes ≡ done ++ records_in rest
-  pub none : Each (λ u. u.op ≡ 5 → ⊥) done
-
-pub none_yet : (bytes rest : List ℕ) → rest ≡ bytes → NoneTo bytes rest
-none_yet bytes rest all = record { done = []; split = ap records_in (sym all); none = λ n u at. absurd (at_none n u at) }
-
-pub none_here : (bytes rest rest_new : List ℕ) (at at_new : ℕ) (inner : Inner) → NoneTo bytes rest → StepsOver at rest at_new rest_new inner → (inner.op ≡ 5 → ⊥) → NoneTo bytes rest_new
-none_here bytes rest rest_new at at_new inner to steps other = record {
-  done = to.done ++ inner_top inner ∷ [];
-  split = to.split ∙ ap (λ (l : List Top). to.done ++ l) steps.first ∙ sym (append_assoc to.done (inner_top inner ∷ []) (records_in rest_new));
-  none = each_joined (λ u. u.op ≡ 5 → ⊥) to.done (inner_top inner ∷ []) to.none (each_cons (λ u. u.op ≡ 5 → ⊥) (inner_top inner) [] other (λ n u there. absurd (at_none n u there)));
-}
-
-pub one_here : (bytes rest rest_new : List ℕ) (at at_new : ℕ) (inner : Inner) → NoneTo bytes rest → StepsOver at rest at_new rest_new inner → inner.op ≡ 5 → HasMessage (records_in bytes)
-one_here bytes rest rest_new at at_new inner to steps five =
-    let there : records_in bytes ≡ to.done ++ inner_top inner ∷ records_in rest_new = to.split ∙ ap (λ (l : List Top). to.done ++ l) steps.first in
-    (length to.done, inner_top inner, subst (λ (l : List Top). At l (length to.done) (inner_top inner)) (sym there) (at_last to.done (inner_top inner) (records_in rest_new)), five)
-
-pub none_there : (bytes rest : List ℕ) → NoneTo bytes rest → records_in rest ≡ [] → HasMessage (records_in bytes) → ⊥
-none_there bytes rest to end (n, u, at, five) =
-    let all : records_in bytes ≡ to.done = to.split ∙ ap (λ (l : List Top). to.done ++ l) end ∙ append-nil to.done in
-    to.none n u (subst (λ (l : List Top). At l n u) all at) five

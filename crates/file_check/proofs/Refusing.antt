@@ -16,8 +16,8 @@ use Rattle.index_check.specs.declared.section.Section.{Section}
 use Rattle.file_check.specs.Reading.{IndexIsWrong, Reads}
 use Rattle.file_check.specs.declared.flaws.FailedRule.{FailedRule}
 use Rattle.file_check.specs.Halting.{told_flaw, told_cut, HasLengthAt}
-use Rattle.file_check.specs.declared.refusals.CheckRefused.{CheckRefused}
-use Rattle.file_check.specs.declared.refusals.CheckRefused.TheVariants as refusals
+use Rattle.mcap_model.specs.declared.refusals.ReadingRefused.{ReadingRefused}
+use Rattle.mcap_model.specs.declared.refusals.ReadingRefused.TheVariants as refusals
 use Rattle.file_check.specs.Checking.{HaltsBefore, IsUnchecked, IsFault, front_of, TellsFlaw, TellsCut, IsUnended, EndsAtMagic, FrontIs}
 use Rattle.mcap_model.proofs.Places.{at_none}
 use Rattle.file_check.proofs.CutFlaws.{cuts_are_flaws}
@@ -41,8 +41,9 @@ pub halted_at : (old : StoreState) (now : SourceState) (told : Option (List ℕ)
     → HaltsSo (front_of old end) now tops halt → Halts reading_limits (take end file) tops halt
 halted_at old now told file end tops halt same is so = so.halts (take end file) (ap (λ (t : Option (List ℕ)). front_left t 0 end) (same ∙ is))
 
-pub fault_unchecked : (file : List ℕ) (why : CheckRefused) → IsFault why → IsUnchecked file why
+pub fault_unchecked : (file : List ℕ) (why : ReadingRefused) → IsFault why → IsUnchecked file why
 fault_unchecked file (refusals.Fault faults) is = tt
+fault_unchecked file (refusals.Grammar offset rule) is = absurd is
 fault_unchecked file (refusals.Compressed offset name) is = absurd is
 fault_unchecked file (refusals.Limit offset) is = absurd is
 fault_unchecked file refusals.Memory is = absurd is

@@ -13,16 +13,13 @@ use Rattle.mcap_model.specs.Kept.{reading_limits, Good, Halt, compressed, beyond
 use Rattle.mcap_model.specs.Whole.{EndsWithMagic, V9}
 use Rattle.mcap_model.specs.Valid.{Keeps as KeepsAll, Valid, IsFullyIndexed, FullyIndexed, CountsAre, Flaw}
 use Rattle.file_check.specs.declared.flaws.FailedRule.{FailedRule}
-use Rattle.file_check.specs.declared.refusals.CheckRefused.{CheckRefused}
-use Rattle.file_check.specs.declared.refusals.CheckRefused.TheVariants as refusals
+use Rattle.mcap_model.specs.declared.refusals.ReadingRefused.{ReadingRefused}
+use Rattle.mcap_model.specs.declared.refusals.ReadingRefused.TheVariants as refusals
 use Rattle.index_check.specs.declared.section.Section.{Section}
 use Rattle.index_check.specs.Section.{SectionOf}
 use Rattle.file_check.specs.declared.reading.SectionRefused.{SectionRefused}
 use Rattle.file_check.specs.declared.reading.SectionRefused.TheVariants as sections
-use Rattle.mcap_scan.specs.declared.answers.ScanRefused.TheVariants as scans
 use Rattle.file_check.specs.Reading.{Reads}
-use Rattle.summary_check.specs.declared.refusals.SummaryRefused.{SummaryRefused}
-use Rattle.summary_check.specs.declared.refusals.SummaryRefused.TheVariants as summaries
 use Rattle.summary_check.specs.Judging.{IsJudged}
 use Rattle.summary_check.specs.Files.{file_of, PassesLimit, IsRefused as IsRefusedBehind}
 use Rattle.file_check.specs.Halting.{told_flaw, told_cut, HasLengthAt}
@@ -45,25 +42,27 @@ HaltsBefore file halt = (inner : List ℕ) × (tops : List Top) × (file ≡ inn
 abbrev pub MeetsLimit : List ℕ → ℕ → Type 0
 MeetsLimit file offset = HaltsBefore file (beyond offset) ⊎ PassesLimit file offset
 
--- why a file isn't checked
-abbrev pub IsUnchecked : List ℕ → CheckRefused → Type 0
+-- why a file isn't checked; what breaks a rule is a verdict
+abbrev pub IsUnchecked : List ℕ → ReadingRefused → Type 0
 IsUnchecked file (refusals.Fault faults) = Unit {0}
+IsUnchecked file (refusals.Grammar offset rule) = ⊥
 IsUnchecked file (refusals.Compressed offset name) = HaltsBefore file (compressed offset name)
 IsUnchecked file (refusals.Limit offset) = MeetsLimit file offset
 IsUnchecked file refusals.Memory = Unit {0}
 
-abbrev pub Checked : List ℕ → Result Verdict CheckRefused → Type 0
+abbrev pub Checked : List ℕ → Result Verdict ReadingRefused → Type 0
 Checked file (Ok verdict) = IsSo file verdict
 Checked file (Err why) = IsUnchecked file why
 
 -- where the store tells its bytes, these are the file
-abbrev pub Checks : Option (List ℕ) → Result Verdict CheckRefused → Type 0
+abbrev pub Checks : Option (List ℕ) → Result Verdict ReadingRefused → Type 0
 Checks told result = (file : List ℕ) → told ≡ Some file → Checked file result
 
--- a fault comes where the store failed, and has the count; otherwise the count stands still
-abbrev pub CheckCause : {V : Type 0} → ℕ → ℕ → Result V CheckRefused → Type 0
+-- a fault comes where the store failed, and has the count; otherwise the count stands still. A rule is never the reason.
+abbrev pub CheckCause : {V : Type 0} → ℕ → ℕ → Result V ReadingRefused → Type 0
 CheckCause before now (Ok it) = now ≡ before
 CheckCause before now (Err (refusals.Fault faults)) = RisesOnce before now × (faults ≡ now)
+CheckCause before now (Err (refusals.Grammar offset rule)) = ⊥
 CheckCause before now (Err (refusals.Compressed offset name)) = now ≡ before
 CheckCause before now (Err (refusals.Limit offset)) = now ≡ before
 CheckCause before now (Err refusals.Memory) = now ≡ before
@@ -71,8 +70,9 @@ CheckCause before now (Err refusals.Memory) = now ≡ before
 -- ---- the steps
 
 -- it is for a fault of the store
-abbrev pub IsFault : CheckRefused → Type 0
+abbrev pub IsFault : ReadingRefused → Type 0
 IsFault (refusals.Fault faults) = Unit {0}
+IsFault (refusals.Grammar offset rule) = ⊥
 IsFault (refusals.Compressed offset name) = ⊥
 IsFault (refusals.Limit offset) = ⊥
 IsFault refusals.Memory = ⊥
@@ -116,11 +116,11 @@ SectionReads old end result = (now : SourceState) × Reads (front_of old end) no
 -- the store failed where the reading did
 abbrev pub SectionCause : ℕ → ℕ → Result Section SectionRefused → Type 0
 SectionCause before now (Ok section) = now ≡ before
-SectionCause before now (Err (sections.Scan (scans.Fault faults))) = RisesOnce before now
-SectionCause before now (Err (sections.Scan (scans.Grammar offset rule))) = now ≡ before
-SectionCause before now (Err (sections.Scan (scans.Compressed offset name))) = now ≡ before
-SectionCause before now (Err (sections.Scan (scans.Limit offset))) = now ≡ before
-SectionCause before now (Err (sections.Scan scans.Memory)) = now ≡ before
+SectionCause before now (Err (sections.Scan (refusals.Fault faults))) = RisesOnce before now
+SectionCause before now (Err (sections.Scan (refusals.Grammar offset rule))) = now ≡ before
+SectionCause before now (Err (sections.Scan (refusals.Compressed offset name))) = now ≡ before
+SectionCause before now (Err (sections.Scan (refusals.Limit offset))) = now ≡ before
+SectionCause before now (Err (sections.Scan refusals.Memory)) = now ≡ before
 SectionCause before now (Err (sections.Index offset)) = now ≡ before
 
 -- of the bytes up to the end each was asked for once at most, and none behind a section that was read
@@ -135,17 +135,17 @@ pub record EndsAtMagic (file : List ℕ) (end : ℕ) : Type 0 where
   pub fits : length file < 2 ^ 64
 
 -- what is told, by a store of these bytes, of a data section that was refused
-abbrev pub TellsRefused : Option (List ℕ) → ℕ → SectionRefused → Result Verdict CheckRefused → Type 0
+abbrev pub TellsRefused : Option (List ℕ) → ℕ → SectionRefused → Result Verdict ReadingRefused → Type 0
 TellsRefused told end why result = (old : StoreState) (now : SourceState) → old.bytes ≡ told → Reads (front_of old end) now (Err why)
     → (file : List ℕ) → told ≡ Some file → EndsAtMagic file end → Checked file result
 
 -- and its cause: where the reading had failed, the count of the store is told
-abbrev pub RefusedCause : ℕ → ℕ → SectionRefused → Result Verdict CheckRefused → Type 0
-RefusedCause before now (sections.Scan (scans.Fault faults)) result = (now ≡ before) × (result ≡ Err (refusals.Fault now))
-RefusedCause before now (sections.Scan (scans.Grammar offset rule)) result = CheckCause before now result
-RefusedCause before now (sections.Scan (scans.Compressed offset name)) result = CheckCause before now result
-RefusedCause before now (sections.Scan (scans.Limit offset)) result = CheckCause before now result
-RefusedCause before now (sections.Scan scans.Memory) result = CheckCause before now result
+abbrev pub RefusedCause : ℕ → ℕ → SectionRefused → Result Verdict ReadingRefused → Type 0
+RefusedCause before now (sections.Scan (refusals.Fault faults)) result = (now ≡ before) × (result ≡ Err (refusals.Fault now))
+RefusedCause before now (sections.Scan (refusals.Grammar offset rule)) result = CheckCause before now result
+RefusedCause before now (sections.Scan (refusals.Compressed offset name)) result = CheckCause before now result
+RefusedCause before now (sections.Scan (refusals.Limit offset)) result = CheckCause before now result
+RefusedCause before now (sections.Scan refusals.Memory) result = CheckCause before now result
 RefusedCause before now (sections.Index offset) result = CheckCause before now result
 
 -- ---- a file without the last magic
@@ -155,11 +155,11 @@ pub record IsUnended (file : List ℕ) (len : ℕ) : Type 0 where
   pub none : EndsWithMagic file → ⊥
 
 -- what is told of it where its data section was refused
-abbrev pub TellsCutSection : Option (List ℕ) → ℕ → SectionRefused → Result Verdict CheckRefused → Type 0
+abbrev pub TellsCutSection : Option (List ℕ) → ℕ → SectionRefused → Result Verdict ReadingRefused → Type 0
 TellsCutSection told len why result = (old : StoreState) (now : SourceState) → old.bytes ≡ told → Reads (front_of old len) now (Err why)
     → (file : List ℕ) → told ≡ Some file → IsUnended file len → Checked file result
 
-abbrev pub TellsUnended : Option (List ℕ) → ℕ → Result Verdict CheckRefused → Type 0
+abbrev pub TellsUnended : Option (List ℕ) → ℕ → Result Verdict ReadingRefused → Type 0
 TellsUnended told len result = (file : List ℕ) → told ≡ Some file → IsUnended file len → Checked file result
 
 -- ---- behind the data section
@@ -175,21 +175,23 @@ pub record FrontIs (file : List ℕ) (end : ℕ) (section : Section) : Type 0 wh
   pub kept : SectionOf tops section
 
 -- what is told, by a store of these bytes, of a file whose data section was kept so
-abbrev pub TellsJudged : Option (List ℕ) → ℕ → Section → Result Verdict CheckRefused → Type 0
+abbrev pub TellsJudged : Option (List ℕ) → ℕ → Section → Result Verdict ReadingRefused → Type 0
 TellsJudged told end section result = (file : List ℕ) → told ≡ Some file → EndsAtMagic file end → FrontIs file end section → Checked file result
 
 -- of a file whose last magic stands at that end
-abbrev pub TellsFile : Option (List ℕ) → ℕ → Result Verdict CheckRefused → Type 0
+abbrev pub TellsFile : Option (List ℕ) → ℕ → Result Verdict ReadingRefused → Type 0
 TellsFile told end result = (file : List ℕ) → told ≡ Some file → EndsAtMagic file end → Checked file result
 
 -- what a file with these bytes behind a data section comes to
-abbrev pub told_by : Result Bool SummaryRefused → Counts → Result Verdict CheckRefused
+abbrev pub told_by : Result Bool ReadingRefused → Counts → Result Verdict ReadingRefused
 told_by (Ok true) counts = Ok (verdicts.Indexed counts)
 told_by (Ok false) counts = Ok (verdicts.Plain counts)
-told_by (Err (summaries.Flawed rule offset)) counts = Ok (verdicts.Flawed rule offset)
-told_by (Err (summaries.Limit offset)) counts = Err (refusals.Limit offset)
-told_by (Err summaries.Memory) counts = Err refusals.Memory
+told_by (Err (refusals.Fault faults)) counts = Err (refusals.Fault faults)
+told_by (Err (refusals.Grammar offset rule)) counts = Ok (verdicts.Flawed rule offset)
+told_by (Err (refusals.Compressed offset name)) counts = Err (refusals.Compressed offset name)
+told_by (Err (refusals.Limit offset)) counts = Err (refusals.Limit offset)
+told_by (Err refusals.Memory) counts = Err refusals.Memory
 
-abbrev pub Judges : List Top → List ℕ → Result Bool SummaryRefused → Type 0
+abbrev pub Judges : List Top → List ℕ → Result Bool ReadingRefused → Type 0
 Judges tops rest (Ok indexed) = IsJudged tops rest indexed
 Judges tops rest (Err why) = IsRefusedBehind (file_of tops rest) why

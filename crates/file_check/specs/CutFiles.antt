@@ -9,8 +9,8 @@ use Rattle.mcap_model.specs.Rules.{V1}
 use Rattle.mcap_model.specs.Kept.{reading_limits, Good, Halt, at_end, grammar, compressed, beyond, Halts}
 use Rattle.mcap_model.specs.Whole.{V2}
 use Rattle.file_check.specs.declared.flaws.FailedRule.{FailedRule}
-use Rattle.file_check.specs.declared.refusals.CheckRefused.{CheckRefused}
-use Rattle.file_check.specs.declared.refusals.CheckRefused.TheVariants as refusals
+use Rattle.mcap_model.specs.declared.refusals.ReadingRefused.{ReadingRefused}
+use Rattle.mcap_model.specs.declared.refusals.ReadingRefused.TheVariants as refusals
 use Rattle.file_check.specs.declared.reading.SectionRefused.{SectionRefused}
 use Rattle.file_check.specs.LastChunk.{IndexFails}
 use Rattle.file_check.specs.Reading.{Reads}
@@ -20,12 +20,12 @@ use Rattle.file_check.specs.Checking.{IsFault, front_of}
 -- ---- the first magic
 
 -- V1 fails at the front, unless the store fails
-abbrev pub NamesFront : Result Verdict CheckRefused → Type 0
+abbrev pub NamesFront : Result Verdict ReadingRefused → Type 0
 NamesFront (Ok verdict) = verdict ≡ verdicts.Flawed 1 0
 NamesFront (Err why) = IsFault why
 
 -- so it is told of each file without the first magic
-abbrev pub TellsUnbegun : Option (List ℕ) → Result Verdict CheckRefused → Type 0
+abbrev pub TellsUnbegun : Option (List ℕ) → Result Verdict ReadingRefused → Type 0
 TellsUnbegun told result = (file : List ℕ) → told ≡ Some file → (V1 file → ⊥) → NamesFront result
 
 -- ---- the last magic
@@ -56,26 +56,27 @@ pub record IndexIsTold (file : List ℕ) (rule offset : ℕ) : Type 0 where
   pub fails : IndexFails tops offset
 
 -- what ends the data of a file is told, unless the store fails or memory lacks
-abbrev pub NamesCut : List ℕ → Result Verdict CheckRefused → Type 0
+abbrev pub NamesCut : List ℕ → Result Verdict ReadingRefused → Type 0
 NamesCut file (Ok (verdicts.Indexed counts)) = ⊥
 NamesCut file (Ok (verdicts.Plain counts)) = ⊥
 NamesCut file (Ok (verdicts.Flawed rule offset)) = HaltIsTold file rule offset ⊎ IndexIsTold file rule offset
 NamesCut file (Err (refusals.Fault faults)) = Unit {0}
+NamesCut file (Err (refusals.Grammar offset rule)) = ⊥
 NamesCut file (Err (refusals.Compressed offset name)) = ⊥
 NamesCut file (Err (refusals.Limit offset)) = ⊥
 NamesCut file (Err refusals.Memory) = Unit {0}
 
 -- so it is of each file that has the first magic, and is too short for both or hasn't the last one
-abbrev pub TellsCutFile : Option (List ℕ) → Result Verdict CheckRefused → Type 0
+abbrev pub TellsCutFile : Option (List ℕ) → Result Verdict ReadingRefused → Type 0
 TellsCutFile told result = (file : List ℕ) → told ≡ Some file → V1 file → (V2 file → ⊥) → NamesCut file result
 
 -- ---- the steps
 
 -- so it is told by a store of these bytes, of that length, whose data section was refused
-abbrev pub TellsCutRefusal : Option (List ℕ) → ℕ → SectionRefused → Result Verdict CheckRefused → Type 0
+abbrev pub TellsCutRefusal : Option (List ℕ) → ℕ → SectionRefused → Result Verdict ReadingRefused → Type 0
 TellsCutRefusal told len why result = (old : StoreState) (now : SourceState) → old.bytes ≡ told → Reads (front_of old len) now (Err why)
     → (file : List ℕ) → told ≡ Some file → length file ≡ len → NamesCut file result
 
 -- of such a store, whatever became of its data section
-abbrev pub TellsCutStore : Option (List ℕ) → ℕ → Result Verdict CheckRefused → Type 0
+abbrev pub TellsCutStore : Option (List ℕ) → ℕ → Result Verdict ReadingRefused → Type 0
 TellsCutStore told len result = (file : List ℕ) → told ≡ Some file → length file ≡ len → NamesCut file result

@@ -1,5 +1,6 @@
 -- The last chunk and the Message Indexes behind it.
-use Rattle.std.specs.Prelude.{◌≡◌, ℕ, List, Result, Ok, Err, true, false}
+use Rattle.std.specs.Prelude.{◌≡◌, ℕ, List, ◌∷◌, ◌++◌, [], Result, Ok, Err, Option, Some, None, true, false}
+use Rattle.mcap_wire.specs.declared.faults.Memory.{Memory}
 use Rattle.mcap_model.specs.Places.{At}
 use Rattle.mcap_model.specs.Tops.{Top, offset_behind}
 use Rattle.mcap_model.specs.Whole.{offset_of, V9}
@@ -7,8 +8,6 @@ use Rattle.mcap_model.specs.Valid.{Keeps}
 use Rattle.index_check.specs.Behind.{IsOpen}
 use Rattle.index_check.specs.Chunks.{EndsWithChunk}
 use Rattle.file_check.specs.declared.last_chunk.LastChunk.{LastChunk}
-use Rattle.file_check.specs.declared.last_chunk.TakeRefused.{TakeRefused}
-use Rattle.file_check.specs.declared.last_chunk.TakeRefused.TheVariants as refusals
 
 -- the records end with the chunk that is kept and its Message Indexes
 pub record IsKept (tops : List Top) (last : LastChunk) : Type 0 where
@@ -28,8 +27,8 @@ pub record IndexFails (tops : List Top) (offset : ℕ) : Type 0 where
   pub there : offset ≡ offset_of tops place
   pub breaks : V9 tops place top → ⊥
 
--- the last of these records was taken
-abbrev pub LastTaken : List Top → LastChunk → Result Unit TakeRefused → Type 0
-LastTaken tops last (Ok it) = LastOf tops last × Keeps V9 tops
-LastTaken tops last (Err (refusals.Index offset)) = IndexFails tops offset
-LastTaken tops last (Err refusals.Memory) = Unit {0}
+-- the record behind these was taken; or V9 fails at that offset, whatever follows
+abbrev pub LastTaken : List Top → Top → LastChunk → Result (Option ℕ) Memory → Type 0
+LastTaken tops t last (Ok None) = LastOf (tops ++ t ∷ []) last × Keeps V9 (tops ++ t ∷ [])
+LastTaken tops t last (Ok (Some offset)) = (more : List Top) → IndexFails (tops ++ t ∷ more) offset
+LastTaken tops t last (Err memory) = Unit {0}

@@ -2,6 +2,8 @@ pub mod MessageCounts
 pub mod RecordCounts
 pub mod LastChunk
 pub mod IndexedRecords
+pub mod TopRecords
+pub mod Givens
 pub mod Gathering
 pub mod Reading
 pub mod Halting

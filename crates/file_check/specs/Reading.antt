@@ -8,15 +8,14 @@ use Rattle.mcap_model.specs.Whole.{V9}
 use Rattle.mcap_model.specs.Valid.{Keeps}
 use Rattle.mcap_scan.specs.Sources.{ReadTo}
 use Rattle.mcap_scan.specs.Scanning.{RefusalStands, Refuses, IsEnded}
-use Rattle.mcap_scan.specs.declared.reader.Reader.{Reader}
-use Rattle.mcap_scan.specs.declared.answers.ScanRefused.TheVariants as scans
+use Rattle.record_walk.specs.declared.flat_reader.FlatReader.{FlatReader}
+use Rattle.record_walk.specs.Walking.{flat_tables}
+use Rattle.mcap_model.specs.declared.refusals.ReadingRefused.TheVariants as scans
 use Rattle.index_check.specs.declared.section.Section.{Section}
 use Rattle.index_check.specs.Section.{SectionOf}
 use Rattle.file_check.specs.Gathering.{GatheredOf, IsDataEnd}
 use Rattle.file_check.specs.declared.gathering.Gathering.{Gathering}
 use Rattle.file_check.specs.declared.gathering.DataEnd.{DataEnd}
-use Rattle.file_check.specs.declared.last_chunk.TakeRefused.{TakeRefused}
-use Rattle.file_check.specs.declared.last_chunk.TakeRefused.TheVariants as takings
 use Rattle.file_check.specs.declared.reading.SectionRefused.{SectionRefused}
 use Rattle.file_check.specs.declared.reading.SectionRefused.TheVariants as refusals
 use Rattle.file_check.specs.LastChunk.{IndexFails}
@@ -39,10 +38,9 @@ pub record IndexIsWrong (before now : SourceState) (tops : List Top) (offset : �
   pub are_read : AreRead before now tops
   pub fails : IndexFails tops offset
 
--- the refusal for a record that isn't taken
-abbrev pub refused_as : TakeRefused → SectionRefused
-refused_as (takings.Index offset) = refusals.Index offset
-refused_as takings.Memory = refusals.Scan scans.Memory
+-- memory lacked
+abbrev pub lacks_memory : SectionRefused
+lacks_memory = refusals.Scan scans.Memory
 
 abbrev pub Reads : SourceState → SourceState → Result Section SectionRefused → Type 0
 Reads before now (Ok section) = (tops : List Top) × SectionIsRead before now tops section
@@ -50,14 +48,14 @@ Reads before now (Err (refusals.Scan why)) = (tops : List Top) × RefusalStands 
 Reads before now (Err (refusals.Index offset)) = (tops : List Top) × IndexIsWrong before now tops offset
 
 -- the records up to and with the Data End were taken, and nothing behind them was read
-pub record IsTaken (reader : Reader) (before now : SourceState) (g : Gathering) (tops : List Top) (behind : ℕ) : Type 0 where
-  pub is : IsEnded reader.tables behind before now tops
+pub record IsTaken (flat : FlatReader) (before now : SourceState) (g : Gathering) (tops : List Top) (behind : ℕ) : Type 0 where
+  pub is : IsEnded (flat_tables flat) behind before now tops
   pub gathered : GatheredOf tops g
 
-abbrev pub Takes : SourceState → SourceState → Reader → Gathering → Result (Option ℕ) TakeRefused → Type 0
-Takes before now reader g (Ok (Some behind)) = (tops : List Top) × IsTaken reader before now g tops behind
-Takes before now reader g (Ok None) = (tops : List Top) × Refuses reader before now tops
-Takes before now reader g (Err why) = Reads before now (Err (refused_as why))
+abbrev pub Takes : SourceState → SourceState → FlatReader → Gathering → Result (Option ℕ) SectionRefused → Type 0
+Takes before now flat g (Ok (Some behind)) = (tops : List Top) × IsTaken flat before now g tops behind
+Takes before now flat g (Ok None) = (tops : List Top) × Refuses flat.reader before now tops
+Takes before now flat g (Err why) = Reads before now (Err why)
 
 -- the same, where they were counted
 pub record IsCounted (before now : SourceState) (g : Gathering) (tops : List Top) (end : DataEnd) : Type 0 where

@@ -4,18 +4,17 @@ ghost use Rattle.mcap_io.specs.Stores.{StoreStays};
 ghost use Rattle.file_check.specs.declared.reading.SectionRefused.TheVariants as sections;
 ghost use Rattle.mcap_model.specs.Tops.{Top};
 ghost use Rattle.index_check.specs.Section.{SectionOf};
+ghost use Rattle.summary_check.specs.Files.{IsOfSummary};
 ghost use Rattle.file_check.specs.Checking.{Counted, CheckCause, SectionReads, SectionCause, SectionAsks, AsksFront, TellsRefused, RefusedCause, TellsJudged, TellsFile, IsUnchecked, told_by};
 
 use crate::ends::tell_flaw;
 use crate::reading::{SectionRefused, read_section};
-use crate::refusals::CheckRefused;
 use index_check::Section;
 use mcap_io::{ReadRefused, Store, read_part};
-use mcap_model::{Counts, Verdict};
-use mcap_scan::ScanRefused;
+use mcap_model::{Counts, ReadingRefused, Verdict};
 use std::alloc::Global;
 use store_front::StoreFront;
-use summary_check::{SummaryRefused, judge_summary};
+use summary_check::judge_summary;
 
 /// Reads the data section of a store in front of that end.
 pub(crate) fn read_front<T: Store>(
@@ -34,7 +33,11 @@ pub(crate) fn read_front<T: Store>(
 }
 
 // What is told of a file whose records weren't all read, up to that end.
-fn tell_scan<T: Store>(store: &mut T, end: u64, why: ScanRefused) -> Result<Verdict, CheckRefused>
+fn tell_scan<T: Store>(
+    store: &mut T,
+    end: u64,
+    why: ReadingRefused,
+) -> Result<Verdict, ReadingRefused>
     requires known { end ≤ (T.state store.old).known }
     requires long { 8 ≤ end }
     ensures tells { TellsRefused (T.state store.old).bytes end (sections.Scan why) result }
@@ -43,12 +46,12 @@ fn tell_scan<T: Store>(store: &mut T, end: u64, why: ScanRefused) -> Result<Verd
     ensures keeps { StoreStays (T.state store.old) (T.state store.new) }
 {
     match why {
-        ScanRefused::Fault { faults: _ } => {
-            return Err(CheckRefused::Fault {
+        ReadingRefused::Fault { faults: _ } => {
+            return Err(ReadingRefused::Fault {
                 faults: store.faults(),
             });
         }
-        ScanRefused::Grammar { offset, rule } => match tell_flaw(store, end, offset, rule) {
+        ReadingRefused::Grammar { offset, rule } => match tell_flaw(store, end, offset, rule) {
             Ok(failed) => {
                 return Ok(Verdict::Flawed {
                     rule: failed.rule,
@@ -57,11 +60,11 @@ fn tell_scan<T: Store>(store: &mut T, end: u64, why: ScanRefused) -> Result<Verd
             }
             Err(why) => return Err(why),
         },
-        ScanRefused::Compressed { offset, name } => {
-            return Err(CheckRefused::Compressed { offset, name });
+        ReadingRefused::Compressed { offset, name } => {
+            return Err(ReadingRefused::Compressed { offset, name });
         }
-        ScanRefused::Limit { offset } => return Err(CheckRefused::Limit { offset }),
-        ScanRefused::Memory => return Err(CheckRefused::Memory),
+        ReadingRefused::Limit { offset } => return Err(ReadingRefused::Limit { offset }),
+        ReadingRefused::Memory => return Err(ReadingRefused::Memory),
     }
 }
 
@@ -70,7 +73,7 @@ fn tell_section<T: Store>(
     store: &mut T,
     end: u64,
     why: SectionRefused,
-) -> Result<Verdict, CheckRefused>
+) -> Result<Verdict, ReadingRefused>
     requires known { end ≤ (T.state store.old).known }
     requires long { 8 ≤ end }
     ensures tells { TellsRefused (T.state store.old).bytes end why result }
@@ -104,7 +107,7 @@ fn read_rest<T: Store>(
     store: &mut T,
     at: u64,
     end: u64,
-) -> Result<Vec<u8>, CheckRefused>
+) -> Result<Vec<u8>, ReadingRefused>
     requires { end ≤ (T.state store.old).known }
     ensures size { IfOk result (λ part. at + length part.items ≡ end) }
     ensures gives { IfOk result (λ part. (file : List ℕ) → (T.state store.old).bytes ≡ Some file → part.items ≡ take (end - at) (drop at file)) }
@@ -114,32 +117,35 @@ fn read_rest<T: Store>(
     ensures keeps { StoreStays (T.state store.old) (T.state store.new) }
 {
     if at > end {
-        return Err(CheckRefused::Memory);
+        return Err(ReadingRefused::Memory);
     }
     match read_part(alloc, store, at, end - at) {
         Ok(part) => return Ok(part),
         Err(ReadRefused::Failed) => {
-            return Err(CheckRefused::Fault {
+            return Err(ReadingRefused::Fault {
                 faults: store.faults(),
             });
         }
-        Err(ReadRefused::Memory) => return Err(CheckRefused::Memory),
+        Err(ReadRefused::Memory) => return Err(ReadingRefused::Memory),
     }
 }
 
 // What a file with these numbers comes to.
-fn tell(judged: Result<bool, SummaryRefused>, counts: Counts) -> Result<Verdict, CheckRefused>
+fn tell(judged: Result<bool, ReadingRefused>, counts: Counts) -> Result<Verdict, ReadingRefused>
+    requires { IfErr judged IsOfSummary }
     ensures told { result ≡ told_by judged counts }
     ensures cause { (faults : ℕ) → CheckCause faults faults result }
 {
     match judged {
         Ok(true) => return Ok(Verdict::Indexed { counts }),
         Ok(false) => return Ok(Verdict::Plain { counts }),
-        Err(SummaryRefused::Flawed { rule, offset }) => {
+        Err(ReadingRefused::Grammar { offset, rule }) => {
             return Ok(Verdict::Flawed { rule, offset });
         }
-        Err(SummaryRefused::Limit { offset }) => return Err(CheckRefused::Limit { offset }),
-        Err(SummaryRefused::Memory) => return Err(CheckRefused::Memory),
+        Err(ReadingRefused::Limit { offset }) => return Err(ReadingRefused::Limit { offset }),
+        Err(ReadingRefused::Memory) => return Err(ReadingRefused::Memory),
+        Err(ReadingRefused::Fault { faults: _ }) => unreachable!(),
+        Err(ReadingRefused::Compressed { offset: _, name: _ }) => unreachable!(),
     }
 }
 
@@ -149,7 +155,7 @@ fn judge_behind<T: Store>(
     store: &mut T,
     end: u64,
     section: Section,
-) -> Result<Verdict, CheckRefused>
+) -> Result<Verdict, ReadingRefused>
     requires known { end ≤ (T.state store.old).known }
     requires fits { end + 8 < 2 ^ 64 }
     ensures tells { TellsJudged (T.state store.old).bytes end section result }
@@ -169,7 +175,7 @@ pub(crate) fn check_records<T: Store>(
     alloc: Global,
     store: &mut T,
     end: u64,
-) -> Result<Verdict, CheckRefused>
+) -> Result<Verdict, ReadingRefused>
     requires known { end ≤ (T.state store.old).known }
     requires long { 8 ≤ end }
     requires fits { end + 8 < 2 ^ 64 }

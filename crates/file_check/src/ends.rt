@@ -7,8 +7,8 @@ ghost use Rattle.mcap_model.specs.Whole.{EndsWithMagic};
 ghost use Rattle.file_check.specs.Checking.{CheckCause, IsFault, HeadStands, TellsFlaw, TellsCut};
 
 use crate::flaws::{FailedRule, cut_rule, failed_rule};
-use crate::refusals::CheckRefused;
 use mcap_io::{Failed, Store};
+use mcap_model::ReadingRefused;
 use mcap_wire::{MAGIC, take_u64};
 
 // Whether the bytes begin with the magic.
@@ -19,7 +19,7 @@ fn are_begun(bytes: &[u8]) -> bool
 }
 
 /// Whether the first eight bytes of a store of that length are the magic.
-pub(crate) fn begins_with_magic<T: Store>(store: &mut T, len: u64) -> Result<bool, CheckRefused>
+pub(crate) fn begins_with_magic<T: Store>(store: &mut T, len: u64) -> Result<bool, ReadingRefused>
     requires { len ≤ (T.state store.old).known }
     ensures tells { IfOk result (λ begins. (file : List ℕ) → (T.state store.old).bytes ≡ Some file → length file ≡ len → IsTrue begins ↔ V1 file) }
     ensures cause { CheckCause (T.state store.old).faults (T.state store.new).faults result }
@@ -34,7 +34,7 @@ pub(crate) fn begins_with_magic<T: Store>(store: &mut T, len: u64) -> Result<boo
     match store.read_at(0, &mut front) {
         Ok(()) => return Ok(are_begun(&front)),
         Err(Failed) => {
-            return Err(CheckRefused::Fault {
+            return Err(ReadingRefused::Fault {
                 faults: store.faults(),
             });
         }
@@ -49,7 +49,7 @@ fn are_ended(bytes: &[u8]) -> bool
 }
 
 /// Whether the last eight bytes of a store of that length are the magic.
-pub(crate) fn ends_with_magic<T: Store>(store: &mut T, len: u64) -> Result<bool, CheckRefused>
+pub(crate) fn ends_with_magic<T: Store>(store: &mut T, len: u64) -> Result<bool, ReadingRefused>
     requires known { len ≤ (T.state store.old).known }
     requires long { 8 ≤ len }
     ensures tells { IfOk result (λ ends. (file : List ℕ) → (T.state store.old).bytes ≡ Some file → length file ≡ len → IsTrue ends ↔ EndsWithMagic file) }
@@ -62,7 +62,7 @@ pub(crate) fn ends_with_magic<T: Store>(store: &mut T, len: u64) -> Result<bool,
     match store.read_at(len - 8, &mut end) {
         Ok(()) => return Ok(are_ended(&end)),
         Err(Failed) => {
-            return Err(CheckRefused::Fault {
+            return Err(ReadingRefused::Fault {
                 faults: store.faults(),
             });
         }
@@ -82,7 +82,7 @@ fn length_in(head: &[u8]) -> u64
 }
 
 // Reads the head of the record at that offset once more, if the bytes up to `end` have it.
-fn read_head<T: Store>(store: &mut T, end: u64, offset: u64) -> Result<(), CheckRefused>
+fn read_head<T: Store>(store: &mut T, end: u64, offset: u64) -> Result<(), ReadingRefused>
     requires { end ≤ (T.state store.old).known }
     ensures stands { IfOk result (λ it. HeadStands (T.state store.old).bytes end offset) }
     ensures cause { CheckCause (T.state store.old).faults (T.state store.new).faults result }
@@ -100,7 +100,7 @@ fn read_head<T: Store>(store: &mut T, end: u64, offset: u64) -> Result<(), Check
             return Ok(());
         }
         Err(Failed) => {
-            return Err(CheckRefused::Fault {
+            return Err(ReadingRefused::Fault {
                 faults: store.faults(),
             });
         }
@@ -114,7 +114,7 @@ pub(crate) fn tell_flaw<T: Store>(
     end: u64,
     offset: u64,
     rule: u8,
-) -> Result<FailedRule, CheckRefused>
+) -> Result<FailedRule, ReadingRefused>
     requires { end ≤ (T.state store.old).known }
     ensures tells { IfOk result (λ f. TellsFlaw (T.state store.old).bytes end offset rule f) }
     ensures cause { CheckCause (T.state store.old).faults (T.state store.new).faults result }
@@ -134,7 +134,7 @@ pub(crate) fn tell_cut<T: Store>(
     len: u64,
     offset: u64,
     rule: u8,
-) -> Result<FailedRule, CheckRefused>
+) -> Result<FailedRule, ReadingRefused>
     requires { len ≤ (T.state store.old).known }
     ensures tells { IfOk result (λ f. TellsCut (T.state store.old).bytes len offset rule f) }
     ensures cause { CheckCause (T.state store.old).faults (T.state store.new).faults result }

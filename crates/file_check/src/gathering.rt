@@ -1,32 +1,30 @@
 //! What is kept of the records of a data section so far.
-ghost use Rattle.std.specs.Prelude.{◌≡◌, ◌<◌, ◌∷◌, ◌++◌, [], List, IfOk};
-ghost use Rattle.mcap_model.specs.Places.{Each};
-ghost use Rattle.mcap_model.specs.Tops.{Top, offset_behind};
-ghost use Rattle.mcap_model.specs.Rules.{HasDataEnd};
-ghost use Rattle.mcap_model.specs.Kept.{reading_limits, Fits, Good};
+ghost use Rattle.std.specs.Prelude.{◌≡◌, ◌∷◌, ◌++◌, [], List, IfOk};
+ghost use Rattle.mcap_model.specs.Tops.{Top, Placed, walked};
+ghost use Rattle.mcap_model.specs.Rules.{HasDataEnd, V6};
+ghost use Rattle.mcap_model.specs.Kept.{reading_limits, Good};
 ghost use Rattle.mcap_model.specs.Whole.{IsSection};
 ghost use Rattle.mcap_model.specs.Made.{top};
+ghost use Rattle.record_walk.specs.Walking.{placed_at};
 ghost use Rattle.index_check.specs.Section.{SectionOf};
 ghost use Rattle.index_check.specs.Tally.{TallyOf};
-ghost use Rattle.file_check.specs.Gathering.{GatheredOf, RecordGathered, IsDataEnd};
+ghost use Rattle.file_check.specs.Gathering.{GatheredOf, GatheredTo, StandBefore, RecordGathered, IsDataEnd};
 
 use crate::indexed_records::IndexedRecords;
-use crate::last_chunk::{LastChunk, TakeRefused};
 use crate::record_counts::RecordCounts;
+use crate::top_records::TopRecords;
 use index_check::{IdCounts, Section, Tally};
-use mcap_model::Tables;
+use mcap_model::{Place, Tables};
 use mcap_wire::Memory;
-use rec_data::MESSAGE;
 use std::alloc::Global;
 
-/// What is kept of the records so far: what Statistics count, what indexes can repeat, the last chunk, and whether a Message
-/// stands outside of chunks.
+/// What is kept of the records so far: what Statistics count, and what is kept of those of the top level. The last of these
+/// stands at `at`; so do the records inside it, where it is a chunk. Before the first it is 0, where no record stands.
 #[derive(Drop)]
 pub(crate) struct Gathering {
     counts: RecordCounts,
-    indexed: IndexedRecords,
-    last: LastChunk,
-    has_messages: bool,
+    at: u64,
+    tops: TopRecords,
 }
 
 /// What is known at a Data End: the declarations, what Statistics count, and the offset behind it.
@@ -39,45 +37,37 @@ pub(crate) struct DataEnd {
 
 impl Gathering {
     pub(crate) fn new(alloc: Global) -> Gathering
-        ensures { GatheredOf [] result }
+        ensures { GatheredTo [] result }
     {
         Gathering {
             counts: RecordCounts::new(alloc),
-            indexed: IndexedRecords::new(alloc),
-            last: LastChunk::new(alloc),
-            has_messages: false,
+            at: 0,
+            tops: TopRecords::new(alloc),
         }
     }
 
-    /// Takes the next record, which stands at that offset. After a refusal what is kept is of no use.
+    /// Takes the next record in its place, those inside a chunk behind it; or says at which offset V9 fails now. After that, and
+    /// after a want of memory, what is kept is of no use.
     pub(crate) fn take(
         &mut self,
         alloc: Global,
         op: u8,
-        offset: u64,
+        place: Place,
         content: &[u8],
-    ) -> Result<(), TakeRefused>
-        requires chunks { Each (λ s. s.offset < offset) self.old.indexed.chunks.spots }
-        requires attachments { Each (λ s. s.offset < offset) self.old.indexed.attachments.spots }
-        requires metadata { Each (λ s. s.offset < offset) self.old.indexed.metadata.spots }
-        ensures { (tops : List Top) → GatheredOf tops self.old → Fits reading_limits tops (top op content.now) → offset ≡ offset_behind tops → RecordGathered (tops ++ top op content.now ∷ []) self.new result }
+    ) -> Result<Option<u64>, Memory>
+        requires { (place.top ≡ self.old.at → ⊥) → StandBefore self.old.tops place.top }
+        ensures { (given ahead : List Placed) (tops : List Top) → GatheredTo given self.old → Good reading_limits tops → V6 (top op content.now) → walked tops ≡ (given ++ placed_at place op content.now ∷ []) ++ ahead
+            → RecordGathered (given ++ placed_at place op content.now ∷ []) tops self.new result }
     {
-        match self.last.take(alloc, op, offset, content) {
-            Ok(()) => {}
-            Err(refused) => return Err(refused),
-        }
         match self.counts.take(op, content) {
             Ok(()) => {}
-            Err(_) => return Err(TakeRefused::Memory),
+            Err(memory) => return Err(memory),
         }
-        match self.indexed.take(alloc, op, offset, content) {
-            Ok(()) => {}
-            Err(_) => return Err(TakeRefused::Memory),
+        if place.top == self.at {
+            return Ok(None);
         }
-        if op == MESSAGE {
-            self.has_messages = true;
-        }
-        return Ok(());
+        self.at = place.top;
+        self.tops.take(alloc, op, place.top, content)
     }
 
     /// What Statistics count of the section.
@@ -92,9 +82,9 @@ impl Gathering {
         let channels = self.counts.channels.len() as u64;
         return Ok(Tally {
             messages: self.counts.messages,
-            attachments: self.indexed.attachments.notes.len() as u64,
-            metadata: self.indexed.metadata.notes.len() as u64,
-            chunks: self.indexed.chunks.notes.len() as u64,
+            attachments: self.tops.indexed.attachments.notes.len() as u64,
+            metadata: self.tops.indexed.metadata.notes.len() as u64,
+            chunks: self.tops.indexed.chunks.notes.len() as u64,
             any: self.counts.any,
             least: self.counts.least,
             greatest: self.counts.greatest,
@@ -121,10 +111,14 @@ impl Gathering {
         } = end;
         let Gathering {
             counts,
+            at: _,
+            tops: kept,
+        } = self;
+        let TopRecords {
             indexed,
             last: _,
             has_messages,
-        } = self;
+        } = kept;
         let RecordCounts {
             messages: _,
             any: _,

@@ -1,16 +1,15 @@
 //! The records that an index can repeat.
-ghost use Rattle.std.specs.Prelude.{◌≡◌, ◌↔◌, ◌+◌, ◌-◌, ◌^◌, ◌<◌, ◌∷◌, ◌++◌, [], min, List, length, IsTrue, OnOk};
+ghost use Rattle.std.specs.Prelude.{◌≡◌, ◌↔◌, ◌+◌, ◌-◌, ◌^◌, ◌<◌, ◌∷◌, ◌++◌, [], min, true, List, length, OnOk};
 ghost use Rattle.mcap_model.specs.Places.{Each};
-ghost use Rattle.mcap_model.specs.Tops.{Top, records_in, offset_behind};
+ghost use Rattle.mcap_model.specs.Tops.{Top, inner_tops, offset_behind};
 ghost use Rattle.mcap_model.specs.Kept.{reading_limits, Fits};
 ghost use Rattle.mcap_model.specs.Made.{top};
 ghost use Rattle.index_check.specs.Chunks.{HasMessage, EndsWithChunk};
 ghost use Rattle.file_check.specs.IndexedRecords.{IndexedOf};
 
 use index_check::{Attachments, Chunks, MetadataList};
-use mcap_model::InnerWalk;
 use mcap_wire::Memory;
-use rec_data::{ATTACHMENT, Attachment, MESSAGE, METADATA, Metadata};
+use rec_data::{ATTACHMENT, Attachment, METADATA, Metadata};
 use rec_index::{CHUNK, Chunk, MESSAGE_INDEX, MessageIndex};
 use std::alloc::Global;
 
@@ -32,19 +31,6 @@ fn framed_length(content: &[u8]) -> u64
     HEAD_LENGTH.saturating_add(content.len() as u64)
 }
 
-// Whether there is a Message among the records of a chunk.
-fn holds_message(records: &[u8]) -> bool
-    ensures { IsTrue result ↔ HasMessage (records_in records.now) }
-{
-    let mut walk = InnerWalk::new(records);
-    'records: while let Some(inner) = walk.next() {
-        if inner.op == MESSAGE {
-            return true;
-        }
-    }
-    return false;
-}
-
 impl IndexedRecords {
     pub(crate) fn new(alloc: Global) -> IndexedRecords
         ensures { IndexedOf [] result }
@@ -56,15 +42,20 @@ impl IndexedRecords {
         }
     }
 
-    fn take_chunk(&mut self, alloc: Global, offset: u64, content: &[u8]) -> Result<(), Memory>
+    fn take_chunk(
+        &mut self,
+        alloc: Global,
+        offset: u64,
+        content: &[u8],
+        messages: bool,
+    ) -> Result<(), Memory>
         requires { Each (λ s. s.offset < offset) self.old.chunks.spots }
-        ensures { OnOk result ((tops : List Top) → IndexedOf tops self.old → Fits reading_limits tops (top 6 content.now) → offset ≡ offset_behind tops → IndexedOf (tops ++ top 6 content.now ∷ []) self.new) }
+        ensures { OnOk result ((tops : List Top) → IndexedOf tops self.old → Fits reading_limits tops (top 6 content.now) → offset ≡ offset_behind tops → (messages ≡ true) ↔ HasMessage (inner_tops (top 6 content.now)) → IndexedOf (tops ++ top 6 content.now ∷ []) self.new) }
     {
         let chunk = match Chunk::parse(content) {
             Ok(chunk) => chunk,
             Err(_) => return Ok(()),
         };
-        let messages = holds_message(chunk.records);
         match self
             .chunks
             .add(alloc, offset, framed_length(content), &chunk, messages)
@@ -124,23 +115,24 @@ impl IndexedRecords {
         }
     }
 
-    /// Takes the next record, which stands at that offset; a Message Index behind a chunk alone. After a want of memory what is
-    /// kept is of no use.
+    /// Takes the next record, which stands at that offset; a Message Index behind a chunk alone. Of a chunk it is said whether it
+    /// holds a Message. After a want of memory what is kept is of no use.
     pub(crate) fn take(
         &mut self,
         alloc: Global,
         op: u8,
         offset: u64,
         content: &[u8],
+        messages: bool,
     ) -> Result<(), Memory>
         requires chunks { Each (λ s. s.offset < offset) self.old.chunks.spots }
         requires attachments { Each (λ s. s.offset < offset) self.old.attachments.spots }
         requires metadata { Each (λ s. s.offset < offset) self.old.metadata.spots }
         ensures { OnOk result ((tops : List Top) → IndexedOf tops self.old → Fits reading_limits tops (top op content.now) → (op ≡ 7 → EndsWithChunk tops) → offset ≡ offset_behind tops
-            → IndexedOf (tops ++ top op content.now ∷ []) self.new) }
+            → (op ≡ 6 → (messages ≡ true) ↔ HasMessage (inner_tops (top op content.now))) → IndexedOf (tops ++ top op content.now ∷ []) self.new) }
     {
         match op {
-            CHUNK => return self.take_chunk(alloc, offset, content),
+            CHUNK => return self.take_chunk(alloc, offset, content, messages),
             MESSAGE_INDEX => return self.take_index(offset, content),
             ATTACHMENT => return self.take_attachment(alloc, offset, content),
             METADATA => return self.take_metadata(alloc, offset, content),

@@ -1,25 +1,19 @@
 //! The last chunk and the Message Indexes behind it.
-ghost use Rattle.std.specs.Prelude.{◌≡◌, ◌∷◌, ◌++◌, [], true, false, List, OnOk};
-ghost use Rattle.mcap_model.specs.Tops.{Top, offset_behind};
+ghost use Rattle.std.specs.Prelude.{◌≡◌, ◌↔◌, ◌∷◌, ◌++◌, [], true, false, List, OnOk};
+ghost use Rattle.mcap_model.specs.Places.{Each};
+ghost use Rattle.mcap_model.specs.Tops.{Top, inner_tops, offset_behind};
 ghost use Rattle.mcap_model.specs.Fields.{ChunkFields, IsChunk};
 ghost use Rattle.mcap_model.specs.Rules.{V6};
 ghost use Rattle.mcap_model.specs.Valid.{Keeps};
 ghost use Rattle.mcap_model.specs.Whole.{V9};
 ghost use Rattle.mcap_model.specs.Made.{top};
+ghost use Rattle.index_check.specs.Chunks.{HasMessage};
 ghost use Rattle.file_check.specs.LastChunk.{LastOf, IndexFails, LastTaken};
 
 use index_check::{ChunkMessages, Ids, has_indexes, is_index_right};
 use mcap_wire::Memory;
 use rec_index::{CHUNK, Chunk, MESSAGE_INDEX, MessageIndex};
 use std::alloc::Global;
-
-/// Why a record isn't taken.
-#[derive(Clone, Copy)]
-pub(crate) enum TakeRefused {
-    /// The Message Index at that offset is wrong, or the chunk there lacks one.
-    Index { offset: u64 },
-    Memory,
-}
 
 /// The chunk at the end of the records so far, where nothing but Message Indexes stands behind it: its offset in bytes from
 /// the file's front, its Messages, and the channels of the Message Indexes.
@@ -46,7 +40,7 @@ impl LastChunk {
 
     // Whether the chunk lacks a Message Index, now that no more can follow.
     fn lacks_index(&self) -> bool
-        ensures lacks { result ≡ true → (tops : List Top) (t : Top) → LastOf tops self.now → (t.op ≡ 7 → ⊥) → IndexFails (tops ++ t ∷ []) self.now.offset }
+        ensures lacks { result ≡ true → (tops more : List Top) (t : Top) → LastOf tops self.now → (t.op ≡ 7 → ⊥) → IndexFails (tops ++ t ∷ more) self.now.offset }
         ensures keeps { result ≡ false → (tops : List Top) (t : Top) → LastOf tops self.now → (t.op ≡ 7 → ⊥) → Keeps V9 tops → Keeps V9 (tops ++ t ∷ []) }
     {
         if !self.is_open {
@@ -69,58 +63,71 @@ impl LastChunk {
         return Ok(());
     }
 
-    // Takes the Message Index at that offset.
-    fn take_index(&mut self, alloc: Global, offset: u64, content: &[u8]) -> Result<(), TakeRefused>
-        ensures { (tops : List Top) → LastOf tops self.old → Keeps V9 tops → V6 (top 7 content.now) → offset ≡ offset_behind tops → LastTaken (tops ++ top 7 content.now ∷ []) self.new result }
+    // Takes the Message Index at that offset, or says that it is wrong.
+    fn take_index(
+        &mut self,
+        alloc: Global,
+        offset: u64,
+        content: &[u8],
+    ) -> Result<Option<u64>, Memory>
+        ensures { (tops : List Top) → LastOf tops self.old → Keeps V9 tops → V6 (top 7 content.now) → offset ≡ offset_behind tops → LastTaken tops (top 7 content.now) self.new result }
     {
         if !self.is_open {
-            return Err(TakeRefused::Index { offset });
+            return Ok(Some(offset));
         }
         let index = match MessageIndex::parse(content) {
             Ok(index) => index,
-            Err(_) => return Ok(()),
+            Err(_) => return Ok(None),
         };
         match is_index_right(alloc, &self.messages, &self.channels, &index) {
             Ok(true) => {}
-            Ok(false) => return Err(TakeRefused::Index { offset }),
-            Err(_) => return Err(TakeRefused::Memory),
+            Ok(false) => return Ok(Some(offset)),
+            Err(memory) => return Err(memory),
         }
         match self.channels.add(index.channel_id) {
-            Ok(()) => return Ok(()),
-            Err(_) => return Err(TakeRefused::Memory),
+            Ok(()) => return Ok(None),
+            Err(memory) => return Err(memory),
         }
     }
 
-    /// Takes the next record, which stands at that offset. It is refused where V9 fails now: a Message Index at its own offset,
-    /// a chunk that lacks one at the chunk's. After a refusal what is kept is of no use.
+    /// Whether the chunk holds a Message, where it is the last record and its own records keep the rules on contents.
+    pub(crate) fn holds_messages(&self) -> bool
+        ensures { (tops : List Top) (t : Top) → LastOf (tops ++ t ∷ []) self.now → t.op ≡ 6 → Each V6 (inner_tops t) → (result ≡ true) ↔ HasMessage (inner_tops t) }
+    {
+        if self.messages.is_empty() {
+            return false;
+        }
+        return true;
+    }
+
+    /// Takes the next record, which stands at that offset; or says where V9 fails now: at a Message Index that is wrong, or at a
+    /// chunk that lacks one. After that, and after a want of memory, what is kept is of no use.
     pub(crate) fn take(
         &mut self,
         alloc: Global,
         op: u8,
         offset: u64,
         content: &[u8],
-    ) -> Result<(), TakeRefused>
-        ensures { (tops : List Top) → LastOf tops self.old → Keeps V9 tops → V6 (top op content.now) → offset ≡ offset_behind tops → LastTaken (tops ++ top op content.now ∷ []) self.new result }
+    ) -> Result<Option<u64>, Memory>
+        ensures { (tops : List Top) → LastOf tops self.old → Keeps V9 tops → V6 (top op content.now) → offset ≡ offset_behind tops → LastTaken tops (top op content.now) self.new result }
     {
         if op == MESSAGE_INDEX {
             return self.take_index(alloc, offset, content);
         }
         if self.lacks_index() {
-            return Err(TakeRefused::Index {
-                offset: self.offset,
-            });
+            return Ok(Some(self.offset));
         }
         if op != CHUNK {
             self.is_open = false;
-            return Ok(());
+            return Ok(None);
         }
         let chunk = match Chunk::parse(content) {
             Ok(chunk) => chunk,
-            Err(_) => return Ok(()),
+            Err(_) => return Ok(None),
         };
         match self.begin(alloc, offset, chunk.records) {
-            Ok(()) => return Ok(()),
-            Err(_) => return Err(TakeRefused::Memory),
+            Ok(()) => return Ok(None),
+            Err(memory) => return Err(memory),
         }
     }
 }

@@ -12,9 +12,8 @@ pub mod laws;
 mod message_counts;
 mod reading;
 mod record_counts;
-mod refusals;
+mod top_records;
 mod unended;
 mod whole;
 
-pub use refusals::CheckRefused;
 pub use whole::check;

@@ -1,60 +1,58 @@
 //! Reading a data section.
-ghost use Rattle.std.specs.Prelude.{◌≡◌, ◌≤◌, []};
-ghost use Rattle.mcap_scan.specs.Scanning.{Stands, offset_of};
-ghost use Rattle.file_check.specs.Gathering.{GatheredOf};
-ghost use Rattle.file_check.specs.Reading.{refused_as, Reads, Takes, ReadsOn};
+ghost use Rattle.std.specs.Prelude.{◌≡◌, []};
+ghost use Rattle.record_walk.specs.Walking.{FlatStands};
+ghost use Rattle.file_check.specs.Gathering.{GatheredTo};
+ghost use Rattle.file_check.specs.Reading.{lacks_memory, Reads, Takes, ReadsOn};
 
 use crate::gathering::{DataEnd, Gathering};
-use crate::last_chunk::TakeRefused;
 use index_check::Section;
 use mcap_io::Source;
-use mcap_scan::{Reader, ScanRefused, Step};
+use mcap_model::ReadingRefused;
+use record_walk::{FlatReader, FlatStep};
 use std::alloc::Global;
 
 /// Why a data section isn't read to its end.
 #[derive(Drop)]
 pub(crate) enum SectionRefused {
     /// The reading of its records was refused, or memory lacked.
-    Scan { why: ScanRefused },
+    Scan { why: ReadingRefused },
     /// V9 fails at that offset: the Message Index there is wrong, or the chunk there lacks one.
     Index { offset: u64 },
 }
 
-// The refusal for a record that isn't taken.
-fn refused(why: TakeRefused) -> SectionRefused
-    ensures { result ≡ refused_as why }
+// Memory lacked.
+fn lacked() -> SectionRefused
+    ensures { result ≡ lacks_memory }
 {
-    match why {
-        TakeRefused::Index { offset } => return SectionRefused::Index { offset },
-        TakeRefused::Memory => return SectionRefused::Scan {
-            why: ScanRefused::Memory,
-        },
+    SectionRefused::Scan {
+        why: ReadingRefused::Memory,
     }
 }
 
-// Takes the records of a source, and gives the offset behind the Data End; or none where the reader keeps a refusal.
+// Takes the records of a source, those inside chunks in their places, and gives the offset behind the Data End; or none where the
+// reader keeps a refusal.
 fn take_records<S: Source>(
     alloc: Global,
     source: &mut S,
-    reader: &mut Reader,
+    reader: &mut FlatReader,
     gathering: &mut Gathering,
-) -> Result<Option<u64>, TakeRefused>
-    requires begins { offset_of reader.old ≤ 1099511627776 }
-    requires stands { Stands reader.old (S.state source.old) (S.state source.old) [] }
-    requires empty { GatheredOf [] gathering.old }
+) -> Result<Option<u64>, SectionRefused>
+    requires stands { FlatStands reader.old (S.state source.old) (S.state source.old) [] [] }
+    requires empty { GatheredTo [] gathering.old }
     ensures takes { Takes (S.state source.old) (S.state source.new) reader.new gathering.new result }
     ensures stays { S.stays source.old source.new }
 {
     'records: loop {
         match reader.advance(source) {
-            Step::Record { op, offset } => {
-                match gathering.take(alloc, op, offset, reader.content()) {
-                    Ok(()) => {}
-                    Err(why) => return Err(why),
+            FlatStep::Record { op, place } => {
+                match gathering.take(alloc, op, place, reader.content()) {
+                    Ok(None) => {}
+                    Ok(Some(offset)) => return Err(SectionRefused::Index { offset }),
+                    Err(_) => return Err(lacked()),
                 }
             }
-            Step::End { offset } => return Ok(Some(offset)),
-            Step::Refused => return Ok(None),
+            FlatStep::End { offset } => return Ok(Some(offset)),
+            FlatStep::Refused => return Ok(None),
         }
     }
 }
@@ -65,13 +63,13 @@ fn read_records<S: Source>(
     source: &mut S,
     gathering: &mut Gathering,
 ) -> Result<DataEnd, SectionRefused>
-    requires { GatheredOf [] gathering.old }
+    requires { GatheredTo [] gathering.old }
     ensures reads { ReadsOn (S.state source.old) (S.state source.new) gathering.new result }
     ensures stays { S.stays source.old source.new }
 {
-    let mut reader = match Reader::new(alloc) {
+    let mut reader = match FlatReader::new(alloc) {
         Ok(reader) => reader,
-        Err(_) => return Err(refused(TakeRefused::Memory)),
+        Err(_) => return Err(lacked()),
     };
     match take_records(alloc, source, &mut reader, gathering) {
         Ok(Some(behind)) => match gathering.tally(alloc) {
@@ -83,13 +81,13 @@ fn read_records<S: Source>(
                     behind,
                 });
             }
-            Err(_) => return Err(refused(TakeRefused::Memory)),
+            Err(_) => return Err(lacked()),
         },
         Ok(None) => match reader.into_refusal() {
             Some(why) => return Err(SectionRefused::Scan { why }),
-            None => return Err(refused(TakeRefused::Memory)),
+            None => return Err(lacked()),
         },
-        Err(why) => return Err(refused(why)),
+        Err(why) => return Err(why),
     }
 }
 

@@ -1,18 +1,14 @@
 //! What Statistics count of Schemas, Channels and Messages.
 ghost use Rattle.std.specs.Prelude.{◌≡◌, ◌+◌, ◌^◌, ◌<◌, ◌∷◌, ◌++◌, [], List, length, filter, OnOk};
-ghost use Rattle.mcap_model.specs.Places.{Each};
-ghost use Rattle.mcap_model.specs.Tops.{Top, records_in, is_flat_kind, flat};
+ghost use Rattle.mcap_model.specs.Tops.{Top, is_flat_kind};
 ghost use Rattle.mcap_model.specs.Rules.{V6};
-ghost use Rattle.mcap_model.specs.Kept.{reading_limits, Fits};
 ghost use Rattle.mcap_model.specs.Made.{top};
 ghost use Rattle.file_check.specs.RecordCounts.{CountsOf, Hears};
 
 use crate::message_counts::MessageCounts;
 use index_check::Ids;
-use mcap_model::InnerWalk;
 use mcap_wire::Memory;
 use rec_data::{CHANNEL, Channel, MESSAGE, Message, SCHEMA, Schema};
-use rec_index::{CHUNK, Chunk};
 use std::alloc::Global;
 
 /// What was counted of Schemas, Channels and Messages: the number of Messages, the least and the greatest of their log times
@@ -91,8 +87,9 @@ impl RecordCounts {
         }
     }
 
-    // Takes a record of the top level or of a chunk: others than Schemas, Channels and Messages aren't counted.
-    fn take_one(&mut self, op: u8, content: &[u8]) -> Result<(), Memory>
+    /// Takes the next record, of the top level or of a chunk: others than Schemas, Channels and Messages aren't counted. After a
+    /// want of memory the counts are of no use.
+    pub(crate) fn take(&mut self, op: u8, content: &[u8]) -> Result<(), Memory>
         ensures { OnOk result ((records : List Top) → CountsOf records self.old → V6 (top op content.now) → length records + 1 < 2 ^ 64 → CountsOf (records ++ filter is_flat_kind (top op content.now ∷ [])) self.new) }
     {
         match op {
@@ -100,34 +97,6 @@ impl RecordCounts {
             CHANNEL => return self.take_channel(content),
             MESSAGE => return self.take_message(content),
             _ => return Ok(()),
-        }
-    }
-
-    // Takes the records of a chunk.
-    fn take_inside(&mut self, bytes: &[u8]) -> Result<(), Memory>
-        ensures { OnOk result ((records : List Top) → CountsOf records self.old → Each V6 (records_in bytes.now) → length records + length (records_in bytes.now) < 2 ^ 64 → CountsOf (records ++ filter is_flat_kind (records_in bytes.now)) self.new) }
-    {
-        let mut walk = InnerWalk::new(bytes);
-        'records: while let Some(inner) = walk.next() {
-            match self.take_one(inner.op, inner.content) {
-                Ok(()) => {}
-                Err(memory) => return Err(memory),
-            }
-        }
-        return Ok(());
-    }
-
-    /// Takes the next record of the top level, with those inside it where it is a chunk. After a want of memory the counts are
-    /// of no use.
-    pub(crate) fn take(&mut self, op: u8, content: &[u8]) -> Result<(), Memory>
-        ensures { OnOk result ((tops : List Top) → CountsOf (flat tops) self.old → Fits reading_limits tops (top op content.now) → CountsOf (flat (tops ++ top op content.now ∷ [])) self.new) }
-    {
-        if op != CHUNK {
-            return self.take_one(op, content);
-        }
-        match Chunk::parse(content) {
-            Ok(chunk) => return self.take_inside(chunk.records),
-            Err(_) => return Ok(()),
         }
     }
 }

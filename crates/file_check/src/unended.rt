@@ -10,10 +10,8 @@ use crate::checking::read_front;
 use crate::ends::tell_cut;
 use crate::flaws::magic_lacks;
 use crate::reading::SectionRefused;
-use crate::refusals::CheckRefused;
 use mcap_io::Store;
-use mcap_model::Verdict;
-use mcap_scan::ScanRefused;
+use mcap_model::{ReadingRefused, Verdict};
 use std::alloc::Global;
 
 // The last magic isn't there.
@@ -28,7 +26,11 @@ fn lacks_end(len: u64) -> Verdict
 }
 
 // What is told of such a file whose records weren't all read.
-fn tell_scan<T: Store>(store: &mut T, len: u64, why: ScanRefused) -> Result<Verdict, CheckRefused>
+fn tell_scan<T: Store>(
+    store: &mut T,
+    len: u64,
+    why: ReadingRefused,
+) -> Result<Verdict, ReadingRefused>
     requires known { len ≤ (T.state store.old).known }
     requires fits { len < 2 ^ 64 }
     ensures tells { TellsCutSection (T.state store.old).bytes len (sections.Scan why) result }
@@ -38,12 +40,12 @@ fn tell_scan<T: Store>(store: &mut T, len: u64, why: ScanRefused) -> Result<Verd
     ensures keeps { StoreStays (T.state store.old) (T.state store.new) }
 {
     match why {
-        ScanRefused::Fault { faults: _ } => {
-            return Err(CheckRefused::Fault {
+        ReadingRefused::Fault { faults: _ } => {
+            return Err(ReadingRefused::Fault {
                 faults: store.faults(),
             });
         }
-        ScanRefused::Grammar { offset, rule } => match tell_cut(store, len, offset, rule) {
+        ReadingRefused::Grammar { offset, rule } => match tell_cut(store, len, offset, rule) {
             Ok(failed) => {
                 return Ok(Verdict::Flawed {
                     rule: failed.rule,
@@ -52,15 +54,15 @@ fn tell_scan<T: Store>(store: &mut T, len: u64, why: ScanRefused) -> Result<Verd
             }
             Err(why) => return Err(why),
         },
-        ScanRefused::Compressed { offset: _, name: _ } => {
+        ReadingRefused::Compressed { offset: _, name: _ } => {
             let packed = lacks_end(len);
             return Ok(packed);
         }
-        ScanRefused::Limit { offset: _ } => {
+        ReadingRefused::Limit { offset: _ } => {
             let long = lacks_end(len);
             return Ok(long);
         }
-        ScanRefused::Memory => return Err(CheckRefused::Memory),
+        ReadingRefused::Memory => return Err(ReadingRefused::Memory),
     }
 }
 
@@ -69,7 +71,7 @@ fn tell_section<T: Store>(
     store: &mut T,
     len: u64,
     why: SectionRefused,
-) -> Result<Verdict, CheckRefused>
+) -> Result<Verdict, ReadingRefused>
     requires known { len ≤ (T.state store.old).known }
     requires fits { len < 2 ^ 64 }
     ensures tells { TellsCutSection (T.state store.old).bytes len why result }
@@ -89,7 +91,7 @@ pub(crate) fn check_unended<T: Store>(
     alloc: Global,
     store: &mut T,
     len: u64,
-) -> Result<Verdict, CheckRefused>
+) -> Result<Verdict, ReadingRefused>
     requires known { len ≤ (T.state store.old).known }
     requires fits { len < 2 ^ 64 }
     ensures tells { TellsUnended (T.state store.old).bytes len result }

@@ -5,17 +5,16 @@ ghost use Rattle.file_check.specs.CutFiles.{TellsUnbegun, TellsCutFile};
 
 use crate::checking::check_records;
 use crate::ends::{begins_with_magic, ends_with_magic};
-use crate::refusals::CheckRefused;
 use crate::unended::check_unended;
 use mcap_io::{Failed, Store};
-use mcap_model::Verdict;
+use mcap_model::{ReadingRefused, Verdict};
 use std::alloc::Global;
 
 /// Checks the file that a store holds by all rules of the format: whether it is valid, and fully indexed besides, or which
 /// rule fails where. The numbers are those of its data section. What stands behind the data section is held in memory, and
 /// of that one chunk, with tables by chunk and channel. A file without the first magic breaks V1; one without the last breaks
 /// the rule at which the reading of its data section halts, or V2. The file is read once.
-pub fn check<T: Store>(alloc: Global, store: &mut T) -> Result<Verdict, CheckRefused>
+pub fn check<T: Store>(alloc: Global, store: &mut T) -> Result<Verdict, ReadingRefused>
     ensures checks { Checks (T.state store.old).bytes result }
     ensures begun { TellsUnbegun (T.state store.old).bytes result }
     ensures cut { TellsCutFile (T.state store.old).bytes result }
@@ -26,7 +25,7 @@ pub fn check<T: Store>(alloc: Global, store: &mut T) -> Result<Verdict, CheckRef
     let len = match store.len() {
         Ok(len) => len,
         Err(Failed) => {
-            return Err(CheckRefused::Fault {
+            return Err(ReadingRefused::Fault {
                 faults: store.faults(),
             });
         }

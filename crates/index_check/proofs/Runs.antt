@@ -14,7 +14,7 @@ use Rattle.mcap_model.proofs.Places.{at_read, at_within, at_one}
 use Rattle.mcap_model.proofs.Lists.{pairs_at, pairs_from, filter_passed, filter_has}
 use Rattle.mcap_model.proofs.ReadBack.{at_map}
 use Rattle.mcap_model.proofs.Flat.{at_mapped}
-use Rattle.index_check.specs.declared.chunk_messages.ChunkMessage.{ChunkMessage}
+use Rattle.record_walk.specs.declared.heads.MessageHead.{MessageHead}
 use Rattle.index_check.specs.Entries.{ListsEntries, entry_offset}
 use Rattle.index_check.specs.Messages.{entry_of, message_of, NotBehind, Rises, HoldsMessages}
 use Rattle.index_check.proofs.Apart.{apart_moved}
@@ -22,13 +22,13 @@ use Rattle.index_check.proofs.SortedEntries.{moved_has}
 
 -- ---- order
 
-next : (a b c : ChunkMessage) → NotBehind a b → NotBehind b c → NotBehind a c
+next : (a b c : MessageHead) → NotBehind a b → NotBehind b c → NotBehind a c
 next a b c (inl p) (inl q) = inl (omega (arith, p, q))
 next a b c (inl p) (inr q) = inl (omega (arith, p, q.0))
 next a b c (inr p) (inl q) = inl (omega (arith, p.0, q))
 next a b c (inr p) (inr q) = inr (p.0 ∙ q.0, omega (arith, p.1, q.1))
 
-far : (xs : List ChunkMessage) → AllAdjacentBelow NotBehind xs (length xs) → (i n : ℕ) (d : ChunkMessage) → suc (i + n) < length xs → NotBehind (get_or xs i d) (get_or xs (suc (i + n)) d)
+far : (xs : List MessageHead) → AllAdjacentBelow NotBehind xs (length xs) → (i n : ℕ) (d : MessageHead) → suc (i + n) < length xs → NotBehind (get_or xs i d) (get_or xs (suc (i + n)) d)
 far xs order i zero d within =
     let is : i + 1 ≡ suc (i + 0) = omega arith in
     subst (λ (k : ℕ). NotBehind (get_or xs i d) (get_or xs k d)) is (order i d (omega (arith, within)))
@@ -38,7 +38,7 @@ far xs order i (suc n) d within =
     (subst (λ (k : ℕ). NotBehind (get_or xs (suc (i + n)) d) (get_or xs k d)) is (order (suc (i + n)) d (omega (arith, within))))
 
 -- where none comes behind the next, all rise
-pub all_rise : (xs : List ChunkMessage) → AllAdjacentBelow NotBehind xs (length xs) → Rises xs
+pub all_rise : (xs : List MessageHead) → AllAdjacentBelow NotBehind xs (length xs) → Rises xs
 all_rise xs order i j d less within =
     let is : suc (i + (j - suc i)) ≡ j = omega (arith, less) in
     subst (λ (k : ℕ). NotBehind (get_or xs i d) (get_or xs k d)) is (far xs order i (j - suc i) d (omega (arith, within, less)))
@@ -47,7 +47,7 @@ not_so : true ≡ false → ⊥
 not_so e = cc
 
 -- what the order of the keys says
-pub not_less : (s r : ChunkMessage) → is_lt (ordering_then (nat_cmp s.channel r.channel) (nat_cmp s.offset r.offset)) ≡ false → NotBehind r s
+pub not_less : (s r : MessageHead) → is_lt (ordering_then (nat_cmp s.channel r.channel) (nat_cmp s.offset r.offset)) ≡ false → NotBehind r s
 not_less s r = by (nat_lt s.channel r.channel) (s.channel == r.channel) (nat_lt s.offset r.offset) (s.offset == r.offset) refl refl refl
   where
     by : (l e n g : Bool) → nat_lt s.channel r.channel ≡ l → (s.channel == r.channel) ≡ e → nat_lt s.offset r.offset ≡ n
@@ -59,7 +59,7 @@ not_less s r = by (nat_lt s.channel r.channel) (s.channel == r.channel) (nat_lt 
 
 -- ---- those below a channel
 
-pub parted : (xs : List ChunkMessage) (bound : ℕ) → Rises xs → (i j : ℕ) (d : ChunkMessage) → i ≤ j → j < length xs → nat_lt (get_or xs j d).channel bound ≡ true → nat_lt (get_or xs i d).channel bound ≡ true
+pub parted : (xs : List MessageHead) (bound : ℕ) → Rises xs → (i j : ℕ) (d : MessageHead) → i ≤ j → j < length xs → nat_lt (get_or xs j d).channel bound ≡ true → nat_lt (get_or xs i d).channel bound ≡ true
 parted xs bound rises i j d few within early = by (i == j) refl
   where
     low : NotBehind (get_or xs i d) (get_or xs j d) → nat_lt (get_or xs i d).channel bound ≡ true
@@ -74,15 +74,15 @@ within_at : {X : Type 0} (P : X → Type 0) (xs : List X) (from to : ℕ) → Al
 within_at P xs from to each k x at low high = subst P (at_one xs k (get_or xs k x) x (at_read xs k x (at_within xs k x at)) at) (each k x low high)
 
 -- a place that parts them
-pub parts_at : (xs : List ChunkMessage) (bound place : ℕ) → AllWithin (λ y. nat_lt y.channel bound ≡ true) xs 0 place → AllWithin (λ y. nat_lt y.channel bound ≡ false) xs place (length xs)
-    → (k : ℕ) (heard : ChunkMessage) → At xs k heard → (k < place) ↔ (heard.channel < bound)
+pub parts_at : (xs : List MessageHead) (bound place : ℕ) → AllWithin (λ y. nat_lt y.channel bound ≡ true) xs 0 place → AllWithin (λ y. nat_lt y.channel bound ≡ false) xs place (length xs)
+    → (k : ℕ) (heard : MessageHead) → At xs k heard → (k < place) ↔ (heard.channel < bound)
 parts_at xs bound place early late k heard at = (
-  λ less. ltb-true heard.channel bound (within_at (λ (y : ChunkMessage). nat_lt y.channel bound ≡ true) xs 0 place early k heard at (omega arith) less),
+  λ less. ltb-true heard.channel bound (within_at (λ (y : MessageHead). nat_lt y.channel bound ≡ true) xs 0 place early k heard at (omega arith) less),
   λ below. elim (cases_lt k place) [
     | inl less ↦ less
     | inr past ↦
         let within = at_within xs k heard at in
-        let above = ltb-false heard.channel bound (within_at (λ (y : ChunkMessage). nat_lt y.channel bound ≡ false) xs place (length xs) late k heard at past within) in
+        let above = ltb-false heard.channel bound (within_at (λ (y : MessageHead). nat_lt y.channel bound ≡ false) xs place (length xs) late k heard at past within) in
         absurd (omega (arith, below, above))
   ],
 )
@@ -107,9 +107,9 @@ filter_between {X} test (x ∷ xs) (suc from) n few before among behind =
     filter_between test xs from n (omega (arith, few)) (λ k y at less. before (suc k) y at (omega (arith, less))) (λ k y at low high. among (suc k) y at (omega (arith, low)) (omega (arith, high))) (λ k y at past. behind (suc k) y at (omega (arith, past)))
     ∙ ap (λ (b : Bool). cond b (x ∷ filter test xs) (filter test xs)) (sym (before 0 x refl (omega arith)))
 
-module _ (xs : List ChunkMessage) (channel from to : ℕ) (within : from ≤ length xs) (fits : to ≤ length xs)
-    (below : (k : ℕ) (heard : ChunkMessage) → At xs k heard → (k < from) ↔ (heard.channel < channel))
-    (through : (k : ℕ) (heard : ChunkMessage) → At xs k heard → (k < to) ↔ (heard.channel < channel + 1)) where
+module _ (xs : List MessageHead) (channel from to : ℕ) (within : from ≤ length xs) (fits : to ≤ length xs)
+    (below : (k : ℕ) (heard : MessageHead) → At xs k heard → (k < from) ↔ (heard.channel < channel))
+    (through : (k : ℕ) (heard : MessageHead) → At xs k heard → (k < to) ↔ (heard.channel < channel + 1)) where
   pub run_rises : from ≤ to
   run_rises = elim (cases_lt to from) [
     | inl less ↦
@@ -131,25 +131,25 @@ module _ (xs : List ChunkMessage) (channel from to : ℕ) (within : from ≤ len
       omega (arith, few, many)))
       (λ k heard at past. ne_eqb heard.channel channel (λ e. let before = (through k heard at).1 (omega (arith, e)) in omega (arith, before, past, rises)))
 
-pub run_still_rises : (xs run : List ChunkMessage) (channel : ℕ) → Rises xs → run ≡ filter (λ heard. heard.channel == channel) xs → Rises run
-run_still_rises xs run channel rises is = subst Rises (sym is) (AllPairs-filter NotBehind (λ (h : ChunkMessage). h.channel == channel) xs rises)
+pub run_still_rises : (xs run : List MessageHead) (channel : ℕ) → Rises xs → run ≡ filter (λ heard. heard.channel == channel) xs → Rises run
+run_still_rises xs run channel rises is = subst Rises (sym is) (AllPairs-filter NotBehind (λ (h : MessageHead). h.channel == channel) xs rises)
 
 -- ---- the entries of a channel
 
 -- messages that are put in another order
-pub holds_moved : (records : List Top) (xs ys : List ChunkMessage) → IsPermutation xs ys → HoldsMessages records xs → HoldsMessages records ys
+pub holds_moved : (records : List Top) (xs ys : List MessageHead) → IsPermutation xs ys → HoldsMessages records xs → HoldsMessages records ys
 holds_moved records xs ys moved was = record {
   are = λ heard has. was.are heard (moved_has ys xs heard (IsPermutation-sym xs ys moved) has);
   all = λ channel entry is. moved_has xs ys (message_of channel entry) moved (was.all channel entry is);
-  once = apart_moved (λ (heard : ChunkMessage). heard.offset) xs ys moved was.once;
+  once = apart_moved (λ (heard : MessageHead). heard.offset) xs ys moved was.once;
 }
 
-on_one : (channel : ℕ) (a b : ChunkMessage) → a.channel ≡ channel → b.channel ≡ channel → NotBehind a b → a.offset ≢ b.offset → a.offset < b.offset
+on_one : (channel : ℕ) (a b : MessageHead) → a.channel ≡ channel → b.channel ≡ channel → NotBehind a b → a.offset ≢ b.offset → a.offset < b.offset
 on_one channel a b first second (inl less) differ = absurd (omega (arith, first, second, less))
 on_one channel a b first second (inr same) differ = omega (arith, same.1, differ)
 
 -- those of a channel, in order, give the entries of its Message Index
-pub lists_run : (records : List Top) (messages run : List ChunkMessage) (channel : ℕ) → HoldsMessages records messages → Rises run → run ≡ filter (λ heard. heard.channel == channel) messages → ListsEntries records channel (map entry_of run)
+pub lists_run : (records : List Top) (messages run : List MessageHead) (channel : ℕ) → HoldsMessages records messages → Rises run → run ≡ filter (λ heard. heard.channel == channel) messages → ListsEntries records channel (map entry_of run)
 lists_run records messages run channel holds rises is = record {
   are = λ entry has.
       let (heard, at, same) = at_map entry_of run has.0 entry has.1 in
@@ -158,21 +158,21 @@ lists_run records messages run channel holds rises is = record {
   all = λ entry is_entry.
       let has = holds.all channel entry is_entry in
       let there = filter_has on messages has.0 (message_of channel entry) has.1 (eq-eqb channel channel refl) in
-      (there.0, at_mapped entry_of run there.0 (message_of channel entry) (subst (λ (l : List ChunkMessage). At l there.0 (message_of channel entry)) (sym is) there.1));
+      (there.0, at_mapped entry_of run there.0 (message_of channel entry) (subst (λ (l : List MessageHead). At l there.0 (message_of channel entry)) (sym is) there.1));
   rises = pairs_from (λ (x y : ℕ × ℕ). entry_offset x < entry_offset y) (map entry_of run) (λ i j x y less at other.
       let (a, at_a, same_a) = at_map entry_of run i x at in
       let (b, at_b, same_b) = at_map entry_of run j y other in
-      let up = on_one channel a b (passes i a at_a).1 (passes j b at_b).1 (pairs_at NotBehind run rises i j a b less at_a at_b) (pairs_at (λ (p q : ChunkMessage). p.offset ≢ q.offset) run apart i j a b less at_a at_b) in
+      let up = on_one channel a b (passes i a at_a).1 (passes j b at_b).1 (pairs_at NotBehind run rises i j a b less at_a at_b) (pairs_at (λ (p q : MessageHead). p.offset ≢ q.offset) run apart i j a b less at_a at_b) in
       omega (arith, up, ap (λ (e : ℕ × ℕ). e.1) same_a, ap (λ (e : ℕ × ℕ). e.1) same_b));
 }
   where
-    on : ChunkMessage → Bool
+    on : MessageHead → Bool
     on heard = heard.channel == channel
 
-    passes : (k : ℕ) (heard : ChunkMessage) → At run k heard → Has messages heard × (heard.channel ≡ channel)
+    passes : (k : ℕ) (heard : MessageHead) → At run k heard → Has messages heard × (heard.channel ≡ channel)
     passes k heard at =
-        let passed = filter_passed (λ (h : ChunkMessage). h.channel == channel) messages k heard (subst (λ (l : List ChunkMessage). At l k heard) is at) in
+        let passed = filter_passed (λ (h : MessageHead). h.channel == channel) messages k heard (subst (λ (l : List MessageHead). At l k heard) is at) in
         (passed.0, eqb-true heard.channel channel passed.1)
 
     apart : AllPairs (λ p q. p.offset ≢ q.offset) run
-    apart = subst (AllPairs (λ (p q : ChunkMessage). p.offset ≢ q.offset)) (sym is) (AllPairs-filter (λ (p q : ChunkMessage). p.offset ≢ q.offset) (λ (h : ChunkMessage). h.channel == channel) messages holds.once)
+    apart = subst (AllPairs (λ (p q : MessageHead). p.offset ≢ q.offset)) (sym is) (AllPairs-filter (λ (p q : MessageHead). p.offset ≢ q.offset) (λ (h : MessageHead). h.channel == channel) messages holds.once)

@@ -1,20 +1,28 @@
--- The messages that a walk over the records of a chunk has come to.
-use Rattle.std.proofs.Common.{◌≡◌, ◌⊎◌, ℕ, ◌+◌, ◌<◌, ◌≤◌, List, [], ◌∷◌, ◌++◌, length, take, sym, ap, subst, inl, inr, ◌∙◌, append_assoc, arith}
-use Rattle.std.specs.Prelude.{◌≢◌}
+-- The Messages among the records of a chunk.
+use Rattle.std.proofs.Common.{◌≡◌, ◌⊎◌, ℕ, zero, suc, ◌+◌, ◌<◌, ◌≤◌, Bool, true, false, List, [], ◌∷◌, ◌++◌, length, take, drop, cond, refl, sym, ap, subst, inl, inr, ◌∙◌, append_assoc, arith}
+use Rattle.std.specs.Prelude.{◌≢◌, nat_le}
+use Rattle.std.specs.List.{flat_map}
+use Rattle.std.proofs.lemmas.Bool.{and_parts, and_from, both_ways, eqb-true, eq-eqb, leb-true, le-leb}
 use Rattle.std.proofs.lemmas.List.{append-nil, length-append, take-append-le}
 use Rattle.std.proofs.lemmas.Grind.{flat_map-append}
 use Rattle.std.proofs.Math.Seq.{take-append_seam}
-use Rattle.mcap_model.specs.Places.{At, Has}
-use Rattle.mcap_model.specs.Tops.{Top, top_bytes, spelled, records_in}
+use Rattle.mcap_wire.specs.Layout.{number}
+use Rattle.mcap_wire.proofs.Numbers.{AreBytes}
+use Rattle.mcap_wire.proofs.Fields.{AreBytes-take, AreBytes-drop, number_spelled}
+use Rattle.rec_data.proofs.Contents.{message_read}
+use Rattle.mcap_model.specs.Places.{At, Has, Each}
+use Rattle.mcap_model.specs.Tops.{Top, top_bytes, spelled, declared_length, first_top, behind_first, begins_record, first_records, records_in, placed_inside}
 use Rattle.mcap_model.specs.Fields.{MessageFields, IsMessage}
+use Rattle.mcap_model.specs.Rules.{V6}
+use Rattle.mcap_model.specs.Scan.{is_message_top}
 use Rattle.mcap_model.specs.Whole.{IsEntryOf, offset_among}
-use Rattle.mcap_model.specs.Walk.{inner_top, StepsOver}
-use Rattle.mcap_model.specs.declared.inner.Inner.{Inner}
 use Rattle.mcap_model.proofs.Places.{at_none, at_within, at_kept, at_last, at_more, has_kept, has_last, pairs_more}
-use Rattle.mcap_model.proofs.Lists.{cut_flat}
+use Rattle.mcap_model.proofs.Lists.{cut_flat, each_cons}
 use Rattle.mcap_model.proofs.Readings.{length-top}
-use Rattle.mcap_model.proofs.Maps.{message_once}
-use Rattle.index_check.specs.declared.chunk_messages.ChunkMessage.{ChunkMessage}
+use Rattle.mcap_model.proofs.Maps.{message_once, message_long}
+use Rattle.record_walk.specs.declared.heads.MessageHead.{MessageHead}
+use Rattle.record_walk.specs.Heads.{channel_in, time_in, is_headed, heads_at, heads_in}
+use Rattle.index_check.specs.Chunks.{HasMessage}
 use Rattle.index_check.specs.Entries.{entry_offset}
 use Rattle.index_check.specs.Messages.{entry_of, message_of, HoldsMessages}
 
@@ -70,7 +78,7 @@ entry_old inner t channel entry is = elim (at_more inner t is.place is.top is.at
 ]
 
 -- a record that is no message
-pub holds_other : (inner : List Top) (t : Top) (messages : List ChunkMessage) → HoldsMessages inner messages → ((channel : ℕ) (m : MessageFields) → IsMessage t channel m → ⊥) → HoldsMessages (inner ++ t ∷ []) messages
+pub holds_other : (inner : List Top) (t : Top) (messages : List MessageHead) → HoldsMessages inner messages → ((channel : ℕ) (m : MessageFields) → IsMessage t channel m → ⊥) → HoldsMessages (inner ++ t ∷ []) messages
 holds_other inner t messages was other = record {
   are = λ heard has. entry_kept inner (t ∷ []) heard.channel (entry_of heard) (was.are heard has);
   all = λ channel entry is. elim (entry_old inner t channel entry is) [
@@ -80,17 +88,17 @@ holds_other inner t messages was other = record {
   once = was.once;
 }
 
-fields_same : (heard : ChunkMessage) (channel time offset : ℕ) → heard.channel ≡ channel → heard.time ≡ time → heard.offset ≡ offset → heard ≡ message_of channel (time, offset)
+fields_same : (heard : MessageHead) (channel time offset : ℕ) → heard.channel ≡ channel → heard.time ≡ time → heard.offset ≡ offset → heard ≡ message_of channel (time, offset)
 fields_same heard channel time offset one two three =
     ap (λ (n : ℕ). message_of n (heard.time, heard.offset)) one ∙ ap (λ (n : ℕ). message_of channel (n, heard.offset)) two ∙ ap (λ (n : ℕ). message_of channel (time, n)) three
 
 -- a message
-pub holds_more : (inner : List Top) (t : Top) (messages : List ChunkMessage) (heard : ChunkMessage) (m : MessageFields) → HoldsMessages inner messages → IsMessage t heard.channel m → heard.time ≡ m.log_time → heard.offset ≡ length (spelled inner)
+pub holds_more : (inner : List Top) (t : Top) (messages : List MessageHead) (heard : MessageHead) (m : MessageFields) → HoldsMessages inner messages → IsMessage t heard.channel m → heard.time ≡ m.log_time → heard.offset ≡ length (spelled inner)
     → HoldsMessages (inner ++ t ∷ []) (messages ++ heard ∷ [])
 holds_more inner t messages heard m was is then there = record {
   are = λ x has. elim (at_more messages heard has.0 x has.1) [
     | inl old ↦ entry_kept inner (t ∷ []) x.channel (entry_of x) (was.are x (has.0, old))
-    | inr (_, same) ↦ subst (λ (y : ChunkMessage). IsEntryOf (inner ++ t ∷ []) y.channel (entry_of y)) (sym same) (record {
+    | inr (_, same) ↦ subst (λ (y : MessageHead). IsEntryOf (inner ++ t ∷ []) y.channel (entry_of y)) (sym same) (record {
       place = length inner;
       top = t;
       message = m;
@@ -107,57 +115,98 @@ holds_more inner t messages heard m was is then there = record {
         let same = fields_same heard channel entry.0 entry.1 one.0 (then ∙ ap (λ (x : MessageFields). x.log_time) one.1 ∙ sym first) (there ∙ sym second) in
         subst (Has (messages ++ heard ∷ [])) same (has_last messages heard [])
   ];
-  once = pairs_more (λ (a b : ChunkMessage). a.offset ≢ b.offset) messages heard was.once (λ k x at. let below = entry_below inner x.channel (entry_of x) (was.are x (k, at)) in λ e. omega (arith, below, there, e));
+  once = pairs_more (λ (a b : MessageHead). a.offset ≢ b.offset) messages heard was.once (λ k x at. let below = entry_below inner x.channel (entry_of x) (was.are x (k, at)) in λ e. omega (arith, below, there, e));
 }
 
--- ---- how far a walk is
-
-pub record HoldsSoFar (records : List ℕ) (at : ℕ) (rest : List ℕ) (messages : List ChunkMessage) : Type 0 where
-  pub done : List Top
-  pub place : at ≡ length (spelled done)
-  pub split : records_in records ≡ done ++ records_in rest
-  pub holds : HoldsMessages done messages
-
-pub holds_none : (records : List ℕ) (at : ℕ) (rest : List ℕ) → at ≡ 0 → rest ≡ records → HoldsSoFar records at rest []
-holds_none records at rest is all = record {
-  done = [];
-  place = is;
-  split = ap records_in (sym all);
-  holds = record {
-    are = λ heard has. absurd (at_none has.0 heard has.1);
-    all = λ channel entry is. absurd (at_none is.place is.top is.at);
-    once = λ i j d less within. absurd (omega (arith, within));
-  };
-}
+-- ---- the heads that are listed
 
 spelled_more : (xs : List Top) (t : Top) → length (spelled (xs ++ t ∷ [])) ≡ length (spelled xs) + length (top_bytes t)
 spelled_more xs t =
     let size = ap length (flat_map-append top_bytes xs (t ∷ [])) in
     omega (arith, size, length-append (spelled xs) (top_bytes t ++ []), length-append (top_bytes t) [])
 
-holds_step : (records : List ℕ) (at at_new : ℕ) (rest rest_new : List ℕ) (messages new : List ChunkMessage) (inner : Inner) → (was : HoldsSoFar records at rest messages) → StepsOver at rest at_new rest_new inner
-    → HoldsMessages (was.done ++ inner_top inner ∷ []) new → HoldsSoFar records at_new rest_new new
-holds_step records at at_new rest rest_new messages new inner was steps holds =
-    let t = inner_top inner in
-    record {
-      done = was.done ++ t ∷ [];
-      place = let behind = steps.behind in let place = was.place in omega (arith, behind, place, spelled_more was.done t);
-      split = was.split ∙ ap (λ (l : List Top). was.done ++ l) steps.first ∙ sym (append_assoc was.done (t ∷ []) (records_in rest_new));
-      holds = holds;
-    }
+-- bytes that are enough for the fields of a Message are one
+headed : (t : Top) → AreBytes t.content → is_headed t ≡ true → (m : MessageFields) × IsMessage t (channel_in t.content) m × (time_in t.content ≡ m.log_time)
+headed t bytes is =
+    let content = t.content in
+    let both = and_parts (is_message_top t) (nat_le 22 (length content)) is in
+    let long : 22 ≤ length content = leb-true 22 (length content) both.1 in
+    let m : MessageFields = record { sequence = number (take 4 (drop 2 content)); log_time = time_in content; publish_time = number (take 8 (drop 14 content)); payload = drop 22 content } in (
+      m,
+      record {
+        kind = eqb-true t.op 5 both.0;
+        layout = message_read content (channel_in content) 2 6 14 22 m (number_spelled 2 content 0 bytes (omega (arith, long))) (number_spelled 4 content 2 bytes (omega (arith, long)))
+            (number_spelled 8 content 6 bytes (omega (arith, long))) (number_spelled 8 content 14 bytes (omega (arith, long))) refl;
+      },
+      refl,
+    )
 
-pub step_other : (records : List ℕ) (at at_new : ℕ) (rest rest_new : List ℕ) (messages : List ChunkMessage) (inner : Inner) → HoldsSoFar records at rest messages → StepsOver at rest at_new rest_new inner
-    → ((channel : ℕ) (m : MessageFields) → IsMessage (inner_top inner) channel m → ⊥) → HoldsSoFar records at_new rest_new messages
-step_other records at at_new rest rest_new messages inner was steps other =
-    holds_step records at at_new rest rest_new messages messages inner was steps (holds_other was.done (inner_top inner) messages was.holds other)
+-- others are none
+unheaded : (t : Top) → is_headed t ≡ false → (channel : ℕ) (m : MessageFields) → IsMessage t channel m → ⊥
+unheaded t other channel m is =
+    both_ways (is_headed t) other (and_from (is_message_top t) (nat_le 22 (length t.content)) (eq-eqb t.op 5 is.kind) (le-leb 22 (length t.content) (message_long t channel m is)))
 
-pub step_more : (records : List ℕ) (at at_new : ℕ) (rest rest_new : List ℕ) (messages : List ChunkMessage) (heard : ChunkMessage) (inner : Inner) → HoldsSoFar records at rest messages → StepsOver at rest at_new rest_new inner
-    → (m : MessageFields) → IsMessage (inner_top inner) heard.channel m → heard.time ≡ m.log_time → heard.offset ≡ inner.offset → HoldsSoFar records at_new rest_new (messages ++ heard ∷ [])
-step_more records at at_new rest rest_new messages heard inner was steps m is then there =
-    holds_step records at at_new rest rest_new messages (messages ++ heard ∷ []) inner was steps
-    (holds_more was.done (inner_top inner) messages heard m was.holds is then (there ∙ steps.offset ∙ was.place))
+holds_head : (done : List Top) (t : Top) (messages : List MessageHead) → AreBytes t.content → HoldsMessages done messages
+    → HoldsMessages (done ++ t ∷ []) (messages ++ heads_at (record { place = record { top = 0; inner = length (spelled done) }; top = t }))
+holds_head done t messages bytes was = by (is_headed t) refl
+  where
+    head : MessageHead
+    head = record { channel = channel_in t.content; time = time_in t.content; offset = length (spelled done) }
 
-pub holds_all : (records : List ℕ) (at : ℕ) (rest : List ℕ) (messages : List ChunkMessage) → HoldsSoFar records at rest messages → records_in rest ≡ [] → HoldsMessages (records_in records) messages
-holds_all records at rest messages was none =
-    let all : was.done ≡ records_in records = sym (was.split ∙ ap (λ (l : List Top). was.done ++ l) none ∙ append-nil was.done) in
-    subst (λ (l : List Top). HoldsMessages l messages) all was.holds
+    by : (b : Bool) → is_headed t ≡ b → HoldsMessages (done ++ t ∷ []) (messages ++ cond b (head ∷ []) [])
+    by true is = let (m, shown, time) = headed t bytes is in holds_more done t messages head m was shown time refl
+    by false other = subst (HoldsMessages (done ++ t ∷ [])) (sym (append-nil messages)) (holds_other done t messages was (unheaded t other))
+
+holds_heads : (more done : List Top) (messages : List MessageHead) → Each (λ t. AreBytes t.content) more → HoldsMessages done messages
+    → HoldsMessages (done ++ more) (messages ++ flat_map heads_at (placed_inside 0 (length (spelled done)) more))
+holds_heads [] done messages bytes was =
+    subst (λ (l : List Top). HoldsMessages l (messages ++ [])) (sym (append-nil done)) (subst (HoldsMessages done) (sym (append-nil messages)) was)
+holds_heads (t ∷ ts) done messages bytes was =
+    let here = heads_at (record { place = record { top = 0; inner = length (spelled done) }; top = t }) in
+    let one : HoldsMessages (done ++ t ∷ []) (messages ++ here) = holds_head done t messages (bytes 0 t refl) was in
+    let rest = holds_heads ts (done ++ t ∷ []) (messages ++ here) (λ n u at. bytes (suc n) u at) one in
+    subst (λ (l : List Top). HoldsMessages l (messages ++ (here ++ flat_map heads_at (placed_inside 0 (length (spelled done) + length (top_bytes t)) ts)))) (append_assoc done (t ∷ []) ts)
+    (subst (HoldsMessages ((done ++ t ∷ []) ++ ts)) (append_assoc messages here (flat_map heads_at (placed_inside 0 (length (spelled done) + length (top_bytes t)) ts)))
+    (subst (λ (n : ℕ). HoldsMessages ((done ++ t ∷ []) ++ ts) ((messages ++ here) ++ flat_map heads_at (placed_inside 0 n ts))) (spelled_more done t) rest))
+
+-- the records among some bytes have bytes for their contents
+records_have : (n : ℕ) (bytes : List ℕ) → AreBytes bytes → Each (λ t. AreBytes t.content) (first_records n bytes)
+records_have zero bytes small = λ k t at. absurd (at_none k t at)
+records_have (suc n) bytes small = by (begins_record bytes) (records_have n (behind_first bytes) (AreBytes-drop (9 + declared_length bytes) bytes small))
+  where
+    by : (b : Bool) → Each (λ t. AreBytes t.content) (first_records n (behind_first bytes)) → Each (λ t. AreBytes t.content) (cond b (first_top bytes ∷ first_records n (behind_first bytes)) [])
+    by true rest = each_cons (λ t. AreBytes t.content) (first_top bytes) (first_records n (behind_first bytes)) (AreBytes-take (declared_length bytes) (drop 9 bytes) (AreBytes-drop 9 bytes small)) rest
+    by false rest = λ k t at. absurd (at_none k t at)
+
+records_have_bytes : (bytes : List ℕ) → AreBytes bytes → Each (λ t. AreBytes t.content) (records_in bytes)
+unfolding records_in
+records_have_bytes bytes small = records_have (length bytes) bytes small
+
+holds_none : HoldsMessages [] []
+holds_none = record {
+  are = λ heard has. absurd (at_none has.0 heard has.1);
+  all = λ channel entry is. absurd (at_none is.place is.top is.at);
+  once = λ i j d less within. absurd (omega (arith, within));
+}
+
+-- the heads that are listed are the Messages among the records
+pub heads_hold : (bytes : List ℕ) → AreBytes bytes → HoldsMessages (records_in bytes) (heads_in bytes)
+heads_hold bytes small = holds_heads (records_in bytes) [] [] (records_have_bytes bytes small) holds_none
+
+-- where there is one of them, one of the records is a Message
+pub has_message : (records : List Top) (messages : List MessageHead) → HoldsMessages records messages → (messages ≡ [] → ⊥) → HasMessage records
+has_message records [] holds some = absurd (some refl)
+has_message records (m ∷ ms) holds some =
+    let is = holds.are m (0, refl) in
+    let shown = is.is in
+    (is.place, is.top, is.at, shown.kind)
+
+-- where there is none, none is
+pub has_none : (records : List Top) (messages : List MessageHead) → Each V6 records → HoldsMessages records messages → messages ≡ [] → HasMessage records → ⊥
+has_none records messages meets holds none has =
+    let (n, t, at, kind) = has in
+    let rules = meets n t at in
+    let (channel, m, is) = rules.message kind in
+    let entry : ℕ × ℕ = (m.log_time, offset_among records n) in
+    let there = holds.all channel entry (record { place = n; top = t; message = m; at = at; is = is; time = refl; offset = refl }) in
+    at_none there.0 (message_of channel entry) (subst (λ (l : List MessageHead). At l there.0 (message_of channel entry)) none there.1)

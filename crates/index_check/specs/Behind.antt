@@ -3,12 +3,12 @@ use Rattle.std.specs.Prelude.{◌≡◌, ℕ, List, ◌∷◌, ◌++◌}
 use Rattle.mcap_model.specs.Places.{Has, Each}
 use Rattle.mcap_model.specs.Tops.{Top, inner_tops}
 use Rattle.mcap_model.specs.Fields.{IsMessageIndex}
-use Rattle.index_check.specs.declared.chunk_messages.ChunkMessage.{ChunkMessage}
+use Rattle.record_walk.specs.declared.heads.MessageHead.{MessageHead}
 use Rattle.index_check.specs.Messages.{HoldsMessages}
 
 -- The last of these records are a chunk and, behind it, Message Indexes alone: the chunk has these Messages, and the
 -- Message Indexes are of these channels.
-pub record IsOpen (before : List Top) (messages : List ChunkMessage) (channels : List ℕ) : Type 0 where
+pub record IsOpen (before : List Top) (messages : List MessageHead) (channels : List ℕ) : Type 0 where
   pub others : List Top
   pub chunk : Top
   pub earlier : List Top

@@ -3,36 +3,25 @@ ghost use Rattle.std.specs.Prelude.{◌≡◌, ◌↔◌, ◌<◌, ◌≤◌, �
 ghost use Rattle.std.specs.List.{AllAdjacentBelow};
 ghost use Rattle.mcap_model.specs.Places.{At};
 ghost use Rattle.mcap_model.specs.Tops.{records_in};
-ghost use Rattle.mcap_model.specs.Made.{top};
-ghost use Rattle.index_check.specs.declared.chunk_messages.ChunkMessage.{ChunkMessage as Heard};
-ghost use Rattle.index_check.specs.Messages.{IsHeard, NotBehind, Rises, HoldsMessages, AreOn};
+ghost use Rattle.record_walk.specs.declared.heads.MessageHead.{MessageHead as Heard};
+ghost use Rattle.index_check.specs.Messages.{NotBehind, Rises, HoldsMessages, AreOn};
 
 use crate::ids::Ids;
-use mcap_model::InnerWalk;
 use mcap_wire::Memory;
-use rec_data::{MESSAGE, Message};
+use record_walk::{MessageHead, list_heads};
 use std::alloc::Global;
 use std::marker::Model;
-
-/// A Message of a chunk: its channel, its log time in nanoseconds, and where it starts, in bytes from the front of the
-/// chunk's records.
-#[derive(Clone, Copy)]
-pub struct ChunkMessage {
-    pub channel: u16,
-    pub time: u64,
-    pub offset: u64,
-}
 
 /// The Messages of a chunk, in ascending order of channel and offset, so that those of a channel stand together. It takes
 /// 24 bytes for each Message. Contracts see the list of them.
 #[derive(Drop)]
 pub struct ChunkMessages {
-    messages: Vec<ChunkMessage>,
+    messages: Vec<MessageHead>,
 }
 
 impl Model for ChunkMessages {
     ghost use Rattle.std.specs.Prelude.{List};
-    ghost use Rattle.index_check.specs.declared.chunk_messages.ChunkMessage.{ChunkMessage as Heard};
+    ghost use Rattle.record_walk.specs.declared.heads.MessageHead.{MessageHead as Heard};
     ghost use Rattle.index_check.specs.Messages.{Rises};
 
     ghost Value = { List Heard };
@@ -42,45 +31,8 @@ impl Model for ChunkMessages {
     ghost invariant = { λ s. Rises s.messages.items };
 }
 
-// What is kept of a record at that offset, where it is a Message.
-fn message_at(op: u8, content: &[u8], offset: u64) -> Option<ChunkMessage>
-    ensures { IsHeard (top op content.now) offset result }
-{
-    if op != MESSAGE {
-        return None;
-    }
-    match Message::parse(content) {
-        Ok(message) => {
-            return Some(ChunkMessage {
-                channel: message.channel_id,
-                time: message.log_time,
-                offset,
-            });
-        }
-        Err(_) => return None,
-    }
-}
-
-// Puts the Messages among the records into the room of a list, in the order in which they stand.
-fn gather(messages: &mut Vec<ChunkMessage>, records: &[u8]) -> Result<(), Memory>
-    ensures { OnOk result (HoldsMessages (records_in records.now) messages.new.items) }
-{
-    messages.clear();
-    let mut walk = InnerWalk::new(records);
-    'records: while let Some(inner) = walk.next() {
-        match message_at(inner.op, inner.content, inner.offset) {
-            Some(message) => match messages.push(message) {
-                Ok(()) => {}
-                Err(_) => return Err(Memory),
-            },
-            None => {}
-        }
-    }
-    return Ok(());
-}
-
 // Whether a Message doesn't come behind another.
-fn is_not_behind(one: ChunkMessage, other: ChunkMessage) -> bool
+fn is_not_behind(one: MessageHead, other: MessageHead) -> bool
     ensures { IsTrue result ↔ NotBehind one other }
 {
     if one.channel != other.channel {
@@ -90,7 +42,7 @@ fn is_not_behind(one: ChunkMessage, other: ChunkMessage) -> bool
 }
 
 // Whether no Message comes behind the next.
-fn is_in_order(messages: &[ChunkMessage]) -> bool
+fn is_in_order(messages: &[MessageHead]) -> bool
     ensures { IsTrue result → AllAdjacentBelow NotBehind messages.now (length messages.now) }
 {
     'messages: for i in 1..messages.len() {
@@ -102,7 +54,7 @@ fn is_in_order(messages: &[ChunkMessage]) -> bool
 }
 
 // Puts Messages in order. Those that are in order already, as those of one channel, cost one pass.
-fn put_in_order(messages: &mut Vec<ChunkMessage>)
+fn put_in_order(messages: &mut Vec<MessageHead>)
     ensures same { IsPermutation messages.old.items messages.new.items }
     ensures rises { Rises messages.new.items }
 {
@@ -113,7 +65,7 @@ fn put_in_order(messages: &mut Vec<ChunkMessage>)
 }
 
 // How many Messages, which are in order, are of channels below that number.
-fn count_below(messages: &[ChunkMessage], bound: u32) -> usize
+fn count_below(messages: &[MessageHead], bound: u32) -> usize
     requires { Rises messages.now }
     ensures within { result ≤ length messages.now }
     ensures parts { (k : ℕ) (heard : Heard) → At messages.now k heard → (k < result) ↔ (heard.channel < bound) }
@@ -122,7 +74,7 @@ fn count_below(messages: &[ChunkMessage], bound: u32) -> usize
 }
 
 // Those of them, which are in order, that are on that channel.
-fn run_of(messages: &[ChunkMessage], channel: u16) -> &[ChunkMessage]
+fn run_of(messages: &[MessageHead], channel: u16) -> &[MessageHead]
     requires { Rises messages.now }
     ensures { result.now ≡ filter (λ heard. heard.channel == channel) messages.now }
 {
@@ -147,7 +99,8 @@ impl ChunkMessages {
         ensures ok { OnOk result (HoldsMessages (records_in records.now) self.new) }
         ensures err { OnErr result (self.new ≡ []) }
     {
-        match gather(&mut self.messages, records) {
+        self.messages.clear();
+        match list_heads(&mut self.messages, records) {
             Ok(()) => {}
             Err(memory) => {
                 self.messages.clear();
@@ -158,8 +111,15 @@ impl ChunkMessages {
         return Ok(());
     }
 
+    /// Whether there is none.
+    pub fn is_empty(&self) -> bool
+        ensures { IsTrue result ↔ (self.now ≡ []) }
+    {
+        self.messages.is_empty()
+    }
+
     /// Those on that channel, in ascending order of offset.
-    pub(crate) fn on_channel(&self, channel: u16) -> &[ChunkMessage]
+    pub(crate) fn on_channel(&self, channel: u16) -> &[MessageHead]
         ensures among { result.now ≡ filter (λ heard. heard.channel == channel) self.now }
         ensures rises { Rises result.now }
     {

@@ -6,8 +6,9 @@ ghost use Rattle.mcap_model.specs.Whole.{AreEntries};
 ghost use Rattle.index_check.specs.Entries.{entry_offset};
 ghost use Rattle.index_check.specs.Messages.{entry_of, HoldsMessages};
 
-use crate::chunk_messages::{ChunkMessage, ChunkMessages};
+use crate::chunk_messages::ChunkMessages;
 use mcap_wire::{EntriesRef, Memory};
+use record_walk::MessageHead;
 use std::alloc::Global;
 
 // A copy of the entries.
@@ -38,14 +39,14 @@ fn sorted_entries(alloc: Global, entries: &EntriesRef<'_>) -> Result<Vec<(u64, u
 }
 
 // Whether that is the entry of a Message.
-fn is_entry(message: ChunkMessage, entry: (u64, u64)) -> bool
+fn is_entry(message: MessageHead, entry: (u64, u64)) -> bool
     ensures { IsTrue result ↔ (entry_of message ≡ entry) }
 {
     message.time == entry.0 && message.offset == entry.1
 }
 
 // Whether the entries are those of the Messages, in this order.
-fn are_listed(messages: &[ChunkMessage], entries: &EntriesRef<'_>) -> bool
+fn are_listed(messages: &[MessageHead], entries: &EntriesRef<'_>) -> bool
     ensures { IsTrue result ↔ (map entry_of messages.now ≡ entries.now) }
 {
     if messages.len() != entries.count() {

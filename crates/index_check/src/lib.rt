@@ -17,7 +17,7 @@ mod tally;
 
 pub use behind::{has_indexes, is_index_right};
 pub use chunk_indexes::{ChunkNote, Chunks, IndexNote};
-pub use chunk_messages::{ChunkMessage, ChunkMessages};
+pub use chunk_messages::ChunkMessages;
 pub use extras::{AttachmentNote, Attachments, MetadataList, MetadataNote};
 pub use ids::Ids;
 pub use order::Order;

@@ -21,8 +21,8 @@ use Rattle.mcap_model.proofs.TakenRecords.{spelled_more}
 use Rattle.mcap_model.proofs.OneMore.{each_last}
 use Rattle.summary_read.specs.Parts.{tops_of}
 use Rattle.summary_read.proofs.Walking.{declared_there, opcode_there}
-use Rattle.summary_check.specs.declared.refusals.SummaryRefused.{SummaryRefused}
-use Rattle.summary_check.specs.declared.refusals.SummaryRefused.TheVariants as refusals
+use Rattle.mcap_model.specs.declared.refusals.ReadingRefused.{ReadingRefused}
+use Rattle.mcap_model.specs.declared.refusals.ReadingRefused.TheVariants as refusals
 use Rattle.summary_check.specs.Files.{file_of, IsRefused}
 use Rattle.summary_check.specs.Cutting.{IsRead, CutsTo, AreCut}
 
@@ -66,14 +66,14 @@ zero_fails tops rest offset short there head none = flaw_5 offset (inr (inl (rec
   zero = front_opcode rest head ∙ none;
 })))
 
-pub short_refused : (bytes : List ℕ) (at offset : ℕ) (tops : List Top) → at < length bytes → CutFails bytes at cut_faults.Short → AreShort tops → offset ≡ offset_behind tops → IsRefused (file_of tops (drop at bytes)) (refusals.Flawed 4 offset)
+pub short_refused : (bytes : List ℕ) (at offset : ℕ) (tops : List Top) → at < length bytes → CutFails bytes at cut_faults.Short → AreShort tops → offset ≡ offset_behind tops → IsRefused (file_of tops (drop at bytes)) (refusals.Grammar offset 4)
 short_refused bytes at offset tops inside (inl head) short there =
     unfits tops (drop at bytes) offset short there (omega (arith, length-drop at bytes, inside)) (inl (lt-leb 9 (length (drop at bytes)) (omega (arith, length-drop at bytes, head))))
 short_refused bytes at offset tops inside (inr content) short there =
     let rest = drop at bytes in
     unfits tops rest offset short there (omega (arith, length-drop at bytes, inside)) (inr (lt-leb (9 + declared_length rest) (length rest) (omega (arith, length-drop at bytes, declared_there bytes at, content.2))))
 
-pub zero_refused : (bytes : List ℕ) (at offset : ℕ) (tops : List Top) → CutFails bytes at cut_faults.ZeroOp → AreShort tops → offset ≡ offset_behind tops → IsRefused (file_of tops (drop at bytes)) (refusals.Flawed 5 offset)
+pub zero_refused : (bytes : List ℕ) (at offset : ℕ) (tops : List Top) → CutFails bytes at cut_faults.ZeroOp → AreShort tops → offset ≡ offset_behind tops → IsRefused (file_of tops (drop at bytes)) (refusals.Grammar offset 5)
 zero_refused bytes at offset tops fails short there =
     zero_fails tops (drop at bytes) offset short there (omega (arith, length-drop at bytes, fails.0)) (opcode_there bytes at ∙ fails.1)
 
@@ -153,7 +153,7 @@ cuts_all bytes at cuts so_far end = record {
     dropped l n few = empty (drop n l) (omega (arith, length-drop n l, few))
 
 -- what is wrong behind records that were cut is wrong with the file
-pub refused_behind : (bytes : List ℕ) (at start : ℕ) (cuts : List Cut) (why : SummaryRefused) → CutsTo bytes at cuts
+pub refused_behind : (bytes : List ℕ) (at start : ℕ) (cuts : List Cut) (why : ReadingRefused) → CutsTo bytes at cuts
     → ((tops : List Top) → AreShort tops → start + at ≡ offset_behind tops → IsRefused (file_of tops (drop at bytes)) why)
     → (tops : List Top) → AreShort tops → start ≡ offset_behind tops → IsRefused (file_of tops bytes) why
 refused_behind bytes at start cuts why so_far refused tops short there =

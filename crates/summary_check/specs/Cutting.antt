@@ -7,11 +7,11 @@ use Rattle.mcap_model.specs.Places.{At, Each}
 use Rattle.mcap_model.specs.Tops.{Top, spelled, offset_behind}
 use Rattle.mcap_model.specs.Whole.{AreShort}
 use Rattle.summary_read.specs.Parts.{tops_of, AreInside}
-use Rattle.summary_check.specs.declared.refusals.SummaryRefused.{SummaryRefused}
+use Rattle.mcap_model.specs.declared.refusals.ReadingRefused.{ReadingRefused}
 use Rattle.summary_check.specs.Files.{file_of, IsRefused}
 
 -- a record was cut, or a file that has these bytes behind its first records is refused
-abbrev pub CutJudged : List ℕ → ℕ → ℕ → Result Cut SummaryRefused → Type 0
+abbrev pub CutJudged : List ℕ → ℕ → ℕ → Result Cut ReadingRefused → Type 0
 CutJudged bytes at start (Ok c) = IsCut bytes at c
 CutJudged bytes at start (Err why) = (tops : List Top) → AreShort tops → start + at ≡ offset_behind tops → IsRefused (file_of tops (drop at bytes)) why
 
@@ -40,6 +40,6 @@ pub record AreCut (bytes : List ℕ) (cuts : List Cut) : Type 0 where
   pub placed : ArePlaced bytes cuts
   pub read : Each IsRead (tops_of bytes cuts)
 
-abbrev pub RecordsCut : {Y : Type 0} → List ℕ → ℕ → Result (Vec Cut Y) SummaryRefused → Type 0
+abbrev pub RecordsCut : {Y : Type 0} → List ℕ → ℕ → Result (Vec Cut Y) ReadingRefused → Type 0
 RecordsCut bytes start (Ok cuts) = AreCut bytes cuts.items
 RecordsCut bytes start (Err why) = (tops : List Top) → AreShort tops → start ≡ offset_behind tops → IsRefused (file_of tops bytes) why

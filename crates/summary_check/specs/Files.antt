@@ -4,8 +4,8 @@ use Rattle.mcap_wire.specs.Layout.{magic, content_limit}
 use Rattle.mcap_model.specs.Tops.{Top, Tops, spelled, offset_behind, opcode, declared_length}
 use Rattle.mcap_model.specs.Whole.{AreShort}
 use Rattle.mcap_model.specs.Valid.{Flaw}
-use Rattle.summary_check.specs.declared.refusals.SummaryRefused.{SummaryRefused}
-use Rattle.summary_check.specs.declared.refusals.SummaryRefused.TheVariants as refusals
+use Rattle.mcap_model.specs.declared.refusals.ReadingRefused.{ReadingRefused}
+use Rattle.mcap_model.specs.declared.refusals.ReadingRefused.TheVariants as refusals
 
 -- the file of these records, of the bytes behind them, and of the last magic
 abbrev pub file_of : List Top → List ℕ → List ℕ
@@ -24,11 +24,21 @@ pub record PassesLimit (file : List ℕ) (offset : ℕ) : Type 0 where
   pub past : content_limit < declared_length rest
 
 -- a rule fails there, or a limit is passed there
-abbrev pub IsRefused : List ℕ → SummaryRefused → Type 0
-IsRefused file (refusals.Flawed rule offset) = Flaw file rule offset
+abbrev pub IsRefused : List ℕ → ReadingRefused → Type 0
+IsRefused file (refusals.Fault faults) = ⊥
+IsRefused file (refusals.Grammar offset rule) = Flaw file rule offset
+IsRefused file (refusals.Compressed offset name) = ⊥
 IsRefused file (refusals.Limit offset) = PassesLimit file offset
 IsRefused file refusals.Memory = Unit {0}
 
+-- No store is read and no chunk is looked into, so that neither a fault comes nor a compression.
+abbrev pub IsOfSummary : ReadingRefused → Type 0
+IsOfSummary (refusals.Fault faults) = ⊥
+IsOfSummary (refusals.Grammar offset rule) = Unit {0}
+IsOfSummary (refusals.Compressed offset name) = ⊥
+IsOfSummary (refusals.Limit offset) = Unit {0}
+IsOfSummary refusals.Memory = Unit {0}
+
 -- the rule fails at that offset
-abbrev pub flawed_at : ℕ → ℕ → SummaryRefused
-flawed_at rule offset = refusals.Flawed rule offset
+abbrev pub flawed_at : ℕ → ℕ → ReadingRefused
+flawed_at rule offset = refusals.Grammar offset rule

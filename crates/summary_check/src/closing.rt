@@ -5,15 +5,15 @@ ghost use Rattle.mcap_model.specs.Plain.{cut_top};
 ghost use Rattle.mcap_model.specs.Whole.{V11, V16};
 ghost use Rattle.summary_read.specs.Parts.{tops_of};
 ghost use Rattle.index_check.specs.SummaryPlaces.{FirstStands, PlacesOf};
-ghost use Rattle.summary_check.specs.Files.{file_of, IsRefused};
+ghost use Rattle.summary_check.specs.Files.{file_of, IsRefused, IsOfSummary};
 ghost use Rattle.summary_check.specs.Filed.{records_of, Filed};
 ghost use Rattle.summary_check.specs.Laid.{all_of, Laid};
 ghost use Rattle.summary_check.specs.Closing.{IsOfFooter};
 
 use crate::flaws::HEAD_LENGTH;
 use crate::offsets::span_of;
-use crate::refusals::SummaryRefused;
 use index_check::{SummaryPlaces, is_crc_right};
+use mcap_model::ReadingRefused;
 use mcap_wire::Cut;
 use rec_data::Footer;
 use rec_index::SUMMARY_OFFSET;
@@ -54,17 +54,18 @@ pub(crate) fn judge_footer(
     foot: &Cut,
     footer: &Footer,
     start: u64,
-) -> Result<(), SummaryRefused>
+) -> Result<(), ReadingRefused>
     requires { foot.now.from + 16 ≤ size bytes.now }
     ensures ok { OnOk result ((tops : List Top) → Filed tops bytes.now cuts.now foot.now start → IsOfFooter bytes.now foot.now footer.now
         → V11 (records_of tops bytes.now cuts.now foot.now) (size tops + size (tops_of bytes.now cuts.now)) (cut_top bytes.now foot.now)
         × V16 (file_of tops bytes.now) (records_of tops bytes.now cuts.now foot.now) (size tops + size (tops_of bytes.now cuts.now)) (cut_top bytes.now foot.now)) }
     ensures err { IfErr result (λ why. (tops : List Top) → Filed tops bytes.now cuts.now foot.now start → IsOfFooter bytes.now foot.now footer.now → IsRefused (file_of tops bytes.now) why) }
+    ensures kind { IfErr result IsOfSummary }
 {
     let places = places_of(cuts, foot, start);
     let offset = places.footer;
     if !places.are_named(footer) {
-        return Err(SummaryRefused::Flawed { rule: 11, offset });
+        return Err(ReadingRefused::Grammar { offset, rule: 11 });
     }
     if footer.summary_start == 0 {
         return Ok(());
@@ -72,5 +73,5 @@ pub(crate) fn judge_footer(
     if is_crc_right(&bytes[..(foot.from + CRC_PLACE) as usize], footer) {
         return Ok(());
     }
-    return Err(SummaryRefused::Flawed { rule: 16, offset });
+    return Err(ReadingRefused::Grammar { offset, rule: 16 });
 }

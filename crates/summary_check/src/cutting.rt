@@ -1,23 +1,25 @@
 //! The records behind a Data End, one after the other.
-ghost use Rattle.std.specs.Prelude.{◌+◌, ◌^◌, ◌<◌, length};
+ghost use Rattle.std.specs.Prelude.{◌+◌, ◌^◌, ◌<◌, length, IfErr};
 ghost use Rattle.summary_check.specs.Cutting.{CutJudged, RecordsCut};
+ghost use Rattle.summary_check.specs.Files.{IsOfSummary};
 
-use crate::refusals::SummaryRefused;
+use mcap_model::ReadingRefused;
 use mcap_wire::{Cut, CutFault, cut};
 use std::alloc::Global;
 
 // The record that stands there, in bytes that stand in the file from `start` on.
-fn cut_record(bytes: &[u8], at: usize, start: u64) -> Result<Cut, SummaryRefused>
+fn cut_record(bytes: &[u8], at: usize, start: u64) -> Result<Cut, ReadingRefused>
     requires inside { at < length bytes.now }
     requires fits { start + length bytes.now < 2 ^ 64 }
-    ensures { CutJudged bytes.now at start result }
+    ensures judged { CutJudged bytes.now at start result }
+    ensures kind { IfErr result IsOfSummary }
 {
     let offset = start + at as u64;
     match cut(bytes, at) {
         Ok(cut) => return Ok(cut),
-        Err(CutFault::Short) => return Err(SummaryRefused::Flawed { rule: 4, offset }),
-        Err(CutFault::ZeroOp) => return Err(SummaryRefused::Flawed { rule: 5, offset }),
-        Err(CutFault::TooLong { len: _ }) => return Err(SummaryRefused::Limit { offset }),
+        Err(CutFault::Short) => return Err(ReadingRefused::Grammar { offset, rule: 4 }),
+        Err(CutFault::ZeroOp) => return Err(ReadingRefused::Grammar { offset, rule: 5 }),
+        Err(CutFault::TooLong { len: _ }) => return Err(ReadingRefused::Limit { offset }),
     }
 }
 
@@ -26,9 +28,10 @@ pub(crate) fn cut_records(
     alloc: Global,
     bytes: &[u8],
     start: u64,
-) -> Result<Vec<Cut>, SummaryRefused>
+) -> Result<Vec<Cut>, ReadingRefused>
     requires { start + length bytes.now < 2 ^ 64 }
-    ensures { RecordsCut bytes.now start result }
+    ensures cut { RecordsCut bytes.now start result }
+    ensures kind { IfErr result IsOfSummary }
 {
     let mut cuts = Vec::new(alloc);
     let mut at = 0;
@@ -39,7 +42,7 @@ pub(crate) fn cut_records(
         };
         match cuts.push(cut) {
             Ok(()) => {}
-            Err(_) => return Err(SummaryRefused::Memory),
+            Err(_) => return Err(ReadingRefused::Memory),
         }
         at = cut.to as usize;
     }

@@ -10,7 +10,7 @@ ghost use Rattle.summary_read.specs.Parts.{tops_of, AreInside};
 ghost use Rattle.summary_read.specs.Steps.{Judged};
 ghost use Rattle.summary_check.specs.Body.{StandFrom, KeptFrom, OrderJudged};
 ghost use Rattle.summary_check.specs.Declaring.{DeclarationsTaken};
-ghost use Rattle.summary_check.specs.Files.{file_of, flawed_at, IsRefused};
+ghost use Rattle.summary_check.specs.Files.{file_of, flawed_at, IsRefused, IsOfSummary};
 ghost use Rattle.summary_check.specs.Filed.{records_of, Filed};
 ghost use Rattle.summary_check.specs.Laid.{all_of, Laid};
 ghost use Rattle.summary_check.specs.Told.{ToldOf, IndexesTaken};
@@ -20,11 +20,10 @@ use crate::kinds::find_broken;
 use crate::offsets::find_misnamed;
 use crate::ordering::find_misplaced;
 use crate::records::from_at;
-use crate::refusals::SummaryRefused;
 use crate::statistics::find_miscounted;
 use crate::told::take_indexes;
 use index_check::{Attachments, Chunks, MetadataList, Tally};
-use mcap_model::Tables;
+use mcap_model::{ReadingRefused, Tables};
 use mcap_wire::Cut;
 use std::alloc::Global;
 
@@ -32,22 +31,24 @@ use std::alloc::Global;
 pub(crate) const HEAD_LENGTH: u64 = 9;
 
 // The rule fails at the record that was cut at that place, in bytes that stand in the file from `start` on.
-fn flawed(rule: u8, cuts: &[Cut], i: usize, start: u64) -> SummaryRefused
-    ensures { (tops : List Top) (bytes : List ℕ) (foot t : Top) → Laid tops bytes cuts.now start → At (tops_of bytes cuts.now) i t → result ≡ flawed_at rule (offset_of (all_of tops (tops_of bytes cuts.now) foot) (size tops + i)) }
+fn flawed(rule: u8, cuts: &[Cut], i: usize, start: u64) -> ReadingRefused
+    ensures fails { (tops : List Top) (bytes : List ℕ) (foot t : Top) → Laid tops bytes cuts.now start → At (tops_of bytes cuts.now) i t → result ≡ flawed_at rule (offset_of (all_of tops (tops_of bytes cuts.now) foot) (size tops + i)) }
+    ensures kind { IsOfSummary result }
 {
     if i >= cuts.len() {
-        return SummaryRefused::Memory;
+        return ReadingRefused::Memory;
     }
     let from = from_at(cuts, i);
     let offset = start.saturating_add(from.saturating_sub(HEAD_LENGTH));
-    return SummaryRefused::Flawed { rule, offset };
+    return ReadingRefused::Grammar { offset, rule };
 }
 
 /// Judges which records stand behind a Data End, and their layouts.
-pub(crate) fn judge_kinds(bytes: &[u8], cuts: &[Cut], start: u64) -> Result<(), SummaryRefused>
+pub(crate) fn judge_kinds(bytes: &[u8], cuts: &[Cut], start: u64) -> Result<(), ReadingRefused>
     requires { AreInside bytes.now cuts.now }
     ensures ok { OnOk result (Each (λ t. Judged t None) (tops_of bytes.now cuts.now)) }
     ensures err { IfErr result (λ why. (tops : List Top) (foot : OneCut) → Filed tops bytes.now cuts.now foot start → IsRefused (file_of tops bytes.now) why) }
+    ensures kind { IfErr result IsOfSummary }
 {
     match find_broken(bytes, cuts) {
         None => return Ok(()),
@@ -62,29 +63,31 @@ pub(crate) fn judge_declarations(
     bytes: &[u8],
     cuts: &[Cut],
     start: u64,
-) -> Result<(), SummaryRefused>
+) -> Result<(), ReadingRefused>
     requires { AreInside bytes.now cuts.now }
     ensures ok { OnOk result ((tops : List Top) → TablesOf (flat tops) tables.old → Each (λ t. Judged t None) (tops_of bytes.now cuts.now)
         → DeclarationsTaken tops (tops_of bytes.now cuts.now) tables.new None) }
     ensures err { IfErr result (λ why. (tops : List Top) (foot : OneCut) → Filed tops bytes.now cuts.now foot start → TablesOf (flat tops) tables.old → Each (λ t. Judged t None) (tops_of bytes.now cuts.now)
         → IsRefused (file_of tops bytes.now) why) }
+    ensures kind { IfErr result IsOfSummary }
 {
     match find_disagreeing(alloc, tables, bytes, cuts) {
         Ok(None) => return Ok(()),
         Ok(Some(i)) => return Err(flawed(7, cuts, i, start)),
-        Err(_) => return Err(SummaryRefused::Memory),
+        Err(_) => return Err(ReadingRefused::Memory),
     }
 }
 
 /// Judges the order of a summary.
-pub(crate) fn judge_order(alloc: Global, cuts: &[Cut], start: u64) -> Result<(), SummaryRefused>
+pub(crate) fn judge_order(alloc: Global, cuts: &[Cut], start: u64) -> Result<(), ReadingRefused>
     ensures ok { OnOk result ((bytes : List ℕ) → OrderJudged (tops_of bytes cuts.now) None) }
     ensures err { IfErr result (λ why. (tops : List Top) (bytes : List ℕ) (foot : OneCut) → Filed tops bytes cuts.now foot start → IsRefused (file_of tops bytes) why) }
+    ensures kind { IfErr result IsOfSummary }
 {
     match find_misplaced(alloc, cuts) {
         Ok(None) => return Ok(()),
         Ok(Some(i)) => return Err(flawed(11, cuts, i, start)),
-        Err(_) => return Err(SummaryRefused::Memory),
+        Err(_) => return Err(ReadingRefused::Memory),
     }
 }
 
@@ -96,11 +99,12 @@ pub(crate) fn judge_indexes(
     bytes: &[u8],
     cuts: &[Cut],
     start: u64,
-) -> Result<(), SummaryRefused>
+) -> Result<(), ReadingRefused>
     requires { AreInside bytes.now cuts.now }
     ensures ok { OnOk result ((all : List Top) (base : ℕ) → StandFrom all base (tops_of bytes.now cuts.now) → ToldOf all base chunks.old attachments.old metadata.old → IndexesTaken all base (tops_of bytes.now cuts.now) chunks.new attachments.new metadata.new None) }
     ensures err { IfErr result (λ why. (tops : List Top) (foot : OneCut) → Filed tops bytes.now cuts.now foot start → Each (λ t. Judged t None) (tops_of bytes.now cuts.now)
         → ToldOf (records_of tops bytes.now cuts.now foot) (size tops) chunks.old attachments.old metadata.old → IsRefused (file_of tops bytes.now) why) }
+    ensures kind { IfErr result IsOfSummary }
 {
     match take_indexes(chunks, attachments, metadata, bytes, cuts) {
         None => return Ok(()),
@@ -114,11 +118,12 @@ pub(crate) fn judge_statistics(
     bytes: &[u8],
     cuts: &[Cut],
     start: u64,
-) -> Result<(), SummaryRefused>
+) -> Result<(), ReadingRefused>
     requires { AreInside bytes.now cuts.now }
     ensures ok { OnOk result ((all section : List Top) (base : ℕ) → TallyOf all section tally.now → KeptFrom V14 all base (tops_of bytes.now cuts.now)) }
     ensures err { IfErr result (λ why. (tops section : List Top) (foot : OneCut) → Filed tops bytes.now cuts.now foot start → Each (λ t. Judged t None) (tops_of bytes.now cuts.now)
         → TallyOf (records_of tops bytes.now cuts.now foot) section tally.now → IsRefused (file_of tops bytes.now) why) }
+    ensures kind { IfErr result IsOfSummary }
 {
     match find_miscounted(tally, bytes, cuts) {
         None => return Ok(()),
@@ -132,14 +137,15 @@ pub(crate) fn judge_offsets(
     bytes: &[u8],
     cuts: &[Cut],
     start: u64,
-) -> Result<(), SummaryRefused>
+) -> Result<(), ReadingRefused>
     requires { AreInside bytes.now cuts.now }
     ensures ok { OnOk result ((tops : List Top) (foot : Top) → Laid tops bytes.now cuts.now start → KeptFrom V15 (all_of tops (tops_of bytes.now cuts.now) foot) (size tops) (tops_of bytes.now cuts.now)) }
     ensures err { IfErr result (λ why. (tops : List Top) (foot : OneCut) → Filed tops bytes.now cuts.now foot start → IsRefused (file_of tops bytes.now) why) }
+    ensures kind { IfErr result IsOfSummary }
 {
     match find_misnamed(alloc, bytes, cuts, start) {
         Ok(None) => return Ok(()),
         Ok(Some(i)) => return Err(flawed(15, cuts, i, start)),
-        Err(_) => return Err(SummaryRefused::Memory),
+        Err(_) => return Err(ReadingRefused::Memory),
     }
 }

@@ -3,7 +3,7 @@ ghost use Rattle.std.specs.Prelude.{◌≤◌, ◌<◌, ◌+◌, ◌^◌, ◌++�
 ghost use Rattle.mcap_model.specs.Tops.{Top};
 ghost use Rattle.summary_check.specs.Closing.{IsOfFooter};
 ghost use Rattle.summary_check.specs.Cutting.{AreCut};
-ghost use Rattle.summary_check.specs.Files.{file_of, IsRefused};
+ghost use Rattle.summary_check.specs.Files.{file_of, IsRefused, IsOfSummary};
 ghost use Rattle.summary_check.specs.Judging.{KnownOf, IsJudged};
 ghost use Rattle.summary_check.specs.Sectioned.{IsSectioned};
 
@@ -13,9 +13,9 @@ use crate::flaws::{
     judge_declarations, judge_indexes, judge_kinds, judge_offsets, judge_order, judge_statistics,
 };
 use crate::indexing::is_indexed;
-use crate::refusals::SummaryRefused;
 use crate::summary::{Summary, cut_summary};
 use index_check::Section;
+use mcap_model::ReadingRefused;
 use mcap_wire::Cut;
 use rec_data::Footer;
 use std::alloc::Global;
@@ -29,13 +29,14 @@ fn judge_cuts(
     cuts: &[Cut],
     foot: &Cut,
     footer: &Footer,
-) -> Result<(), SummaryRefused>
+) -> Result<(), ReadingRefused>
     requires are { AreCut rest.now (cuts.now ++ foot.now ∷ []) }
     requires footer { IsOfFooter rest.now foot.now footer.now }
     requires room { foot.now.from + 16 ≤ size rest.now }
     requires fits { section.now.behind + size rest.now < 2 ^ 64 }
     ensures ok { OnOk result ((tops : List Top) → IsSectioned tops section.old → KnownOf tops rest.now cuts.now foot.now section.new) }
     ensures err { IfErr result (λ why. (tops : List Top) → IsSectioned tops section.old → IsRefused (file_of tops rest.now) why) }
+    ensures kind { IfErr result IsOfSummary }
 {
     let behind = section.behind;
     match judge_kinds(rest, cuts, behind) {
@@ -78,10 +79,11 @@ fn judge_cuts(
 }
 
 // The same of all bytes behind a data section, and whether the file is fully indexed.
-fn judge_rest(alloc: Global, section: &mut Section, rest: &[u8]) -> Result<bool, SummaryRefused>
+fn judge_rest(alloc: Global, section: &mut Section, rest: &[u8]) -> Result<bool, ReadingRefused>
     requires { section.now.behind + size rest.now + 8 < 2 ^ 64 }
     ensures ok { IfOk result (λ indexed. (tops : List Top) → IsSectioned tops section.old → IsJudged tops rest.now indexed) }
     ensures err { IfErr result (λ why. (tops : List Top) → IsSectioned tops section.old → IsRefused (file_of tops rest.now) why) }
+    ensures kind { IfErr result IsOfSummary }
 {
     let Summary { cuts, foot, footer } = match cut_summary(alloc, rest, section.behind) {
         Ok(summary) => summary,
@@ -93,16 +95,17 @@ fn judge_rest(alloc: Global, section: &mut Section, rest: &[u8]) -> Result<bool,
     }
     match is_indexed(alloc, section, rest, &cuts) {
         Ok(indexed) => return Ok(indexed),
-        Err(_) => return Err(SummaryRefused::Memory),
+        Err(_) => return Err(ReadingRefused::Memory),
     }
 }
 
 /// Judges by all rules the bytes that stand in a file between its Data End and its last magic, and says whether the file is
 /// fully indexed. What was kept of the data section is used up.
-pub fn judge_summary(alloc: Global, section: Section, rest: &[u8]) -> Result<bool, SummaryRefused>
+pub fn judge_summary(alloc: Global, section: Section, rest: &[u8]) -> Result<bool, ReadingRefused>
     requires { section.behind + size rest.now + 8 < 2 ^ 64 }
     ensures ok { IfOk result (λ indexed. (tops : List Top) → IsSectioned tops section → IsJudged tops rest.now indexed) }
     ensures err { IfErr result (λ why. (tops : List Top) → IsSectioned tops section → IsRefused (file_of tops rest.now) why) }
+    ensures kind { IfErr result IsOfSummary }
 {
     let mut kept = section;
     judge_rest(alloc, &mut kept, rest)

@@ -13,12 +13,10 @@ mod kinds;
 mod offsets;
 mod ordering;
 mod records;
-mod refusals;
 mod repeats;
 mod statistics;
 mod summary;
 mod told;
 
 pub use judging::judge_summary;
-pub use refusals::SummaryRefused;
 pub use repeats::are_repeated;

@@ -3,12 +3,12 @@ ghost use Rattle.std.specs.Prelude.{◌≡◌, ◌≤◌, ◌<◌, ◌+◌, ◌^
 ghost use Rattle.mcap_model.specs.Tops.{Top, offset_behind};
 ghost use Rattle.mcap_model.specs.Whole.{AreShort};
 ghost use Rattle.summary_check.specs.Closing.{IsOfFooter, NoFooter};
-ghost use Rattle.summary_check.specs.Files.{file_of, IsRefused};
+ghost use Rattle.summary_check.specs.Files.{file_of, IsRefused, IsOfSummary};
 ghost use Rattle.summary_check.specs.Laid.{EndsWithDataEnd};
 ghost use Rattle.summary_check.specs.Closing.{SummaryCut};
 
 use crate::cutting::cut_records;
-use crate::refusals::SummaryRefused;
+use mcap_model::ReadingRefused;
 use mcap_wire::Cut;
 use rec_data::{FOOTER, Footer};
 use std::alloc::Global;
@@ -48,10 +48,11 @@ pub(crate) fn cut_summary(
     alloc: Global,
     bytes: &[u8],
     start: u64,
-) -> Result<Summary, SummaryRefused>
+) -> Result<Summary, ReadingRefused>
     requires { start + length bytes.now + 8 < 2 ^ 64 }
     ensures ok { IfOk result (λ s. SummaryCut bytes.now s) }
     ensures err { IfErr result (λ why. (tops : List Top) → EndsWithDataEnd tops → AreShort tops → start ≡ offset_behind tops → IsRefused (file_of tops bytes.now) why) }
+    ensures kind { IfErr result IsOfSummary }
 {
     let mut cuts = match cut_records(alloc, bytes, start) {
         Ok(cuts) => cuts,
@@ -60,10 +61,10 @@ pub(crate) fn cut_summary(
     let offset = (start + bytes.len() as u64 + MAGIC_LENGTH).saturating_sub(END_LENGTH);
     let foot = match cuts.pop() {
         Some(foot) => foot,
-        None => return Err(SummaryRefused::Flawed { rule: 17, offset }),
+        None => return Err(ReadingRefused::Grammar { offset, rule: 17 }),
     };
     match footer_of(bytes, foot) {
         Some(footer) => return Ok(Summary { cuts, foot, footer }),
-        None => return Err(SummaryRefused::Flawed { rule: 17, offset }),
+        None => return Err(ReadingRefused::Grammar { offset, rule: 17 }),
     }
 }

@@ -1,22 +1,20 @@
-use Rattle.std.proofs.Common.{[], ℕ, Option, Ok, Err, sym, subst, arith}
+use Rattle.std.proofs.Common.{[], ℕ, Option, Ok, Err, sym, subst}
 use Rattle.mcap_model.specs.Tops.{flat}
 use Rattle.mcap_model.specs.Declarations.{TablesOf}
+use Rattle.record_walk.specs.Walking.{flat_tables}
 use Rattle.mcap_scan.proofs.Refused.{nothing_read, refusal_stands}
 use Rattle.file_check.specs.declared.reading.SectionRefused.{SectionRefused}
 use Rattle.file_check.specs.Reading.{Reads, Takes}
 use Rattle.file_check.proofs.ReadOut.{lacks_at_end, read_to_end}
 use Rattle.file_check.proofs.reading.read_records.Goals as goal
 
-pub take_records-requires-clause-begins : goal.take_records-requires-clause-begins
-take_records-requires-clause-begins g c = omega (arith, c.in-Ok.ensures.begins)
-
 pub take_records-requires-clause-stands : goal.take_records-requires-clause-stands
-take_records-requires-clause-stands g c = c.in-Ok.ensures.stands (g.S.Source.state c.args.source.now)
+take_records-requires-clause-stands g c = c.in-Ok.ensures (g.S.Source.state c.args.source.now)
 
 pub returns-in-Err-clause-reads : goal.returns-in-Err-clause-reads
 returns-in-Err-clause-reads g c =
     let before = g.S.Source.state c.args.source.now in
-    subst (λ (why : SectionRefused). Reads before before (Err why)) (sym c.refused.ensures) ([], nothing_read before)
+    subst (λ (why : SectionRefused). Reads before before (Err why)) (sym c.lacked.ensures) ([], nothing_read before)
 
 pub returns-in-Err-clause-stays : goal.returns-in-Err-clause-stays
 returns-in-Err-clause-stays g c = g.S.Source.stays_so _
@@ -33,7 +31,7 @@ returns-in-Ok-tally-clause-reads g c =
     let is = taken.1.is in (
       tops,
       record {
-        are_read = read_to_end reader.tables c.in-Ok-Some.behind before now tops is;
+        are_read = read_to_end (flat_tables reader) c.in-Ok-Some.behind before now tops is;
         ended = is.ended;
         gathered = gathered;
         known = record {
@@ -52,8 +50,8 @@ returns-in-Err-tally-clause-reads g c =
     let gathering = c.take_records.new.gathering in
     let taken = subst (λ (o : Option ℕ). Takes before now reader gathering (Ok o)) c.in-Ok-Some.field-0-is c.in-Ok-Some.ensures.takes in
     let tops = taken.0 in
-    subst (λ (why : SectionRefused). Reads before now (Err why)) (sym c.refused-in-Err-tally.ensures)
-    (tops, lacks_at_end reader.tables c.in-Ok-Some.behind before now tops taken.1.is)
+    subst (λ (why : SectionRefused). Reads before now (Err why)) (sym c.lacked-in-Err-tally.ensures)
+    (tops, lacks_at_end (flat_tables reader) c.in-Ok-Some.behind before now tops taken.1.is)
 
 pub returns-in-Some-clause-reads : goal.returns-in-Some-clause-reads
 returns-in-Some-clause-reads g c =
@@ -62,7 +60,7 @@ returns-in-Some-clause-reads g c =
     let reader = c.take_records.new.reader in
     let gathering = c.take_records.new.gathering in
     let kept = subst (λ (o : Option ℕ). Takes before now reader gathering (Ok o)) c.in-Ok-None.field-0-is c.in-Ok-None.ensures.takes in
-    (kept.0, refusal_stands reader before now kept.0 c.in-Some.why kept.1 c.in-Some.ensures)
+    (kept.0, refusal_stands reader.reader before now kept.0 c.in-Some.why kept.1 c.in-Some.ensures)
 
 pub returns-in-None-clause-reads : goal.returns-in-None-clause-reads
 returns-in-None-clause-reads g c =
@@ -74,7 +72,4 @@ returns-in-None-clause-reads g c =
     absurd (c.in-None.ensures kept.1.why kept.1.stage)
 
 pub returns-in-Err-take_records-clause-reads : goal.returns-in-Err-take_records-clause-reads
-returns-in-Err-take_records-clause-reads g c =
-    let before = g.S.Source.state c.args.source.now in
-    let now = g.S.Source.state c.take_records.new.source in
-    subst (λ (why : SectionRefused). Reads before now (Err why)) (sym c.refused-in-Err-take_records.ensures) c.in-Err-take_records.ensures.takes
+returns-in-Err-take_records-clause-reads g c = c.in-Err-take_records.ensures.takes

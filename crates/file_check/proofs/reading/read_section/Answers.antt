@@ -8,7 +8,7 @@ returns-in-Ok-clause-reads g c =
       record {
         are_read = read;
         ended = counted.ended;
-        v9 = (let gathered = counted.gathered in gathered.v9);
+        v9 = (let gathered = counted.gathered in let tops_are = gathered.tops_are in tops_are.v9);
         kept = c.finish.ensures tops counted.gathered read.good counted.ended counted.known;
       },
     )

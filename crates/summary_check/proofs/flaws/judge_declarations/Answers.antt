@@ -15,4 +15,4 @@ returns-in-Ok-Some-clause-err c = λ tops foot filed are judged.
     let bytes = c.args.bytes.now in
     let cuts = c.args.cuts.now in
     let (t, at, bad) = subst (DeclarationsTaken tops (tops_of bytes cuts) c.find_disagreeing.new.tables) c.in-Ok-Some.field-0-is (c.in-Ok-Some.ensures tops are judged) in
-    subst (IsRefused (file_of tops bytes)) (sym (c.flawed.ensures tops bytes (cut_top bytes foot) t filed.laid at)) (declaration_flaw tops bytes cuts foot c.args.start filed c.in-Ok-Some.i t judged at bad)
+    subst (IsRefused (file_of tops bytes)) (sym (c.flawed.ensures.fails tops bytes (cut_top bytes foot) t filed.laid at)) (declaration_flaw tops bytes cuts foot c.args.start filed c.in-Ok-Some.i t judged at bad)

@@ -15,4 +15,4 @@ returns-in-Some-clause-err c = λ tops foot filed judged was.
     let bytes = c.args.bytes.now in
     let cuts = c.args.cuts.now in
     let (t, at, breaks) = c.in-Some.ensures (records_of tops bytes cuts foot) (length tops) (body_there tops (tops_of bytes cuts) (cut_top bytes foot)) was in
-    subst (IsRefused (file_of tops bytes)) (sym (c.flawed.ensures tops bytes (cut_top bytes foot) t filed.laid at)) (index_flaw tops bytes cuts foot c.args.start filed c.in-Some.i c.in-Some.rule t judged at breaks)
+    subst (IsRefused (file_of tops bytes)) (sym (c.flawed.ensures.fails tops bytes (cut_top bytes foot) t filed.laid at)) (index_flaw tops bytes cuts foot c.args.start filed c.in-Some.i c.in-Some.rule t judged at breaks)

@@ -9,4 +9,4 @@ returns-in-Some-clause-err c = λ tops foot filed.
     let bytes = c.args.bytes.now in
     let cuts = c.args.cuts.now in
     let (t, at, judged) = c.in-Some.ensures in
-    subst (IsRefused (file_of tops bytes)) (sym (c.flawed.ensures tops bytes (cut_top bytes foot) t filed.laid at)) (kind_flaw tops bytes cuts foot c.args.start filed c.in-Some.i c.in-Some.rule t at judged)
+    subst (IsRefused (file_of tops bytes)) (sym (c.flawed.ensures.fails tops bytes (cut_top bytes foot) t filed.laid at)) (kind_flaw tops bytes cuts foot c.args.start filed c.in-Some.i c.in-Some.rule t at judged)

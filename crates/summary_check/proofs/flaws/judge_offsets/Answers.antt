@@ -19,4 +19,4 @@ returns-in-Ok-Some-clause-err c = λ tops foot filed.
     let cuts = c.args.cuts.now in
     let body = tops_of bytes cuts in
     let (t, at, bad) = subst (RuleJudged V15 (all_of tops body (cut_top bytes foot)) (length tops) body) c.in-Ok-Some.field-0-is (c.in-Ok-Some.ensures tops (cut_top bytes foot) filed.laid) in
-    subst (IsRefused (file_of tops bytes)) (sym (c.flawed.ensures tops bytes (cut_top bytes foot) t filed.laid at)) (offset_flaw tops bytes cuts foot c.args.start filed c.in-Ok-Some.i t at bad)
+    subst (IsRefused (file_of tops bytes)) (sym (c.flawed.ensures.fails tops bytes (cut_top bytes foot) t filed.laid at)) (offset_flaw tops bytes cuts foot c.args.start filed c.in-Ok-Some.i t at bad)

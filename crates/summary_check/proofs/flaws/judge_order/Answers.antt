@@ -13,4 +13,4 @@ pub returns-in-Ok-Some-clause-err : goal.returns-in-Ok-Some-clause-err
 returns-in-Ok-Some-clause-err c = λ tops bytes foot filed.
     let cuts = c.args.cuts.now in
     let (t, at, bad) = subst (OrderJudged (tops_of bytes cuts)) c.in-Ok-Some.field-0-is (c.in-Ok-Some.ensures bytes) in
-    subst (IsRefused (file_of tops bytes)) (sym (c.flawed.ensures tops bytes (cut_top bytes foot) t filed.laid at)) (order_flaw tops bytes cuts foot c.args.start filed c.in-Ok-Some.i t at bad)
+    subst (IsRefused (file_of tops bytes)) (sym (c.flawed.ensures.fails tops bytes (cut_top bytes foot) t filed.laid at)) (order_flaw tops bytes cuts foot c.args.start filed c.in-Ok-Some.i t at bad)

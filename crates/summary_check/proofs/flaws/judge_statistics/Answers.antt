@@ -10,4 +10,4 @@ returns-in-Some-clause-err c = λ tops section foot filed judged was.
     let bytes = c.args.bytes.now in
     let cuts = c.args.cuts.now in
     let (t, at, bad) = c.in-Some.ensures (records_of tops bytes cuts foot) section (length tops) was in
-    subst (IsRefused (file_of tops bytes)) (sym (c.flawed.ensures tops bytes (cut_top bytes foot) t filed.laid at)) (statistics_flaw tops bytes cuts foot c.args.start filed c.in-Some.i t judged at bad)
+    subst (IsRefused (file_of tops bytes)) (sym (c.flawed.ensures.fails tops bytes (cut_top bytes foot) t filed.laid at)) (statistics_flaw tops bytes cuts foot c.args.start filed c.in-Some.i t judged at bad)

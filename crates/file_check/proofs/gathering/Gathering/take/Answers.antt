@@ -1,22 +1,33 @@
-use Rattle.std.proofs.Common.{◌∷◌, ◌++◌, [], refl, sym, subst}
-use Rattle.mcap_model.specs.Made.{top}
-use Rattle.file_check.specs.Gathering.{GatheredOf}
-use Rattle.file_check.proofs.Followed.{ends_last}
-use Rattle.file_check.proofs.Gathered.{has_last_message, has_other}
+use Rattle.std.proofs.Common.{List, refl, sym, subst}
+use Rattle.mcap_model.specs.Kept.{reading_limits, Fits, Good}
+use Rattle.mcap_model.specs.Tops.{Top, Placed}
+use Rattle.mcap_model.proofs.Places.{each_at}
+use Rattle.record_walk.specs.Walking.{placed_at}
+use Rattle.file_check.specs.Givens.{flat_given}
+use Rattle.file_check.specs.RecordCounts.{CountsOf}
+use Rattle.file_check.proofs.Given.{few_given, flat_last}
+use Rattle.file_check.proofs.Taken.{still_inside, is_next, gathered_next}
 use Rattle.file_check.proofs.gathering.Gathering.take.Goals as goal
-use Rattle.file_check.proofs.gathering.Gathering.take.Goals.{then-op-eq-MESSAGE, else-op-eq-MESSAGE}
+
+pub take-requires-2-clause-chunks : goal.take-requires-2-clause-chunks
+take-requires-2-clause-chunks c = let before = c.requires c.if-place-self.false in before.chunks
+
+pub take-requires-2-clause-attachments : goal.take-requires-2-clause-attachments
+take-requires-2-clause-attachments c = let before = c.requires c.if-place-self.false in before.attachments
+
+pub take-requires-2-clause-metadata : goal.take-requires-2-clause-metadata
+take-requires-2-clause-metadata c = let before = c.requires c.if-place-self.false in before.metadata
+
+pub returns-then-place-self : goal.returns-then-place-self
+returns-then-place-self c = λ given ahead tops was good v6 same.
+    let p : Placed = placed_at c.args.place c.args.op c.args.content.now in
+    let counts = subst (λ (l : List Top). CountsOf l c.take.new.self) (sym (flat_last given p)) (c.in-Ok.ensures (flat_given given) was.counts v6 (few_given given p ahead tops good same)) in
+    record { tops = was.tops; last = still_inside given was.tops c.args.self.now.at tops p ahead was.last same c.if-place-self.true; counts = counts; tops_are = was.tops_are }
 
 pub returns : goal.returns
-returns c = λ tops was fits there.
-    let t = top c.args.op c.args.content.now in
-    let last = c.in-Ok.ensures tops was.last was.v9 fits.v6 there in
-    let counts = c.in-Ok-take.ensures tops was.counts fits in
-    let indexed = c.in-Ok-take-2.ensures tops was.indexed fits (λ seven. ends_last tops t was.v9 last.1 seven) there in
-    elim c.if-op-eq-MESSAGE.branch [
-      | then-op-eq-MESSAGE w ↦
-          subst (GatheredOf (tops ++ t ∷ [])) (sym w.self-is)
-          (record { counts = counts; indexed = indexed; last = last.0; v9 = last.1; at_top = (λ e. has_last_message tops t w.if-op-eq-MESSAGE.true, λ has. refl) })
-      | else-op-eq-MESSAGE w ↦
-          subst (GatheredOf (tops ++ t ∷ [])) (sym w.self-is)
-          (record { counts = counts; indexed = indexed; last = last.0; v9 = last.1; at_top = has_other tops t c.args.self.now.has_messages w.if-op-eq-MESSAGE.false was.at_top })
-    ]
+returns c = λ given ahead tops was good v6 same.
+    let p : Placed = placed_at c.args.place c.args.op c.args.content.now in
+    let counts = subst (λ (l : List Top). CountsOf l c.take.new.self) (sym (flat_last given p)) (c.in-Ok.ensures (flat_given given) was.counts v6 (few_given given p ahead tops good same)) in
+    let next = is_next given was.tops c.args.self.now.at tops p ahead was.last same c.if-place-self.false in
+    let fits = each_at (Fits reading_limits) was.tops p.top next.more (subst (Good reading_limits) next.split good) in
+    gathered_next given was.tops c.args.self.now.at tops p _ c.take-2.result next counts refl (c.take-2.ensures was.tops was.tops_are fits next.there)

@@ -9,12 +9,12 @@ pub returns-then-not-self-clause-keeps : goal.returns-then-not-self-clause-keeps
 returns-then-not-self-clause-keeps c = λ e tops t last other keeps. keeps_apart tops t keeps other (last.none c.if-not-self.true)
 
 pub returns-clause-lacks : goal.returns-clause-lacks
-returns-clause-lacks c = λ e tops t last other.
+returns-clause-lacks c = λ e tops more t last other.
     let chunk = c.args.self.now in
     let kept = last.kept c.if-not-self.false in
-    let judged = c.has_indexes.ensures tops [] t kept.is other in
-    subst (IndexFails (tops ++ t ∷ [])) (sym kept.there)
-    (fails_closed tops t chunk.messages chunk.channels kept.is other (λ indexed. both_ways c.has_indexes.result (not_true c.has_indexes.result e) (judged.1 indexed)))
+    let judged = c.has_indexes.ensures tops more t kept.is other in
+    subst (IndexFails (tops ++ t ∷ more)) (sym kept.there)
+    (fails_closed tops more t chunk.messages chunk.channels kept.is other (λ indexed. both_ways c.has_indexes.result (not_true c.has_indexes.result e) (judged.1 indexed)))
 
 pub returns-clause-keeps : goal.returns-clause-keeps
 returns-clause-keeps c = λ e tops t last other keeps.

@@ -26,5 +26,5 @@ returns-in-Ok-begin c = λ tops last keeps v6 there.
     )
 
 pub returns-then-lacks_index : goal.returns-then-lacks_index
-returns-then-lacks_index c = λ tops last keeps v6 there.
-    c.lacks_index.ensures.lacks c.if-lacks_index.true tops (top c.args.op c.args.content.now) last c.if-op-eq-MESSAGE_INDEX.false
+returns-then-lacks_index c = λ tops last keeps v6 there more.
+    c.lacks_index.ensures.lacks c.if-lacks_index.true tops more (top c.args.op c.args.content.now) last c.if-op-eq-MESSAGE_INDEX.false

@@ -1,4 +1,4 @@
-use Rattle.std.proofs.Common.{◌∷◌, ◌++◌, [], refl, sym, ap, subst, ◌∙◌}
+use Rattle.std.proofs.Common.{◌∷◌, ◌++◌, refl, sym, ap, subst, ◌∙◌}
 use Rattle.std.proofs.lemmas.Bool.{both_ways}
 use Rattle.mcap_model.specs.Tops.{offset_behind}
 use Rattle.mcap_model.specs.Made.{top}
@@ -7,22 +7,22 @@ use Rattle.file_check.proofs.Followed.{keeps_index, fails_index, ends_behind, op
 use Rattle.file_check.proofs.last_chunk.LastChunk.take_index.Goals as goal
 
 pub returns-then-not-self : goal.returns-then-not-self
-returns-then-not-self c = λ tops last keeps v6 there.
+returns-then-not-self c = λ tops last keeps v6 there more.
     let t = top 7 c.args.content.now in
-    subst (IndexFails (tops ++ t ∷ [])) (sym there) (fails_index tops t refl (λ belongs. last.none c.if-not-self.true (ends_behind tops t keeps belongs)))
+    subst (IndexFails (tops ++ t ∷ more)) (sym there) (fails_index tops more t refl (λ belongs. last.none c.if-not-self.true (ends_behind tops t keeps belongs)))
 
 pub returns-in-Err : goal.returns-in-Err
 returns-in-Err c = λ tops last keeps v6 there. let s = v6.message_index refl in absurd (c.in-Err.ensures.none s.0 s.1 s.2.layout)
 
 pub returns-in-Ok-false : goal.returns-in-Ok-false
-returns-in-Ok-false c = λ tops last keeps v6 there.
+returns-in-Ok-false c = λ tops last keeps v6 there rest.
     let content = c.args.content.now in
     let chunk = c.args.self.now in
     let index = c.in-Ok.index in
     let kept = last.kept c.if-not-self.false in
     let judged = c.in-Ok-false.ensures tops content kept.is c.in-Ok.ensures.shown in
-    subst (IndexFails (tops ++ top 7 content ∷ [])) (sym there)
-    (fails_index tops (top 7 content) refl (λ belongs. both_ways c.in-Ok-false.field-0 c.in-Ok-false.field-0-test (judged.1 belongs)))
+    subst (IndexFails (tops ++ top 7 content ∷ rest)) (sym there)
+    (fails_index tops rest (top 7 content) refl (λ belongs. both_ways c.in-Ok-false.field-0 c.in-Ok-false.field-0-test (judged.1 belongs)))
 
 pub returns-in-Ok-add : goal.returns-in-Ok-add
 returns-in-Ok-add c = λ tops last keeps v6 there.

@@ -1,6 +1,6 @@
 use Rattle.std.proofs.Common.{◌≡◌, List, sym, subst, ◌∙◌}
 use Rattle.std.specs.Prelude.{◌==◌, filter}
-use Rattle.index_check.specs.declared.chunk_messages.ChunkMessage.{ChunkMessage}
+use Rattle.record_walk.specs.declared.heads.MessageHead.{MessageHead}
 use Rattle.index_check.specs.Messages.{Rises}
 use Rattle.index_check.proofs.Runs.{run_still_rises}
 use Rattle.index_check.proofs.chunk_messages.ChunkMessages.on_channel.Goals as goal
@@ -10,4 +10,4 @@ returns-clause-rises c = run_still_rises c.deref.result.now _ c.args.channel (su
 
 pub returns-clause-among : goal.returns-clause-among
 returns-clause-among c =
-    subst (λ (l : List ChunkMessage). c.run_of.result.now ≡ filter (λ heard. heard.channel == c.args.channel) l) (c.deref.ensures.value ∙ c.self.view_is) c.run_of.ensures
+    subst (λ (l : List MessageHead). c.run_of.result.now ≡ filter (λ heard. heard.channel == c.args.channel) l) (c.deref.ensures.value ∙ c.self.view_is) c.run_of.ensures
