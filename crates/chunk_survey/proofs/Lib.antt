@@ -1,5 +1,6 @@
 pub mod Extents
 pub mod Facts
+pub mod Listed
 pub mod Noted
 mod Surveyed
 pub mod Telling

@@ -1,5 +1,5 @@
 -- What spans say of messages.
-use Rattle.std.proofs.Common.{◌≡◌, ℕ, zero, suc, Bool, true, false, List, [], ◌∷◌, fold, refl, subst, Option, Some, None}
+use Rattle.std.proofs.Common.{◌≡◌, ℕ, zero, suc, Bool, true, false, List, [], ◌∷◌, length, fold, refl, subst, Option, Some, None}
 use Rattle.std.specs.Prelude.{if◌then◌else◌}
 use Rattle.std.proofs.lemmas.Option.{same_Some}
 use Rattle.mcap_model.specs.Places.{At, Has}
@@ -12,23 +12,26 @@ use Rattle.chunk_survey.specs.Spans.{spans_made, spans_in_chunk, spans_alone}
 use Rattle.chunk_survey.specs.Laws.{SpansTellTimes, SilentRecordsHaveNone}
 use Rattle.chunk_survey.proofs.Facts.{extent_is}
 
-made_of : (offset at len : ℕ) (times : List ℕ) (e : Option Extent) (s : Span) → extent_of times ≡ e → Has (spans_made offset at len e) s → (s.offset ≡ offset) × TimesAre times s.least s.greatest s.in_order
+abbrev IsTold : ℕ → List ℕ → Span → Type 0
+IsTold offset times s = (s.offset ≡ offset) × TimesAre times s.least s.greatest s.in_order × (s.messages ≡ length times)
+
+made_of : (offset at len : ℕ) (times : List ℕ) (e : Option Extent) (s : Span) → extent_of times ≡ e → Has (spans_made offset at len (length times) e) s → IsTold offset times s
 made_of offset at len times None s is has = absurd (at_none has.0 s has.1)
 made_of offset at len times (Some e) s is has = by has.0 has.1
   where
     made : Span
-    made = record { offset = offset; at = at; length = len; least = e.least; greatest = e.greatest; in_order = e.in_order }
+    made = record { offset = offset; at = at; length = len; messages = length times; least = e.least; greatest = e.greatest; in_order = e.in_order }
 
-    by : (n : ℕ) → At (made ∷ []) n s → (s.offset ≡ offset) × TimesAre times s.least s.greatest s.in_order
+    by : (n : ℕ) → At (made ∷ []) n s → IsTold offset times s
     by zero there =
         let same : made ≡ s = same_Some made s there in
-        subst (λ (x : Span). (x.offset ≡ offset) × TimesAre times x.least x.greatest x.in_order) same (refl, extent_is times e is)
+        subst (IsTold offset times) same (refl, extent_is times e is, refl)
     by (suc n) there = absurd (at_none n s there)
 
 pub spans_tell_times : SpansTellTimes
 spans_tell_times offset t s has = by (is_chunk t) has
   where
-    by : (b : Bool) → Has (if b then spans_in_chunk offset t else spans_alone offset t) s → (s.offset ≡ offset) × TimesAre (times_of (if b then inner_tops t else t ∷ [])) s.least s.greatest s.in_order
+    by : (b : Bool) → Has (if b then spans_in_chunk offset t else spans_alone offset t) s → IsTold offset (times_of (if b then inner_tops t else t ∷ [])) s
     by true there = made_of offset _ _ (times_of (inner_tops t)) (extent_of (times_of (inner_tops t))) s refl there
     by false there = made_of offset _ _ (times_of (t ∷ [])) (extent_of (times_of (t ∷ []))) s refl there
 
@@ -40,10 +43,10 @@ goes_on [] e is = some_none e is
     some_none x same = cc
 goes_on (t ∷ ts) e is = goes_on ts _ is
 
-silent : (offset at len : ℕ) (times : List ℕ) (e : Option Extent) → extent_of times ≡ e → spans_made offset at len e ≡ [] → times ≡ []
-silent offset at len [] e is none = refl
-silent offset at len (t ∷ ts) None is none = absurd (goes_on ts _ is)
-silent offset at len (t ∷ ts) (Some e) is none = absurd (cons_none none)
+silent : (offset at len count : ℕ) (times : List ℕ) (e : Option Extent) → extent_of times ≡ e → spans_made offset at len count e ≡ [] → times ≡ []
+silent offset at len count [] e is none = refl
+silent offset at len count (t ∷ ts) None is none = absurd (goes_on ts _ is)
+silent offset at len count (t ∷ ts) (Some e) is none = absurd (cons_none none)
   where
     cons_none : {X : Type 0} {x : X} {xs : List X} → x ∷ xs ≡ [] → ⊥
     cons_none same = cc
@@ -52,5 +55,5 @@ pub silent_records_have_none : SilentRecordsHaveNone
 silent_records_have_none offset t none = by (is_chunk t) none
   where
     by : (b : Bool) → (if b then spans_in_chunk offset t else spans_alone offset t) ≡ [] → times_of (if b then inner_tops t else t ∷ []) ≡ []
-    by true is = silent offset _ _ (times_of (inner_tops t)) (extent_of (times_of (inner_tops t))) refl is
-    by false is = silent offset _ _ (times_of (t ∷ [])) (extent_of (times_of (t ∷ []))) refl is
+    by true is = silent offset _ _ _ (times_of (inner_tops t)) (extent_of (times_of (inner_tops t))) refl is
+    by false is = silent offset _ _ _ (times_of (t ∷ [])) (extent_of (times_of (t ∷ []))) refl is

@@ -1,3 +1,4 @@
+pub mod Heads
 pub mod Times
 pub mod Spans
 pub mod Surveys

@@ -5,18 +5,22 @@ use Rattle.chunk_survey.specs.declared.spans.Span.{Span}
 use Rattle.chunk_survey.specs.declared.times.Extent.{Extent}
 use Rattle.chunk_survey.specs.Times.{times_of, extent_of}
 
--- the span of messages with that extent, if there are any
-abbrev pub spans_made : ℕ → ℕ → ℕ → Option Extent → List Span
-spans_made offset at len None = []
-spans_made offset at len (Some e) = record { offset = offset; at = at; length = len; least = e.least; greatest = e.greatest; in_order = e.in_order } ∷ []
+-- the span of so many messages with that extent, if there are any
+abbrev pub spans_made : ℕ → ℕ → ℕ → ℕ → Option Extent → List Span
+spans_made offset at len count None = []
+spans_made offset at len count (Some e) = record { offset = offset; at = at; length = len; messages = count; least = e.least; greatest = e.greatest; in_order = e.in_order } ∷ []
+
+-- that of messages with those times
+abbrev pub spans_timed : ℕ → ℕ → ℕ → List ℕ → List Span
+spans_timed offset at len times = spans_made offset at len (length times) (extent_of times)
 
 -- of a chunk that isn't compressed
 abbrev pub spans_in_chunk : ℕ → Top → List Span
-spans_in_chunk offset t = spans_made offset (offset + 49) (length (chunk_records t.content)) (extent_of (times_of (inner_tops t)))
+spans_in_chunk offset t = spans_timed offset (offset + 49) (length (chunk_records t.content)) (times_of (inner_tops t))
 
 -- of another record
 abbrev pub spans_alone : ℕ → Top → List Span
-spans_alone offset t = spans_made offset offset (length (top_bytes t)) (extent_of (times_of (t ∷ [])))
+spans_alone offset t = spans_timed offset offset (length (top_bytes t)) (times_of (t ∷ []))
 
 -- the span of the messages that the record at that offset is or holds, if there are any
 abbrev pub spans_one : ℕ → Top → List Span

@@ -5,7 +5,7 @@ use Rattle.mcap_model.specs.Tops.{Top, flat}
 use Rattle.mcap_model.specs.Kept.{reading_limits, Good, at_end}
 use Rattle.mcap_model.specs.Scan.{Seen, Scan}
 use Rattle.mcap_model.specs.Declarations.{TablesOf}
-use Rattle.mcap_scan.specs.declared.answers.ScanRefused.{ScanRefused}
+use Rattle.mcap_model.specs.declared.refusals.ReadingRefused.{ReadingRefused}
 use Rattle.mcap_scan.specs.Scanning.{HaltsSo, RefusalStands}
 use Rattle.chunk_survey.specs.declared.surveying.Survey.{Survey}
 use Rattle.chunk_survey.specs.Spans.{spans_of}
@@ -23,6 +23,6 @@ pub record IsSurveyOf (before now : SourceState) (s : Survey) : Type 0 where
   pub spans_are : s.spans.items ≡ spans_of tops
 
 -- or the reading was refused behind some records, for that reason
-abbrev pub Surveys : SourceState → SourceState → Result Survey ScanRefused → Type 0
+abbrev pub Surveys : SourceState → SourceState → Result Survey ReadingRefused → Type 0
 Surveys before now (Ok s) = IsSurveyOf before now s
 Surveys before now (Err why) = (tops : List Top) × RefusalStands why before now tops

@@ -1,18 +1,13 @@
 -- The log times of messages, in the order in which they stand.
-use Rattle.std.specs.Prelude.{◌≡◌, ℕ, ◌≤◌, List, take, drop, map, fold, filter, AllPairs, min, max, Bool, true, ◌&&◌, nat_le, Option, Some, None}
-use Rattle.mcap_wire.specs.Layout.{number}
+use Rattle.std.specs.Prelude.{◌≡◌, ℕ, ◌≤◌, List, map, fold, filter, AllPairs, min, max, Bool, true, ◌&&◌, nat_le, Option, Some, None}
 use Rattle.mcap_model.specs.Places.{Has, Each}
 use Rattle.mcap_model.specs.Tops.{Top}
-use Rattle.mcap_model.specs.Scan.{is_message_top}
+use Rattle.record_walk.specs.Heads.{time_in, is_headed}
 use Rattle.chunk_survey.specs.declared.times.Extent.{Extent}
 
--- the log time in a Message's content, which stands behind a number of two bytes and one of four
-abbrev pub time_in : List ℕ → ℕ
-time_in content = number (take 8 (drop 6 content))
-
--- those of the Messages among some records, in their order
+-- those of the Messages among some records whose contents meet their layout, in their order
 abbrev pub times_of : List Top → List ℕ
-times_of records = map (λ t. time_in t.content) (filter is_message_top records)
+times_of records = map (λ t. time_in t.content) (filter is_headed records)
 
 -- ---- extents
 

@@ -7,7 +7,7 @@ pub fn spans_tell_times()
     ensures { SpansTellTimes }
 {}
 
-/// A record without a span is no Message, and holds none.
+/// A record without a span is and holds no Message whose content meets its layout.
 pub fn silent_records_have_none()
     ensures { SilentRecordsHaveNone }
 {}

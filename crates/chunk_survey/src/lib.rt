@@ -12,4 +12,3 @@ pub use laws::{silent_records_have_none, spans_tell_times};
 pub use noting::note_spans;
 pub use spans::Span;
 pub use surveying::{Survey, survey_source};
-pub use times::time_of;

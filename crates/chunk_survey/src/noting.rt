@@ -1,20 +1,30 @@
 //! Noting where the messages of a record stand.
-ghost use Rattle.std.specs.Prelude.{◌≡◌, ◌+◌, ◌++◌, OnOk, IfOk};
+ghost use Rattle.std.specs.Prelude.{◌≡◌, ◌+◌, ◌++◌, [], length, OnOk, IfOk};
 ghost use Rattle.mcap_model.specs.Made.{top};
-ghost use Rattle.mcap_model.specs.Tops.{records_in};
-ghost use Rattle.chunk_survey.specs.Times.{times_of, extent_of};
-ghost use Rattle.chunk_survey.specs.Spans.{spans_made, spans_one};
+ghost use Rattle.chunk_survey.specs.Heads.{heads_under, times_in};
+ghost use Rattle.chunk_survey.specs.Spans.{spans_timed, spans_one};
 
 use crate::spans::Span;
-use crate::times::{Extent, extent_inside, time_of, with_time_more};
+use crate::times::{extent_among, head_alone};
 use mcap_wire::Memory;
 use rec_data::MESSAGE;
 use rec_index::{CHUNK, Chunk};
+use record_walk::{MessageHead, list_heads};
 
 // The bytes in front of a record's content: its opcode and its length.
 const HEAD_LENGTH: u64 = 9;
 // Those in front of the records of a chunk that isn't compressed.
 const CHUNK_HEAD_LENGTH: u64 = 49;
+
+// How many messages there are.
+fn count_of(heads: &[MessageHead]) -> Result<u32, Memory>
+    ensures { IfOk result (λ count. count ≡ length heads.now) }
+{
+    match u32::try_from(heads.len()) {
+        Ok(count) => return Ok(count),
+        Err(_) => return Err(Memory),
+    }
+}
 
 // Adds the span of messages, if there are any.
 fn add_span(
@@ -22,18 +32,19 @@ fn add_span(
     offset: u64,
     at: u64,
     length: u64,
-    extent: Option<Extent>,
+    heads: &[MessageHead],
 ) -> Result<(), Memory>
-    ensures { OnOk result (spans.new.items ≡ spans.old.items ++ spans_made offset at length extent) }
+    ensures { OnOk result (spans.new.items ≡ spans.old.items ++ spans_timed offset at length (times_in heads.now)) }
 {
-    let extent = match extent {
-        Some(extent) => extent,
-        None => return Ok(()),
+    let Some(extent) = extent_among(heads) else {
+        return Ok(());
     };
+    let messages = count_of(heads)?;
     match spans.push(Span {
         offset,
         at,
         length,
+        messages,
         least: extent.least,
         greatest: extent.greatest,
         in_order: extent.in_order,
@@ -54,46 +65,61 @@ fn place_behind(offset: u64, front: u64) -> Result<u64, Memory>
 }
 
 // Notes a Message.
-fn note_message(spans: &mut Vec<Span>, offset: u64, content: &[u8]) -> Result<(), Memory>
-    ensures { OnOk result (spans.new.items ≡ spans.old.items ++ spans_one offset (top 5 content.now)) }
+fn note_message(
+    spans: &mut Vec<Span>,
+    heads: &mut Vec<MessageHead>,
+    offset: u64,
+    content: &[u8],
+) -> Result<(), Memory>
+    requires { heads.old.items ≡ [] }
+    ensures spans { OnOk result (spans.new.items ≡ spans.old.items ++ spans_one offset (top 5 content.now)) }
+    ensures heads { OnOk result (heads.new.items ≡ heads_under (top 5 content.now)) }
 {
-    let time = match time_of(content) {
-        Ok(time) => time,
-        Err(memory) => return Err(memory),
-    };
-    let length = match place_behind(content.len() as u64, HEAD_LENGTH) {
-        Ok(length) => length,
-        Err(memory) => return Err(memory),
-    };
-    return add_span(spans, offset, offset, length, with_time_more(None, time));
+    let head = head_alone(content)?;
+    let length = place_behind(content.len() as u64, HEAD_LENGTH)?;
+    match heads.push(head) {
+        Ok(()) => {}
+        Err(_) => return Err(Memory),
+    }
+    return add_span(spans, offset, offset, length, heads);
 }
 
 // Notes the messages of a chunk.
-fn note_chunk(spans: &mut Vec<Span>, offset: u64, content: &[u8]) -> Result<(), Memory>
-    ensures { OnOk result (spans.new.items ≡ spans.old.items ++ spans_one offset (top 6 content.now)) }
+fn note_chunk(
+    spans: &mut Vec<Span>,
+    heads: &mut Vec<MessageHead>,
+    offset: u64,
+    content: &[u8],
+) -> Result<(), Memory>
+    requires { heads.old.items ≡ [] }
+    ensures spans { OnOk result (spans.new.items ≡ spans.old.items ++ spans_one offset (top 6 content.now)) }
+    ensures heads { OnOk result (heads.new.items ≡ heads_under (top 6 content.now)) }
 {
     let chunk = match Chunk::parse(content) {
         Ok(chunk) => chunk,
         Err(_) => return Err(Memory),
     };
-    let at = match place_behind(offset, CHUNK_HEAD_LENGTH) {
-        Ok(at) => at,
-        Err(memory) => return Err(memory),
-    };
-    match extent_inside(chunk.records) {
-        Ok(extent) => return add_span(spans, offset, at, chunk.records.len() as u64, extent),
-        Err(memory) => return Err(memory),
-    }
+    let at = place_behind(offset, CHUNK_HEAD_LENGTH)?;
+    list_heads(heads, chunk.records)?;
+    return add_span(spans, offset, at, chunk.records.len() as u64, heads);
 }
 
-/// Notes where the messages stand which the record at that offset is or holds. The record keeps its rules; one that doesn't is
-/// refused as for want of memory.
-pub fn note_spans(spans: &mut Vec<Span>, op: u8, offset: u64, content: &[u8]) -> Result<(), Memory>
-    ensures { OnOk result (spans.new.items ≡ spans.old.items ++ spans_one offset (top op content.now)) }
+/// Notes where the messages stand which the record at that offset is or holds, and lists them in place of what the vector held:
+/// one that stands alone at offset 0. The record keeps its rules; one that doesn't may be refused as for want of memory.
+pub fn note_spans(
+    spans: &mut Vec<Span>,
+    heads: &mut Vec<MessageHead>,
+    op: u8,
+    offset: u64,
+    content: &[u8],
+) -> Result<(), Memory>
+    ensures spans { OnOk result (spans.new.items ≡ spans.old.items ++ spans_one offset (top op content.now)) }
+    ensures heads { OnOk result (heads.new.items ≡ heads_under (top op content.now)) }
 {
+    heads.clear();
     match op {
-        MESSAGE => return note_message(spans, offset, content),
-        CHUNK => return note_chunk(spans, offset, content),
+        MESSAGE => return note_message(spans, heads, offset, content),
+        CHUNK => return note_chunk(spans, heads, offset, content),
         _ => return Ok(()),
     }
 }

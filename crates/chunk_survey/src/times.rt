@@ -1,11 +1,11 @@
 //! The log times of messages, in the order in which they stand.
-ghost use Rattle.std.specs.Prelude.{◌≡◌, IfOk};
-ghost use Rattle.mcap_model.specs.Tops.{records_in};
-ghost use Rattle.chunk_survey.specs.Times.{time_in, times_of, extent_of, with_time};
+ghost use Rattle.std.specs.Prelude.{◌≡◌, ◌∷◌, [], IfOk};
+ghost use Rattle.mcap_model.specs.Made.{top};
+ghost use Rattle.chunk_survey.specs.Heads.{heads_one, times_in};
+ghost use Rattle.chunk_survey.specs.Times.{extent_of, with_time};
 
-use mcap_model::InnerWalk;
-use mcap_wire::{Memory, take_u64};
-use rec_data::MESSAGE;
+use mcap_wire::{Memory, take_u16, take_u64};
+use record_walk::MessageHead;
 
 /// The least, the greatest and the last of some times, and whether none is less than the one before it.
 #[derive(Clone, Copy)]
@@ -38,33 +38,36 @@ pub(crate) fn with_time_more(extent: Option<Extent>, time: u64) -> Option<Extent
 
 // Where the log time stands in a Message's content: behind the channel's id and the sequence number.
 const TIME_OFFSET: usize = 6;
+// How many bytes stand in front of what a Message holds.
+const FIELDS_LENGTH: usize = 22;
 
-/// The log time of the Message of that content. One that is cut short has none.
-pub fn time_of(content: &[u8]) -> Result<u64, Memory>
-    ensures { IfOk result (λ time. time ≡ time_in content.now) }
+/// The head of a Message that stands alone. One whose content is cut short has none.
+pub(crate) fn head_alone(content: &[u8]) -> Result<MessageHead, Memory>
+    ensures { IfOk result (λ head. heads_one 0 (top 5 content.now) ≡ head ∷ []) }
 {
-    if content.len() < TIME_OFFSET {
+    if content.len() < FIELDS_LENGTH {
         return Err(Memory);
     }
-    match take_u64(content, TIME_OFFSET) {
-        Ok((time, _)) => return Ok(time),
-        Err(_) => return Err(Memory),
-    }
+    let Ok((channel, _)) = take_u16(content, 0) else {
+        return Err(Memory);
+    };
+    let Ok((time, _)) = take_u64(content, TIME_OFFSET) else {
+        return Err(Memory);
+    };
+    return Ok(MessageHead {
+        channel,
+        time,
+        offset: 0,
+    });
 }
 
-/// The extent of the messages among the records of a chunk.
-pub(crate) fn extent_inside(records: &[u8]) -> Result<Option<Extent>, Memory>
-    ensures { IfOk result (λ extent. extent ≡ extent_of (times_of (records_in records.now))) }
+/// The extent of some messages.
+pub(crate) fn extent_among(heads: &[MessageHead]) -> Option<Extent>
+    ensures { result ≡ extent_of (times_in heads.now) }
 {
     let mut extent = None;
-    let mut walk = InnerWalk::new(records);
-    'records: while let Some(inner) = walk.next() {
-        if inner.op == MESSAGE {
-            match time_of(inner.content) {
-                Ok(time) => extent = with_time_more(extent, time),
-                Err(memory) => return Err(memory),
-            }
-        }
+    'messages: for i in 0..heads.len() {
+        extent = with_time_more(extent, heads[i].time);
     }
-    return Ok(extent);
+    return extent;
 }

@@ -8,28 +8,36 @@ use Rattle.mcap_model.proofs.Places.{at_more}
 use Rattle.chunk_window.specs.declared.window.Loaded.{Loaded}
 use Rattle.chunk_window.specs.Parts.{loaded_part, IsLoaded}
 use Rattle.chunk_survey.specs.declared.spans.Span.{Span}
-use Rattle.chunk_walk.specs.declared.entries.Entry.{Entry}
-use Rattle.chunk_walk.specs.Entries.{entries_in, AreApart, AreWithin, FitsSpan}
-use Rattle.chunk_walk.proofs.Listed.{entries_apart}
+use Rattle.record_walk.specs.declared.heads.MessageHead.{MessageHead}
+use Rattle.record_walk.specs.Heads.{heads_in}
+use Rattle.chunk_walk.specs.Heads.{AreApart, AreWithin, FitsSpan}
+use Rattle.chunk_walk.proofs.Listed.{heads_apart}
 use Rattle.chunk_walk.proofs.Turns.{moved}
 
-pub listed_apart : (bytes : List ℕ) (entries : List Entry) → entries ≡ entries_in bytes → AreApart entries
-listed_apart bytes entries is = subst AreApart (sym is) (entries_apart 0 (records_in bytes))
+pub listed_apart : (bytes : List ℕ) (heads : List MessageHead) → heads ≡ heads_in bytes → AreApart heads
+listed_apart bytes heads is = subst AreApart (sym is) (heads_apart 0 (records_in bytes))
 
-none_long : (entries : List Entry) → length entries ≡ 0 → entries ≡ []
+none_long : (heads : List MessageHead) → length heads ≡ 0 → heads ≡ []
 none_long [] is = refl
 none_long (e ∷ es) is = absurd (omega (arith, is))
 
 -- no message is there
-pub unfit_empty : (span : Span) (bytes : List ℕ) (entries : List Entry) → IsPermutation (entries_in bytes) entries → length entries ≡ 0 → FitsSpan span bytes → ⊥
-unfit_empty span bytes entries same none fits =
-    let size = length_permutation (entries_in bytes) entries same in
-    fits.some (none_long (entries_in bytes) (omega (arith, size, none)))
+pub unfit_empty : (span : Span) (bytes : List ℕ) (heads : List MessageHead) → IsPermutation (heads_in bytes) heads → length heads ≡ 0 → FitsSpan span bytes → ⊥
+unfit_empty span bytes heads same none fits =
+    let size = length_permutation (heads_in bytes) heads same in
+    fits.some (none_long (heads_in bytes) (omega (arith, size, none)))
+
+-- there are more, or fewer
+pub unfit_many : (span : Span) (bytes : List ℕ) (heads : List MessageHead) → IsPermutation (heads_in bytes) heads → (length heads ≡ span.messages → ⊥) → FitsSpan span bytes → ⊥
+unfit_many span bytes heads same other fits =
+    let size = length_permutation (heads_in bytes) heads same in
+    let many = fits.many in
+    other (omega (arith, size, many))
 
 -- one was logged at another time
-pub unfit_outside : (span : Span) (bytes : List ℕ) (entries : List Entry) → IsPermutation (entries_in bytes) entries → (AreWithin span entries → ⊥) → FitsSpan span bytes → ⊥
-unfit_outside span bytes entries same outside fits = outside (λ n e at.
-    let there = moved entries (entries_in bytes) e (IsPermutation-sym (entries_in bytes) entries same) (n, at) in
+pub unfit_outside : (span : Span) (bytes : List ℕ) (heads : List MessageHead) → IsPermutation (heads_in bytes) heads → (AreWithin span heads → ⊥) → FitsSpan span bytes → ⊥
+unfit_outside span bytes heads same outside fits = outside (λ n e at.
+    let there = moved heads (heads_in bytes) e (IsPermutation-sym (heads_in bytes) heads same) (n, at) in
     fits.within there.0 e there.1)
 
 -- the part that was loaded last

@@ -15,7 +15,8 @@ use Rattle.chunk_walk.specs.declared.answers.Turn.{Turn}
 use Rattle.chunk_walk.specs.declared.pieces.Piece.{Piece}
 use Rattle.chunk_walk.specs.declared.cursors.Cursor.{Cursor}
 use Rattle.chunk_walk.specs.declared.walk.Walk.{Walk}
-use Rattle.chunk_walk.specs.Entries.{entries_in, AreWithin}
+use Rattle.record_walk.specs.Heads.{heads_in}
+use Rattle.chunk_walk.specs.Heads.{AreWithin}
 use Rattle.chunk_walk.specs.Pieces.{Files, PiecesInOrder, BeginTogether, IsInOverlap}
 use Rattle.chunk_walk.specs.Cursors.{turn_of, turns_left, TurnBefore, TurnBeforePiece, PieceTurnNotBehind, IsNext, IsFirst}
 use Rattle.chunk_walk.specs.Walks.{pieces_loaded, pieces_ahead, Text, text_of, turns_of, IsTextOf, QueuesStand, AreAll, LeftButLast, AllLeft, IsHeldAs, PeakStands, WalkStands, GivesNext, IsOfHeld}
@@ -37,8 +38,8 @@ strictly t u (inr (e, inr (f, at))) differ = inr (e, inr (f, inl (below t.at u.a
 -- the first that is left is the next
 head_next : (d : Cursor) (u : Turn) (q : List Turn) → turns_left d ≡ u ∷ q → IsNext d u
 head_next d u q is =
-    let (e, at, same) = unmapped (turn_of d.piece) (drop d.given d.entries.items) 0 u (subst (λ (l : List Turn). At l 0 u) (sym is) refl) in
-    (e, undropped d.entries.items d.given d.given 0 e (omega arith) at, sym same)
+    let (e, at, same) = unmapped (turn_of d.piece) (drop d.given d.heads.items) 0 u (subst (λ (l : List Turn). At l 0 u) (sym is) refl) in
+    (e, undropped d.heads.items d.given d.given 0 e (omega arith) at, sym same)
 
 module _ (files : Files) (old new : Walk) (texts : List Text) (given : List Turn) (i : ℕ) (t : Turn) (stands : WalkStands files old texts given) (left : AllLeft old) (gives : GivesNext old new i t) (first : IsFirst old.cursors.items i)
     (early : (p : Piece) → Has (pieces_ahead old) p → TurnBeforePiece t p) where
@@ -53,11 +54,11 @@ module _ (files : Files) (old new : Walk) (texts : List Text) (given : List Turn
       let e = gives.is.0 in
       let one_more = gives.given in
       let behind : suc c.given ≡ gives.cursor.given = omega (arith, one_more) in
-      ap (map (turn_of c.piece)) (drop_head c.entries.items c.given e gives.is.1)
-      ∙ ap (λ (x : Turn). x ∷ map (turn_of c.piece) (drop (suc c.given) c.entries.items)) (sym gives.is.2)
-      ∙ ap (λ (n : ℕ). t ∷ map (turn_of c.piece) (drop n c.entries.items)) behind
-      ∙ ap (λ v. t ∷ map (turn_of c.piece) (drop gives.cursor.given v.items)) (sym gives.entries)
-      ∙ ap (λ (p : Piece). t ∷ map (turn_of p) (drop gives.cursor.given gives.cursor.entries.items)) (sym gives.piece)
+      ap (map (turn_of c.piece)) (drop_head c.heads.items c.given e gives.is.1)
+      ∙ ap (λ (x : Turn). x ∷ map (turn_of c.piece) (drop (suc c.given) c.heads.items)) (sym gives.is.2)
+      ∙ ap (λ (n : ℕ). t ∷ map (turn_of c.piece) (drop n c.heads.items)) behind
+      ∙ ap (λ v. t ∷ map (turn_of c.piece) (drop gives.cursor.given v.items)) (sym gives.heads)
+      ∙ ap (λ (p : Piece). t ∷ map (turn_of p) (drop gives.cursor.given gives.cursor.heads.items)) (sym gives.piece)
 
   not_behind : (j : ℕ) (d : Cursor) (u : Turn) → At old.cursors.items j d → IsNext d u → PieceTurnNotBehind t u
   not_behind j d u at is =
@@ -96,12 +97,12 @@ module _ (files : Files) (old new : Walk) (texts : List Text) (given : List Turn
   held_as : (l : Loaded) → IsHeldAs (pieces_loaded old) texts c l → IsHeldAs (pieces_loaded old) texts gives.cursor l
   held_as l held =
       let is = gives.piece in
-      let entries : gives.cursor.entries.items ≡ c.entries.items = ap (λ v. v.items) gives.entries in
+      let heads : gives.cursor.heads.items ≡ c.heads.items = ap (λ v. v.items) gives.heads in
       record {
         begins = subst (λ (p : Piece). BeginsAt p.input p.span.at l) (sym is) held.begins;
         size = held.size ∙ sym (ap (λ (p : Piece). p.span.length) is);
-        same = subst (IsPermutation (entries_in l.bytes)) (sym entries) held.same;
-        within = subst (λ (p : Piece). AreWithin p.span gives.cursor.entries.items) (sym is) (subst (AreWithin c.piece.span) (sym entries) held.within);
+        same = subst (IsPermutation (heads_in l.bytes)) (sym heads) held.same;
+        within = subst (λ (p : Piece). AreWithin p.span gives.cursor.heads.items) (sym is) (subst (AreWithin c.piece.span) (sym heads) held.within);
         there = subst (Has (pieces_loaded old)) (sym is) held.there;
         text = subst (λ (p : Piece). Has texts (text_of p l.bytes)) (sym is) held.text;
       }
@@ -170,7 +171,7 @@ module _ (files : Files) (old new : Walk) (texts : List Text) (given : List Turn
       let (l, at_l, held) = zip_front (IsHeldAs (pieces_loaded old) texts) old.cursors.items (loaded_in old.window) i c stands.held gives.at in
       let begins = held.begins in
       let e = gives.is.0 in
-      let there : Has (map (turn_of c.piece) c.entries.items) t = (c.given, subst (At (map (turn_of c.piece) c.entries.items) c.given) (sym gives.is.2) (at_mapped (turn_of c.piece) c.entries.items c.given e gives.is.1)) in
+      let there : Has (map (turn_of c.piece) c.heads.items) t = (c.given, subst (At (map (turn_of c.piece) c.heads.items) c.given) (sym gives.is.2) (at_mapped (turn_of c.piece) c.heads.items c.given e gives.is.1)) in
       record {
         text = text_of c.piece l.bytes;
         among = held.text;
@@ -187,5 +188,5 @@ module _ (files : Files) (old new : Walk) (texts : List Text) (given : List Turn
                 | inr (inr more) ↦ absurd (stands.apart i n c d (λ e. omega (arith, e, more)) gives.at at_d together)
               ],
         );
-        has = mapped_moved c.piece c.entries.items (entries_in l.bytes) t (IsPermutation-sym (entries_in l.bytes) c.entries.items held.same) there;
+        has = mapped_moved c.piece c.heads.items (heads_in l.bytes) t (IsPermutation-sym (heads_in l.bytes) c.heads.items held.same) there;
       }

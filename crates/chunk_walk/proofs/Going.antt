@@ -22,8 +22,8 @@ use Rattle.chunk_walk.proofs.Queues.{queues_less, all_less}
 use Rattle.chunk_walk.proofs.Summed.{sum_less}
 use Rattle.chunk_walk.proofs.Zipped.{zip_removed}
 
-nothing_left : (c : Cursor) → length c.entries.items ≤ c.given → turns_left c ≡ []
-nothing_left c over = ap (map (turn_of c.piece)) (drop_of_length-le c.entries.items over)
+nothing_left : (c : Cursor) → length c.heads.items ≤ c.given → turns_left c ≡ []
+nothing_left c over = ap (map (turn_of c.piece)) (drop_of_length-le c.heads.items over)
 
 module _ (files : Files) (old new : Walk) (texts : List Text) (given : List Turn) (stands : WalkStands files old texts given) (lets : LetsGo old new) where
   same_pieces : new.pieces.items ≡ old.pieces.items
@@ -125,7 +125,7 @@ pub left_but_last : (files : Files) (w : Walk) → Stands files w → LeftButLas
 left_but_last files w (texts, given, stands) = stands.left
 
 -- nothing has to go
-pub stays_left : (w : Walk) (c : Cursor) → At w.cursors.items w.last c → (length c.entries.items ≤ c.given → ⊥) → LeftButLast w → AllLeft w
+pub stays_left : (w : Walk) (c : Cursor) → At w.cursors.items w.last c → (length c.heads.items ≤ c.given → ⊥) → LeftButLast w → AllLeft w
 stays_left w c at some left k d at_d = elim (which k w.last) [
   | inl less ↦ left k d at_d (λ e. omega (arith, e, less))
   | inr (inr more) ↦ left k d at_d (λ e. omega (arith, e, more))
@@ -134,8 +134,8 @@ stays_left w c at some left k d at_d = elim (which k w.last) [
       subst HasLeft (sym here) (below c some)
 ]
   where
-    below : (x : Cursor) → (length x.entries.items ≤ x.given → ⊥) → HasLeft x
-    below x over = elim (which x.given (length x.entries.items)) [
+    below : (x : Cursor) → (length x.heads.items ≤ x.given → ⊥) → HasLeft x
+    below x over = elim (which x.given (length x.heads.items)) [
       | inl less ↦ less
       | inr (inl same) ↦ absurd (over (omega (arith, same)))
       | inr (inr more) ↦ absurd (over (omega (arith, more)))

@@ -15,6 +15,6 @@ pub mod Stayed
 mod Steps
 mod Summed
 mod Turns
-mod Unchanged
+pub mod Unchanged
 mod Walked
 mod Zipped

@@ -4,7 +4,7 @@ use Rattle.std.specs.Prelude.{AllPairs}
 use Rattle.std.specs.List.{AllZip, sum_by}
 use Rattle.std.proofs.lemmas.Grind.{flat_map-append}
 use Rattle.std.proofs.lemmas.List.{map-append}
-use Rattle.std.proofs.lemmas.List.Sorted.{IsPermutation-sym}
+use Rattle.std.proofs.lemmas.List.Sorted.{IsPermutation-sym, length_permutation}
 use Rattle.std.proofs.lemmas.List.Sums.{sum_by-take-le, sum_by_push}
 use Rattle.std.proofs.Math.Nat.{max-eq_left, max-eq_right, le-max_left, le-max_right}
 use Rattle.mcap_model.specs.Places.{At, Has}
@@ -16,11 +16,12 @@ use Rattle.chunk_window.specs.declared.window.Loaded.{Loaded}
 use Rattle.chunk_window.specs.Parts.{loaded_part, bytes_in}
 use Rattle.chunk_window.specs.Windows.{loaded_in}
 use Rattle.chunk_walk.specs.declared.answers.Turn.{Turn}
-use Rattle.chunk_walk.specs.declared.entries.Entry.{Entry}
+use Rattle.record_walk.specs.declared.heads.MessageHead.{MessageHead}
 use Rattle.chunk_walk.specs.declared.pieces.Piece.{Piece}
 use Rattle.chunk_walk.specs.declared.cursors.Cursor.{Cursor}
 use Rattle.chunk_walk.specs.declared.walk.Walk.{Walk}
-use Rattle.chunk_walk.specs.Entries.{entries_in, AreWithin}
+use Rattle.record_walk.specs.Heads.{heads_in}
+use Rattle.chunk_walk.specs.Heads.{AreWithin}
 use Rattle.chunk_walk.specs.Pieces.{Files, PiecesInOrder, BeginTogether, overlap_at, IsInOverlap}
 use Rattle.chunk_walk.specs.Cursors.{turn_of, turns_left, TurnBefore, HasLeft, IsFresh}
 use Rattle.chunk_walk.specs.Walks.{pieces_loaded, pieces_ahead, Text, text_of, turns_in, turns_of, IsTextOf, QueuesStand, AreAll, Apart, AllLeft, IsHeldAs, PeakStands, WalkStands, NextIsDue, LoadsNext}
@@ -64,11 +65,11 @@ walk_begins files w order first none empty peak =
 
 -- ---- a piece more
 
-fresh_some : (p : Piece) (bytes : List ℕ) (c : Cursor) → IsFresh p bytes c → entries_in bytes ≡ [] → ⊥
+fresh_some : (p : Piece) (bytes : List ℕ) (c : Cursor) → IsFresh p bytes c → heads_in bytes ≡ [] → ⊥
 fresh_some p bytes c fresh none =
-    let (e, at) = at_some c.entries.items 0 fresh.some in
-    let there = moved c.entries.items (entries_in bytes) e (IsPermutation-sym (entries_in bytes) c.entries.items fresh.same) (0, at) in
-    at_none there.0 e (subst (λ (l : List Entry). At l there.0 e) none there.1)
+    let (e, at) = at_some c.heads.items 0 fresh.some in
+    let there = moved c.heads.items (heads_in bytes) e (IsPermutation-sym (heads_in bytes) c.heads.items fresh.same) (0, at) in
+    at_none there.0 e (subst (λ (l : List MessageHead). At l there.0 e) none there.1)
 
 pub left_more : (files : Files) (old new : Walk) → AllLeft old → LoadsNext files old new → AllLeft new
 left_more files old new left loads n c at = elim (at_more old.cursors.items loads.cursor n c (subst (λ (l : List Cursor). At l n c) loads.cursors at)) [
@@ -93,12 +94,12 @@ module _ (files : Files) (old new : Walk) (texts : List Text) (given : List Turn
   loaded_is : pieces_loaded new ≡ pieces_loaded old ++ piece ∷ []
   loaded_is = ap (take new.next) pieces ∙ ap (λ (n : ℕ). take n old.pieces.items) loads.next ∙ taken_more old.pieces.items old.next loads.piece loads.at
 
-  left_is : turns_left loads.cursor ≡ map (turn_of loads.piece) loads.cursor.entries.items
+  left_is : turns_left loads.cursor ≡ map (turn_of loads.piece) loads.cursor.heads.items
   left_is = fresh_left loads.piece loads.bytes loads.cursor loads.fresh
 
   behind : (g u : Turn) → Has given g → Has (turns_left loads.cursor) u → TurnBefore g u
   behind g u has_g has_u =
-      let (e, at, is) = unmapped (turn_of loads.piece) loads.cursor.entries.items has_u.0 u (subst (λ (l : List Turn). At l has_u.0 u) left_is has_u.1) in
+      let (e, at, is) = unmapped (turn_of loads.piece) loads.cursor.heads.items has_u.0 u (subst (λ (l : List Turn). At l has_u.0 u) left_is has_u.1) in
       let within = loads.fresh.within has_u.0 e at in
       let early = stands.early g loads.piece has_g (0, dropped old.pieces.items old.next old.next 0 loads.piece (omega arith) loads.at) in
       let time : u.log_time ≡ e.time = sym (ap (λ (x : Turn). x.log_time) is) in
@@ -164,7 +165,7 @@ module _ (files : Files) (old new : Walk) (texts : List Text) (given : List Turn
         begins = (sym (ap (λ (p : Piece). p.input) is), sym (ap (λ (p : Piece). p.span.at) is));
         size = loads.are.size ∙ sym (ap (λ (p : Piece). p.span.length) is);
         same = loads.fresh.same;
-        within = subst (λ (p : Piece). AreWithin p.span loads.cursor.entries.items) (sym is) loads.fresh.within;
+        within = subst (λ (p : Piece). AreWithin p.span loads.cursor.heads.items) (sym is) loads.fresh.within;
         there = subst (λ (p : Piece). Has (pieces_loaded new) p) (sym is) (subst (λ (ps : List Piece). Has ps piece) (sym loaded_is) (has_last (pieces_loaded old) piece []));
         text = subst (λ (p : Piece). Has (texts ++ text ∷ []) (text_of p loads.bytes)) (sym is) (has_last texts text []);
       }
@@ -198,14 +199,14 @@ module _ (files : Files) (old new : Walk) (texts : List Text) (given : List Turn
       let (k, in_front) = held.there in
       let (below, at_k) = has_taken old.pieces.items old.next k c.piece in_front in
       let low = pieces_above old.pieces.items k c.piece piece stands.order at_k (old.next - k, dropped old.pieces.items k old.next (old.next - k) piece (omega (arith, below)) loads.at) in
-      let (e, at_e) = at_some c.entries.items c.given (left i c at) in
+      let (e, at_e) = at_some c.heads.items c.given (left i c at) in
       let first = due piece loads.at i c at (turn_of c.piece e) (e, at_e, refl) in
       let last = (held.within c.given e at_e).1 in
       (low, omega (arith, first, last))
 
   over_new : (loads.cursor.piece.span.least ≤ piece.span.least) × (piece.span.least ≤ loads.cursor.piece.span.greatest)
   over_new =
-      let (e, at_e) = at_some loads.cursor.entries.items 0 loads.fresh.some in
+      let (e, at_e) = at_some loads.cursor.heads.items 0 loads.fresh.some in
       let within = loads.fresh.within 0 e at_e in
       let one = within.0 in
       let other = within.1 in
@@ -265,17 +266,18 @@ module _ (files : Files) (old new : Walk) (texts : List Text) (given : List Turn
               piece = refl;
               bytes = loads.are;
               fits = record {
+                many = (let size = length_permutation (heads_in loads.bytes) loads.cursor.heads.items fresh.same in let many = fresh.many in omega (arith, size, many));
                 some = fresh_some loads.piece loads.bytes loads.cursor fresh;
-                within = λ n e at. let there = moved (entries_in loads.bytes) loads.cursor.entries.items e fresh.same (n, at) in fresh.within there.0 e there.1;
+                within = λ n e at. let there = moved (heads_in loads.bytes) loads.cursor.heads.items e fresh.same (n, at) in fresh.within there.0 e there.1;
               };
             }));
         order = subst PiecesInOrder (sym pieces) stands.order;
         queues = subst (QueuesStand given) (sym maps) (queues_more given (map turns_left old.cursors.items) (turns_left loads.cursor) stands.queues
-            (subst (AllPairs TurnBefore) (sym left_is) (turns_rise loads.piece loads.cursor.entries.items fresh.rise)) behind);
+            (subst (AllPairs TurnBefore) (sym left_is) (turns_rise loads.piece loads.cursor.heads.items fresh.rise)) behind);
         all = subst (λ (l : List Turn). AreAll l given (map turns_left new.cursors.items)) (sym joined) (subst (AreAll (turns_of texts ++ turns_in text) given) (sym maps)
             (all_more (turns_of texts) given (map turns_left old.cursors.items) (turns_left loads.cursor) (turns_in text) stands.all
-            (λ u has. mapped_moved loads.piece loads.cursor.entries.items (entries_in loads.bytes) u (IsPermutation-sym (entries_in loads.bytes) loads.cursor.entries.items fresh.same) (subst (λ (l : List Turn). Has l u) left_is has))
-            (λ u has. subst (λ (l : List Turn). Has l u) (sym left_is) (mapped_moved loads.piece (entries_in loads.bytes) loads.cursor.entries.items u fresh.same has))));
+            (λ u has. mapped_moved loads.piece loads.cursor.heads.items (heads_in loads.bytes) u (IsPermutation-sym (heads_in loads.bytes) loads.cursor.heads.items fresh.same) (subst (λ (l : List Turn). Has l u) left_is has))
+            (λ u has. subst (λ (l : List Turn). Has l u) (sym left_is) (mapped_moved loads.piece (heads_in loads.bytes) loads.cursor.heads.items u fresh.same has))));
         apart = differ;
         early = λ g p has_g has_p. stands.early g p has_g (later p has_p);
         left = λ k c at other. left_more files old new left loads k c at;

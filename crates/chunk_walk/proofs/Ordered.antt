@@ -115,7 +115,7 @@ not_behind_else t u other = elim (which t.log_time u.log_time) [
 
 -- a piece has one next message
 pub next_is_one : (c : Cursor) (t u : Turn) → IsNext c t → IsNext c u → t ≡ u
-next_is_one c t u (e, at_e, t_is) (f, at_f, u_is) = t_is ∙ ap (turn_of c.piece) (at_one c.entries.items c.given e f at_e at_f) ∙ sym u_is
+next_is_one c t u (e, at_e, t_is) (f, at_f, u_is) = t_is ∙ ap (turn_of c.piece) (at_one c.heads.items c.given e f at_e at_f) ∙ sym u_is
 
 -- ---- the first of some pieces
 
@@ -125,7 +125,7 @@ at_some (x ∷ xs) zero less = (x, refl)
 at_some (x ∷ xs) (suc n) less = at_some xs n (omega (arith, less))
 
 pub next_of : (c : Cursor) → HasLeft c → (t : Turn) × IsNext c t
-next_of c left = let (e, at) = at_some c.entries.items c.given left in (turn_of c.piece e, (e, at, refl))
+next_of c left = let (e, at) = at_some c.heads.items c.given left in (turn_of c.piece e, (e, at, refl))
 
 -- its next message doesn't come behind those of the first pieces
 abbrev pub FirstSoFar : List Cursor → ℕ → ℕ → Type 0

@@ -15,10 +15,10 @@ use Rattle.chunk_window.specs.Parts.{loaded_part, IsLoaded}
 use Rattle.chunk_window.specs.Windows.{loaded_in}
 use Rattle.chunk_walk.specs.declared.answers.Turn.{Turn}
 use Rattle.chunk_walk.specs.declared.walk.Walk.{Walk}
-use Rattle.chunk_walk.specs.Entries.{entries_in}
+use Rattle.record_walk.specs.Heads.{heads_in}
 use Rattle.chunk_walk.specs.Cursors.{turn_of}
 use Rattle.chunk_walk.specs.Walks.{Text, turns_in, HoldsText, IsMessageAt}
-use Rattle.chunk_walk.proofs.Listed.{entry_found}
+use Rattle.chunk_walk.proofs.Listed.{head_found}
 
 nothing_begins : (bytes : List ℕ) → length bytes ≤ 0 → begins_record bytes ≡ false
 nothing_begins [] few = refl
@@ -82,10 +82,10 @@ reached bytes front r back is = reached_in front r back (length bytes) bytes (om
 
 pub message_there : (x : Text) (t : Turn) → Has (turns_in x) t → (r : Top) × IsMessageAt x t r × (back : List Top) × (records_in (drop t.inner x.bytes) ≡ r ∷ back)
 message_there x t has =
-    let (e, at, is) = unmapped (turn_of x.piece) (entries_in x.bytes) has.0 t has.1 in
-    let f = entry_found 0 (records_in x.bytes) has.0 e at in
+    let (e, at, is) = unmapped (turn_of x.piece) (heads_in x.bytes) has.0 t has.1 in
+    let f = head_found 0 (records_in x.bytes) has.0 e at in
     let place = f.place in
-    let inner : t.inner ≡ e.inner = sym (ap (λ (u : Turn). u.inner) is) in
+    let inner : t.inner ≡ e.offset = sym (ap (λ (u : Turn). u.inner) is) in
     let there : t.inner ≡ length (spelled f.front) = omega (arith, place, inner) in (
       f.found,
       record {
@@ -113,7 +113,7 @@ place_within bytes n r back is = elim (leb_tells n (length bytes)) [
 
 pub turn_begins : (x : Text) (t : Turn) → Has (turns_in x) t → (x.piece.input ≡ t.input) × (x.piece.span.at ≡ t.at)
 turn_begins x t has =
-    let (e, at, is) = unmapped (turn_of x.piece) (entries_in x.bytes) has.0 t has.1 in
+    let (e, at, is) = unmapped (turn_of x.piece) (heads_in x.bytes) has.0 t has.1 in
     (ap (λ (u : Turn). u.input) is, ap (λ (u : Turn). u.at) is)
 
 -- the text's bytes are those that the window gives

@@ -9,14 +9,15 @@ use Rattle.mcap_model.specs.Places.{At}
 use Rattle.mcap_model.proofs.Places.{at_none, at_one, at_within, at_set, at_set_same}
 use Rattle.mcap_model.proofs.Flat.{at_mapped}
 use Rattle.mcap_model.proofs.NamedTopics.{zip_front, zip_back, unmapped}
-use Rattle.chunk_window.specs.declared.answers.WindowRefused.{WindowRefused}
+use Rattle.mcap_model.specs.declared.refusals.ReadingRefused.{ReadingRefused}
+use Rattle.mcap_model.specs.declared.refusals.ReadingRefused.TheVariants as readings
 use Rattle.chunk_window.specs.Parts.{IsOf, ReadsFrom}
 use Rattle.chunk_walk.specs.declared.answers.WalkRefused.{WalkRefused}
 use Rattle.chunk_walk.specs.declared.answers.WalkRefused.TheVariants as refusals
 use Rattle.chunk_walk.specs.declared.pieces.Piece.{Piece}
 use Rattle.chunk_walk.specs.declared.walk.Walk.{Walk}
 use Rattle.chunk_walk.specs.Pieces.{Files, AreBytesOf, bytes_of}
-use Rattle.chunk_walk.specs.Stores.{files_of, StoresFit, StoresStay, CountStands, CountsStand, OneRose, AskedWithin, unasked, none_left, RefusedCounts, CountsAfter, AskedAfter, LeavesStores, PieceCause, ReadsPiece}
+use Rattle.chunk_walk.specs.Stores.{files_of, StoresFit, StoresStay, CountStands, CountsStand, OneRose, AskedWithin, unasked, none_left, UnloadedCounts, RefusedCounts, CountsAfter, AskedAfter, LeavesStores, PieceCause, ReadsPiece}
 use Rattle.chunk_walk.proofs.Places.{drop_head}
 
 -- ---- what they tell
@@ -65,11 +66,10 @@ counts_on (x ∷ xs) [] c one other = absurd one
 counts_on (x ∷ xs) (y ∷ ys) [] one other = absurd other
 counts_on (x ∷ xs) (y ∷ ys) (z ∷ zs) one other = (other.0 ∙ one.0, counts_on xs ys zs one.1 other.1)
 
-one_rose_on : (a b c : List StoreState) (faults : ℕ) → CountsStand a b → OneRose b c faults → OneRose a c faults
-one_rose_on a b c faults one rose =
-    let (s, at_s, same) = zip_back CountStands a b rose.place rose.old one rose.old_at in
+one_rose_on : (a b c : List StoreState) (place faults : ℕ) → CountsStand a b → OneRose b c place faults → OneRose a c place faults
+one_rose_on a b c place faults one rose =
+    let (s, at_s, same) = zip_back CountStands a b place rose.old one rose.old_at in
     record {
-      place = rose.place;
       old = s;
       new = rose.new;
       old_at = at_s;
@@ -111,9 +111,12 @@ leaves_on {X} a b c start mid new done result one other = record {
 }
   where
     refused : (why : WalkRefused) → RefusedCounts b c why → RefusedCounts a c why
-    refused (refusals.Fault faults) rose = one_rose_on a b c faults one.counts rose
     refused (refusals.Changed input offset) stand = counts_on a b c one.counts stand
-    refused refusals.Memory stand = counts_on a b c one.counts stand
+    refused (refusals.Refused input (readings.Fault faults)) rose = one_rose_on a b c input faults one.counts rose
+    refused (refusals.Refused input (readings.Grammar offset rule)) none = absurd none
+    refused (refusals.Refused input (readings.Compressed offset name)) none = absurd none
+    refused (refusals.Refused input (readings.Limit offset)) none = absurd none
+    refused (refusals.Refused input readings.Memory) stand = counts_on a b c one.counts stand
 
     counts : (r : Result X WalkRefused) → CountsAfter b c r → CountsAfter a c r
     counts (Ok it) stand = counts_on a b c one.counts stand
@@ -166,6 +169,10 @@ unasked_falls w p k at =
 share_of : (p : Piece) (k : ℕ) → p.input ≡ k → piece_share k p ≡ p.span.length
 share_of p k same = ap (λ (b : Bool). cond b p.span.length 0) (eq-eqb p.input k same)
 
+-- where it is refused for what was loaded, memory lacked
+abbrev pub LacksOnly : WalkRefused → Type 0
+LacksOnly why = (input : ℕ) (reading : ReadingRefused) → why ≡ refusals.Refused input reading → reading ≡ readings.Memory
+
 module _ (olds news : List StoreState) (old : Walk) (p : Piece) (at : At old.pieces.items old.next p) where
   abbrev rest : ℕ → ℕ
   rest k = bytes_of k (drop (suc old.next) old.pieces.items)
@@ -200,11 +207,10 @@ module _ (olds news : List StoreState) (old : Walk) (p : Piece) (at : At old.pie
     asked = asked_less olds news (unasked old) rest (read_asked (Err why) reads);
   }
     where
-      by : (y : WalkRefused) → ReadsPiece olds news p (Err y) → RefusedCounts olds news y
-      by (refusals.Fault faults) it =
-          let (rises, same) = it.cause in
+      unloaded : (input : ℕ) (y : ReadingRefused) → ReadsPiece olds news p (Err (refusals.Refused input y)) → UnloadedCounts olds news p.input y
+      unloaded input (readings.Fault faults) it =
+          let (rises, same) = it.cause.1 in
           record {
-            place = p.input;
             old = it.old;
             new = it.new;
             old_at = it.at;
@@ -216,21 +222,26 @@ module _ (olds news : List StoreState) (old : Walk) (p : Piece) (at : At old.pie
               | inr there ↦ ap (λ (s : StoreState). s.faults) (at_one olds n is was there.1 at_was)
             ];
           }
+      unloaded input (readings.Grammar offset rule) it = absurd it.cause.1
+      unloaded input (readings.Compressed offset name) it = absurd it.cause.1
+      unloaded input (readings.Limit offset) it = absurd it.cause.1
+      unloaded input readings.Memory it = stand (Err (refusals.Refused input readings.Memory)) it it.cause.1
+
+      by : (y : WalkRefused) → ReadsPiece olds news p (Err y) → RefusedCounts olds news y
       by (refusals.Changed input offset) it = absurd it.cause
-      by refusals.Memory it = stand (Err refusals.Memory) it it.cause
+      by (refusals.Refused input reading) it = let same = it.cause.0 in subst (λ (n : ℕ). UnloadedCounts olds news n reading) (sym same) (unloaded input reading it)
 
   -- it is, and what follows is refused
-  pub read_then : {X : Type 0} (new : Walk) (done : Unit {0}) (why : WalkRefused) → ReadsPiece olds news p (Ok done) → ((faults : ℕ) → why ≡ refusals.Fault faults → ⊥) → LeavesStores {X = X} olds news old new (Err why)
-  read_then new done why reads no_fault = record {
+  pub read_then : {X : Type 0} (new : Walk) (done : Unit {0}) (why : WalkRefused) → ReadsPiece olds news p (Ok done) → LacksOnly why → LeavesStores {X = X} olds news old new (Err why)
+  read_then new done why reads lacks = record {
     stay = read_stay (Ok done) reads;
-    counts = by why no_fault;
+    counts = by why lacks;
     asked = asked_less olds news (unasked old) rest (read_asked (Ok done) reads);
   }
     where
-      by : (y : WalkRefused) → ((faults : ℕ) → y ≡ refusals.Fault faults → ⊥) → RefusedCounts olds news y
-      by (refusals.Fault faults) none = absurd (none faults refl)
-      by (refusals.Changed input offset) none = stand (Ok done) reads reads.cause
-      by refusals.Memory none = stand (Ok done) reads reads.cause
+      by : (y : WalkRefused) → LacksOnly y → RefusedCounts olds news y
+      by (refusals.Changed input offset) only = stand (Ok done) reads reads.cause
+      by (refusals.Refused input reading) only = subst (UnloadedCounts olds news input) (sym (only input reading refl)) (stand (Ok done) reads reads.cause)
 
   -- it is, and all goes well
   pub read_well : {X : Type 0} (new : Walk) (done : Unit {0}) (it : X) → ReadsPiece olds news p (Ok done) → new.next ≡ old.next + 1 → new.pieces ≡ old.pieces → LeavesStores olds news old new (Ok it)
@@ -271,7 +282,7 @@ module _ {T : Type 0} (state : T → StoreState) where
   }
 
   -- it was read, and no other
-  pub reads_piece : (stores : List T) (p : Piece) (x y : T) (found : Result Unit WindowRefused) (result : Result Unit WalkRefused) → At stores p.input x → ReadsFrom (state x) (state y) p.span.length found → PieceCause (state x).faults (state y).faults result
+  pub reads_piece : (stores : List T) (p : Piece) (x y : T) (found : Result Unit ReadingRefused) (result : Result Unit WalkRefused) → At stores p.input x → ReadsFrom (state x) (state y) p.span.length found → PieceCause p (state x).faults (state y).faults result
       → ReadsPiece (map state stores) (map state (set stores p.input y)) p result
   reads_piece stores p x y found result at reads cause = record {
     old = state x;

@@ -7,6 +7,8 @@ use Rattle.mcap_model.proofs.Places.{at_none, has_last}
 use Rattle.chunk_window.specs.declared.window.Loaded.{Loaded}
 use Rattle.chunk_window.specs.Parts.{loaded_part, IsLoaded}
 use Rattle.chunk_window.specs.Windows.{loaded_in}
+use Rattle.mcap_model.specs.declared.refusals.ReadingRefused.{ReadingRefused}
+use Rattle.mcap_model.specs.declared.refusals.ReadingRefused.TheVariants as readings
 use Rattle.chunk_walk.specs.declared.answers.WalkRefused.{WalkRefused}
 use Rattle.chunk_walk.specs.declared.answers.WalkRefused.TheVariants as refusals
 use Rattle.chunk_walk.specs.declared.pieces.Piece.{Piece}
@@ -38,9 +40,8 @@ twice_leaves {X} xs old new input offset why is = subst (λ (y : WalkRefused). L
 -- ---- its bytes aren't loaded
 
 pub piece_refused : (files : Files) (w : Walk) (olds news : List StoreState) (p : Piece) (why : WalkRefused) → ReadsPiece olds news p (Err why) → IsRefused files w why
-piece_refused files w olds news p (refusals.Fault faults) reads = tt
 piece_refused files w olds news p (refusals.Changed input offset) reads = absurd reads.cause
-piece_refused files w olds news p refusals.Memory reads = tt
+piece_refused files w olds news p (refusals.Refused input why) reads = tt
 
 -- ---- they are
 
@@ -65,15 +66,14 @@ part_is files p old new done found unloaded (bytes, are, is) has =
 -- ---- no cursor is made of them
 
 pub cursor_refused : (files : Files) (w : Walk) (p : Piece) (bytes : List ℕ) (why : WalkRefused) → At w.pieces.items w.next p → AreBytesOf files p bytes → MakesCursor p bytes (Err why) → IsRefused files w why
-cursor_refused files w p bytes (refusals.Fault faults) at are makes = absurd makes
 cursor_refused files w p bytes (refusals.Changed input offset) at are makes = (p, next_ahead w p at, makes.0, makes.1, inl (bytes, are, makes.2))
-cursor_refused files w p bytes refusals.Memory at are makes = tt
+cursor_refused files w p bytes (refusals.Refused input why) at are makes = tt
 
 pub cursor_leaves : {X : Type 0} (olds news : List StoreState) (old new : Walk) (p : Piece) (bytes : List ℕ) (done : Unit {0}) (why : WalkRefused) → At old.pieces.items old.next p → ReadsPiece olds news p (Ok done) → MakesCursor p bytes (Err why) → LeavesStores {X = X} olds news old new (Err why)
-cursor_leaves {X} olds news old new p bytes done why at reads makes = read_then olds news old p at new done why reads (λ faults is. subst (λ (y : WalkRefused). MakesCursor p bytes (Err y)) is makes)
+cursor_leaves {X} olds news old new p bytes done why at reads makes = read_then olds news old p at new done why reads (λ input reading is. let lacks = subst (λ (y : WalkRefused). MakesCursor p bytes (Err y)) is makes in lacks.1)
 
-pub memory_leaves : {X : Type 0} (olds news : List StoreState) (old new : Walk) (p : Piece) (done : Unit {0}) → At old.pieces.items old.next p → ReadsPiece olds news p (Ok done) → LeavesStores {X = X} olds news old new (Err refusals.Memory)
-memory_leaves olds news old new p done at reads = read_then olds news old p at new done refusals.Memory reads other
+pub memory_leaves : {X : Type 0} (olds news : List StoreState) (old new : Walk) (p : Piece) (done : Unit {0}) → At old.pieces.items old.next p → ReadsPiece olds news p (Ok done) → LeavesStores {X = X} olds news old new (Err (refusals.Refused p.input readings.Memory))
+memory_leaves olds news old new p done at reads = read_then olds news old p at new done (refusals.Refused p.input readings.Memory) reads only
   where
-    other : (faults : ℕ) → refusals.Memory ≡ refusals.Fault faults → ⊥
-    other faults e = cc
+    only : (input : ℕ) (reading : ReadingRefused) → refusals.Refused p.input readings.Memory ≡ refusals.Refused input reading → reading ≡ readings.Memory
+    only input reading e = cc

@@ -8,54 +8,54 @@ use Rattle.mcap_model.proofs.Lists.{pairs_at, pairs_from}
 use Rattle.mcap_model.proofs.Flat.{at_mapped}
 use Rattle.mcap_model.proofs.NamedTopics.{contained, has_there, unmapped}
 use Rattle.chunk_walk.specs.declared.answers.Turn.{Turn}
-use Rattle.chunk_walk.specs.declared.entries.Entry.{Entry}
+use Rattle.record_walk.specs.declared.heads.MessageHead.{MessageHead}
 use Rattle.chunk_walk.specs.declared.pieces.Piece.{Piece}
 use Rattle.chunk_walk.specs.declared.cursors.Cursor.{Cursor}
-use Rattle.chunk_walk.specs.Entries.{EntryBefore, EntriesRise}
+use Rattle.chunk_walk.specs.Heads.{HeadBefore, HeadsRise}
 use Rattle.chunk_walk.specs.Pieces.{PieceNotBehind, PiecesInOrder}
 use Rattle.chunk_walk.specs.Cursors.{turn_of, turns_left, TurnBefore, IsFresh}
 use Rattle.chunk_walk.proofs.Places.{undropped}
 use Rattle.chunk_walk.proofs.Ordered.{piece_itself, piece_trans}
 
-entry_trans : (a b c : Entry) → EntryBefore a b → EntryBefore b c → EntryBefore a c
-entry_trans a b c (inl one) (inl other) = inl (omega (arith, one, other))
-entry_trans a b c (inl one) (inr other) = inl (omega (arith, one, other.0))
-entry_trans a b c (inr one) (inl other) = inl (omega (arith, one.0, other))
-entry_trans a b c (inr one) (inr other) = inr (one.0 ∙ other.0, omega (arith, one.1, other.1))
+before_trans : (a b c : MessageHead) → HeadBefore a b → HeadBefore b c → HeadBefore a c
+before_trans a b c (inl one) (inl other) = inl (omega (arith, one, other))
+before_trans a b c (inl one) (inr other) = inl (omega (arith, one, other.0))
+before_trans a b c (inr one) (inl other) = inl (omega (arith, one.0, other))
+before_trans a b c (inr one) (inr other) = inr (one.0 ∙ other.0, omega (arith, one.1, other.1))
 
-rise_far : (xs : List Entry) → EntriesRise xs → (i n : ℕ) (d : Entry) → suc (i + n) < length xs → EntryBefore (get_or xs i d) (get_or xs (suc (i + n)) d)
+rise_far : (xs : List MessageHead) → HeadsRise xs → (i n : ℕ) (d : MessageHead) → suc (i + n) < length xs → HeadBefore (get_or xs i d) (get_or xs (suc (i + n)) d)
 rise_far xs rise i zero d within =
     let is : i + 1 ≡ suc (i + 0) = omega arith in
-    subst (λ (k : ℕ). EntryBefore (get_or xs i d) (get_or xs k d)) is (rise i d (omega (arith, within)))
+    subst (λ (k : ℕ). HeadBefore (get_or xs i d) (get_or xs k d)) is (rise i d (omega (arith, within)))
 rise_far xs rise i (suc n) d within =
     let is : suc (i + n) + 1 ≡ suc (i + suc n) = omega arith in
-    entry_trans (get_or xs i d) (get_or xs (suc (i + n)) d) (get_or xs (suc (i + suc n)) d) (rise_far xs rise i n d (omega (arith, within)))
-    (subst (λ (k : ℕ). EntryBefore (get_or xs (suc (i + n)) d) (get_or xs k d)) is (rise (suc (i + n)) d (omega (arith, within))))
+    before_trans (get_or xs i d) (get_or xs (suc (i + n)) d) (get_or xs (suc (i + suc n)) d) (rise_far xs rise i n d (omega (arith, within)))
+    (subst (λ (k : ℕ). HeadBefore (get_or xs (suc (i + n)) d) (get_or xs k d)) is (rise (suc (i + n)) d (omega (arith, within))))
 
-rise_pairs : (xs : List Entry) → EntriesRise xs → AllPairs EntryBefore xs
+rise_pairs : (xs : List MessageHead) → HeadsRise xs → AllPairs HeadBefore xs
 rise_pairs xs rise i j d less within =
     let is : suc (i + (j - suc i)) ≡ j = omega (arith, less) in
-    subst (λ (k : ℕ). EntryBefore (get_or xs i d) (get_or xs k d)) is (rise_far xs rise i (j - suc i) d (omega (arith, within, less)))
+    subst (λ (k : ℕ). HeadBefore (get_or xs i d) (get_or xs k d)) is (rise_far xs rise i (j - suc i) d (omega (arith, within, less)))
 
-turn_before : (p : Piece) (a b : Entry) → EntryBefore a b → TurnBefore (turn_of p a) (turn_of p b)
+turn_before : (p : Piece) (a b : MessageHead) → HeadBefore a b → TurnBefore (turn_of p a) (turn_of p b)
 turn_before p a b (inl less) = inl less
 turn_before p a b (inr (same, less)) = inr (same, inr (refl, inr (refl, less)))
 
-pub turns_rise : (p : Piece) (xs : List Entry) → EntriesRise xs → AllPairs TurnBefore (map (turn_of p) xs)
+pub turns_rise : (p : Piece) (xs : List MessageHead) → HeadsRise xs → AllPairs TurnBefore (map (turn_of p) xs)
 turns_rise p xs rise = pairs_from TurnBefore (map (turn_of p) xs) (λ i j t u less at_t at_u.
     let (a, at_a, is_a) = unmapped (turn_of p) xs i t at_t in
     let (b, at_b, is_b) = unmapped (turn_of p) xs j u at_u in
-    subst (λ (x : Turn). TurnBefore x u) is_a (subst (TurnBefore (turn_of p a)) is_b (turn_before p a b (pairs_at EntryBefore xs (rise_pairs xs rise) i j a b less at_a at_b))))
+    subst (λ (x : Turn). TurnBefore x u) is_a (subst (TurnBefore (turn_of p a)) is_b (turn_before p a b (pairs_at HeadBefore xs (rise_pairs xs rise) i j a b less at_a at_b))))
 
-pub fresh_left : (p : Piece) (bytes : List ℕ) (c : Cursor) → IsFresh p bytes c → turns_left c ≡ map (turn_of p) c.entries.items
+pub fresh_left : (p : Piece) (bytes : List ℕ) (c : Cursor) → IsFresh p bytes c → turns_left c ≡ map (turn_of p) c.heads.items
 fresh_left p bytes c fresh =
-    ap (λ (n : ℕ). map (turn_of c.piece) (drop n c.entries.items)) fresh.given
-    ∙ ap (λ (r : Piece). map (turn_of r) c.entries.items) fresh.piece
+    ap (λ (n : ℕ). map (turn_of c.piece) (drop n c.heads.items)) fresh.given
+    ∙ ap (λ (r : Piece). map (turn_of r) c.heads.items) fresh.piece
 
 pub moved : {X : Type 0} (xs ys : List X) (x : X) → IsPermutation xs ys → Has xs x → Has ys x
 moved xs ys x same has = has_there ys x (Contains-permutation xs ys x same (contained xs x has))
 
-pub mapped_moved : (p : Piece) (xs ys : List Entry) (u : Turn) → IsPermutation xs ys → Has (map (turn_of p) xs) u → Has (map (turn_of p) ys) u
+pub mapped_moved : (p : Piece) (xs ys : List MessageHead) (u : Turn) → IsPermutation xs ys → Has (map (turn_of p) xs) u → Has (map (turn_of p) ys) u
 mapped_moved p xs ys u same has =
     let (e, at, is) = unmapped (turn_of p) xs has.0 u has.1 in
     let there = moved xs ys e same (has.0, at) in

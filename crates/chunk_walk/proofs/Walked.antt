@@ -84,7 +84,6 @@ gone_stands files old new lets (texts, given, stands) = (texts, given, walk_lets
 
 -- a refusal later on is one of the start
 pub refused_from : (files : Files) (start now : Walk) (why : WalkRefused) → now.pieces ≡ start.pieces → start.next ≤ now.next → IsRefused files now why → IsRefused files start why
-refused_from files start now (refusals.Fault faults) pieces later it = tt
 refused_from files start now (refusals.Changed input offset) pieces later (p, has, input_is, offset_is, cause) =
     let same : now.pieces.items ≡ start.pieces.items = ap (λ v. v.items) pieces in
     let there : At now.pieces.items (now.next + has.0) p = undropped now.pieces.items now.next (now.next + has.0) has.0 p refl has.1 in
@@ -98,7 +97,7 @@ refused_from files start now (refusals.Changed input offset) pieces later (p, ha
         | inr second ↦ inr (subst (λ (l : List Piece). IsSecond l p) same second)
       ],
     )
-refused_from files start now refusals.Memory pieces later it = tt
+refused_from files start now (refusals.Refused input why) pieces later it = tt
 
 -- a piece that is loaded already stands in front
 pub loaded_twice : (files : Files) (w : Walk) (p : Piece) → Stands files w → At w.pieces.items w.next p → IsLoaded (loaded_in w.window) p.input p.span.at → IsSecond w.pieces.items p

@@ -1,17 +1,19 @@
 -- Loaded pieces, and how far their messages were given.
 use Rattle.std.specs.Prelude.{◌≡◌, ◌⊎◌, ◌↔◌, ℕ, ◌<◌, ◌≤◌, List, [], drop, map, length, Option, Some, None, Result, Ok, Err, Bool, false, IsTrue, IsPermutation}
 use Rattle.mcap_model.specs.Places.{At, Each}
+use Rattle.mcap_model.specs.declared.refusals.ReadingRefused.TheVariants as readings
 use Rattle.chunk_walk.specs.declared.answers.Turn.{Turn}
 use Rattle.chunk_walk.specs.declared.answers.WalkRefused.{WalkRefused}
 use Rattle.chunk_walk.specs.declared.answers.WalkRefused.TheVariants as refusals
-use Rattle.chunk_walk.specs.declared.entries.Entry.{Entry}
+use Rattle.record_walk.specs.declared.heads.MessageHead.{MessageHead}
 use Rattle.chunk_walk.specs.declared.pieces.Piece.{Piece}
 use Rattle.chunk_walk.specs.declared.cursors.Cursor.{Cursor}
-use Rattle.chunk_walk.specs.Entries.{entries_in, AreWithin, EntriesRise, FitsSpan}
+use Rattle.record_walk.specs.Heads.{heads_in}
+use Rattle.chunk_walk.specs.Heads.{AreWithin, HeadsRise, FitsSpan}
 
 -- a message of a piece, with its turn
-abbrev pub turn_of : Piece → Entry → Turn
-turn_of p e = record { log_time = e.time; input = p.input; offset = p.span.offset; at = p.span.at; inner = e.inner }
+abbrev pub turn_of : Piece → MessageHead → Turn
+turn_of p e = record { log_time = e.time; input = p.input; offset = p.span.offset; at = p.span.at; inner = e.offset }
 
 -- a message comes before another: by log time, input, piece and place in the piece
 abbrev pub TurnBefore : Turn → Turn → Type 0
@@ -25,7 +27,7 @@ TurnBeforePiece t p = (t.log_time < p.span.least) ⊎ ((t.log_time ≡ p.span.le
 
 -- the turns that are left in a piece
 abbrev pub turns_left : Cursor → List Turn
-turns_left c = map (turn_of c.piece) (drop c.given c.entries.items)
+turns_left c = map (turn_of c.piece) (drop c.given c.heads.items)
 
 -- a message of one piece doesn't come behind that of another: their places inside aren't looked at
 abbrev pub PieceTurnNotBehind : Turn → Turn → Type 0
@@ -33,11 +35,11 @@ PieceTurnNotBehind t u = (t.log_time < u.log_time) ⊎ ((t.log_time ≡ u.log_ti
 
 -- one is left
 abbrev pub HasLeft : Cursor → Type 0
-HasLeft c = c.given < length c.entries.items
+HasLeft c = c.given < length c.heads.items
 
 -- this message is the next of a piece
 abbrev pub IsNext : Cursor → Turn → Type 0
-IsNext c t = (e : Entry) × At c.entries.items c.given e × (t ≡ turn_of c.piece e)
+IsNext c t = (e : MessageHead) × At c.heads.items c.given e × (t ≡ turn_of c.piece e)
 
 -- of the pieces at two places this is one whose next message doesn't come behind that of the other
 abbrev pub EarlierOf : List Cursor → ℕ → ℕ → ℕ → Type 0
@@ -56,18 +58,19 @@ abbrev pub TellsBefore : List Cursor → Option ℕ → Piece → Bool → Type 
 TellsBefore cursors (Some i) p before = (c : Cursor) × (t : Turn) × At cursors i c × IsNext c t × (IsTrue before ↔ TurnBeforePiece t p)
 TellsBefore cursors None p before = before ≡ false
 
--- nothing was given of a piece with these bytes: its messages are those of the bytes, in their order, within the span
+-- nothing was given of a piece with these bytes: its messages are those of the bytes, in their order, as many as the span's and
+-- within it
 pub record IsFresh (p : Piece) (bytes : List ℕ) (c : Cursor) : Type 0 where
   pub piece : c.piece ≡ p
   pub given : c.given ≡ 0
-  pub some : 0 < length c.entries.items
-  pub same : IsPermutation (entries_in bytes) c.entries.items
-  pub rise : EntriesRise c.entries.items
-  pub within : AreWithin p.span c.entries.items
+  pub some : 0 < length c.heads.items
+  pub many : length c.heads.items ≡ p.span.messages
+  pub same : IsPermutation (heads_in bytes) c.heads.items
+  pub rise : HeadsRise c.heads.items
+  pub within : AreWithin p.span c.heads.items
 
 -- bytes that can't be those of the piece's span are refused as changed
 abbrev pub MakesCursor : Piece → List ℕ → Result Cursor WalkRefused → Type 0
 MakesCursor p bytes (Ok c) = IsFresh p bytes c
-MakesCursor p bytes (Err (refusals.Fault faults)) = ⊥
 MakesCursor p bytes (Err (refusals.Changed input offset)) = (input ≡ p.input) × (offset ≡ p.span.offset) × (FitsSpan p.span bytes → ⊥)
-MakesCursor p bytes (Err refusals.Memory) = Unit {0}
+MakesCursor p bytes (Err (refusals.Refused input why)) = (input ≡ p.input) × (why ≡ readings.Memory)

@@ -1,5 +1,5 @@
 -- When a walk finds a piece changed.
-use Rattle.std.specs.Prelude.{ℕ, ◌<◌, List, take, drop, Some}
+use Rattle.std.specs.Prelude.{◌≡◌, ℕ, ◌<◌, List, length, take, drop, Some}
 use Rattle.mcap_model.specs.Places.{At, Each}
 use Rattle.mcap_model.specs.Tops.{records_in}
 use Rattle.chunk_survey.specs.declared.spans.Span.{Span}
@@ -7,13 +7,13 @@ use Rattle.chunk_survey.specs.Times.{times_of, TimesAre}
 use Rattle.chunk_walk.specs.declared.answers.WalkRefused.TheVariants as refusals
 use Rattle.chunk_walk.specs.declared.pieces.Piece.{Piece}
 use Rattle.chunk_walk.specs.declared.walk.Walk.{Walk}
-use Rattle.chunk_walk.specs.Entries.{FitsSpan}
+use Rattle.chunk_walk.specs.Heads.{FitsSpan}
 use Rattle.chunk_walk.specs.Pieces.{Files, BeginTogether}
 use Rattle.chunk_walk.specs.Walks.{pieces_in, IsRefused}
 
--- bytes whose messages were logged when a span says can be those of the span
+-- bytes whose messages were logged when a span says, and are as many, can be those of the span
 abbrev pub SurveyedBytesFit : Type 0
-SurveyedBytesFit = (span : Span) (bytes : List ℕ) → TimesAre (times_of (records_in bytes)) span.least span.greatest span.in_order → FitsSpan span bytes
+SurveyedBytesFit = (span : Span) (bytes : List ℕ) → TimesAre (times_of (records_in bytes)) span.least span.greatest span.in_order → span.messages ≡ length (times_of (records_in bytes)) → FitsSpan span bytes
 
 -- the input tells, and the bytes that stand there can be those of the piece's span
 abbrev pub IsTold : Files → Piece → Type 0

@@ -1,4 +1,4 @@
-pub mod Entries
+pub mod Heads
 pub mod Pieces
 pub mod Cursors
 pub mod Stores

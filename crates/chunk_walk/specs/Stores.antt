@@ -4,6 +4,9 @@ use Rattle.std.specs.List.{AllZip}
 use Rattle.mcap_io.specs.Outside.{RisesOnce}
 use Rattle.mcap_io.specs.Stores.{StoreState, StoreStays}
 use Rattle.mcap_model.specs.Places.{At, Each}
+use Rattle.mcap_model.specs.declared.refusals.ReadingRefused.{ReadingRefused}
+use Rattle.mcap_model.specs.declared.refusals.ReadingRefused.TheVariants as readings
+use Rattle.chunk_window.specs.Parts.{LoadCause}
 use Rattle.chunk_walk.specs.declared.answers.WalkRefused.{WalkRefused}
 use Rattle.chunk_walk.specs.declared.answers.WalkRefused.TheVariants as refusals
 use Rattle.chunk_walk.specs.declared.pieces.Piece.{Piece}
@@ -30,9 +33,8 @@ CountStands old new = new.faults ≡ old.faults
 abbrev pub CountsStand : List StoreState → List StoreState → Type 0
 CountsStand olds news = AllZip CountStands olds news
 
--- the count of one of them has risen by one, to this, and those of the others stand
-pub record OneRose (olds news : List StoreState) (faults : ℕ) : Type 0 where
-  pub place : ℕ
+-- the count of the one at that place has risen by one, to this, and those of the others stand
+pub record OneRose (olds news : List StoreState) (place faults : ℕ) : Type 0 where
   pub old : StoreState
   pub new : StoreState
   pub old_at : At olds place old
@@ -52,11 +54,18 @@ unasked w input = bytes_of input (drop w.next w.pieces.items)
 abbrev pub none_left : ℕ → ℕ
 none_left input = 0
 
+-- The counts where a piece of the input of that number isn't loaded. Only faults and a want of memory are refused so.
+abbrev pub UnloadedCounts : List StoreState → List StoreState → ℕ → ReadingRefused → Type 0
+UnloadedCounts olds news input (readings.Fault faults) = OneRose olds news input faults
+UnloadedCounts olds news input (readings.Grammar offset rule) = ⊥
+UnloadedCounts olds news input (readings.Compressed offset name) = ⊥
+UnloadedCounts olds news input (readings.Limit offset) = ⊥
+UnloadedCounts olds news input readings.Memory = CountsStand olds news
+
 -- the counts where a call is refused
 abbrev pub RefusedCounts : List StoreState → List StoreState → WalkRefused → Type 0
-RefusedCounts olds news (refusals.Fault faults) = OneRose olds news faults
 RefusedCounts olds news (refusals.Changed input offset) = CountsStand olds news
-RefusedCounts olds news refusals.Memory = CountsStand olds news
+RefusedCounts olds news (refusals.Refused input why) = UnloadedCounts olds news input why
 
 abbrev pub CountsAfter : {X : Type 0} → List StoreState → List StoreState → Result X WalkRefused → Type 0
 CountsAfter olds news (Ok it) = CountsStand olds news
@@ -76,11 +85,10 @@ pub record LeavesStores {X : Type 0} (olds news : List StoreState) (old new : Wa
 -- ---- one piece
 
 -- the count of its store, where the piece is loaded, or isn't
-abbrev pub PieceCause : ℕ → ℕ → Result Unit WalkRefused → Type 0
-PieceCause before now (Ok it) = now ≡ before
-PieceCause before now (Err (refusals.Fault faults)) = RisesOnce before now × (faults ≡ now)
-PieceCause before now (Err (refusals.Changed input offset)) = ⊥
-PieceCause before now (Err refusals.Memory) = now ≡ before
+abbrev pub PieceCause : Piece → ℕ → ℕ → Result Unit WalkRefused → Type 0
+PieceCause p before now (Ok it) = now ≡ before
+PieceCause p before now (Err (refusals.Changed input offset)) = ⊥
+PieceCause p before now (Err (refusals.Refused input why)) = (input ≡ p.input) × LoadCause before now (Err why)
 
 -- the store of a piece is read, and no other
 pub record ReadsPiece (olds news : List StoreState) (p : Piece) (result : Result Unit WalkRefused) : Type 0 where
@@ -90,4 +98,4 @@ pub record ReadsPiece (olds news : List StoreState) (p : Piece) (result : Result
   pub sets : news ≡ set olds p.input new
   pub stays : StoreStays old new
   pub asked : new.asked ≤ old.asked + p.span.length
-  pub cause : PieceCause old.faults new.faults result
+  pub cause : PieceCause p old.faults new.faults result

@@ -3,8 +3,7 @@ use Rattle.std.specs.Prelude.{◌≡◌, ◌⊎◌, ℕ, ◌+◌, ◌≤◌, Lis
 use Rattle.std.specs.List.{AllZip, flat_map, remove, sum_by}
 use Rattle.mcap_model.specs.Places.{At, Has, Each}
 use Rattle.mcap_model.specs.Tops.{Top, spelled, records_in}
-use Rattle.mcap_model.specs.Scan.{is_message_top}
-use Rattle.chunk_survey.specs.Times.{time_in}
+use Rattle.record_walk.specs.Heads.{time_in, is_headed, heads_in}
 use Rattle.chunk_window.specs.declared.window.Loaded.{Loaded}
 use Rattle.chunk_window.specs.Parts.{loaded_part, bytes_in, BeginsAt, IsLoaded}
 use Rattle.chunk_window.specs.Windows.{loaded_in}
@@ -14,7 +13,7 @@ use Rattle.chunk_walk.specs.declared.answers.WalkRefused.TheVariants as refusals
 use Rattle.chunk_walk.specs.declared.pieces.Piece.{Piece}
 use Rattle.chunk_walk.specs.declared.cursors.Cursor.{Cursor}
 use Rattle.chunk_walk.specs.declared.walk.Walk.{Walk}
-use Rattle.chunk_walk.specs.Entries.{entries_in, AreWithin, FitsSpan}
+use Rattle.chunk_walk.specs.Heads.{AreWithin, FitsSpan}
 use Rattle.chunk_walk.specs.Pieces.{Files, PiecesInOrder, AreBytesOf, BeginTogether, IsSecond, IsInOverlap}
 use Rattle.chunk_walk.specs.Cursors.{turn_of, turns_left, TurnBefore, TurnBeforePiece, HasLeft, IsNext, IsFirst, IsFresh}
 
@@ -47,7 +46,7 @@ text_of p bytes = record { piece = p; bytes = bytes }
 
 -- the turns of its messages, as they stand
 abbrev pub turns_in : Text → List Turn
-turns_in x = map (turn_of x.piece) (entries_in x.bytes)
+turns_in x = map (turn_of x.piece) (heads_in x.bytes)
 
 -- those of all
 abbrev pub turns_of : List Text → List Turn
@@ -69,7 +68,7 @@ pub record IsMessageAt (x : Text) (t : Turn) (r : Top) : Type 0 where
   pub back : List Top
   pub stands : records_in x.bytes ≡ front ++ r ∷ back
   pub place : t.inner ≡ length (spelled front)
-  pub kind : is_message_top r ≡ true
+  pub kind : is_headed r ≡ true
   pub time : t.log_time ≡ time_in r.content
 
 -- ---- what was given
@@ -101,8 +100,8 @@ AllLeft w = Each HasLeft w.cursors.items
 pub record IsHeldAs (loaded : List Piece) (texts : List Text) (c : Cursor) (l : Loaded) : Type 0 where
   pub begins : BeginsAt c.piece.input c.piece.span.at l
   pub size : length l.bytes ≡ c.piece.span.length
-  pub same : IsPermutation (entries_in l.bytes) c.entries.items
-  pub within : AreWithin c.piece.span c.entries.items
+  pub same : IsPermutation (heads_in l.bytes) c.heads.items
+  pub within : AreWithin c.piece.span c.heads.items
   pub there : Has loaded c.piece
   pub text : Has texts (text_of c.piece l.bytes)
 
@@ -160,10 +159,9 @@ LoadsPiece files p old new (Err why) = Unit {0}
 -- A piece that wasn't loaded yet is changed: bytes were loaded for it which can't be those of its span; or another begins
 -- at its place.
 abbrev pub IsRefused : Files → Walk → WalkRefused → Type 0
-IsRefused files w (refusals.Fault faults) = Unit {0}
 IsRefused files w (refusals.Changed input offset) = (p : Piece) × Has (pieces_ahead w) p × (input ≡ p.input) × (offset ≡ p.span.offset)
     × (((bytes : List ℕ) × AreBytesOf files p bytes × (FitsSpan p.span bytes → ⊥)) ⊎ IsSecond w.pieces.items p)
-IsRefused files w refusals.Memory = Unit {0}
+IsRefused files w (refusals.Refused input why) = Unit {0}
 
 abbrev pub StepsOn : Files → Walk → Walk → Result Unit WalkRefused → Type 0
 StepsOn files old new (Ok it) = LoadsNext files old new
@@ -173,7 +171,7 @@ StepsOn files old new (Err why) = IsRefused files old why
 pub record LastGoes (old new : Walk) : Type 0 where
   pub cursor : Cursor
   pub at : At old.cursors.items old.last cursor
-  pub over : length cursor.entries.items ≤ cursor.given
+  pub over : length cursor.heads.items ≤ cursor.given
   pub cursors : new.cursors.items ≡ remove old.cursors.items old.last
   pub loaded : loaded_in new.window ≡ remove (loaded_in old.window) old.last
 
@@ -223,7 +221,7 @@ pub record GivesNext (old new : Walk) (i : ℕ) (t : Turn) : Type 0 where
   pub cursors : new.cursors.items ≡ set old.cursors.items i cursor
   pub is : IsNext old_cursor t
   pub piece : cursor.piece ≡ old_cursor.piece
-  pub entries : cursor.entries ≡ old_cursor.entries
+  pub heads : cursor.heads ≡ old_cursor.heads
   pub given : cursor.given ≡ old_cursor.given + 1
 
 -- ---- what a call gives

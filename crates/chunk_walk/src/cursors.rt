@@ -7,8 +7,10 @@ ghost use Rattle.chunk_walk.specs.declared.answers.WalkRefused.TheVariants as re
 ghost use Rattle.chunk_walk.specs.Cursors.{HasLeft, IsNext, MakesCursor, EarlierOf, PieceTurnNotBehind, FindsFirst, TurnBeforePiece, TellsBefore};
 
 use crate::answers::WalkRefused;
-use crate::entries::{Entry, are_within, list_entries, put_in_order};
+use crate::heads::{are_within, put_in_order};
 use crate::pieces::Piece;
+use mcap_model::ReadingRefused;
+use record_walk::{MessageHead, list_heads};
 use std::alloc::Global;
 
 /// A piece that is loaded, its messages in their order, and how many of them were given. One is left, but for the time between
@@ -16,7 +18,7 @@ use std::alloc::Global;
 #[derive(Drop)]
 pub(crate) struct Cursor {
     pub piece: Piece,
-    pub entries: Vec<Entry>,
+    pub heads: Vec<MessageHead>,
     pub given: usize,
 }
 
@@ -34,39 +36,45 @@ pub(crate) fn changed(piece: &Piece) -> WalkRefused
 pub(crate) fn cursor_of(alloc: Global, piece: Piece, bytes: &[u8]) -> Result<Cursor, WalkRefused>
     ensures { MakesCursor piece bytes.now result }
 {
-    let mut entries = Vec::new(alloc);
-    match list_entries(&mut entries, bytes) {
+    let mut heads = Vec::new(alloc);
+    match list_heads(&mut heads, bytes) {
         Ok(()) => {}
-        Err(_) => return Err(WalkRefused::Memory),
+        Err(_) => return Err(WalkRefused::Refused {
+            input: piece.input,
+            why: ReadingRefused::Memory,
+        }),
     }
-    put_in_order(&mut entries);
-    if entries.is_empty() {
+    put_in_order(&mut heads);
+    if heads.is_empty() {
         return Err(changed(&piece));
     }
-    if !are_within(&entries, &piece.span) {
+    if heads.len() != piece.span.messages as usize {
+        return Err(changed(&piece));
+    }
+    if !are_within(&heads, &piece.span) {
         return Err(changed(&piece));
     }
     return Ok(Cursor {
         piece,
-        entries,
+        heads,
         given: 0,
     });
 }
 
 impl Cursor {
     /// The message that comes next.
-    pub(crate) fn entry(&self) -> Entry
+    pub(crate) fn next_head(&self) -> MessageHead
         requires { HasLeft self.now }
-        ensures { At self.now.entries.items self.now.given result }
+        ensures { At self.now.heads.items self.now.given result }
     {
-        self.entries[self.given]
+        self.heads[self.given]
     }
 
     /// Whether all of its messages were given.
     pub(crate) fn is_over(&self) -> bool
-        ensures { IsTrue result ↔ (length self.now.entries.items ≤ self.now.given) }
+        ensures { IsTrue result ↔ (length self.now.heads.items ≤ self.now.given) }
     {
-        self.given >= self.entries.len()
+        self.given >= self.heads.len()
     }
 }
 
@@ -76,7 +84,7 @@ fn is_not_behind(one: &Cursor, other: &Cursor) -> bool
     requires others { HasLeft other.now }
     ensures { (t u : Coming) → IsNext one.now t → IsNext other.now u → IsTrue result ↔ PieceTurnNotBehind t u }
 {
-    let (a, b) = (one.entry(), other.entry());
+    let (a, b) = (one.next_head(), other.next_head());
     if a.time != b.time {
         return a.time < b.time;
     }
@@ -119,7 +127,7 @@ fn is_before(cursor: &Cursor, piece: &Piece) -> bool
     requires { HasLeft cursor.now }
     ensures { (t : Coming) → IsNext cursor.now t → IsTrue result ↔ TurnBeforePiece t piece.now }
 {
-    let time = cursor.entry().time;
+    let time = cursor.next_head().time;
     if time != piece.span.least {
         return time < piece.span.least;
     }

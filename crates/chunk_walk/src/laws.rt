@@ -1,7 +1,7 @@
 //! When a walk finds a piece changed, each law as the contract of a function that does nothing.
 ghost use Rattle.chunk_walk.specs.Laws.{SurveyedBytesFit, ToldPiecesStay};
 
-/// Bytes whose messages were logged when a span says, as a survey's do, can be those of the span.
+/// Bytes whose messages were logged when a span says, and are as many, as a survey's are, can be those of the span.
 pub fn surveyed_bytes_fit()
     ensures { SurveyedBytesFit }
 {}

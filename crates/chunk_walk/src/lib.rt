@@ -3,7 +3,7 @@
 
 mod answers;
 mod cursors;
-mod entries;
+mod heads;
 mod laws;
 mod pieces;
 #[cfg(test)]

@@ -8,9 +8,10 @@ ghost use Rattle.chunk_walk.specs.Walks.{LoadsPiece};
 use crate::answers::{Turn, WalkRefused};
 use crate::cursors::{Cursor, changed, comes_before, cursor_of, first_due};
 use crate::pieces::{Piece, put_in_order};
-use chunk_window::{Loadable, Window, WindowRefused};
+use chunk_window::{Loadable, Window};
 use mcap_io::Store;
-use mcap_model::{Inner, InnerWalk};
+use mcap_model::{Inner, ReadingRefused};
+use record_walk::first_record;
 use std::alloc::Global;
 
 /// Gives the messages of pieces one after the other. A piece is loaded when its first message may be next, and let go behind
@@ -44,8 +45,10 @@ fn load_piece<T: Store>(
     };
     match window.load(&mut stores[piece.input as usize], at) {
         Ok(()) => return Ok(()),
-        Err(WindowRefused::Fault { faults }) => return Err(WalkRefused::Fault { faults }),
-        Err(WindowRefused::Memory) => return Err(WalkRefused::Memory),
+        Err(why) => return Err(WalkRefused::Refused {
+            input: piece.input,
+            why,
+        }),
     }
 }
 
@@ -89,8 +92,7 @@ impl Walk {
         ensures offset { result.offset ≡ turn.now.inner }
     {
         let bytes = self.window.bytes(turn.input, turn.at);
-        let mut walk = InnerWalk::new(&bytes[turn.inner as usize..]);
-        match walk.next() {
+        match first_record(&bytes[turn.inner as usize..]) {
             Some(inner) => return Inner {
                 op: inner.op,
                 offset: turn.inner,
@@ -123,7 +125,10 @@ impl Walk {
         };
         match self.cursors.push(cursor) {
             Ok(()) => {}
-            Err(_) => return Err(WalkRefused::Memory),
+            Err(_) => return Err(WalkRefused::Refused {
+                input: piece.input,
+                why: ReadingRefused::Memory,
+            }),
         }
         self.peak = self.peak.max(self.window.held());
         self.next += 1;
@@ -175,16 +180,16 @@ impl Walk {
         requires left { AllLeft self.old }
         ensures { GivesNext self.old self.new i result }
     {
-        let entry = self.cursors[i].entry();
+        let head = self.cursors[i].next_head();
         let piece = self.cursors[i].piece;
         self.cursors[i].given += 1;
         self.last = i;
         Turn {
-            log_time: entry.time,
+            log_time: head.time,
             input: piece.input,
             offset: piece.span.offset,
             at: piece.span.at,
-            inner: entry.inner,
+            inner: head.offset,
         }
     }
 

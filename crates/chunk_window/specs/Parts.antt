@@ -1,12 +1,12 @@
 -- What is loaded, and what loading asks of a store.
-use Rattle.std.specs.Prelude.{◌≡◌, ℕ, ◌+◌, ◌<◌, ◌≤◌, List, ◌∷◌, [], ◌++◌, length, take, drop, Option, Some, None, Result, Ok, Err}
+use Rattle.std.specs.Prelude.{◌≡◌, ℕ, ◌+◌, ◌≤◌, List, ◌∷◌, [], ◌++◌, length, take, drop, Option, Some, None, Result, Ok, Err}
 use Rattle.std.specs.List.{sum_by, remove}
 use Rattle.mcap_io.specs.Outside.{RisesOnce}
 use Rattle.mcap_io.specs.Stores.{StoreState}
 use Rattle.mcap_model.specs.Places.{At, Has}
+use Rattle.mcap_model.specs.declared.refusals.ReadingRefused.{ReadingRefused}
+use Rattle.mcap_model.specs.declared.refusals.ReadingRefused.TheVariants as refusals
 use Rattle.chunk_window.specs.declared.answers.Loadable.{Loadable}
-use Rattle.chunk_window.specs.declared.answers.WindowRefused.{WindowRefused}
-use Rattle.chunk_window.specs.declared.answers.WindowRefused.TheVariants as refusals
 use Rattle.chunk_window.specs.declared.window.Loaded.{Loaded}
 
 abbrev pub loaded_part : ℕ → ℕ → List ℕ → Loaded
@@ -35,7 +35,7 @@ pub record IsOf (told : Option (List ℕ)) (at : Loadable) (bytes : List ℕ) : 
   pub told_is : (file : List ℕ) → told ≡ Some file → bytes ≡ take at.length (drop at.offset file)
 
 -- one part more is loaded; or all stays as it was
-abbrev pub Loads : Option (List ℕ) → Loadable → List Loaded → List Loaded → Result Unit WindowRefused → Type 0
+abbrev pub Loads : Option (List ℕ) → Loadable → List Loaded → List Loaded → Result Unit ReadingRefused → Type 0
 Loads told at old new (Ok it) = (bytes : List ℕ) × IsOf told at bytes × (new ≡ old ++ loaded_part at.input at.offset bytes ∷ [])
 Loads told at old new (Err why) = new ≡ old
 
@@ -43,24 +43,28 @@ Loads told at old new (Err why) = new ≡ old
 abbrev pub Releases : ℕ → ℕ → List Loaded → List Loaded → Type 0
 Releases input offset old new = (i : ℕ) × (l : Loaded) × At old i l × BeginsAt input offset l × (new ≡ remove old i)
 
--- a fault comes where the count rises by one, and carries it; else the count stands still
-abbrev pub LoadCause : ℕ → ℕ → Result Unit WindowRefused → Type 0
+-- a fault comes where the count rises by one, and carries it; else the count stands still. Only faults and a want of memory are
+-- refused: the part isn't looked into.
+abbrev pub LoadCause : ℕ → ℕ → Result Unit ReadingRefused → Type 0
 LoadCause before now (Ok it) = now ≡ before
 LoadCause before now (Err (refusals.Fault faults)) = RisesOnce before now × (faults ≡ now)
+LoadCause before now (Err (refusals.Grammar offset rule)) = ⊥
+LoadCause before now (Err (refusals.Compressed offset name)) = ⊥
+LoadCause before now (Err (refusals.Limit offset)) = ⊥
 LoadCause before now (Err refusals.Memory) = now ≡ before
 
 -- what loading so many bytes leaves of a store
-pub record ReadsFrom (old new : StoreState) (len : ℕ) (result : Result Unit WindowRefused) : Type 0 where
+pub record ReadsFrom (old new : StoreState) (len : ℕ) (result : Result Unit ReadingRefused) : Type 0 where
   pub bytes : new.bytes ≡ old.bytes
   pub known : new.known ≡ old.known
   pub asked : new.asked ≤ old.asked + len
   pub cause : LoadCause old.faults new.faults result
 
 -- a room holds the part
-abbrev pub RoomHolds : Option (List ℕ) → Loadable → List ℕ → Result Unit WindowRefused → Type 0
+abbrev pub RoomHolds : Option (List ℕ) → Loadable → List ℕ → Result Unit ReadingRefused → Type 0
 RoomHolds told at room (Ok it) = IsOf told at room
 RoomHolds told at room (Err why) = Unit {0}
 
-pub record FillsRoom (old new : StoreState) (at : Loadable) (room : List ℕ) (result : Result Unit WindowRefused) : Type 0 where
+pub record FillsRoom (old new : StoreState) (at : Loadable) (room : List ℕ) (result : Result Unit ReadingRefused) : Type 0 where
   pub holds : RoomHolds old.bytes at room result
   pub reads : ReadsFrom old new at.length result

@@ -4,5 +4,5 @@
 mod answers;
 mod window;
 
-pub use answers::{Loadable, WindowRefused};
+pub use answers::Loadable;
 pub use window::Window;

@@ -3,8 +3,9 @@ ghost use Rattle.std.specs.Prelude.{◌≡◌, ◌↔◌, ◌+◌, ◌≤◌, Is
 ghost use Rattle.mcap_io.specs.Stores.{ReadsPart};
 ghost use Rattle.chunk_window.specs.Parts.{bytes_in, BeginsAt, FillsRoom, FindsLoaded};
 
-use crate::answers::{Loadable, WindowRefused};
+use crate::answers::Loadable;
 use mcap_io::{Failed, Store};
+use mcap_model::ReadingRefused;
 use mcap_wire::Bytes;
 use std::alloc::Global;
 use std::mem;
@@ -29,17 +30,21 @@ pub struct Window {
 }
 
 // Reads a part into a room, which is as long as the part then.
-fn fill_room<T: Store>(store: &mut T, at: Loadable, room: &mut Vec<u8>) -> Result<(), WindowRefused>
+fn fill_room<T: Store>(
+    store: &mut T,
+    at: Loadable,
+    room: &mut Vec<u8>,
+) -> Result<(), ReadingRefused>
     requires { at.offset + at.length ≤ (T.state store.old).known }
     ensures { FillsRoom (T.state store.old) (T.state store.new) at room.new.items result }
 {
     match room.resize(at.length as usize, 0) {
         Ok(()) => {}
-        Err(_) => return Err(WindowRefused::Memory),
+        Err(_) => return Err(ReadingRefused::Memory),
     }
     match store.read_at(at.offset, room.as_mut_slice()) {
         Ok(()) => return Ok(()),
-        Err(Failed) => return Err(WindowRefused::Fault {
+        Err(Failed) => return Err(ReadingRefused::Fault {
             faults: store.faults(),
         }),
     }
@@ -83,8 +88,9 @@ impl Window {
     }
 
     /// Loads a part of a store, which isn't loaded yet and lies within the length that the store has answered. Where it is
-    /// refused, what is loaded stays. No more than the part is asked of the store, and nothing where memory lacks before.
-    pub fn load<T: Store>(&mut self, store: &mut T, at: Loadable) -> Result<(), WindowRefused>
+    /// refused, for a fault of the store or a want of memory, what is loaded stays. No more than the part is asked of the store,
+    /// and nothing where memory lacks before.
+    pub fn load<T: Store>(&mut self, store: &mut T, at: Loadable) -> Result<(), ReadingRefused>
         requires within { at.offset + at.length ≤ (T.state store.old).known }
         requires unloaded { IsLoaded (loaded_in self.old) at.input at.offset → ⊥ }
         ensures loads { Loads (T.state store.old).bytes at (loaded_in self.old) (loaded_in self.new) result }
@@ -92,7 +98,7 @@ impl Window {
     {
         let held = match self.held.checked_add(at.length) {
             Some(held) => held,
-            None => return Err(WindowRefused::Memory),
+            None => return Err(ReadingRefused::Memory),
         };
         let mut room = mem::replace(&mut self.spare, Vec::new(self.alloc));
         match fill_room(store, at, &mut room) {
@@ -112,7 +118,7 @@ impl Window {
                 self.held = held;
                 return Ok(());
             }
-            Err(_) => return Err(WindowRefused::Memory),
+            Err(_) => return Err(ReadingRefused::Memory),
         }
     }
 

@@ -6,6 +6,7 @@ use Rattle.std.proofs.lemmas.Bool.{eqb-true, eq-eqb, both_ways}
 use Rattle.std.proofs.lemmas.List.Sums.{sum_by-take-drop}
 use Rattle.mcap_io.specs.Outside.{RisesOnce}
 use Rattle.mcap_io.specs.Stores.{StoreState, StoreStays}
+use Rattle.mcap_model.specs.declared.refusals.ReadingRefused.TheVariants as readings
 use Rattle.mcap_model.specs.Places.{At}
 use Rattle.mcap_model.proofs.Places.{at_none, at_one}
 use Rattle.mcap_model.proofs.Lists.{each_cons}
@@ -70,11 +71,10 @@ module _ (olds mids news : List StoreState) (stay : StoresStay mids news) where
       let same : w ≡ z = at_one news k w z at_w at_z in
       subst (CountStands x) same (last ∙ first))
 
-  pub rose_behind : (faults : ℕ) → AllZip CountStands olds mids → walks.OneRose mids news faults → OneRose olds news faults
-  rose_behind faults one rose =
-      let (s, at_s, same) = zip_back CountStands olds mids rose.place rose.old one rose.old_at in
+  pub rose_behind : (k faults : ℕ) → AllZip CountStands olds mids → walks.OneRose mids news k faults → OneRose olds news k faults
+  rose_behind k faults one rose =
+      let (s, at_s, same) = zip_back CountStands olds mids k rose.old one rose.old_at in
       let others = rose.others in (
-        rose.place,
         s,
         rose.new,
         at_s,
@@ -115,27 +115,30 @@ stood mids news stand k x y at_x at_y =
     let equal : z.faults ≡ y.faults = ap (λ (s : StoreState). s.faults) (at_one news k z y at_z at_y) in
     omega (arith, same, equal)
 
-pub risen : (mids news : List StoreState) (faults : ℕ) → walks.OneRose mids news faults → (k : ℕ) (x y : StoreState) → At mids k x → At news k y → x.faults ≤ y.faults
-risen mids news faults rose k x y at_x at_y = by (k == rose.place) refl
+pub risen : (mids news : List StoreState) (place faults : ℕ) → walks.OneRose mids news place faults → (k : ℕ) (x y : StoreState) → At mids k x → At news k y → x.faults ≤ y.faults
+risen mids news place faults rose k x y at_x at_y = by (k == place) refl
   where
-    by : (b : Bool) → (k == rose.place) ≡ b → x.faults ≤ y.faults
+    by : (b : Bool) → (k == place) ≡ b → x.faults ≤ y.faults
     by true e =
-        let same : k ≡ rose.place = eqb-true k rose.place e in
+        let same : k ≡ place = eqb-true k place e in
         let first : x.faults ≡ rose.old.faults = ap (λ (s : StoreState). s.faults) (at_one mids k x rose.old at_x (subst (λ (n : ℕ). At mids n rose.old) (sym same) rose.old_at)) in
         let last : y.faults ≡ rose.new.faults = ap (λ (s : StoreState). s.faults) (at_one news k y rose.new at_y (subst (λ (n : ℕ). At news n rose.new) (sym same) rose.new_at)) in
         let later = rose.rises.later in
         omega (arith, first, last, later)
     by false e =
         let others = rose.others in
-        let still : y.faults ≡ x.faults = others k x y (λ same. absurd (both_ways (k == rose.place) e (eq-eqb k rose.place same))) at_x at_y in
+        let still : y.faults ≡ x.faults = others k x y (λ same. absurd (both_ways (k == place) e (eq-eqb k place same))) at_x at_y in
         omega (arith, still)
 
 pub unfallen : {X : Type 0} (mids news : List StoreState) (before now : ℕ) (result : Result X PutRefused) → PutCounts mids news before now result → (k : ℕ) (x y : StoreState) → At mids k x → At news k y → x.faults ≤ y.faults
 unfallen mids news before now (Ok it) counts = stood mids news counts.0
 unfallen mids news before now (Err (puts.Stopped stop)) counts = stood mids news counts.0
-unfallen mids news before now (Err (puts.Unread (refusals.Fault faults))) counts = risen mids news faults counts.0
 unfallen mids news before now (Err (puts.Unread (refusals.Changed input offset))) counts = stood mids news counts.0
-unfallen mids news before now (Err (puts.Unread refusals.Memory)) counts = stood mids news counts.0
+unfallen mids news before now (Err (puts.Unread (refusals.Refused input (readings.Fault faults)))) counts = risen mids news input faults counts.0
+unfallen mids news before now (Err (puts.Unread (refusals.Refused input (readings.Grammar offset rule)))) counts = absurd counts.0
+unfallen mids news before now (Err (puts.Unread (refusals.Refused input (readings.Compressed offset name)))) counts = absurd counts.0
+unfallen mids news before now (Err (puts.Unread (refusals.Refused input (readings.Limit offset)))) counts = absurd counts.0
+unfallen mids news before now (Err (puts.Unread (refusals.Refused input readings.Memory))) counts = stood mids news counts.0
 
 -- ---- nothing was read
 

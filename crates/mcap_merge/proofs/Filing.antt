@@ -10,7 +10,7 @@ use Rattle.mcap_model.specs.Blocks.{pieces_of, blocks_in}
 use Rattle.mcap_model.specs.File.{file_of}
 use Rattle.chunk_writer.specs.declared.scribe.Scribe.{Scribe}
 use Rattle.chunk_writer.specs.declared.phase.Phase.TheVariants as phases
-use Rattle.chunk_writer.specs.Stops.{StopsAt}
+use Rattle.chunk_writer.specs.Stops.{numbers, StopsAt}
 use Rattle.chunk_writer.specs.Limits.{Holds}
 use Rattle.chunk_writer.specs.Scribes.{Writes, Grows, Gathers, phase_of}
 use Rattle.chunk_walk.specs.Pieces.{Files}
@@ -53,7 +53,7 @@ module _ {L : Type 0} (seen : L → LiveState) (options : FileOptions) (opened :
       let stands = (adds options [] opened [] begun).0 in
       let at = stands.stopped in
       let behind = at stop stopped extras [] in
-      (new.plan.blocks, new.plan.bytes, subst (λ (h : List Rec). StopsAt options extras h opened.held (seen new.store).held stop new.plan.blocks new.plan.bytes) (append-nil history) behind.stops)
+      (new.plan.blocks, new.plan.bytes, subst (λ (h : List Rec). StopsAt options extras h opened.held (seen new.store).held stop (numbers new.plan.blocks new.plan.bytes)) (append-nil history) behind.stops)
 
   -- or came to the end of its file
   ended_there : (all : Scribe L) (extras : List Top) (history : List Rec) (end : Result Unit Stop) → AddsTo seen old all extras history → EndsWithin seen all new end → FileStands options extras history opened (seen new.store) end
@@ -101,7 +101,7 @@ module _ {L : Type 0} (seen : L → LiveState) (options : FileOptions) (opened :
   stops_filed start why (inr (stop, is, m, ends)) = inr (stop, is, m, whole_filed start m (Err stop) ends)
 
 -- the front wasn't written
-pub not_opened : (files : Files) (inputs : List Input) (b : Begun) (options : FileOptions) (opened now : LiveState) (stop : Stop) → IsBegun inputs b → ((extras : List Top) (history : List Rec) → StopsAt options extras history opened.held now.held stop 0 0)
+pub not_opened : (files : Files) (inputs : List Input) (b : Begun) (options : FileOptions) (opened now : LiveState) (stop : Stop) → IsBegun inputs b → ((extras : List Top) (history : List Rec) → StopsAt options extras history opened.held now.held stop (numbers 0 0))
     → FileStops options (record { files = files; inputs = inputs; walk = b.walk }) opened now (puts.Stopped stop)
 not_opened files inputs b options opened now stop begun stops = inl (record {
   walk = b.walk;

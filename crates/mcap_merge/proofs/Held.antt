@@ -7,7 +7,7 @@ use Rattle.std.proofs.lemmas.List.Elements.{filter-append}
 use Rattle.mcap_io.specs.Outside.{SourceState}
 use Rattle.rec_data.specs.Records.{ShowsHeader}
 use Rattle.mcap_model.specs.Declarations.{TablesOf}
-use Rattle.mcap_model.specs.Tops.{Top, top_bytes, spelled, offset_behind, flat}
+use Rattle.mcap_model.specs.Tops.{Top, top_bytes, spelled, offset_behind, opened, flat}
 use Rattle.mcap_model.specs.Made.{top}
 use Rattle.mcap_model.specs.Fields.{IsHeader}
 use Rattle.mcap_model.specs.Kept.{reading_limits, Good}
@@ -26,7 +26,7 @@ use Rattle.mcap_merge.specs.declared.input.Holding.{Holding}
 use Rattle.mcap_merge.specs.declared.input.Input.{Input}
 use Rattle.mcap_merge.specs.Marks.{channels_under, with_marks, AreUnmarked, AreMarked}
 use Rattle.mcap_merge.specs.Inputs.{extra_tops, KeepsExtra, KeepsProfile, HoldsRecord, HoldsNothing, IsInputOf, HoldsInput}
-use Rattle.mcap_merge.proofs.Marking.{length_marks, marks_more, are_marked}
+use Rattle.mcap_merge.proofs.Marking.{length_marks, channels_listed, marks_more, are_marked}
 
 -- these are the marks of the channels of those records' messages
 pub record MarksStand (tops : List Top) (marks : List Bool) : Type 0 where
@@ -106,7 +106,7 @@ holds_on reader reader_new before now now_new old new op offset was gives holds 
           ∙ ap (λ (l : List Span). l ++ spans_one offset t) was.spans_are
           ∙ ap (λ (n : ℕ). spans_of tops ++ spans_one n t) gives.place
           ∙ sym (spans_joined 8 tops t);
-      used_are = record { blank = used.blank; none = used.none; are = marks_more used.blank old.used.items new.used.items tops t used.are holds.used };
+      used_are = record { blank = used.blank; none = used.none; are = marks_more used.blank old.used.items new.used.items tops t used.are (holds.used ∙ ap (with_marks old.used.items) (channels_listed 0 (opened t))) };
       extras_are = extras_on tops t old.extras.items new.extras.items was.extras_are holds.extra;
       profile_is = profile_on tops t offset old.profile new.profile (offset == 8) refl gives.place good holds.profile was.profile_is;
     }

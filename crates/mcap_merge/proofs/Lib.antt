@@ -1,3 +1,4 @@
+mod Headed
 mod Marking
 mod Held
 mod Joined

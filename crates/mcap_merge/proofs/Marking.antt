@@ -1,5 +1,5 @@
 -- Which channels are marked.
-use Rattle.std.proofs.Common.{◌≡◌, ◌⊎◌, ℕ, zero, suc, ◌<◌, Bool, true, false, List, [], ◌∷◌, ◌++◌, length, take, map, set, cond, Some, refl, sym, ap, subst, inl, inr, ◌∙◌, append-nil, arith}
+use Rattle.std.proofs.Common.{◌≡◌, ◌⊎◌, ℕ, zero, suc, ◌+◌, ◌<◌, Bool, true, false, List, [], ◌∷◌, ◌++◌, length, take, map, set, cond, Some, refl, sym, ap, subst, inl, inr, ◌∙◌, append-nil, arith}
 use Rattle.std.specs.Prelude.{filter, ◌^◌}
 use Rattle.std.specs.List.{AllZip}
 use Rattle.std.proofs.lemmas.Bool.{eqb-true}
@@ -13,14 +13,16 @@ use Rattle.rec_data.specs.Records.{ShowsMessage}
 use Rattle.mcap_model.specs.Places.{At, Has}
 use Rattle.mcap_model.specs.Fields.{MessageFields}
 use Rattle.mcap_model.specs.Made.{top}
-use Rattle.mcap_model.specs.Tops.{Top, Placed, opened, records_in, is_flat_kind, flattened, flat, placed}
+use Rattle.mcap_model.specs.Tops.{Top, Placed, top_bytes, opened, records_in, is_flat_kind, flattened, flat, placed}
 use Rattle.mcap_model.specs.Scan.{Seen, IsSeen, Scan, is_message_top, tops_of}
 use Rattle.mcap_model.proofs.Places.{at_none, at_one, at_set, at_set_same}
 use Rattle.mcap_model.proofs.NamedTopics.{unmapped, zip_back}
 use Rattle.mcap_model.proofs.Flat.{placed_tops, at_mapped, map-append}
-use Rattle.mcap_model.proofs.Unpacking.{chunks_are_opened}
-use Rattle.mcap_model.specs.Fields.{ChunkFields, IsChunk}
-use Rattle.mcap_merge.specs.Marks.{channel_in, channels_of, channels_under, with_mark, with_marks, AreUnmarked, AreMarked}
+use Rattle.record_walk.specs.declared.heads.MessageHead.{MessageHead}
+use Rattle.record_walk.specs.Heads.{channel_in, is_headed, head_of}
+use Rattle.chunk_survey.specs.Heads.{set_at, heads_one, heads_from}
+use Rattle.mcap_merge.proofs.Headed.{headed_message, scan_headed}
+use Rattle.mcap_merge.specs.Marks.{channels_in, channels_of, channels_under, with_mark, with_marks, AreUnmarked, AreMarked}
 
 -- ---- marks
 
@@ -72,41 +74,41 @@ zip_channels records (p ∷ ps) (m ∷ ms) zip =
     ap (λ (l : List ℕ). m.channel ∷ l) (zip_channels records ps ms zip.1)
     ∙ ap (λ (n : ℕ). n ∷ map (λ (q : Placed). channel_in q.top.content) ps) (sym (channel_shown p.top.content m.channel m.message zip.0.is.layout))
 
-of_placed : (ps : List Placed) → map (λ p. channel_in p.top.content) (filter (λ p. is_message_top p.top) ps) ≡ channels_of (tops_of ps)
+of_placed : (ps : List Placed) → map (λ p. channel_in p.top.content) (filter (λ p. is_headed p.top) ps) ≡ channels_of (tops_of ps)
 of_placed [] = refl
-of_placed (p ∷ ps) = by (is_message_top p.top) (of_placed ps)
+of_placed (p ∷ ps) = by (is_headed p.top) (of_placed ps)
   where
-    by : (b : Bool) → map (λ (q : Placed). channel_in q.top.content) (filter (λ q. is_message_top q.top) ps) ≡ channels_of (tops_of ps)
-        → map (λ (q : Placed). channel_in q.top.content) (cond b (p ∷ filter (λ q. is_message_top q.top) ps) (filter (λ q. is_message_top q.top) ps)) ≡ map (λ (t : Top). channel_in t.content) (cond b (p.top ∷ filter is_message_top (tops_of ps)) (filter is_message_top (tops_of ps)))
+    by : (b : Bool) → map (λ (q : Placed). channel_in q.top.content) (filter (λ q. is_headed q.top) ps) ≡ channels_of (tops_of ps)
+        → map (λ (q : Placed). channel_in q.top.content) (cond b (p ∷ filter (λ q. is_headed q.top) ps) (filter (λ q. is_headed q.top) ps)) ≡ map (λ (t : Top). channel_in t.content) (cond b (p.top ∷ filter is_headed (tops_of ps)) (filter is_headed (tops_of ps)))
     by true rest = ap (λ (l : List ℕ). channel_in p.top.content ∷ l) rest
     by false rest = rest
 
 channels_joined : (xs ys : List Top) → channels_of (xs ++ ys) ≡ channels_of xs ++ channels_of ys
-channels_joined xs ys = ap (map (λ (t : Top). channel_in t.content)) (filter-append is_message_top xs ys) ∙ map-append (λ (t : Top). channel_in t.content) (filter is_message_top xs) (filter is_message_top ys)
+channels_joined xs ys = ap (map (λ (t : Top). channel_in t.content)) (filter-append is_headed xs ys) ∙ map-append (λ (t : Top). channel_in t.content) (filter is_headed xs) (filter is_headed ys)
 
 -- a Message is of a flat kind
-pub messages_flat : (ts : List Top) → filter is_message_top (filter is_flat_kind ts) ≡ filter is_message_top ts
+pub messages_flat : (ts : List Top) → filter is_headed (filter is_flat_kind ts) ≡ filter is_headed ts
 messages_flat [] = refl
-messages_flat (t ∷ ts) = by (is_message_top t) refl (messages_flat ts)
+messages_flat (t ∷ ts) = by (is_headed t) refl (messages_flat ts)
   where
     kept : (op : ℕ) (content : List ℕ) → op ≡ 5 → is_flat_kind (top op content) ≡ true
     kept op content is = subst (λ (n : ℕ). is_flat_kind (top n content) ≡ true) (sym is) refl
 
-    left : (b : Bool) → is_message_top t ≡ false → filter is_message_top (filter is_flat_kind ts) ≡ filter is_message_top ts
-        → filter is_message_top (cond b (t ∷ filter is_flat_kind ts) (filter is_flat_kind ts)) ≡ filter is_message_top ts
-    left true other rest = ap (λ (c : Bool). cond c (t ∷ filter is_message_top (filter is_flat_kind ts)) (filter is_message_top (filter is_flat_kind ts))) other ∙ rest
+    left : (b : Bool) → is_headed t ≡ false → filter is_headed (filter is_flat_kind ts) ≡ filter is_headed ts
+        → filter is_headed (cond b (t ∷ filter is_flat_kind ts) (filter is_flat_kind ts)) ≡ filter is_headed ts
+    left true other rest = ap (λ (c : Bool). cond c (t ∷ filter is_headed (filter is_flat_kind ts)) (filter is_headed (filter is_flat_kind ts))) other ∙ rest
     left false other rest = rest
 
-    by : (b : Bool) → is_message_top t ≡ b → filter is_message_top (filter is_flat_kind ts) ≡ filter is_message_top ts
-        → filter is_message_top (filter is_flat_kind (t ∷ ts)) ≡ filter is_message_top (t ∷ ts)
+    by : (b : Bool) → is_headed t ≡ b → filter is_headed (filter is_flat_kind ts) ≡ filter is_headed ts
+        → filter is_headed (filter is_flat_kind (t ∷ ts)) ≡ filter is_headed (t ∷ ts)
     by true is rest =
-        ap (λ (c : Bool). filter is_message_top (cond c (t ∷ filter is_flat_kind ts) (filter is_flat_kind ts))) (kept t.op t.content (eqb-true t.op 5 is))
-        ∙ ap (λ (c : Bool). cond c (t ∷ filter is_message_top (filter is_flat_kind ts)) (filter is_message_top (filter is_flat_kind ts))) is
+        ap (λ (c : Bool). filter is_headed (cond c (t ∷ filter is_flat_kind ts) (filter is_flat_kind ts))) (kept t.op t.content (eqb-true t.op 5 (headed_message t is)))
+        ∙ ap (λ (c : Bool). cond c (t ∷ filter is_headed (filter is_flat_kind ts)) (filter is_headed (filter is_flat_kind ts))) is
         ∙ ap (λ (l : List Top). t ∷ l) rest
-        ∙ sym (ap (λ (c : Bool). cond c (t ∷ filter is_message_top ts) (filter is_message_top ts)) is)
+        ∙ sym (ap (λ (c : Bool). cond c (t ∷ filter is_headed ts) (filter is_headed ts)) is)
     by false other rest =
         left (is_flat_kind t) other rest
-        ∙ sym (ap (λ (c : Bool). cond c (t ∷ filter is_message_top ts) (filter is_message_top ts)) other)
+        ∙ sym (ap (λ (c : Bool). cond c (t ∷ filter is_headed ts) (filter is_headed ts)) other)
 
 channels_flat : (tops : List Top) → channels_of (flat tops) ≡ channels_under tops
 channels_flat [] = refl
@@ -119,6 +121,7 @@ channels_flat (t ∷ ts) =
 scan_channels : (tops : List Top) (messages : List Seen) → Scan tops messages → map (λ s. s.channel) messages ≡ channels_under tops
 scan_channels tops messages scan =
     zip_channels (tops_of (placed tops)) (filter (λ p. is_message_top p.top) (placed tops)) messages scan
+    ∙ ap (map (λ (p : Placed). channel_in p.top.content)) (sym (scan_headed (tops_of (placed tops)) (placed tops) messages scan))
     ∙ of_placed (placed tops)
     ∙ ap channels_of (placed_tops 8 tops)
     ∙ channels_flat tops
@@ -145,11 +148,6 @@ are_marked tops messages blank marks none is scan =
     true_false : true ≡ false → ⊥
     true_false e = cc
 
--- a chunk's records are those of the chunk that is parsed
-pub chunk_channels : (op : ℕ) (content : List ℕ) (f : ChunkFields) → op ≡ 6 → IsChunk (top 6 content) f → channels_of (records_in f.records) ≡ channels_of (opened (top op content))
-chunk_channels op content f is shows =
-    ap (λ (l : List ℕ). channels_of (records_in l)) (sym (chunks_are_opened (top 6 content) f shows)) ∙ ap (λ (n : ℕ). channels_of (opened (top n content))) (sym is)
-
 -- ---- one record more
 
 pub marks_more : (blank old new : List Bool) (tops : List Top) (t : Top) → old ≡ with_marks blank (channels_under tops) → new ≡ with_marks old (channels_of (opened t)) → new ≡ with_marks blank (channels_under (tops ++ t ∷ []))
@@ -159,25 +157,22 @@ marks_more blank old new tops t was grown =
     ∙ sym (fold-append with_mark blank (channels_under tops) (channels_of (opened t)))
     ∙ sym (ap (with_marks blank) (flat_map-append (λ (u : Top). channels_of (opened u)) tops (t ∷ []) ∙ ap (λ (l : List ℕ). channels_under tops ++ l) (append-nil (channels_of (opened t)))))
 
--- ---- what a walk marks
+-- ---- what is listed
 
-channels_one : (t : Top) (b : Bool) → is_message_top t ≡ b → channels_of (t ∷ []) ≡ cond b (channel_in t.content ∷ []) []
-channels_one t b is = ap (λ (c : Bool). map (λ (u : Top). channel_in u.content) (cond c (t ∷ []) [])) is ∙ by b
+channels_one : (at : ℕ) (t : Top) (b : Bool) → is_headed t ≡ b → channels_in (heads_one at t) ≡ channels_of (t ∷ [])
+channels_one at t b is =
+    ap (λ (c : Bool). channels_in (cond c (head_of (set_at at t) ∷ []) [])) is
+    ∙ by b
+    ∙ sym (ap (λ (c : Bool). map (λ (u : Top). channel_in u.content) (cond c (t ∷ []) [])) is)
   where
-    by : (c : Bool) → map (λ (u : Top). channel_in u.content) (cond c (t ∷ []) []) ≡ cond c (channel_in t.content ∷ []) []
+    by : (c : Bool) → channels_in (cond c (head_of (set_at at t) ∷ []) []) ≡ map (λ (u : Top). channel_in u.content) (cond c (t ∷ []) [])
     by true = refl
     by false = refl
 
-channels_with : (done : List Top) (t : Top) → is_message_top t ≡ true → channels_of (done ++ t ∷ []) ≡ channels_of done ++ channel_in t.content ∷ []
-channels_with done t is = channels_joined done (t ∷ []) ∙ ap (λ (l : List ℕ). channels_of done ++ l) (channels_one t true is)
-
-pub mark_more : (blank old new : List Bool) (done : List Top) (t : Top) → old ≡ with_marks blank (channels_of done) → is_message_top t ≡ true → new ≡ with_mark old (channel_in t.content) → new ≡ with_marks blank (channels_of (done ++ t ∷ []))
-mark_more blank old new done t was is grown =
-    grown
-    ∙ ap (λ (l : List Bool). with_mark l (channel_in t.content)) was
-    ∙ sym (fold-append with_mark blank (channels_of done) (channel_in t.content ∷ []))
-    ∙ sym (ap (with_marks blank) (channels_with done t is))
-
-pub mark_same : (blank old : List Bool) (done : List Top) (t : Top) → old ≡ with_marks blank (channels_of done) → is_message_top t ≡ false → old ≡ with_marks blank (channels_of (done ++ t ∷ []))
-mark_same blank old done t was is =
-    was ∙ sym (ap (with_marks blank) (channels_joined done (t ∷ []) ∙ ap (λ (l : List ℕ). channels_of done ++ l) (channels_one t false is) ∙ append-nil (channels_of done)))
+pub channels_listed : (at : ℕ) (tops : List Top) → channels_in (heads_from at tops) ≡ channels_of tops
+channels_listed at [] = refl
+channels_listed at (t ∷ ts) =
+    map-append (λ (h : MessageHead). h.channel) (heads_one at t) (heads_from (at + length (top_bytes t)) ts)
+    ∙ ap (λ (l : List ℕ). l ++ channels_in (heads_from (at + length (top_bytes t)) ts)) (channels_one at t (is_headed t) refl)
+    ∙ ap (λ (l : List ℕ). channels_of (t ∷ []) ++ l) (channels_listed (at + length (top_bytes t)) ts)
+    ∙ sym (channels_joined (t ∷ []) ts)

@@ -7,6 +7,7 @@ use Rattle.mcap_io.specs.Outside.{LiveState}
 use Rattle.mcap_io.specs.Stores.{StoreState}
 use Rattle.mcap_model.specs.declared.options.FileOptions.{FileOptions}
 use Rattle.mcap_model.specs.declared.ends.Stop.{Stop}
+use Rattle.mcap_model.specs.declared.refusals.ReadingRefused.TheVariants as refusals
 use Rattle.mcap_model.specs.Places.{At, Has, Each}
 use Rattle.mcap_model.specs.Tops.{Top}
 use Rattle.mcap_model.specs.Kept.{Good, reading_limits}
@@ -240,16 +241,19 @@ module _ (olds mids : List StoreState) (chunk : ℕ) (r : Ready) (ready : IsRead
           cause = counts.1;
         },
       ))
-  files_some news opened now (puts.Unread (walks.Fault faults)) why stay stops counts cause answer =
-      inr (inr (files_cut news opened now why (walks.Fault faults) stops counts.1 (subst (IsCutBy olds news) (sym answer) (rose_behind olds mids news stay faults ready.still counts.0))))
   files_some news opened now (puts.Unread (walks.Changed input offset)) why stay stops counts cause answer =
       let other : TellsNot olds input = λ s at bytes told.
       let tell : TellsAt olds input = λ store there. (bytes, ap (λ (x : StoreState). x.bytes) (at_one olds input store s there at) ∙ told) in
       told_stays olds reads inputs r.begun.walk input offset tell (listed_of (pieces_in r.begun.walk) refl) (subst (λ (f : Files). IsChanged f r.begun.walk inputs input offset) same_files cause) in
-      let because : IsCutBy olds news (merges.Grammar input offset) = (changed_within input offset (stores_fit_in mids inputs (pieces_in r.begun.walk) ready.fits ready.begun.pieces) cause, counts_behind olds mids news stay ready.still counts.0, other) in
+      let because : IsCutBy olds news (merges.Changed input offset) = (changed_within input offset (stores_fit_in mids inputs (pieces_in r.begun.walk) ready.fits ready.begun.pieces) cause, counts_behind olds mids news stay ready.still counts.0, other) in
       inr (inr (files_cut news opened now why (walks.Changed input offset) stops counts.1 (subst (IsCutBy olds news) (sym answer) because)))
-  files_some news opened now (puts.Unread walks.Memory) why stay stops counts cause answer =
-      inr (inr (files_cut news opened now why walks.Memory stops counts.1 (subst (IsCutBy olds news) (sym answer) (counts_behind olds mids news stay ready.still counts.0))))
+  files_some news opened now (puts.Unread (walks.Refused input (refusals.Fault faults))) why stay stops counts cause answer =
+      inr (inr (files_cut news opened now why (walks.Refused input (refusals.Fault faults)) stops counts.1 (subst (IsCutBy olds news) (sym answer) (rose_behind olds mids news stay input faults ready.still counts.0))))
+  files_some news opened now (puts.Unread (walks.Refused input (refusals.Grammar offset rule))) why stay stops counts cause answer = absurd counts.0
+  files_some news opened now (puts.Unread (walks.Refused input (refusals.Compressed offset name))) why stay stops counts cause answer = absurd counts.0
+  files_some news opened now (puts.Unread (walks.Refused input (refusals.Limit offset))) why stay stops counts cause answer = absurd counts.0
+  files_some news opened now (puts.Unread (walks.Refused input refusals.Memory)) why stay stops counts cause answer =
+      inr (inr (files_cut news opened now why (walks.Refused input refusals.Memory) stops counts.1 (subst (IsCutBy olds news) (sym answer) (counts_behind olds mids news stay ready.still counts.0))))
 
   -- ---- what the stores are then
 

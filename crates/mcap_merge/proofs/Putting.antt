@@ -22,7 +22,7 @@ use Rattle.chunk_walk.specs.declared.answers.WalkRefused.TheVariants as walks
 use Rattle.chunk_walk.specs.declared.pieces.Piece.{Piece}
 use Rattle.chunk_walk.specs.declared.walk.Walk.{Walk}
 use Rattle.chunk_walk.specs.Cursors.{turn_of}
-use Rattle.chunk_walk.specs.Entries.{entries_in}
+use Rattle.record_walk.specs.Heads.{heads_in}
 use Rattle.chunk_walk.specs.Pieces.{Files}
 use Rattle.chunk_walk.specs.Stores.{StoresFit, StoresStay, LeavesStores, AskedWithin, none_left}
 use Rattle.chunk_walk.specs.Walks.{Text, turns_in, pieces_in, IsTextOf, IsMessageAt, IsRefused, WalkStands, IsOfHeld, Advances}
@@ -44,7 +44,7 @@ use Rattle.mcap_merge.proofs.Sources.{sent, message_from}
 
 pub turn_input : (x : Text) (t : Turn) → Has (turns_in x) t → x.piece.input ≡ t.input
 turn_input x t has =
-    let (e, at, same) = unmapped (turn_of x.piece) (entries_in x.bytes) has.0 t has.1 in
+    let (e, at, same) = unmapped (turn_of x.piece) (heads_in x.bytes) has.0 t has.1 in
     ap (λ (u : Turn). u.input) same
 
 pub input_there : (files : Files) (stores : List StoreState) (w : Walk) (texts : List Text) (given : List Turn) (t : Turn) (count : ℕ) → WalkStands files w texts given → IsOfHeld w texts t → StoresFit stores w.pieces.items → length stores ≡ count → t.input < count
@@ -262,9 +262,8 @@ asked_in_all a b f g within k old new at_old at_new =
 
 -- the walk is refused
 pub why_refused : (files theirs : Files) (start w : Walk) (inputs : List Input) (why : WalkRefused) → theirs ≡ files → w.pieces ≡ start.pieces → IsRefused theirs w why → WhyUnread files start inputs why
-why_refused files theirs start w inputs (walks.Fault faults) is same refused = tt
 why_refused files theirs start w inputs (walks.Changed input offset) is same refused = inl (w, ap (λ v. v.items) same, subst (λ (f : Files). IsRefused f w (walks.Changed input offset)) is refused)
-why_refused files theirs start w inputs walks.Memory is same refused = tt
+why_refused files theirs start w inputs (walks.Refused input why) is same refused = tt
 
 -- the record of a turn is no message that may be put
 pub why_other : (files : Files) (start after : Walk) (inputs : List Input) (texts : List Text) (given : List Turn) (t : Turn) (input : Input) (top : Top) → WalkStands files after texts given → (held : IsOfHeld after texts t) → after.pieces ≡ start.pieces → At inputs t.input input → IsMessageAt held.text t top

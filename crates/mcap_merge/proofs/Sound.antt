@@ -15,7 +15,7 @@ use Rattle.mcap_model.specs.Laws.{IsReadBack, IsExtra}
 use Rattle.mcap_model.specs.Merged.{Sent, MergesBefore, IsMerged, MergeOf}
 use Rattle.mcap_model.proofs.Lists.{pairs_at, pairs_from}
 use Rattle.mcap_model.proofs.NamedTopics.{zip_front, zip_back}
-use Rattle.chunk_survey.specs.Times.{time_in}
+use Rattle.record_walk.specs.Heads.{time_in}
 use Rattle.chunk_walk.specs.declared.answers.Turn.{Turn}
 use Rattle.chunk_walk.specs.Cursors.{TurnBefore}
 use Rattle.chunk_walk.specs.Walks.{Text}

@@ -13,10 +13,12 @@ use Rattle.mcap_model.proofs.Lists.{at_either, at_second}
 use Rattle.mcap_model.proofs.NamedTopics.{unmapped}
 use Rattle.mcap_model.proofs.Flat.{placed_tops, map-append}
 use Rattle.chunk_survey.specs.declared.spans.Span.{Span}
-use Rattle.chunk_survey.specs.Times.{time_in, times_of}
+use Rattle.record_walk.specs.Heads.{time_in, is_headed}
+use Rattle.chunk_survey.specs.Times.{times_of}
 use Rattle.chunk_survey.specs.Spans.{spans_one, spans_from, spans_of}
 use Rattle.chunk_survey.proofs.Telling.{spans_tell_times}
 use Rattle.mcap_merge.specs.Inputs.{Read, tops_of}
+use Rattle.mcap_merge.proofs.Headed.{scan_headed}
 use Rattle.mcap_merge.proofs.Marking.{messages_flat}
 use Rattle.mcap_merge.proofs.Sound.{time_shown}
 use Rattle.mcap_merge.proofs.Sources.{sent, message_from}
@@ -31,17 +33,17 @@ zip_times records (p ∷ ps) (m ∷ ms) zip =
     ap (λ (l : List ℕ). m.message.log_time ∷ l) (zip_times records ps ms zip.1)
     ∙ ap (λ (n : ℕ). n ∷ map (λ (q : Placed). time_in q.top.content) ps) (sym (time_shown p.top.content m.channel m.message zip.0.is.layout))
 
-of_placed : (ps : List Placed) → map (λ p. time_in p.top.content) (filter (λ p. is_message_top p.top) ps) ≡ times_of (tops_in ps)
+of_placed : (ps : List Placed) → map (λ p. time_in p.top.content) (filter (λ p. is_headed p.top) ps) ≡ times_of (tops_in ps)
 of_placed [] = refl
-of_placed (p ∷ ps) = by (is_message_top p.top) (of_placed ps)
+of_placed (p ∷ ps) = by (is_headed p.top) (of_placed ps)
   where
-    by : (b : Bool) → map (λ (q : Placed). time_in q.top.content) (filter (λ q. is_message_top q.top) ps) ≡ times_of (tops_in ps)
-        → map (λ (q : Placed). time_in q.top.content) (cond b (p ∷ filter (λ q. is_message_top q.top) ps) (filter (λ q. is_message_top q.top) ps)) ≡ map (λ (t : Top). time_in t.content) (cond b (p.top ∷ filter is_message_top (tops_in ps)) (filter is_message_top (tops_in ps)))
+    by : (b : Bool) → map (λ (q : Placed). time_in q.top.content) (filter (λ q. is_headed q.top) ps) ≡ times_of (tops_in ps)
+        → map (λ (q : Placed). time_in q.top.content) (cond b (p ∷ filter (λ q. is_headed q.top) ps) (filter (λ q. is_headed q.top) ps)) ≡ map (λ (t : Top). time_in t.content) (cond b (p.top ∷ filter is_headed (tops_in ps)) (filter is_headed (tops_in ps)))
     by true rest = ap (λ (l : List ℕ). time_in p.top.content ∷ l) rest
     by false rest = rest
 
 times_joined : (xs ys : List Top) → times_of (xs ++ ys) ≡ times_of xs ++ times_of ys
-times_joined xs ys = ap (map (λ (t : Top). time_in t.content)) (filter-append is_message_top xs ys) ∙ map-append (λ (t : Top). time_in t.content) (filter is_message_top xs) (filter is_message_top ys)
+times_joined xs ys = ap (map (λ (t : Top). time_in t.content)) (filter-append is_headed xs ys) ∙ map-append (λ (t : Top). time_in t.content) (filter is_headed xs) (filter is_headed ys)
 
 abbrev times_under : List Top → List ℕ
 times_under tops = flat_map (λ t. times_of (opened t)) tops
@@ -56,6 +58,7 @@ times_flat (t ∷ ts) =
 scan_times : (tops : List Top) (messages : List Seen) → Scan tops messages → map (λ s. s.message.log_time) messages ≡ times_under tops
 scan_times tops messages scan =
     zip_times (tops_in (placed tops)) (filter (λ p. is_message_top p.top) (placed tops)) messages scan
+    ∙ ap (map (λ (p : Placed). time_in p.top.content)) (sym (scan_headed (tops_in (placed tops)) (placed tops) messages scan))
     ∙ of_placed (placed tops)
     ∙ ap times_of (placed_tops 8 tops)
     ∙ times_flat tops

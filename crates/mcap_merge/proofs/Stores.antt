@@ -12,8 +12,8 @@ use Rattle.mcap_model.proofs.Places.{at_none, at_one, at_within, at_read, at_set
 use Rattle.mcap_model.proofs.Lists.{at_taken}
 use Rattle.mcap_model.proofs.NamedTopics.{zip_front, unmapped}
 use Rattle.mcap_model.proofs.OneMore.{taken_more, zip_push}
-use Rattle.mcap_scan.specs.declared.answers.ScanRefused.{ScanRefused}
-use Rattle.mcap_scan.specs.declared.answers.ScanRefused.TheVariants as refusals
+use Rattle.mcap_model.specs.declared.refusals.ReadingRefused.{ReadingRefused}
+use Rattle.mcap_model.specs.declared.refusals.ReadingRefused.TheVariants as refusals
 use Rattle.chunk_survey.specs.declared.spans.Span.{Span}
 use Rattle.mcap_merge.specs.declared.answers.MergeRefused.{MergeRefused}
 use Rattle.mcap_merge.specs.declared.input.Input.{Input}
@@ -37,7 +37,7 @@ front_whole old new len input whole front =
     let all = halts.halts in
     (r, holds, λ bytes is. (end, all bytes (told_left old len bytes whole is)), no_fault old new front.next len front.now.faults front.was halts.still)
 
-pub front_refused : (old new : StoreState) (len : ℕ) (why result : ScanRefused) → HasLength old len → FrontReads old len new (Err why) → IsCounted new.faults why result → StoreRefused old new result
+pub front_refused : (old new : StoreState) (len : ℕ) (why result : ReadingRefused) → HasLength old len → FrontReads old len new (Err why) → IsCounted new.faults why result → StoreRefused old new result
 front_refused old new len (refusals.Fault faults) result whole front is =
     let (tops, stands) = front.reads in
     let was = front.was in
@@ -72,7 +72,7 @@ outside_refused old new len offset rule input whole (r, holds, is, still) (s, ha
 )
 
 -- the store that was read is the one whose length was asked for
-pub measured : (old mid new : StoreState) (len : ℕ) (result : Result Input ScanRefused) → Measures old mid (Ok len) → ReadsWhole mid new result → ReadsWhole old new result
+pub measured : (old mid new : StoreState) (len : ℕ) (result : Result Input ReadingRefused) → Measures old mid (Ok len) → ReadsWhole mid new result → ReadsWhole old new result
 measured old mid new len (Ok input) measures (r, holds, is, still) = (r, holds, λ bytes told. is bytes (measures.bytes ∙ told), still ∙ measures.cause.still)
 measured old mid new len (Err (refusals.Fault faults)) measures (rises, is) = (subst (λ (n : ℕ). RisesOnce n new.faults) measures.cause.still rises, is)
 measured old mid new len (Err (refusals.Grammar offset rule)) measures (still, halts) = (still ∙ measures.cause.still, λ bytes told. halts bytes (measures.bytes ∙ told))
@@ -80,7 +80,7 @@ measured old mid new len (Err (refusals.Compressed offset name)) measures (still
 measured old mid new len (Err (refusals.Limit offset)) measures (still, halts) = (still ∙ measures.cause.still, λ bytes told. halts bytes (measures.bytes ∙ told))
 measured old mid new len (Err refusals.Memory) measures still = still ∙ measures.cause.still
 
-not_less : (old new : StoreState) (result : Result Input ScanRefused) → ReadsWhole old new result → old.faults ≤ new.faults
+not_less : (old new : StoreState) (result : Result Input ReadingRefused) → ReadsWhole old new result → old.faults ≤ new.faults
 not_less old new (Ok input) whole = omega (arith, whole.3)
 not_less old new (Err (refusals.Fault faults)) whole = let rises = whole.0 in rises.later
 not_less old new (Err (refusals.Grammar offset rule)) whole = omega (arith, whole.0)
@@ -88,7 +88,7 @@ not_less old new (Err (refusals.Compressed offset name)) whole = omega (arith, w
 not_less old new (Err (refusals.Limit offset)) whole = omega (arith, whole.0)
 not_less old new (Err refusals.Memory) whole = omega (arith, whole)
 
-pub measured_keeps : (old mid new : StoreState) (len : ℕ) (result : Result Input ScanRefused) → Measures old mid (Ok len) → ReadsWhole mid new result → StoreStays mid new → StoreKeeps old new
+pub measured_keeps : (old mid new : StoreState) (len : ℕ) (result : Result Input ReadingRefused) → Measures old mid (Ok len) → ReadsWhole mid new result → StoreStays mid new → StoreKeeps old new
 measured_keeps old mid new len result measures whole stays = record {
   bytes = stays.bytes ∙ measures.bytes;
   known = omega (arith, stays.known, measures.known);
@@ -211,16 +211,16 @@ module _ {T : Type 0} (state : T → StoreState) where
       ap (λ (t : StoreState). t.faults) (same ∙ is) ∙ stands
 
   -- a store that was refused
-  pub refused_at : (olds nows : List T) (i : ℕ) (inputs : List Input) (x y : T) (scan : ScanRefused) (why : MergeRefused) → ReadSoFar state olds nows i inputs → At nows i x → StoreRefused (state x) (state y) scan → IsRefusalAt i scan why
+  pub refused_at : (olds nows : List T) (i : ℕ) (inputs : List Input) (x y : T) (scan : ReadingRefused) (why : MergeRefused) → ReadSoFar state olds nows i inputs → At nows i x → StoreRefused (state x) (state y) scan → IsRefusalAt i scan why
       → InputRefused (map state olds) (map state (set nows i y)) why
   refused_at olds nows i inputs x y (refusals.Fault faults) why was at refused is =
       let within : i < length nows = at_within nows i x at in
       subst (InputRefused (map state olds) (map state (set nows i y))) (sym is)
-      (i, state x, state y, at_mapped olds i x (old_at olds nows i inputs x was at), at_mapped (set nows i y) i y (at_set_same nows i y within), refused.0, refused.1, λ n o s apart at_o at_s. others_stand olds nows i inputs x y n o s was apart at_o at_s)
+      (state x, state y, at_mapped olds i x (old_at olds nows i inputs x was at), at_mapped (set nows i y) i y (at_set_same nows i y within), refused.0, refused.1, λ n o s apart at_o at_s. others_stand olds nows i inputs x y n o s was apart at_o at_s)
   refused_at olds nows i inputs x y (refusals.Grammar offset rule) why was at refused is =
       let halts = refused.1 in
       subst (InputRefused (map state olds) (map state (set nows i y))) (sym is)
-      (still_all olds nows i inputs x y was at refused.0, (read_before olds nows i inputs was, state x, at_mapped olds i x (old_at olds nows i inputs x was at), λ bytes told. let there = halts bytes told in (there.0, rule, there.1)))
+      (still_all olds nows i inputs x y was at refused.0, (read_before olds nows i inputs was, state x, at_mapped olds i x (old_at olds nows i inputs x was at), λ bytes told. halts bytes told))
   refused_at olds nows i inputs x y (refusals.Compressed offset name) why was at refused is =
       subst (InputRefused (map state olds) (map state (set nows i y))) (sym is) (still_all olds nows i inputs x y was at refused.0, (read_before olds nows i inputs was, state x, at_mapped olds i x (old_at olds nows i inputs x was at), refused.1))
   refused_at olds nows i inputs x y (refusals.Limit offset) why was at refused is =

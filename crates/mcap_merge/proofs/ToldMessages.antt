@@ -15,58 +15,34 @@ use Rattle.mcap_model.proofs.NamedTopics.{zip_front, zip_back, unmapped}
 use Rattle.mcap_model.proofs.Flat.{at_mapped}
 use Rattle.mcap_model.proofs.OpenedChunks.{placed_at}
 use Rattle.chunk_survey.specs.declared.spans.Span.{Span}
-use Rattle.chunk_survey.specs.Times.{time_in, times_of, TimesAre}
+use Rattle.record_walk.specs.declared.heads.MessageHead.{MessageHead}
+use Rattle.record_walk.specs.Heads.{channel_in, time_in, is_headed, head_of}
+use Rattle.chunk_survey.specs.Heads.{set_at, heads_one, heads_from}
+use Rattle.chunk_survey.specs.Times.{times_of}
 use Rattle.chunk_survey.specs.Spans.{spans_one}
 use Rattle.chunk_survey.proofs.Telling.{silent_records_have_none}
-use Rattle.chunk_walk.specs.declared.entries.Entry.{Entry}
-use Rattle.chunk_walk.specs.Entries.{entry, entries_one, entries_from, FitsSpan}
+use Rattle.mcap_merge.proofs.Headed.{message_headed, headed_message}
+use Rattle.mcap_merge.proofs.Marking.{channel_shown}
 use Rattle.mcap_merge.proofs.Sound.{time_shown}
 use Rattle.mcap_merge.proofs.Laid.{laid, lies}
 
--- ---- entries and times
+-- ---- heads and times
 
--- an entry is that of a message
-is_entry : (at : ℕ) (t : Top) (e : Entry) → Has (entries_one at t) e → (is_message_top t ≡ true) × (e ≡ entry (time_in t.content) at)
-is_entry at t e has = by (is_message_top t) refl has
-  where
-    by : (b : Bool) → is_message_top t ≡ b → Has (cond b (entry (time_in t.content) at ∷ []) []) e → (is_message_top t ≡ true) × (e ≡ entry (time_in t.content) at)
-    by true is there = (is, has_one (entry (time_in t.content) at) e there)
-    by false is there = absurd (at_none there.0 e there.1)
-
-entry_there : (records : List Top) (inside : List Top) (r : Top) (behind : List Top) → records ≡ inside ++ r ∷ behind → is_message_top r ≡ true → Has (entries_from 0 records) (entry (time_in r.content) (length (spelled inside)))
-entry_there records inside r behind split is =
+head_there : (records : List Top) (inside : List Top) (r : Top) (behind : List Top) → records ≡ inside ++ r ∷ behind → is_headed r ≡ true → Has (heads_from 0 records) (head_of (set_at (length (spelled inside)) r))
+head_there records inside r behind split is =
     let at = 0 + length (spelled inside) in
-    let one : Has (entries_one at r) (entry (time_in r.content) at) = (0, ap (λ (b : Bool). slice_get (cond b (entry (time_in r.content) at ∷ []) []) 0) is) in
-    let all = lies entries_one entries_from (λ n. refl) (λ n t ts. refl) 0 inside r behind (entry (time_in r.content) at) one in
+    let one : Has (heads_one at r) (head_of (set_at at r)) = (0, ap (λ (b : Bool). slice_get (cond b (head_of (set_at at r) ∷ []) []) 0) is) in
+    let all = lies heads_one heads_from (λ n. refl) (λ n t ts. refl) 0 inside r behind (head_of (set_at at r)) one in
     let place : 0 + length (spelled inside) ≡ length (spelled inside) = omega arith in
-    subst (λ (l : List Top). Has (entries_from 0 l) (entry (time_in r.content) (length (spelled inside)))) (sym split) (subst (λ (n : ℕ). Has (entries_from 0 (inside ++ r ∷ behind)) (entry (time_in r.content) n)) place all)
+    subst (λ (l : List Top). Has (heads_from 0 l) (head_of (set_at (length (spelled inside)) r))) (sym split) (subst (λ (n : ℕ). Has (heads_from 0 (inside ++ r ∷ behind)) (head_of (set_at n r))) place all)
 
-time_there : (records : List Top) (r : Top) → Has records r → is_message_top r ≡ true → Has (times_of records) (time_in r.content)
+time_there : (records : List Top) (r : Top) → Has records r → is_headed r ≡ true → Has (times_of records) (time_in r.content)
 time_there records r has is =
-    let kept = filter_has is_message_top records has.0 r has.1 is in
-    (kept.0, at_mapped (λ (t : Top). time_in t.content) (filter is_message_top records) kept.0 r kept.1)
+    let kept = filter_has is_headed records has.0 r has.1 is in
+    (kept.0, at_mapped (λ (t : Top). time_in t.content) (filter is_headed records) kept.0 r kept.1)
 
 middle_there : (records inside : List Top) (r : Top) (behind : List Top) → records ≡ inside ++ r ∷ behind → Has records r
 middle_there records inside r behind split = (length inside, subst (λ (l : List Top). At l (length inside) r) (sym split) (at_last inside r behind))
-
--- bytes whose messages were logged when a span says can be those of the span
-pub fits_there : (s : Span) (bytes : List ℕ) → TimesAre (times_of (records_in bytes)) s.least s.greatest s.in_order → FitsSpan s bytes
-fits_there s bytes are = record {
-  some = λ none.
-      let has = are.least_there in
-      let (r, at, time) = unmapped (λ (t : Top). time_in t.content) (filter is_message_top (records_in bytes)) has.0 s.least has.1 in
-      let (there, is) = filter_passed is_message_top (records_in bytes) has.0 r at in
-      let (behind, split) = cut_at (records_in bytes) there.0 r there.1 in
-      let e = entry_there (records_in bytes) (take there.0 (records_in bytes)) r behind split is in
-      at_none e.0 (entry (time_in r.content) (length (spelled (take there.0 (records_in bytes))))) (subst (λ (l : List Entry). At l e.0 (entry (time_in r.content) (length (spelled (take there.0 (records_in bytes)))))) none e.1);
-  within = λ n e at.
-      let f = laid entries_one entries_from (λ k. refl) (λ k t ts. refl) 0 (records_in bytes) e (n, at) in
-      let (is, same) = is_entry (0 + length (spelled f.front)) f.top e f.has in
-      let has = time_there (records_in bytes) f.top (middle_there (records_in bytes) f.front f.top f.back f.split) is in
-      let within = are.within in
-      let time : time_in f.top.content ≡ e.time = sym (ap (λ (x : Entry). x.time) same) in
-      subst (λ (t : ℕ). (s.least ≤ t) × (t ≤ s.greatest)) time (within has.0 (time_in f.top.content) has.1);
-}
 
 -- ---- places
 
@@ -107,19 +83,19 @@ seen_there tops p messages offset inner r same scan there is =
       is = subst (λ (q : Placed). IsMessage q.top seen.channel seen.message) same shows.is;
     }
 
-pub span_message : (tops front : List Top) (t : Top) (back : List Top) (messages : List Seen) (inside : List Top) (r : Top) (behind : List Top) → tops ≡ front ++ t ∷ back → Scan tops messages → opened t ≡ inside ++ r ∷ behind → is_message_top r ≡ true
+pub span_message : (tops front : List Top) (t : Top) (back : List Top) (messages : List Seen) (inside : List Top) (r : Top) (behind : List Top) → tops ≡ front ++ t ∷ back → Scan tops messages → opened t ≡ inside ++ r ∷ behind → is_headed r ≡ true
     → SpanMessage messages (offset_behind front) (length (spelled inside)) r
 span_message tops front t back messages inside r behind cut scan split is =
     let offset = offset_behind front in
     let p = placed_at offset (0 + length (spelled inside)) r in
     let here : Has (placed_inside offset 0 (inside ++ r ∷ behind)) p = lies (λ n u. placed_at offset n u ∷ []) (placed_inside offset) (λ n. refl) (λ n u us. refl) 0 inside r behind p (0, refl) in
     let held : Has (placed_inside offset 0 (opened t)) p = subst (λ (l : List Top). Has (placed_inside offset 0 l) p) (sym split) here in
-    let kept = filter_has (λ (q : Placed). is_flat_kind q.top) (placed_inside offset 0 (opened t)) held.0 p held.1 (message_flat r is) in
+    let kept = filter_has (λ (q : Placed). is_flat_kind q.top) (placed_inside offset 0 (opened t)) held.0 p held.1 (message_flat r (headed_message r is)) in
     let one : Has (placed_one offset t) p = subst (λ (l : List Placed). Has l p) (sym (placed_opened offset t)) kept in
     let all : Has (placed (front ++ t ∷ back)) p = lies placed_one placed_from (λ n. refl) (λ n u us. refl) 8 front t back p one in
     let there : Has (placed tops) p = subst (λ (l : List Top). Has (placed l) p) (sym cut) all in
     let place : 0 + length (spelled inside) ≡ length (spelled inside) = omega arith in
-    seen_there tops p messages offset (length (spelled inside)) r (ap (λ (n : ℕ). placed_at offset n r) place) scan there is
+    seen_there tops p messages offset (length (spelled inside)) r (ap (λ (n : ℕ). placed_at offset n r) place) scan there (headed_message r is)
 
 -- ---- messages
 
@@ -128,7 +104,10 @@ pub record SpanHas (offset : ℕ) (t : Top) (m : Seen) : Type 0 where
   pub offset_is : m.place.top ≡ offset
   pub span : Span
   pub has : Has (spans_one offset t) span
-  pub entry : Has (entries_from 0 (opened t)) (entry m.message.log_time m.place.inner)
+  pub head : Has (heads_from 0 (opened t)) (record { channel = m.channel; time = m.message.log_time; offset = m.place.inner })
+
+abbrev head_at : ℕ → ℕ → ℕ → MessageHead
+head_at channel time offset = record { channel = channel; time = time; offset = offset }
 
 span_there : (offset : ℕ) (t : Top) (time : ℕ) → Has (times_of (opened t)) time → (s : Span) × Has (spans_one offset t) s
 span_there offset t time has = by (spans_one offset t) refl
@@ -138,22 +117,24 @@ span_there offset t time has = by (spans_one offset t) refl
     by (s ∷ ss) is = (s, (0, ap (λ (l : List Span). slice_get l 0) is))
 
 -- the message is this record among those that the record is or holds
-inside_has : (offset : ℕ) (t : Top) (m : Seen) (inside : List Top) (r : Top) (behind : List Top) (inner : ℕ) → opened t ≡ inside ++ r ∷ behind → inner ≡ 0 + length (spelled inside) → m.place ≡ (placed_at offset inner r).place → is_message_top r ≡ true → IsMessage r m.channel m.message
+inside_has : (offset : ℕ) (t : Top) (m : Seen) (inside : List Top) (r : Top) (behind : List Top) (inner : ℕ) → opened t ≡ inside ++ r ∷ behind → inner ≡ 0 + length (spelled inside) → m.place ≡ (placed_at offset inner r).place → IsMessage r m.channel m.message
     → SpanHas offset t m
-inside_has offset t m inside r behind inner split is place kind message =
+inside_has offset t m inside r behind inner split is place message =
+    let kind = message_headed r m.channel m.message message in
     let time : time_in r.content ≡ m.message.log_time = time_shown r.content m.channel m.message message.layout in
     let there : length (spelled inside) ≡ m.place.inner = omega (arith, is, same_inner m.place (placed_at offset inner r).place place) in
-    let e = entry_there (opened t) inside r behind split kind in
+    let channel : channel_in r.content ≡ m.channel = channel_shown r.content m.channel m.message message.layout in
+    let e = head_there (opened t) inside r behind split kind in
     let (s, has) = span_there offset t (time_in r.content) (time_there (opened t) r (middle_there (opened t) inside r behind split) kind) in
     record {
       offset_is = same_top m.place (placed_at offset inner r).place place;
       span = s;
       has = has;
-      entry = subst (λ (n : ℕ). Has (entries_from 0 (opened t)) (entry n m.place.inner)) time (subst (λ (n : ℕ). Has (entries_from 0 (opened t)) (entry (time_in r.content) n)) there e);
+      head = subst (Has (heads_from 0 (opened t))) (ap (λ (n : ℕ). head_at n (time_in r.content) (length (spelled inside))) channel ∙ ap (λ (n : ℕ). head_at m.channel n (length (spelled inside))) time ∙ ap (head_at m.channel m.message.log_time) there) e;
     }
 
-placed_has : (offset : ℕ) (t : Top) (p : Placed) (m : Seen) → Has (placed_one offset t) p → is_message_top p.top ≡ true → p.place ≡ m.place → IsMessage p.top m.channel m.message → SpanHas offset t m
-placed_has offset t p m has is place message =
+placed_has : (offset : ℕ) (t : Top) (p : Placed) (m : Seen) → Has (placed_one offset t) p → p.place ≡ m.place → IsMessage p.top m.channel m.message → SpanHas offset t m
+placed_has offset t p m has place message =
     let one = subst (λ (l : List Placed). Has l p) (placed_opened offset t) has in
     let (held, flat) = filter_passed (λ (q : Placed). is_flat_kind q.top) (placed_inside offset 0 (opened t)) one.0 p one.1 in
     let g = laid (λ n u. placed_at offset n u ∷ []) (placed_inside offset) (λ n. refl) (λ n u us. refl) 0 (opened t) p held in
@@ -162,7 +143,7 @@ placed_has offset t p m has is place message =
     by : (inside : List Top) (r : Top) (behind : List Top) → opened t ≡ inside ++ r ∷ behind → p ≡ placed_at offset (0 + length (spelled inside)) r → SpanHas offset t m
     by inside r behind split same =
         let here = sym place ∙ ap (λ (q : Placed). q.place) same in
-        inside_has offset t m inside r behind (0 + length (spelled inside)) split refl here (subst (λ (q : Placed). is_message_top q.top ≡ true) same is) (subst (λ (q : Placed). IsMessage q.top m.channel m.message) same message)
+        inside_has offset t m inside r behind (0 + length (spelled inside)) split refl here (subst (λ (q : Placed). IsMessage q.top m.channel m.message) same message)
 
 -- a message is in the span of a record of its file
 pub record MessageSpan (tops : List Top) (m : Seen) : Type 0 where
@@ -177,4 +158,4 @@ message_span tops messages m scan has =
     let (p, at, shows) = zip_back (IsSeen (tops_of (placed tops))) (filter (λ q. is_message_top q.top) (placed tops)) messages has.0 m scan has.1 in
     let (there, is) = filter_passed (λ (q : Placed). is_message_top q.top) (placed tops) has.0 p at in
     let f = laid placed_one placed_from (λ n. refl) (λ n u us. refl) 8 tops p there in
-    record { front = f.front; top = f.top; back = f.back; split = f.split; span_has = placed_has (offset_behind f.front) f.top p m f.has is shows.place shows.is }
+    record { front = f.front; top = f.top; back = f.back; split = f.split; span_has = placed_has (offset_behind f.front) f.top p m f.has shows.place shows.is }

@@ -21,7 +21,7 @@ use Rattle.mcap_model.proofs.Flat.{named_or}
 use Rattle.mcap_model.proofs.PlacesApart.{pairs_joined, none_each, none_pairs}
 use Rattle.chunk_survey.specs.declared.spans.Span.{Span}
 use Rattle.chunk_survey.specs.Times.{times_of, extent_of, TimesAre}
-use Rattle.chunk_survey.specs.Spans.{spans_made, spans_in_chunk, spans_alone, spans_one, spans_from, spans_of}
+use Rattle.chunk_survey.specs.Spans.{spans_made, spans_timed, spans_in_chunk, spans_alone, spans_one, spans_from, spans_of}
 use Rattle.chunk_survey.proofs.Telling.{spans_tell_times}
 use Rattle.mcap_merge.proofs.Laid.{laid}
 
@@ -90,6 +90,7 @@ records_there t g is plain =
 pub record SpanIs (offset : ℕ) (t : Top) (s : Span) : Type 0 where
   pub offset_is : s.offset ≡ offset
   pub times : TimesAre (times_of (opened t)) s.least s.greatest s.in_order
+  pub messages : s.messages ≡ length (times_of (opened t))
   pub inset : ℕ
   pub at : s.at ≡ offset + inset
   pub bytes : List ℕ
@@ -104,12 +105,12 @@ none_or_some None = inl refl
 none_or_some (Some x) = inr (x, refl)
 
 -- a span of some times stands at that place, with that length
-made_is : (offset at len : ℕ) (times : List ℕ) (s : Span) → Has (spans_made offset at len (extent_of times)) s → (s.at ≡ at) × (s.length ≡ len)
+made_is : (offset at len : ℕ) (times : List ℕ) (s : Span) → Has (spans_timed offset at len times) s → (s.at ≡ at) × (s.length ≡ len)
 made_is offset at len times s has = elim (none_or_some (extent_of times)) [
-  | inl none ↦ absurd (at_none has.0 s (subst (λ (l : List Span). At l has.0 s) (ap (spans_made offset at len) none) has.1))
+  | inl none ↦ absurd (at_none has.0 s (subst (λ (l : List Span). At l has.0 s) (ap (spans_made offset at len (length times)) none) has.1))
   | inr (e, some) ↦
-      let there : Has (spans_made offset at len (Some e)) s = subst (λ (l : List Span). Has l s) (ap (spans_made offset at len) some) has in
-      let same = has_one (record { offset = offset; at = at; length = len; least = e.least; greatest = e.greatest; in_order = e.in_order }) s there in
+      let there : Has (spans_made offset at len (length times) (Some e)) s = subst (λ (l : List Span). Has l s) (ap (spans_made offset at len (length times)) some) has in
+      let same = has_one (record { offset = offset; at = at; length = len; messages = length times; least = e.least; greatest = e.greatest; in_order = e.in_order }) s there in
       (ap (λ (x : Span). x.at) same, ap (λ (x : Span). x.length) same)
 ]
 
@@ -122,7 +123,7 @@ alone_in t found = found_next (top_bytes t) t [] (sym (append-nil (top_bytes t))
 pub span_is : (offset : ℕ) (t : Top) (s : Span) → IsGoodTop t → Has (spans_one offset t) s → SpanIs offset t s
 span_is offset t s good has = by (is_chunk t) refl has
   where
-    told : (s.offset ≡ offset) × TimesAre (times_of (opened t)) s.least s.greatest s.in_order
+    told : (s.offset ≡ offset) × TimesAre (times_of (opened t)) s.least s.greatest s.in_order × (s.messages ≡ length (times_of (opened t)))
     told = spans_tell_times offset t s has
 
     by : (b : Bool) → is_chunk t ≡ b → Has (if b then spans_in_chunk offset t else spans_alone offset t) s → SpanIs offset t s
@@ -137,6 +138,7 @@ span_is offset t s good has = by (is_chunk t) refl has
         record {
           offset_is = told.0;
           times = told.1;
+          messages = told.2;
           inset = 49;
           at = at;
           bytes = g.records;
@@ -150,6 +152,7 @@ span_is offset t s good has = by (is_chunk t) refl has
         record {
           offset_is = told.0;
           times = told.1;
+          messages = told.2;
           inset = 0;
           at = (omega (arith, at));
           bytes = top_bytes t;
@@ -201,12 +204,12 @@ begins_within offset t s is =
     let some = some_there is.bytes (opened t) s.least s.greatest s.in_order is.records is.times in
     omega (arith, some, is.at, is.within)
 
-made_rise : (offset at len : ℕ) (times : List ℕ) → AllPairs SpanBefore (spans_made offset at len (extent_of times))
+made_rise : (offset at len : ℕ) (times : List ℕ) → AllPairs SpanBefore (spans_timed offset at len times)
 made_rise offset at len times = elim (none_or_some (extent_of times)) [
-  | inl none ↦ subst (AllPairs SpanBefore) (sym (ap (spans_made offset at len) none)) (none_pairs SpanBefore)
+  | inl none ↦ subst (AllPairs SpanBefore) (sym (ap (spans_made offset at len (length times)) none)) (none_pairs SpanBefore)
   | inr (e, some) ↦
-      let s : Span = record { offset = offset; at = at; length = len; least = e.least; greatest = e.greatest; in_order = e.in_order } in
-      subst (AllPairs SpanBefore) (sym (ap (spans_made offset at len) some)) (pairs_cons SpanBefore s [] (none_each (SpanBefore s)) (none_pairs SpanBefore))
+      let s : Span = record { offset = offset; at = at; length = len; messages = length times; least = e.least; greatest = e.greatest; in_order = e.in_order } in
+      subst (AllPairs SpanBefore) (sym (ap (spans_made offset at len (length times)) some)) (pairs_cons SpanBefore s [] (none_each (SpanBefore s)) (none_pairs SpanBefore))
 ]
 
 one_rise : (offset : ℕ) (t : Top) (b : Bool) → AllPairs SpanBefore (if b then spans_in_chunk offset t else spans_alone offset t)

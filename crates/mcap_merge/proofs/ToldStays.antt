@@ -14,7 +14,8 @@ use Rattle.chunk_walk.specs.declared.pieces.Piece.{Piece}
 use Rattle.chunk_walk.specs.declared.walk.Walk.{Walk}
 use Rattle.chunk_walk.specs.declared.answers.Turn.{Turn}
 use Rattle.chunk_walk.specs.declared.answers.WalkRefused.TheVariants as walks
-use Rattle.chunk_walk.specs.Entries.{entries_in, FitsSpan}
+use Rattle.record_walk.specs.Heads.{heads_in}
+use Rattle.chunk_walk.specs.Heads.{FitsSpan}
 use Rattle.chunk_walk.specs.Cursors.{turn_of}
 use Rattle.chunk_walk.specs.Pieces.{pieces_with, BeginTogether}
 use Rattle.chunk_walk.specs.Stores.{files_of}
@@ -104,7 +105,7 @@ walk_stays stores reads inputs w input offset tell listed (p, has, input_is, off
 -- the record of a turn is one of the input's messages, whose channel is marked
 none_other : (stores : List StoreState) (reads : List Read) (inputs : List Input) (pieces : List Piece) (input offset : ℕ) → TellsAt stores input → Listed stores reads inputs pieces → IsOther (files_of stores) pieces inputs input offset → ⊥
 none_other stores reads inputs pieces input offset tell listed other =
-    let (e, at_e, from) = unmapped (turn_of other.text.piece) (entries_in other.text.bytes) other.has.0 other.turn other.has.1 in
+    let (e, at_e, from) = unmapped (turn_of other.text.piece) (heads_in other.text.bytes) other.has.0 other.turn other.has.1 in
     let of : input ≡ other.text.piece.input = other.input_is ∙ sym (ap (λ (t : Turn). t.input) from) in
     let is = record_is stores reads inputs pieces listed other.text.piece other.text other.turn other.top (subst (TellsAt stores) of tell) other.among other.of other.has other.there in
     let m = is.message in

@@ -17,9 +17,12 @@ use Rattle.chunk_survey.specs.declared.spans.Span.{Span}
 use Rattle.chunk_survey.specs.Times.{times_of, TimesAre}
 use Rattle.chunk_survey.specs.Spans.{spans_one, spans_from, spans_of}
 use Rattle.chunk_walk.specs.declared.answers.Turn.{Turn}
-use Rattle.chunk_walk.specs.declared.entries.Entry.{Entry}
+use Rattle.record_walk.specs.declared.heads.MessageHead.{MessageHead}
 use Rattle.chunk_walk.specs.declared.pieces.Piece.{Piece}
-use Rattle.chunk_walk.specs.Entries.{entry, entries_from, entries_in, FitsSpan}
+use Rattle.record_walk.specs.Heads.{heads_in}
+use Rattle.chunk_survey.specs.Heads.{heads_from}
+use Rattle.chunk_walk.specs.Heads.{FitsSpan}
+use Rattle.chunk_walk.proofs.Unchanged.{surveyed_fit}
 use Rattle.chunk_walk.specs.Pieces.{pieces_with}
 use Rattle.chunk_walk.specs.Cursors.{turn_of, TurnBefore}
 use Rattle.chunk_walk.specs.Stores.{files_of}
@@ -34,7 +37,7 @@ use Rattle.mcap_merge.proofs.Laid.{laid, lies}
 use Rattle.mcap_merge.proofs.Sound.{time_shown}
 use Rattle.mcap_merge.proofs.Sources.{sent, from_read, are_scanned, message_from}
 use Rattle.mcap_merge.proofs.ToldSpans.{IsGoodTop, SpanIs, span_is, span_told, SpanBefore, spans_decided}
-use Rattle.mcap_merge.proofs.ToldMessages.{fits_there, SpanMessage, span_message, SpanHas, message_span}
+use Rattle.mcap_merge.proofs.ToldMessages.{SpanMessage, span_message, SpanHas, message_span}
 
 -- The stores were read; these are the pieces of what was read, in some order.
 pub record Listed (stores : List StoreState) (reads : List Read) (inputs : List Input) (pieces : List Piece) : Type 0 where
@@ -165,7 +168,7 @@ span_known file tops front t back s begins good has split one =
     record {
       is = is;
       records = records;
-      fits = fits_there s (take s.length (drop s.at file)) (subst (λ (l : List Top). TimesAre (times_of l) s.least s.greatest s.in_order) (sym records) is.times);
+      fits = surveyed_fit s (take s.length (drop s.at file)) (subst (λ (l : List Top). TimesAre (times_of l) s.least s.greatest s.in_order) (sym records) is.times) (is.messages ∙ sym (ap (λ (l : List Top). length (times_of l)) records));
     }
 
 module _ (stores : List StoreState) (reads : List Read) (inputs : List Input) (pieces : List Piece) (listed : Listed stores reads inputs pieces) where
@@ -244,7 +247,7 @@ module _ (stores : List StoreState) (reads : List Read) (inputs : List Input) (p
     pub from : IsFrom (tops_of reads) message
     pub shows : IsMessage r message.seen.channel message.seen.message
 
-  record_by : (p : Piece) (x : Text) (t : Turn) (r : Top) (is : PieceIs p) (e : Entry) → IsTextOf (files_of stores) p x → turn_of x.piece e ≡ t → (there : IsMessageAt x t r) → SpanMessage is.read.messages (offset_behind is.front) (length (spelled there.front)) r → RecordIs t r
+  record_by : (p : Piece) (x : Text) (t : Turn) (r : Top) (is : PieceIs p) (e : MessageHead) → IsTextOf (files_of stores) p x → turn_of x.piece e ≡ t → (there : IsMessageAt x t r) → SpanMessage is.read.messages (offset_behind is.front) (length (spelled there.front)) r → RecordIs t r
   record_by p x t r is e text same there found =
       let input : p.input ≡ t.input = sym (ap (λ (q : Piece). q.input) text.piece) ∙ ap (λ (u : Turn). u.input) same in
       let offset : p.span.offset ≡ t.offset = sym (ap (λ (q : Piece). q.span.offset) text.piece) ∙ ap (λ (u : Turn). u.offset) same in
@@ -274,7 +277,7 @@ module _ (stores : List StoreState) (reads : List Read) (inputs : List Input) (p
   record_is p x t r tell has text turn there =
       let is = piece_is p tell has in
       let told_is = text.bytes.told_is in
-      let (e, at_e, same) = unmapped (turn_of x.piece) (entries_in x.bytes) turn.0 t turn.1 in
+      let (e, at_e, same) = unmapped (turn_of x.piece) (heads_in x.bytes) turn.0 t turn.1 in
       let inside : opened is.top ≡ there.front ++ r ∷ there.back = sym is.known.records ∙ sym (ap records_in (told_is is.input.file is.input.at_file)) ∙ there.stands in
       record_by p x t r is e text same there (span_message is.read.tops is.front is.top is.back is.read.messages there.front r there.back is.split is.input.holds.scan inside there.kind)
 
@@ -299,8 +302,8 @@ module _ (stores : List StoreState) (reads : List Read) (inputs : List Input) (p
       let p = piece_at m.input s in
       let place : 0 + m.input ≡ m.input = omega arith in
       let among : Has (pieces_from 0 inputs) p = subst (λ (n : ℕ). Has (pieces_from 0 inputs) (piece_at n s)) place (piece_there 0 inputs m.input input.input s input.at held) in
-      let e = entry m.seen.message.log_time m.seen.place.inner in
-      let entries : Has (entries_in (take s.length (drop s.at input.file))) e = subst (λ (l : List Top). Has (entries_from 0 l) e) (sym known.records) has.entry in
+      let e : MessageHead = record { channel = m.seen.channel; time = m.seen.message.log_time; offset = m.seen.place.inner } in
+      let heads : Has (heads_in (take s.length (drop s.at input.file))) e = subst (λ (l : List Top). Has (heads_from 0 l) e) (sym known.records) has.head in
       let within = known.fits.within in
       record {
         piece = p;
@@ -319,13 +322,13 @@ module _ (stores : List StoreState) (reads : List Read) (inputs : List Input) (p
           offset_is = refl;
           at_is = refl;
         };
-        least = (within entries.0 e entries.1).0;
+        least = (within heads.0 e heads.1).0;
         of_input = refl;
         begins = refl;
         given = λ x text.
             let told_is = text.bytes.told_is in
-            let mine : Has (entries_in x.bytes) e = subst (λ (l : List ℕ). Has (entries_in l) e) (sym (told_is input.file input.at_file)) entries in
-            subst (λ (q : Piece). Has (map (turn_of q) (entries_in x.bytes)) (turn_of p e)) (sym text.piece) (mine.0, at_mapped (turn_of p) (entries_in x.bytes) mine.0 e mine.1);
+            let mine : Has (heads_in x.bytes) e = subst (λ (l : List ℕ). Has (heads_in l) e) (sym (told_is input.file input.at_file)) heads in
+            subst (λ (q : Piece). Has (map (turn_of q) (heads_in x.bytes)) (turn_of p e)) (sym text.piece) (mine.0, at_mapped (turn_of p) (heads_in x.bytes) mine.0 e mine.1);
       }
 
   message_in : (m : Sent) (r : Read) (front : List Top) (t : Top) (back : List Top) → At reads m.input r → InputTold m.input r → r.tops ≡ front ++ t ∷ back → SpanHas (offset_behind front) t m.seen → MessageTold m

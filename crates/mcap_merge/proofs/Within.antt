@@ -16,7 +16,7 @@ use Rattle.mcap_model.proofs.Flaws.{left_size}
 use Rattle.mcap_model.proofs.Prefixes.{ends_there}
 use Rattle.chunk_survey.specs.declared.spans.Span.{Span}
 use Rattle.chunk_survey.specs.Times.{times_of, extent_of}
-use Rattle.chunk_survey.specs.Spans.{spans_made, spans_in_chunk, spans_alone, spans_one, spans_from, spans_of}
+use Rattle.chunk_survey.specs.Spans.{spans_made, spans_timed, spans_in_chunk, spans_alone, spans_one, spans_from, spans_of}
 
 -- ---- one record
 
@@ -40,14 +40,14 @@ only_made : (at len : ℕ) (x s : Span) → x.at ≡ at → x.length ≡ len →
 only_made at len x s begins size zero there = subst (IsMade at len) (same_Some x s there) (record { at_is = begins; length_is = size })
 only_made at len x s begins size (suc n) there = absurd (at_none n s there)
 
-is_made : (offset at len : ℕ) (times : List ℕ) (s : Span) → Has (spans_made offset at len (extent_of times)) s → IsMade at len s
-is_made offset at len times s has = (elim (extent_of times) as (λ o. Has (spans_made offset at len o) s → IsMade at len s) [
+is_made : (offset at len : ℕ) (times : List ℕ) (s : Span) → Has (spans_timed offset at len times) s → IsMade at len s
+is_made offset at len times s has = (elim (extent_of times) as (λ o. Has (spans_made offset at len (length times) o) s → IsMade at len s) [
   | None ↦ λ none. absurd (at_none none.0 s none.1)
-  | Some e ↦ λ some. only_made at len (record { offset = offset; at = at; length = len; least = e.least; greatest = e.greatest; in_order = e.in_order }) s refl refl some.0 some.1
+  | Some e ↦ λ some. only_made at len (record { offset = offset; at = at; length = len; messages = length times; least = e.least; greatest = e.greatest; in_order = e.in_order }) s refl refl some.0 some.1
 ]) has
 
 -- without bytes there is none
-none_made : (offset at len : ℕ) (bytes : List ℕ) (s : Span) → length bytes ≡ 0 → Has (spans_made offset at len (extent_of (times_of (records_in bytes)))) s → ⊥
+none_made : (offset at len : ℕ) (bytes : List ℕ) (s : Span) → length bytes ≡ 0 → Has (spans_timed offset at len (times_of (records_in bytes))) s → ⊥
 unfolding records_in
 none_made offset at len [] s none has = at_none has.0 s has.1
 none_made offset at len (b ∷ bs) s none has = omega (arith, none)
@@ -92,10 +92,10 @@ halts_within bytes tops end halts n s at =
 abbrev pub spans_length : List Span → ℕ
 spans_length spans = sum_by (λ x. x.length) spans
 
-made_length : (offset at len : ℕ) (times : List ℕ) → (spans_made offset at len (extent_of times) ≡ []) ⊎ ((s : Span) × (spans_made offset at len (extent_of times) ≡ s ∷ []))
-made_length offset at len times = elim (extent_of times) as (λ o. (spans_made offset at len o ≡ []) ⊎ ((s : Span) × (spans_made offset at len o ≡ s ∷ []))) [
+made_length : (offset at len : ℕ) (times : List ℕ) → (spans_timed offset at len times ≡ []) ⊎ ((s : Span) × (spans_timed offset at len times ≡ s ∷ []))
+made_length offset at len times = elim (extent_of times) as (λ o. (spans_made offset at len (length times) o ≡ []) ⊎ ((s : Span) × (spans_made offset at len (length times) o ≡ s ∷ []))) [
   | None ↦ inl refl
-  | Some e ↦ inr (record { offset = offset; at = at; length = len; least = e.least; greatest = e.greatest; in_order = e.in_order }, refl)
+  | Some e ↦ inr (record { offset = offset; at = at; length = len; messages = length times; least = e.least; greatest = e.greatest; in_order = e.in_order }, refl)
 ]
 
 one_or_none : (offset : ℕ) (t : Top) → (spans_one offset t ≡ []) ⊎ ((s : Span) × (spans_one offset t ≡ s ∷ []))

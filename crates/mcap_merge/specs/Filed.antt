@@ -5,6 +5,8 @@ use Rattle.rec_data.specs.declared.owned.Rec.{Rec}
 use Rattle.mcap_io.specs.Outside.{LiveState, Adds}
 use Rattle.mcap_io.specs.Stores.{StoreState}
 use Rattle.mcap_model.specs.declared.options.FileOptions.{FileOptions}
+use Rattle.mcap_model.specs.declared.refusals.ReadingRefused.{ReadingRefused}
+use Rattle.mcap_model.specs.declared.refusals.ReadingRefused.TheVariants as refusals
 use Rattle.mcap_model.specs.declared.ends.Stop.{Stop}
 use Rattle.mcap_model.specs.declared.ends.Stop.TheVariants as stops
 use Rattle.mcap_model.specs.Tops.{Top}
@@ -16,12 +18,12 @@ use Rattle.mcap_model.specs.History.{is_message}
 use Rattle.mcap_model.specs.Merged.{MergeOf, CommonProfile}
 use Rattle.mcap_model.specs.Repaired.{is_extra}
 use Rattle.chunk_writer.specs.Limits.{Holds}
-use Rattle.chunk_writer.specs.Stops.{StopsAt, StopCause}
+use Rattle.chunk_writer.specs.Stops.{numbers, StopsAt, StopCause}
 use Rattle.mcap_merge.specs.declared.answers.MergeRefused.{MergeRefused}
 use Rattle.mcap_merge.specs.declared.answers.MergeRefused.TheVariants as merges
 use Rattle.mcap_merge.specs.declared.answers.Merged.{Merged}
 use Rattle.mcap_merge.specs.Inputs.{Read, tops_of}
-use Rattle.mcap_merge.specs.Reading.{IsReadOf, CountStands, OneRose}
+use Rattle.mcap_merge.specs.Reading.{IsReadOf, CountStands, OneRose, ReadStopped}
 use Rattle.mcap_merge.specs.Gathering.{GatherRefused}
 use Rattle.mcap_merge.specs.Sound.{IsSound}
 use Rattle.mcap_merge.specs.Overlap.{IsPeak}
@@ -65,13 +67,7 @@ pub record MergesInto (stores news : List StoreState) (opened now : LiveState) (
 abbrev pub FileStands : FileOptions → List Top → List Rec → LiveState → LiveState → Result Unit Stop → Type 0
 FileStands options extras history opened now (Ok it) = Adds opened.held now.held (file_of options extras history) × Holds (length (blocks_in (pieces_of options.chunk history))) (length (file_of options extras history))
     × (now.waiting ≡ 0)
-FileStands options extras history opened now (Err stop) = (blocks : ℕ) × (bytes : ℕ) × StopsAt options extras history opened.held now.held stop blocks bytes
-
--- why the writer stopped, as a merge answers it
-abbrev pub IsWriterRefusal : Stop → MergeRefused → Type 0
-IsWriterRefusal (stops.Fault faults) why = why ≡ merges.Fault faults
-IsWriterRefusal (stops.Limit blocks bytes) why = why ≡ merges.FileLimit blocks bytes
-IsWriterRefusal stops.Memory why = why ≡ merges.Memory
+FileStands options extras history opened now (Err stop) = (blocks : ℕ) × (bytes : ℕ) × StopsAt options extras history opened.held now.held stop (numbers blocks bytes)
 
 -- the writer stopped at a piece of the file of the merge
 pub record MergeStops (stores : List StoreState) (opened now : LiveState) (chunk : ℕ) (why : MergeRefused) : Type 0 where
@@ -80,7 +76,7 @@ pub record MergeStops (stores : List StoreState) (opened now : LiveState) (chunk
   pub history : List Rec
   pub is : MergeIs stores profile extras history
   pub stop : Stop
-  pub answer : IsWriterRefusal stop why
+  pub answer : why ≡ merges.Stopped stop
   pub stands : FileStands (merged_options profile chunk) extras history opened now (Err stop)
   pub cause : StopCause opened.faults now.faults stop
 
@@ -88,17 +84,22 @@ pub record MergeStops (stores : List StoreState) (opened now : LiveState) (chunk
 abbrev pub TellsNot : List StoreState → ℕ → Type 0
 TellsNot stores number = (s : StoreState) → At stores number s → (bytes : List ℕ) → s.bytes ≡ Some bytes → ⊥
 
+-- the input of that number couldn't be read again: it failed
+abbrev pub AgainHalted : List StoreState → List StoreState → ℕ → ReadingRefused → Type 0
+AgainHalted olds news input (refusals.Fault faults) = OneRose olds news input faults
+AgainHalted olds news input (refusals.Grammar offset rule) = ⊥
+AgainHalted olds news input (refusals.Compressed offset name) = ⊥
+AgainHalted olds news input (refusals.Limit offset) = ⊥
+AgainHalted olds news input refusals.Memory = ⊥
+
 -- Why an input couldn't be read again as it was: it failed; that one gave other bytes, which one that tells doesn't; or memory
 -- lacked.
 abbrev pub IsCutBy : List StoreState → List StoreState → MergeRefused → Type 0
-IsCutBy olds news (merges.Fault faults) = OneRose olds news faults
-IsCutBy olds news (merges.Grammar input offset) = (input < length olds) × AllZip CountStands olds news × TellsNot olds input
-IsCutBy olds news (merges.Compressed input offset name) = ⊥
-IsCutBy olds news (merges.Limit input offset) = ⊥
+IsCutBy olds news (merges.Halted input why) = AgainHalted olds news input why
+IsCutBy olds news (merges.Changed input offset) = (input < length olds) × AllZip CountStands olds news × TellsNot olds input
 IsCutBy olds news merges.TooManySchemas = ⊥
 IsCutBy olds news merges.TooManyChannels = ⊥
-IsCutBy olds news (merges.FileLimit blocks bytes) = ⊥
-IsCutBy olds news merges.Memory = AllZip CountStands olds news
+IsCutBy olds news (merges.Stopped stop) = ReadStopped olds news stop
 
 -- so the writer was stopped at a piece of the file of the merge, where it lacked nothing itself
 pub record MergeIsCut (stores news : List StoreState) (opened now : LiveState) (chunk : ℕ) (why : MergeRefused) : Type 0 where

@@ -15,11 +15,11 @@ use Rattle.mcap_merge.specs.declared.answers.Merged.{Merged}
 use Rattle.mcap_merge.specs.declared.merge_stores.Ready.{Ready}
 use Rattle.mcap_merge.specs.declared.turns.PutRefused.{PutRefused}
 use Rattle.mcap_merge.specs.declared.turns.PutRefused.TheVariants as puts
-use Rattle.mcap_merge.specs.Reading.{CountStands, SpansFit}
+use Rattle.mcap_merge.specs.Reading.{CountStands, SpansFit, IsRefusalAt}
 use Rattle.mcap_merge.specs.Gathering.{IsGathered}
 use Rattle.mcap_merge.specs.Turns.{stop_of}
 use Rattle.mcap_merge.specs.Putting.{IsBegun, MergeStart, WholeStands, PartStands}
-use Rattle.mcap_merge.specs.Filed.{merged_options, FileStands, IsWriterRefusal}
+use Rattle.mcap_merge.specs.Filed.{merged_options, FileStands}
 
 -- all stores were read, and all that is needed for the writing is there
 pub record IsReady (olds news : List StoreState) (chunk : ℕ) (r : Ready) : Type 0 where
@@ -42,7 +42,6 @@ FileStops options start opened now why = PartStands (FilesAs options (Err (stop_
 
 -- what a merge answers for that
 abbrev pub IsPutRefusal : PutRefused → MergeRefused → Type 0
-IsPutRefusal (puts.Stopped stop) why = IsWriterRefusal stop why
-IsPutRefusal (puts.Unread (walks.Fault faults)) why = why ≡ merges.Fault faults
-IsPutRefusal (puts.Unread (walks.Changed input offset)) why = why ≡ merges.Grammar input offset
-IsPutRefusal (puts.Unread walks.Memory) why = why ≡ merges.Memory
+IsPutRefusal (puts.Stopped stop) why = why ≡ merges.Stopped stop
+IsPutRefusal (puts.Unread (walks.Changed input offset)) why = why ≡ merges.Changed input offset
+IsPutRefusal (puts.Unread (walks.Refused input reading)) why = IsRefusalAt input reading why

@@ -3,6 +3,7 @@ use Rattle.std.specs.Prelude.{◌⊎◌, ◌≤◌, ℕ, List, length}
 use Rattle.std.specs.List.{AllZip}
 use Rattle.mcap_wire.specs.Limits.{id_limit}
 use Rattle.mcap_io.specs.Stores.{StoreState}
+use Rattle.mcap_model.specs.declared.ends.Stop.TheVariants as stops
 use Rattle.mcap_model.specs.Places.{Each}
 use Rattle.mcap_model.specs.Laws.{IsReadBack}
 use Rattle.mcap_model.specs.Tops.{Top}
@@ -30,14 +31,13 @@ pub record IsPrepared (reads : List Read) (profile : List ℕ) (extras : List To
 -- Why inputs with these records aren't merged: more schemas are used than there are ids; or more channels, where the schemas are
 -- no more than these; or memory lacked.
 abbrev pub PrepareRefused : List (List Top) → MergeRefused → Type 0
-PrepareRefused inputs (merges.Fault faults) = ⊥
-PrepareRefused inputs (merges.Grammar input offset) = ⊥
-PrepareRefused inputs (merges.Compressed input offset name) = ⊥
-PrepareRefused inputs (merges.Limit input offset) = ⊥
+PrepareRefused inputs (merges.Halted input why) = ⊥
+PrepareRefused inputs (merges.Changed input offset) = ⊥
 PrepareRefused inputs merges.TooManySchemas = MoreThan id_limit (SchemaIsUsed inputs)
 PrepareRefused inputs merges.TooManyChannels = MoreThan id_limit (IsUsed inputs) × AtMost id_limit (SchemaIsUsed inputs)
-PrepareRefused inputs (merges.FileLimit blocks bytes) = ⊥
-PrepareRefused inputs merges.Memory = Unit {0}
+PrepareRefused inputs (merges.Stopped (stops.Fault faults)) = ⊥
+PrepareRefused inputs (merges.Stopped (stops.Limit blocks bytes)) = ⊥
+PrepareRefused inputs (merges.Stopped stops.Memory) = Unit {0}
 
 -- all stores were read to their Data Ends, and this was gathered of them
 pub record IsGathered (stores : List StoreState) (g : Gathered) : Type 0 where

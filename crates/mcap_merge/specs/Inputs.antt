@@ -5,18 +5,19 @@ use Rattle.mcap_wire.specs.declared.faults.Memory.{Memory}
 use Rattle.rec_data.specs.Records.{ShowsHeader}
 use Rattle.mcap_io.specs.Outside.{SourceState}
 use Rattle.mcap_model.specs.declared.tables.Tables.{Tables}
-use Rattle.mcap_model.specs.Tops.{Top, opened, flat}
+use Rattle.mcap_model.specs.Tops.{Top, flat}
 use Rattle.mcap_model.specs.Kept.{reading_limits, Good, at_end}
 use Rattle.mcap_model.specs.Scan.{Seen, Scan}
 use Rattle.mcap_model.specs.Declarations.{TablesOf}
 use Rattle.mcap_model.specs.Repaired.{is_extra, ProfileIs}
-use Rattle.mcap_scan.specs.declared.answers.ScanRefused.{ScanRefused}
+use Rattle.mcap_model.specs.declared.refusals.ReadingRefused.{ReadingRefused}
 use Rattle.mcap_scan.specs.Scanning.{HaltsSo, RefusalStands}
+use Rattle.chunk_survey.specs.Heads.{heads_under}
 use Rattle.chunk_survey.specs.Spans.{spans_one, spans_of}
 use Rattle.mcap_merge.specs.declared.input.Extra.{Extra}
 use Rattle.mcap_merge.specs.declared.input.Holding.{Holding}
 use Rattle.mcap_merge.specs.declared.input.Input.{Input}
-use Rattle.mcap_merge.specs.Marks.{channels_of, with_marks, AreUnmarked, AreMarked}
+use Rattle.mcap_merge.specs.Marks.{channels_in, with_marks, AreUnmarked, AreMarked}
 
 abbrev pub extra_top : Extra → Top
 extra_top e = record { op = e.op; content = e.content }
@@ -41,7 +42,7 @@ pub record KeepsProfile (offset : ℕ) (content old new : List ℕ) : Type 0 whe
 -- a record more is held, which stands at that offset
 pub record HoldsRecord (offset : ℕ) (t : Top) (old new : Holding) : Type 0 where
   pub spans : new.spans.items ≡ old.spans.items ++ spans_one offset t
-  pub used : new.used.items ≡ with_marks old.used.items (channels_of (opened t))
+  pub used : new.used.items ≡ with_marks old.used.items (channels_in (heads_under t))
   pub extra : KeepsExtra t old.extras.items new.extras.items
   pub profile : KeepsProfile offset t.content old.profile new.profile
 
@@ -78,7 +79,7 @@ pub record HoldsInput (r : Read) (i : Input) : Type 0 where
   pub profile_is : ProfileIs r.tops i.profile
 
 -- the source was read to its Data End, or refused behind some records
-abbrev pub ReadsInput : SourceState → SourceState → Result Input ScanRefused → Type 0
+abbrev pub ReadsInput : SourceState → SourceState → Result Input ReadingRefused → Type 0
 ReadsInput before now (Ok input) = (r : Read) × (end : ℕ) × HaltsSo before now r.tops (at_end end) × HoldsInput r input
 ReadsInput before now (Err why) = (tops : List Top) × RefusalStands why before now tops
 

@@ -1,18 +1,19 @@
 -- The channels of an input that have messages, as marks at their ids.
-use Rattle.std.specs.Prelude.{◌≡◌, ℕ, List, length, take, map, fold, filter, set, Bool, true, false}
+use Rattle.std.specs.Prelude.{◌≡◌, ℕ, List, length, map, fold, filter, set, Bool, true, false}
 use Rattle.std.specs.List.{flat_map}
-use Rattle.mcap_wire.specs.Layout.{number}
 use Rattle.mcap_model.specs.Places.{At, Has}
 use Rattle.mcap_model.specs.Tops.{Top, opened}
-use Rattle.mcap_model.specs.Scan.{Seen, is_message_top}
+use Rattle.mcap_model.specs.Scan.{Seen}
+use Rattle.record_walk.specs.declared.heads.MessageHead.{MessageHead}
+use Rattle.record_walk.specs.Heads.{channel_in, is_headed}
 
--- the channel in a Message's content, at its front
-abbrev pub channel_in : List ℕ → ℕ
-channel_in content = number (take 2 content)
-
--- those of the Messages among some records
+-- the channels of the Messages among some records whose contents meet their layout
 abbrev pub channels_of : List Top → List ℕ
-channels_of records = map (λ t. channel_in t.content) (filter is_message_top records)
+channels_of records = map (λ t. channel_in t.content) (filter is_headed records)
+
+-- those of Messages that are listed
+abbrev pub channels_in : List MessageHead → List ℕ
+channels_in heads = map (λ h. h.channel) heads
 
 -- those of the Messages of a file, inside its chunks too
 abbrev pub channels_under : List Top → List ℕ

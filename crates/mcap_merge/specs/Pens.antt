@@ -8,7 +8,7 @@ use Rattle.mcap_model.specs.declared.ends.Stop.{Stop}
 use Rattle.mcap_model.specs.Tops.{Top}
 use Rattle.chunk_writer.specs.declared.phase.Phase.TheVariants as phases
 use Rattle.chunk_writer.specs.declared.scribe.Scribe.{Scribe}
-use Rattle.chunk_writer.specs.Stops.{StopsBehind}
+use Rattle.chunk_writer.specs.Stops.{numbers, StopsBehind}
 use Rattle.chunk_writer.specs.Limits.{Holds}
 use Rattle.chunk_writer.specs.Scribes.{Writes, EndsFile, phase_of}
 use Rattle.chunk_writer.specs.declared.tape.Written.{Written}
@@ -40,7 +40,7 @@ adds_all seen s stop extras records is = λ options others opened history writes
       record {
         going = λ going. absurd (stopped_going stop (sym is ∙ going));
         stopped = λ why at es behind. let stopped = was.stopped in
-            subst (λ (h : List Rec). StopsBehind options es h opened.held (seen s.store).held why s.plan.blocks s.plan.bytes) (sym (append_assoc history records behind)) (stopped why at es (records ++ behind));
+            subst (λ (h : List Rec). StopsBehind options es h opened.held (seen s.store).held why (numbers s.plan.blocks s.plan.bytes)) (sym (append_assoc history records behind)) (stopped why at es (records ++ behind));
         unended = was.unended;
       },
       λ going. absurd (stopped_going stop (sym is ∙ going)),

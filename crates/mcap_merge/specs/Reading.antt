@@ -5,11 +5,13 @@ use Rattle.mcap_io.specs.Outside.{SourceState, RisesOnce}
 use Rattle.mcap_io.specs.Stores.{StoreState}
 use Rattle.mcap_io.specs.StoreSources.{front_left}
 use Rattle.store_front.specs.Fronts.{WasRead}
+use Rattle.mcap_model.specs.declared.ends.Stop.{Stop}
+use Rattle.mcap_model.specs.declared.ends.Stop.TheVariants as stops
 use Rattle.mcap_model.specs.Places.{At, Has, Each}
 use Rattle.mcap_model.specs.Tops.{Top}
 use Rattle.mcap_model.specs.Kept.{reading_limits, Halts, at_end, grammar, compressed, beyond}
-use Rattle.mcap_scan.specs.declared.answers.ScanRefused.{ScanRefused}
-use Rattle.mcap_scan.specs.declared.answers.ScanRefused.TheVariants as refusals
+use Rattle.mcap_model.specs.declared.refusals.ReadingRefused.{ReadingRefused}
+use Rattle.mcap_model.specs.declared.refusals.ReadingRefused.TheVariants as refusals
 use Rattle.chunk_survey.specs.declared.spans.Span.{Span}
 use Rattle.mcap_merge.specs.declared.answers.MergeRefused.{MergeRefused}
 use Rattle.mcap_merge.specs.declared.answers.MergeRefused.TheVariants as merges
@@ -21,7 +23,7 @@ abbrev pub front_of : StoreState → ℕ → SourceState
 front_of store len = record { left = front_left store.bytes 0 len; faults = 0 }
 
 -- the first so many bytes of a store were read, none twice
-pub record FrontReads (old : StoreState) (len : ℕ) (new : StoreState) (result : Result Input ScanRefused) : Type 0 where
+pub record FrontReads (old : StoreState) (len : ℕ) (new : StoreState) (result : Result Input ReadingRefused) : Type 0 where
   pub next : ℕ
   pub now : SourceState
   pub was : WasRead old new next len now.faults
@@ -32,7 +34,7 @@ abbrev pub HasLength : StoreState → ℕ → Type 0
 HasLength store len = (bytes : List ℕ) → store.bytes ≡ Some bytes → len ≡ length bytes
 
 -- a fault is told with that count
-abbrev pub IsCounted : ℕ → ScanRefused → ScanRefused → Type 0
+abbrev pub IsCounted : ℕ → ReadingRefused → ReadingRefused → Type 0
 IsCounted count (refusals.Fault faults) result = result ≡ refusals.Fault count
 IsCounted count (refusals.Grammar offset rule) result = result ≡ refusals.Grammar offset rule
 IsCounted count (refusals.Compressed offset name) result = result ≡ refusals.Compressed offset name
@@ -71,7 +73,7 @@ abbrev pub IsReadOf : StoreState → Read → Type 0
 IsReadOf store r = (bytes : List ℕ) → store.bytes ≡ Some bytes → (end : ℕ) × Halts reading_limits bytes r.tops (at_end end)
 
 -- why a store wasn't read to its Data End
-abbrev pub StoreRefused : StoreState → StoreState → ScanRefused → Type 0
+abbrev pub StoreRefused : StoreState → StoreState → ReadingRefused → Type 0
 StoreRefused old new (refusals.Fault faults) = RisesOnce old.faults new.faults × (faults ≡ new.faults)
 StoreRefused old new (refusals.Grammar offset rule) = (new.faults ≡ old.faults) × ((bytes : List ℕ) → old.bytes ≡ Some bytes → (tops : List Top) × Halts reading_limits bytes tops (grammar offset rule))
 StoreRefused old new (refusals.Compressed offset name) = (new.faults ≡ old.faults) × ((bytes : List ℕ) → old.bytes ≡ Some bytes → (tops : List Top) × Halts reading_limits bytes tops (compressed offset name))
@@ -79,17 +81,17 @@ StoreRefused old new (refusals.Limit offset) = (new.faults ≡ old.faults) × ((
 StoreRefused old new refusals.Memory = new.faults ≡ old.faults
 
 -- a store was read whole
-abbrev pub ReadsWhole : StoreState → StoreState → Result Input ScanRefused → Type 0
+abbrev pub ReadsWhole : StoreState → StoreState → Result Input ReadingRefused → Type 0
 ReadsWhole old new (Ok input) = (r : Read) × HoldsInput r input × IsReadOf old r × (new.faults ≡ old.faults)
 ReadsWhole old new (Err why) = StoreRefused old new why
 
--- what is answered for that
-abbrev pub IsRefusalAt : ℕ → ScanRefused → MergeRefused → Type 0
-IsRefusalAt input (refusals.Fault faults) why = why ≡ merges.Fault faults
-IsRefusalAt input (refusals.Grammar offset rule) why = why ≡ merges.Grammar input offset
-IsRefusalAt input (refusals.Compressed offset name) why = why ≡ merges.Compressed input offset name
-IsRefusalAt input (refusals.Limit offset) why = why ≡ merges.Limit input offset
-IsRefusalAt input refusals.Memory why = why ≡ merges.Memory
+-- what is answered for that: a want of memory is one of the merge
+abbrev pub IsRefusalAt : ℕ → ReadingRefused → MergeRefused → Type 0
+IsRefusalAt input (refusals.Fault faults) why = why ≡ merges.Halted input (refusals.Fault faults)
+IsRefusalAt input (refusals.Grammar offset rule) why = why ≡ merges.Halted input (refusals.Grammar offset rule)
+IsRefusalAt input (refusals.Compressed offset name) why = why ≡ merges.Halted input (refusals.Compressed offset name)
+IsRefusalAt input (refusals.Limit offset) why = why ≡ merges.Halted input (refusals.Limit offset)
+IsRefusalAt input refusals.Memory why = why ≡ merges.Stopped stops.Memory
 
 -- all stores were read to their Data Ends, and this is held of them
 abbrev pub AreHeld : List StoreState → List Input → Type 0
@@ -103,18 +105,29 @@ AreReadBefore stores n = (k : ℕ) (s : StoreState) → k < n → At stores k s 
 abbrev pub HaltsFirst : List StoreState → ℕ → (List ℕ → Type 0) → Type 0
 HaltsFirst stores n halts = AreReadBefore stores n × (s : StoreState) × At stores n s × ((bytes : List ℕ) → s.bytes ≡ Some bytes → halts bytes)
 
--- the count of one of them has risen by one, to this, and those of the others stood still
-abbrev pub OneRose : List StoreState → List StoreState → ℕ → Type 0
-OneRose olds news faults = (k : ℕ) × (old new : StoreState) × At olds k old × At news k new × RisesOnce old.faults new.faults × (faults ≡ new.faults)
+-- the count of the one of that number has risen by one, to this, and those of the others stood still
+abbrev pub OneRose : List StoreState → List StoreState → ℕ → ℕ → Type 0
+OneRose olds news k faults = (old new : StoreState) × At olds k old × At news k new × RisesOnce old.faults new.faults × (faults ≡ new.faults)
     × ((n : ℕ) (was is : StoreState) → (n ≡ k → ⊥) → At olds n was → At news n is → CountStands was is)
 
--- why the inputs weren't all read; but for a fault their counts stood still
+-- why the input of that number wasn't read; but for a fault the counts stood still
+abbrev pub ReadHalted : List StoreState → List StoreState → ℕ → ReadingRefused → Type 0
+ReadHalted olds news input (refusals.Fault faults) = OneRose olds news input faults
+ReadHalted olds news input (refusals.Grammar offset rule) = AllZip CountStands olds news × HaltsFirst olds input (λ bytes. (tops : List Top) × Halts reading_limits bytes tops (grammar offset rule))
+ReadHalted olds news input (refusals.Compressed offset name) = AllZip CountStands olds news × HaltsFirst olds input (λ bytes. (tops : List Top) × Halts reading_limits bytes tops (compressed offset name))
+ReadHalted olds news input (refusals.Limit offset) = AllZip CountStands olds news × HaltsFirst olds input (λ bytes. (tops : List Top) × Halts reading_limits bytes tops (beyond offset))
+ReadHalted olds news input refusals.Memory = ⊥
+
+-- where nothing was written, the merge stopped for want of memory alone, and the counts stood still
+abbrev pub ReadStopped : List StoreState → List StoreState → Stop → Type 0
+ReadStopped olds news (stops.Fault faults) = ⊥
+ReadStopped olds news (stops.Limit blocks bytes) = ⊥
+ReadStopped olds news stops.Memory = AllZip CountStands olds news
+
+-- why the inputs weren't all read
 abbrev pub InputRefused : List StoreState → List StoreState → MergeRefused → Type 0
-InputRefused olds news (merges.Fault faults) = OneRose olds news faults
-InputRefused olds news (merges.Grammar input offset) = AllZip CountStands olds news × HaltsFirst olds input (λ bytes. (tops : List Top) × (rule : ℕ) × Halts reading_limits bytes tops (grammar offset rule))
-InputRefused olds news (merges.Compressed input offset name) = AllZip CountStands olds news × HaltsFirst olds input (λ bytes. (tops : List Top) × Halts reading_limits bytes tops (compressed offset name))
-InputRefused olds news (merges.Limit input offset) = AllZip CountStands olds news × HaltsFirst olds input (λ bytes. (tops : List Top) × Halts reading_limits bytes tops (beyond offset))
+InputRefused olds news (merges.Halted input why) = ReadHalted olds news input why
+InputRefused olds news (merges.Changed input offset) = ⊥
 InputRefused olds news merges.TooManySchemas = ⊥
 InputRefused olds news merges.TooManyChannels = ⊥
-InputRefused olds news (merges.FileLimit blocks bytes) = ⊥
-InputRefused olds news merges.Memory = AllZip CountStands olds news
+InputRefused olds news (merges.Stopped stop) = ReadStopped olds news stop

@@ -115,9 +115,8 @@ abbrev pub IsChanged : Files → Walk → List Input → ℕ → ℕ → Type 0
 IsChanged files start inputs input offset = ((w : Walk) × (pieces_in w ≡ pieces_in start) × IsRefused files w (walks.Changed input offset)) ⊎ IsOther files (pieces_in start) inputs input offset
 
 abbrev pub WhyUnread : Files → Walk → List Input → WalkRefused → Type 0
-WhyUnread files start inputs (walks.Fault faults) = Unit {0}
 WhyUnread files start inputs (walks.Changed input offset) = IsChanged files start inputs input offset
-WhyUnread files start inputs walks.Memory = Unit {0}
+WhyUnread files start inputs (walks.Refused input why) = Unit {0}
 
 abbrev pub WhyNotAll : Files → Walk → List Input → PutRefused → Type 0
 WhyNotAll files start inputs (puts.Stopped stop) = Unit {0}

@@ -17,6 +17,7 @@ use crate::reading::read_inputs;
 use crate::schemas::see_schemas;
 use id_table::IdRefused;
 use mcap_io::Store;
+use mcap_model::Stop;
 use mcap_wire::Text;
 use std::alloc::Global;
 
@@ -34,7 +35,7 @@ fn id_refusal(why: IdRefused) -> MergeRefused
     match why {
         IdRefused::TooManySchemas => return MergeRefused::TooManySchemas,
         IdRefused::TooManyChannels => return MergeRefused::TooManyChannels,
-        IdRefused::Memory => return MergeRefused::Memory,
+        IdRefused::Memory => return MergeRefused::Stopped { stop: Stop::Memory },
     }
 }
 
@@ -82,7 +83,7 @@ fn prepare(alloc: Global, inputs: &[Input]) -> Result<Text, MergeRefused>
     }
     match common_profile(alloc, inputs) {
         Ok(profile) => return Ok(profile),
-        Err(_) => return Err(MergeRefused::Memory),
+        Err(_) => return Err(MergeRefused::Stopped { stop: Stop::Memory }),
     }
 }
 

@@ -2,7 +2,7 @@
 //! channels have some.
 ghost use Rattle.std.specs.Prelude.{◌≡◌, length, OnOk, IfOk};
 ghost use Rattle.mcap_model.specs.Made.{top};
-ghost use Rattle.mcap_scan.specs.declared.answers.ScanRefused.{ScanRefused as Refusal};
+ghost use Rattle.mcap_model.specs.declared.refusals.ReadingRefused.{ReadingRefused as Refusal};
 ghost use Rattle.mcap_scan.specs.declared.reader.Stage.TheVariants as stages;
 ghost use Rattle.mcap_scan.specs.Scanning.{content_of, tables_of};
 ghost use Rattle.mcap_merge.specs.Inputs.{extra_top, extra_tops, ReadsInput, KeepsExtra, ReadsProfile, KeepsProfile, HoldsRecord, HoldsNothing, IsInputOf};
@@ -10,10 +10,11 @@ ghost use Rattle.mcap_merge.specs.Inputs.{extra_top, extra_tops, ReadsInput, Kee
 use crate::marks::{mark_channels, no_marks};
 use chunk_survey::{Span, note_spans};
 use mcap_io::Source;
-use mcap_model::Tables;
-use mcap_scan::{Reader, ScanRefused, Step};
+use mcap_model::{ReadingRefused, Tables};
+use mcap_scan::{Reader, Step};
 use mcap_wire::{Bytes, Memory, Text};
 use rec_data::{ATTACHMENT, Header, METADATA};
+use record_walk::MessageHead;
 use std::alloc::Global;
 
 /// An Attachment or a Metadata, as it stands in a file.
@@ -63,12 +64,12 @@ fn profile_of(alloc: Global, content: &[u8]) -> Result<Text, Memory>
 }
 
 // Why a reading was refused.
-fn refusal_of(reader: Reader) -> ScanRefused
+fn refusal_of(reader: Reader) -> ReadingRefused
     ensures { (why : Refusal) → reader.stage ≡ stages.Stopped why → result ≡ why }
 {
     match reader.into_refusal() {
         Some(why) => return why,
-        None => return ScanRefused::Memory,
+        None => return ReadingRefused::Memory,
     }
 }
 
@@ -79,6 +80,8 @@ struct Holding {
     extras: Vec<Extra>,
     spans: Vec<Span>,
     used: Vec<bool>,
+    // The messages of the record that was held last, whose room is kept for the next.
+    heads: Vec<MessageHead>,
 }
 
 // Keeps the profile of the first record.
@@ -114,14 +117,17 @@ fn hold(
     ensures holds { OnOk result (HoldsRecord offset (top op (content_of reader.now)) held.old held.new) }
     ensures sized { length held.new.used.items ≡ 65536 }
 {
-    match note_spans(&mut held.spans, op, offset, reader.content()) {
+    match note_spans(
+        &mut held.spans,
+        &mut held.heads,
+        op,
+        offset,
+        reader.content(),
+    ) {
         Ok(()) => {}
         Err(memory) => return Err(memory),
     }
-    match mark_channels(&mut held.used, op, reader.content()) {
-        Ok(()) => {}
-        Err(memory) => return Err(memory),
-    }
+    mark_channels(&mut held.used, held.heads.as_slice());
     match keep_extra(alloc, &mut held.extras, op, reader.content()) {
         Ok(()) => {}
         Err(memory) => return Err(memory),
@@ -147,6 +153,7 @@ fn hold_nothing(alloc: Global) -> Result<Holding, Memory>
                 extras: Vec::new(alloc),
                 spans: Vec::new(alloc),
                 used,
+                heads: Vec::new(alloc),
             });
         }
         Err(memory) => return Err(memory),
@@ -162,6 +169,7 @@ fn input_of(held: Holding, reader: Reader) -> Input
         extras,
         spans,
         used,
+        heads: _,
     } = held;
     Input {
         profile,
@@ -173,23 +181,23 @@ fn input_of(held: Holding, reader: Reader) -> Input
 }
 
 /// Reads a source to its Data End, and holds what it has.
-pub(crate) fn read_input<S: Source>(alloc: Global, source: &mut S) -> Result<Input, ScanRefused>
+pub(crate) fn read_input<S: Source>(alloc: Global, source: &mut S) -> Result<Input, ReadingRefused>
     ensures reads { ReadsInput (S.state source.old) (S.state source.new) result }
     ensures stays { S.stays source.old source.new }
 {
     let mut reader = match Reader::new(alloc) {
         Ok(reader) => reader,
-        Err(_) => return Err(ScanRefused::Memory),
+        Err(_) => return Err(ReadingRefused::Memory),
     };
     let mut held = match hold_nothing(alloc) {
         Ok(held) => held,
-        Err(_) => return Err(ScanRefused::Memory),
+        Err(_) => return Err(ReadingRefused::Memory),
     };
     'records: loop {
         match reader.advance(source) {
             Step::Record { op, offset } => match hold(alloc, &mut held, &reader, op, offset) {
                 Ok(()) => {}
-                Err(_) => return Err(ScanRefused::Memory),
+                Err(_) => return Err(ReadingRefused::Memory),
             },
             Step::End { offset: _ } => return Ok(input_of(held, reader)),
             Step::Refused => return Err(refusal_of(reader)),

@@ -11,13 +11,14 @@ ghost use Rattle.mcap_merge.specs.Reading.{StoreKeeps, AsksOnce};
 ghost use Rattle.mcap_merge.specs.Gathering.{GatherRefused};
 ghost use Rattle.mcap_merge.specs.Turns.{WhyNotAll, PutCounts};
 ghost use Rattle.mcap_merge.specs.Putting.{IsBegun, WholeStands};
-ghost use Rattle.mcap_merge.specs.Filed.{merged_options, MergesInto, MergeFails, IsWriterRefusal, AsksTwice};
+ghost use Rattle.mcap_merge.specs.Filed.{merged_options, MergesInto, MergeFails, AsksTwice};
 ghost use Rattle.mcap_merge.specs.Filing.{IsReady, FilesAs, FileStops, IsPutRefusal};
 
 use crate::answers::{MergeRefused, Merged};
 use crate::gathering::{Gathered, gather};
 use crate::input::Input;
 use crate::merge_file::write_all;
+use crate::reading::refusal_at;
 use crate::starting::{Begun, begin};
 use crate::turns::PutRefused;
 use chunk_walk::WalkRefused;
@@ -35,32 +36,18 @@ pub(crate) struct Ready {
     pub(crate) begun: Begun,
 }
 
-// Why the writer stopped, as a merge answers it.
-fn refused_by(stop: Stop) -> MergeRefused
-    ensures { IsWriterRefusal stop result }
-{
-    match stop {
-        Stop::Fault { faults } => return MergeRefused::Fault { faults },
-        Stop::Limit { blocks, bytes } => return MergeRefused::FileLimit { blocks, bytes },
-        Stop::Memory => return MergeRefused::Memory,
-    }
-}
-
 // Why not all was written, as a merge answers it.
 fn refusal_of(why: PutRefused) -> MergeRefused
     ensures { IsPutRefusal why result }
 {
     match why {
-        PutRefused::Stopped { stop } => return refused_by(stop),
-        PutRefused::Unread {
-            why: WalkRefused::Fault { faults },
-        } => return MergeRefused::Fault { faults },
+        PutRefused::Stopped { stop } => return MergeRefused::Stopped { stop },
         PutRefused::Unread {
             why: WalkRefused::Changed { input, offset },
-        } => return MergeRefused::Grammar { input, offset },
+        } => return MergeRefused::Changed { input, offset },
         PutRefused::Unread {
-            why: WalkRefused::Memory,
-        } => return MergeRefused::Memory,
+            why: WalkRefused::Refused { input, why },
+        } => return refusal_at(input, why),
     }
 }
 
@@ -101,7 +88,7 @@ fn make_ready<T: Store>(
     };
     let options = match options_of(alloc, &gathered.profile, chunk) {
         Ok(options) => options,
-        Err(_) => return Err(MergeRefused::Memory),
+        Err(_) => return Err(MergeRefused::Stopped { stop: Stop::Memory }),
     };
     match begin(alloc, gathered.inputs.as_slice()) {
         Ok(begun) => return Ok(Ready {
@@ -109,7 +96,7 @@ fn make_ready<T: Store>(
             options,
             begun,
         }),
-        Err(_) => return Err(MergeRefused::Memory),
+        Err(_) => return Err(MergeRefused::Stopped { stop: Stop::Memory }),
     }
 }
 

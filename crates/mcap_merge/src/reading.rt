@@ -8,12 +8,12 @@ use crate::answers::MergeRefused;
 use crate::input::{Input, read_input};
 use chunk_survey::Span;
 use mcap_io::{Failed, Store};
-use mcap_scan::ScanRefused;
+use mcap_model::{ReadingRefused, Stop};
 use std::alloc::Global;
 use store_front::StoreFront;
 
 // Reads the first bytes of a store, by a source that counts its own failures.
-fn read_front<T: Store>(alloc: Global, store: &mut T, len: u64) -> Result<Input, ScanRefused>
+fn read_front<T: Store>(alloc: Global, store: &mut T, len: u64) -> Result<Input, ReadingRefused>
     requires { len ≤ (T.state store.old).known }
     ensures { FrontReads (T.state store.old) len (T.state store.new) result }
 {
@@ -22,21 +22,21 @@ fn read_front<T: Store>(alloc: Global, store: &mut T, len: u64) -> Result<Input,
 }
 
 // A refusal with the count of the store.
-fn counted<T: Store>(store: &T, why: ScanRefused) -> ScanRefused
+fn counted<T: Store>(store: &T, why: ReadingRefused) -> ReadingRefused
     ensures { IsCounted (T.state store.now).faults why result }
 {
     match why {
-        ScanRefused::Fault { faults: _ } => {
-            return ScanRefused::Fault {
+        ReadingRefused::Fault { faults: _ } => {
+            return ReadingRefused::Fault {
                 faults: store.faults(),
             };
         }
-        ScanRefused::Grammar { offset, rule } => return ScanRefused::Grammar { offset, rule },
-        ScanRefused::Compressed { offset, name } => {
-            return ScanRefused::Compressed { offset, name };
+        ReadingRefused::Grammar { offset, rule } => return ReadingRefused::Grammar { offset, rule },
+        ReadingRefused::Compressed { offset, name } => {
+            return ReadingRefused::Compressed { offset, name };
         }
-        ScanRefused::Limit { offset } => return ScanRefused::Limit { offset },
-        ScanRefused::Memory => return ScanRefused::Memory,
+        ReadingRefused::Limit { offset } => return ReadingRefused::Limit { offset },
+        ReadingRefused::Memory => return ReadingRefused::Memory,
     }
 }
 
@@ -54,7 +54,7 @@ fn first_outside(spans: &[Span], len: u64) -> Option<u64>
 }
 
 // Reads a store of that length. One that gives other bytes than it has may show a record that ends behind them: it is cut short.
-fn read_known<T: Store>(alloc: Global, store: &mut T, len: u64) -> Result<Input, ScanRefused>
+fn read_known<T: Store>(alloc: Global, store: &mut T, len: u64) -> Result<Input, ReadingRefused>
     requires known { len ≤ (T.state store.old).known }
     requires whole { HasLength (T.state store.old) len }
     ensures reads { ReadsWhole (T.state store.old) (T.state store.new) result }
@@ -68,12 +68,12 @@ fn read_known<T: Store>(alloc: Global, store: &mut T, len: u64) -> Result<Input,
     };
     match first_outside(input.spans.as_slice(), len) {
         None => return Ok(input),
-        Some(offset) => return Err(ScanRefused::Grammar { offset, rule: 4 }),
+        Some(offset) => return Err(ReadingRefused::Grammar { offset, rule: 4 }),
     }
 }
 
 // Reads a store whole.
-fn read_store<T: Store>(alloc: Global, store: &mut T) -> Result<Input, ScanRefused>
+fn read_store<T: Store>(alloc: Global, store: &mut T) -> Result<Input, ReadingRefused>
     ensures reads { ReadsWhole (T.state store.old) (T.state store.new) result }
     ensures keeps { StoreKeeps (T.state store.old) (T.state store.new) }
     ensures fits { IfOk result (λ input. SpansFit (T.state store.new) input) }
@@ -81,29 +81,20 @@ fn read_store<T: Store>(alloc: Global, store: &mut T) -> Result<Input, ScanRefus
 {
     let len = match store.len() {
         Ok(len) => len,
-        Err(Failed) => return Err(ScanRefused::Fault {
+        Err(Failed) => return Err(ReadingRefused::Fault {
             faults: store.faults(),
         }),
     };
     read_known(alloc, store, len)
 }
 
-// Why files aren't merged, where the input of that number wasn't read to its Data End.
-fn refusal_at(input: u32, why: ScanRefused) -> MergeRefused
+/// Why files aren't merged, where the input of that number wasn't read, or not read again.
+pub(crate) fn refusal_at(input: u32, why: ReadingRefused) -> MergeRefused
     ensures { IsRefusalAt input why result }
 {
     match why {
-        ScanRefused::Fault { faults } => return MergeRefused::Fault { faults },
-        ScanRefused::Grammar { offset, rule: _ } => return MergeRefused::Grammar { input, offset },
-        ScanRefused::Compressed { offset, name } => {
-            return MergeRefused::Compressed {
-                input,
-                offset,
-                name,
-            };
-        }
-        ScanRefused::Limit { offset } => return MergeRefused::Limit { input, offset },
-        ScanRefused::Memory => return MergeRefused::Memory,
+        ReadingRefused::Memory => MergeRefused::Stopped { stop: Stop::Memory },
+        why => MergeRefused::Halted { input, why },
     }
 }
 
@@ -125,7 +116,7 @@ pub(crate) fn read_inputs<T: Store>(
         match read_store(alloc, &mut stores[i]) {
             Ok(input) => match inputs.push(input) {
                 Ok(()) => {}
-                Err(_) => return Err(MergeRefused::Memory),
+                Err(_) => return Err(MergeRefused::Stopped { stop: Stop::Memory }),
             },
             Err(why) => return Err(refusal_at(i as u32, why)),
         }

@@ -1,15 +1,23 @@
-use Rattle.std.proofs.Common.{◌++◌, ap, ◌∙◌}
+use Rattle.std.proofs.Common.{◌≡◌, ◌++◌, ◌∷◌, [], List, sym, ap, ◌∙◌, append-nil}
+use Rattle.mcap_model.specs.Made.{top}
 use Rattle.mcap_model.proofs.ShownMessages.{ok_then}
-use Rattle.chunk_survey.specs.Spans.{spans_made}
+use Rattle.record_walk.specs.declared.heads.MessageHead.{MessageHead}
+use Rattle.chunk_survey.specs.Heads.{heads_one, heads_under, times_in}
+use Rattle.chunk_survey.specs.Spans.{spans_timed}
 use Rattle.chunk_survey.proofs.Noted.{noted_message}
 use Rattle.chunk_survey.proofs.noting.note_message.Goals as goal
 
-pub returns : goal.returns
-returns c =
+pub returns-clause-spans : goal.returns-clause-spans
+returns-clause-spans c =
     let old = c.args.spans.now.items in
     let at = c.args.offset in
-    let len = c.in-Ok-place_behind.length in
+    let len = c.in_ok-length.length in
+    let listed : c.push.new.self.items ≡ heads_under (top 5 c.args.content.now) =
+    c.in-Ok.ensures.items
+    ∙ ap (λ (l : List MessageHead). l ++ c.in_ok-head.head ∷ []) c.requires
+    ∙ sym c.in_ok-head.ensures
+    ∙ sym (append-nil (heads_one 0 (top 5 c.args.content.now))) in
     ok_then c.add_span.result c.add_span.ensures (λ added.
     added
-    ∙ ap (λ e. old ++ spans_made at at len e) c.with_time_more.ensures
-    ∙ ap (λ l. old ++ l) (noted_message at c.args.content.now len c.in-Ok.time c.in-Ok-place_behind.ensures c.in-Ok.ensures))
+    ∙ ap (λ (l : List MessageHead). old ++ spans_timed at at len (times_in l)) (c.deref.ensures.value ∙ listed)
+    ∙ ap (λ l. old ++ l) (noted_message at c.args.content.now len c.in_ok-length.ensures))

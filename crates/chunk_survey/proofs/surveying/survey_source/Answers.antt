@@ -17,7 +17,7 @@ records-preserved g c =
     let before = g.S.Source.state c.args.source.now in
     let was = c.records.invariant.0 in
     let step = c.in-Record.ensures.steps before was.tops was.stands in (
-      noted_on c.records.reader c.advance.new.self before (g.S.Source.state c.records.source) (g.S.Source.state c.advance.new.source) c.records.spans.items c.note_spans.new.spans.items c.in-Record.op c.in-Record.offset c.content.result.now was step c.content.ensures c.in-Ok-note_spans.ensures,
+      noted_on c.records.reader c.advance.new.self before (g.S.Source.state c.records.source) (g.S.Source.state c.advance.new.source) c.records.spans.items c.note_spans.new.spans.items c.in-Record.op c.in-Record.offset c.content.result.now was step c.content.ensures c.in-Ok-note_spans.ensures.spans,
       c.in-Record.ensures.moves.1,
       g.S.Source.stays_on c.args.source.now c.records.source c.advance.new.source c.records.invariant.2 c.in-Record.ensures.stays,
     )

@@ -1,7 +1,5 @@
-use Rattle.std.proofs.Common.{◌≡◌, ◌∷◌, [], ◌+◌, ◌≤◌, refl, subst, Ok, Err, rules, arith}
+use Rattle.std.proofs.Common.{◌∷◌, [], ◌+◌, ◌≤◌, refl, subst, Ok, Err, arith}
 use Rattle.mcap_model.proofs.Places.{at_one}
-use Rattle.chunk_window.specs.declared.answers.WindowRefused.TheVariants as refusals
-use Rattle.chunk_window.specs.Parts.{ReadsFrom}
 use Rattle.chunk_walk.proofs.Places.{read_there}
 use Rattle.chunk_walk.proofs.Stayed.{store_of, store_there, bytes_loaded, reads_piece}
 use Rattle.chunk_walk.proofs.walk.load_piece.Goals as goal
@@ -34,20 +32,10 @@ returns-in-Ok-clause-stores g c =
     let at = read_there stores c.args.piece.input c.index_mut.result.now c.index_mut.ensures.value there in
     reads_piece (λ s. g.T.Store.state s) stores c.args.piece c.index_mut.result.now c.load.new.store (Ok tt) (Ok tt) at c.in-Ok.ensures.store c.in-Ok.ensures.store.cause
 
-pub returns-in-Err-Fault-clause-stores : goal.returns-in-Err-Fault-clause-stores
-returns-in-Err-Fault-clause-stores g c =
+pub returns-in-Err-clause-stores : goal.returns-in-Err-clause-stores
+returns-in-Err-clause-stores g c =
     let stores = c.args.stores.now.items in
     let there = store_there (λ s. g.T.Store.state s) stores (c.args.piece ∷ []) 0 c.args.piece c.requires.fits refl in
     let at = read_there stores c.args.piece.input c.index_mut.result.now c.index_mut.ensures.value there in
-    let is : c.load.result ≡ Err (refusals.Fault c.in-Err-Fault.faults) = search rules in
-    let reads = subst (ReadsFrom (g.T.Store.state c.index_mut.result.now) (g.T.Store.state c.load.new.store) c.args.piece.span.length) is c.load.ensures.store in
-    reads_piece (λ s. g.T.Store.state s) stores c.args.piece c.index_mut.result.now c.load.new.store (Err (refusals.Fault c.in-Err-Fault.faults)) _ at reads reads.cause
-
-pub returns-in-Err-Memory-clause-stores : goal.returns-in-Err-Memory-clause-stores
-returns-in-Err-Memory-clause-stores g c =
-    let stores = c.args.stores.now.items in
-    let there = store_there (λ s. g.T.Store.state s) stores (c.args.piece ∷ []) 0 c.args.piece c.requires.fits refl in
-    let at = read_there stores c.args.piece.input c.index_mut.result.now c.index_mut.ensures.value there in
-    let is : c.load.result ≡ Err refusals.Memory = search rules in
-    let reads = subst (ReadsFrom (g.T.Store.state c.index_mut.result.now) (g.T.Store.state c.load.new.store) c.args.piece.span.length) is c.load.ensures.store in
-    reads_piece (λ s. g.T.Store.state s) stores c.args.piece c.index_mut.result.now c.load.new.store (Err refusals.Memory) _ at reads reads.cause
+    let reads = c.in-Err.ensures.store in
+    reads_piece (λ s. g.T.Store.state s) stores c.args.piece c.index_mut.result.now c.load.new.store (Err c.in-Err.why) _ at reads (refl, reads.cause)

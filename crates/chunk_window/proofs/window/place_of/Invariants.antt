@@ -1,4 +1,4 @@
-use Rattle.std.proofs.Common.{◌≡◌, ◌<◌, ℕ}
+use Rattle.std.proofs.Common.{◌<◌, ℕ}
 use Rattle.mcap_model.specs.Places.{At}
 use Rattle.chunk_window.specs.declared.window.Loaded.{Loaded}
 use Rattle.chunk_window.specs.Parts.{BeginsAt}

@@ -10,7 +10,7 @@ returns c =
     let cursors = c.args.self.now.cursors.items in
     let i = c.args.i in
     let m = c.index_mut.result.now in
-    let e = c.entry-entry.result in
+    let e = c.next_head-head.result in
     let there : At cursors i m = read_at cursors i m c.index_mut.ensures.value c.requires.within in
     record {
       pieces = refl;
@@ -19,15 +19,15 @@ returns c =
       loaded = refl;
       last = refl;
       old_cursor = m;
-      cursor = record { piece = m.piece; entries = m.entries; given = m.given + 1 };
+      cursor = record { piece = m.piece; heads = m.heads; given = m.given + 1 };
       at = there;
       cursors = refl;
       is = (
         e,
-        subst (λ (y : Cursor). At y.entries.items y.given e) (read_is cursors i c.index.result.now m c.index.ensures there) c.entry-entry.ensures,
+        subst (λ (y : Cursor). At y.heads.items y.given e) (read_is cursors i c.index.result.now m c.index.ensures there) c.next_head-head.ensures,
         ap (λ (y : Cursor). turn_of y.piece e) (read_is cursors i c.index-2.result.now m c.index-2.ensures there),
       );
       piece = refl;
-      entries = refl;
+      heads = refl;
       given = refl;
     }

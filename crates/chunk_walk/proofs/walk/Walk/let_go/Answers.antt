@@ -30,7 +30,7 @@ returns c =
       goes = inr (record {
         cursor = x;
         at = at;
-        over = subst (λ (z : Cursor). length z.entries.items ≤ z.given) same (c.is_over.ensures.0 c.if-not-is_over.false);
+        over = subst (λ (z : Cursor). length z.heads.items ≤ z.given) same (c.is_over.ensures.0 c.if-not-is_over.false);
         cursors = c.remove-cursor.ensures.items;
         loaded = released_last c.requires.0 w x (loaded_in c.release.new.self) c.requires.1 at c.release.ensures;
       });
