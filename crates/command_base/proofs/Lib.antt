@@ -6,4 +6,6 @@ pub mod Counting
 pub mod Due
 pub mod OneFile
 pub mod Opened
+pub mod ReadNames
+pub mod Refusals
 pub mod Taken

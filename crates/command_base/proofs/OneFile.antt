@@ -6,7 +6,7 @@ use Rattle.std.proofs.lemmas.List.{append-nil}
 use Rattle.std.proofs.lemmas.Bool.{both_ways, ne_eqb, false_from_ne_true}
 use Rattle.mcap_io.specs.Outside.{Rose, RisesOnce, HasCause, Opens, OpenCause, CountsStand, added, SinkState, WorldState, Opening, Keeping, Told, opened, with_opening, went_well, NoneIsOut, Notes}
 use Rattle.mcap_io.proofs.Notes.{noted_in}
-use Rattle.mcap_io.specs.Stores.{StoreState, IsUnused, TellsStore, KeepsStore}
+use Rattle.mcap_io.specs.Stores.{StoreState}
 use Rattle.mcap_io.specs.declared.outside.Failed.{Failed}
 use Rattle.mcap_io.specs.declared.outside.ObjectKind.{ObjectKind}
 use Rattle.mcap_io.specs.declared.outside.ObjectKind.TheVariants as kinds
@@ -166,16 +166,23 @@ halted_sure trouble broken e = absurd cc
 
 -- ---- the command
 
+-- whether the file's name failed, or a write; which parts are blamed; and the answer
+pub record Outcome : Type 0 where
+  pub broken : Bool
+  pub broke : Bool
+  pub faults : Faults
+  pub answer : ℕ
+
 -- what its calls came to
-pub record AreParts (kind : ObjectKind) (file : List ℕ) (old new : Scene) (entries : List Opening) (ending : Ending) (broken broke : Bool) (faults : Faults) (answer : ℕ) : Type 0 where
-  pub name : NameRead kind file old.world new.world entries broken
+pub record AreParts (kind : ObjectKind) (file : List ℕ) (old new : Scene) (entries : List Opening) (ending : Ending) (came : Outcome) : Type 0 where
+  pub name : NameRead kind file old.world new.world entries came.broken
   -- a reading that failed has a name that is blamed
-  pub sure : ending ≡ failing → broken ≡ true
+  pub sure : ending ≡ failing → came.broken ≡ true
   pub well : HaltsWell ending
-  pub prints : PrintsEnding old.out new.out ending broke
+  pub prints : PrintsEnding old.out new.out ending came.broke
   pub takes : Takes old.out new.out (text_of ending)
-  pub shows : ShowsFaults (counts_in old) (counts_in new) broken broke faults
-  pub told : Complains (one_troubles file ending faults.file faults.printing) old.err new.err answer
+  pub shows : ShowsFaults (counts_in old) (counts_in new) came.broken came.broke came.faults
+  pub told : Complains (one_troubles file ending came.faults.file came.faults.printing) old.err new.err came.answer
 
 -- a write that failed shows in the count
 broke_rose : (before now : SinkState) (ending : Ending) (broke : Bool) → PrintsEnding before now ending broke → broke ≡ true → Rose before.faults now.faults
@@ -210,99 +217,99 @@ calm_status (halted trouble) other = refl
 calm_status failing other = absurd (other refl)
 calm_status lacked other = refl
 
-module _ (kind : ObjectKind) (file : List ℕ) (old new : Scene) (entries : List Opening) (ending : Ending) (broken broke : Bool) (faults : Faults) (answer : ℕ) (parts : AreParts kind file old new entries ending broken broke faults answer) where
-  answer_is : answer ≡ number_of ending faults.file faults.printing
-  answer_is = answered file ending faults.file faults.printing old.err new.err answer parts.well parts.told
+module _ (kind : ObjectKind) (file : List ℕ) (old new : Scene) (entries : List Opening) (ending : Ending) (came : Outcome) (parts : AreParts kind file old new entries ending came) where
+  answer_is : came.answer ≡ number_of ending came.faults.file came.faults.printing
+  answer_is = answered file ending came.faults.file came.faults.printing old.err new.err came.answer parts.well parts.told
 
-  rose : AskedRose (counts_in old) (counts_in new) → (answer ≡ 3) ⊎ (answer ≡ 5)
+  rose : AskedRose (counts_in old) (counts_in new) → (came.answer ≡ 3) ⊎ (came.answer ≡ 5)
   rose risen =
-      let some : (faults.file || faults.printing) ≡ true = either faults.file faults.printing (elim risen [
+      let some : (came.faults.file || came.faults.printing) ≡ true = either came.faults.file came.faults.printing (elim risen [
         | inl world ↦ inl (parts.shows.file_told (inr (inl world)))
         | inr (inl inputs) ↦ inl (parts.shows.file_told (inr (inr inputs)))
         | inr (inr printing) ↦ inr (parts.shows.printing_told (inr printing))
       ]) in
-      three_or (is_lack ending) (faults.file || faults.printing) (own ending) answer some answer_is
+      three_or (is_lack ending) (came.faults.file || came.faults.printing) (own ending) came.answer some answer_is
 
-  file_rose : faults.file ≡ true → Rose old.world.faults new.world.faults ⊎ Rose old.world.input_faults new.world.input_faults
+  file_rose : came.faults.file ≡ true → Rose old.world.faults new.world.faults ⊎ Rose old.world.input_faults new.world.input_faults
   file_rose blamed_is = elim (parts.shows.file_cause blamed_is) [ inl is ↦ parts.name.cause is | inr risen ↦ risen ]
 
-  printing_rose : faults.printing ≡ true → Rose old.out.faults new.out.faults
-  printing_rose blamed_is = elim (parts.shows.printing_cause blamed_is) [ inl is ↦ broke_rose old.out new.out ending broke parts.prints is | inr risen ↦ risen ]
+  printing_rose : came.faults.printing ≡ true → Rose old.out.faults new.out.faults
+  printing_rose blamed_is = elim (parts.shows.printing_cause blamed_is) [ inl is ↦ broke_rose old.out new.out ending came.broke parts.prints is | inr risen ↦ risen ]
 
-  three : answer ≡ 3 → AskedRose (counts_in old) (counts_in new)
-  three is_three = elim (which faults.file faults.printing (number_three (is_lack ending) (faults.file || faults.printing) (own ending) (λ e. own_other ending 3 parts.well e (inr (inl refl))) (sym answer_is ∙ is_three))) [
+  three : came.answer ≡ 3 → AskedRose (counts_in old) (counts_in new)
+  three is_three = elim (which came.faults.file came.faults.printing (number_three (is_lack ending) (came.faults.file || came.faults.printing) (own ending) (λ e. own_other ending 3 parts.well e (inr (inl refl))) (sym answer_is ∙ is_three))) [
     | inl blamed_is ↦ elim (file_rose blamed_is) [ inl world ↦ inl world | inr inputs ↦ inr (inl inputs) ]
     | inr blamed_is ↦ inr (inr (printing_rose blamed_is))
   ]
 
-  five : (answer ≡ 5) ↔ (ending ≡ lacked)
+  five : (came.answer ≡ 5) ↔ (ending ≡ lacked)
   five = (
-    λ is. lack_is ending (number_five (is_lack ending) (faults.file || faults.printing) (own ending) (λ e. own_other ending 5 parts.well e (inr (inr refl))) (sym answer_is ∙ is)),
-    λ is. answer_is ∙ ap (λ (e : Ending). number_of e faults.file faults.printing) is,
+    λ is. lack_is ending (number_five (is_lack ending) (came.faults.file || came.faults.printing) (own ending) (λ e. own_other ending 5 parts.well e (inr (inr refl))) (sym answer_is ∙ is)),
+    λ is. answer_is ∙ ap (λ (e : Ending). number_of e came.faults.file came.faults.printing) is,
   )
 
   -- where no count rose nothing failed
-  file_calm : (AnyRose (counts_in old) (counts_in new) → ⊥) → faults.file ≡ false
-  file_calm quiet = false_from_ne_true faults.file (λ blamed_is. elim (file_rose blamed_is) [ inl world ↦ quiet (inl world) | inr inputs ↦ quiet (inr (inl inputs)) ])
+  file_calm : (AnyRose (counts_in old) (counts_in new) → ⊥) → came.faults.file ≡ false
+  file_calm quiet = false_from_ne_true came.faults.file (λ blamed_is. elim (file_rose blamed_is) [ inl world ↦ quiet (inl world) | inr inputs ↦ quiet (inr (inl inputs)) ])
 
-  printing_calm : (AnyRose (counts_in old) (counts_in new) → ⊥) → faults.printing ≡ false
-  printing_calm quiet = false_from_ne_true faults.printing (λ blamed_is. quiet (inr (inr (inr (printing_rose blamed_is)))))
+  printing_calm : (AnyRose (counts_in old) (counts_in new) → ⊥) → came.faults.printing ≡ false
+  printing_calm quiet = false_from_ne_true came.faults.printing (λ blamed_is. quiet (inr (inr (inr (printing_rose blamed_is)))))
 
   -- a part that isn't blamed didn't fail
-  unblamed : faults.file ≡ false → broken ≡ false
-  unblamed well = false_from_ne_true broken (λ is. both_ways faults.file well (parts.shows.file_told (inl is)))
+  unblamed : came.faults.file ≡ false → came.broken ≡ false
+  unblamed well = false_from_ne_true came.broken (λ is. both_ways came.faults.file well (parts.shows.file_told (inl is)))
 
   -- and where nothing failed no name did
-  unnamed : broken ≡ false → failed_names entries ≡ []
+  unnamed : came.broken ≡ false → failed_names entries ≡ []
   unnamed well = parts.name.names_are ∙ ap (λ (b : Bool). named_when b file ++ []) well
 
-  calm : (AnyRose (counts_in old) (counts_in new) → ⊥) → (failed_names entries ≡ []) × (ending ≡ failing → ⊥) × (answer ≡ ending_status ending)
+  calm : (AnyRose (counts_in old) (counts_in new) → ⊥) → (failed_names entries ≡ []) × (ending ≡ failing → ⊥) × (came.answer ≡ ending_status ending)
   calm quiet =
       let well = unblamed (file_calm quiet) in
-      let unfailing : ending ≡ failing → ⊥ = λ e. both_ways broken well (parts.sure e) in
-      let none : (faults.file || faults.printing) ≡ false = neither faults.file faults.printing (file_calm quiet) (printing_calm quiet) in
+      let unfailing : ending ≡ failing → ⊥ = λ e. both_ways came.broken well (parts.sure e) in
+      let none : (came.faults.file || came.faults.printing) ≡ false = neither came.faults.file came.faults.printing (file_calm quiet) (printing_calm quiet) in
       (unnamed well, unfailing, answer_is ∙ ap (λ (b : Bool). cond (is_lack ending) 5 (cond b 3 (own ending))) none ∙ calm_status ending unfailing)
 
-  whole : answer ≡ 0 → (failed_names entries ≡ []) × ((text : List ℕ) × (ending ≡ was_read text) × TellsAll old.out new.out text)
+  whole : came.answer ≡ 0 → (failed_names entries ≡ []) × ((text : List ℕ) × (ending ≡ was_read text) × TellsAll old.out new.out text)
   whole zero_is =
-      let all = all_read ending faults.file faults.printing parts.well (sym answer_is ∙ zero_is) (λ well e. both_ways broken (unblamed well) (parts.sure e)) in
-      let well : broke ≡ false = false_from_ne_true broke (λ is. both_ways faults.printing all.3 (parts.shows.printing_told (inl is))) in
-      (unnamed (unblamed all.2), (all.0, all.1, all_taken old.out new.out ending broke all.0 parts.prints all.1 well))
+      let all = all_read ending came.faults.file came.faults.printing parts.well (sym answer_is ∙ zero_is) (λ well e. both_ways came.broken (unblamed well) (parts.sure e)) in
+      let well : came.broke ≡ false = false_from_ne_true came.broke (λ is. both_ways came.faults.printing all.3 (parts.shows.printing_told (inl is))) in
+      (unnamed (unblamed all.2), (all.0, all.1, all_taken old.out new.out ending came.broke all.0 parts.prints all.1 well))
 
-  blames : Blames (files_of kind file) old.world new.world entries (named_when faults.file file ++ [])
+  blames : Blames (files_of kind file) old.world new.world entries (named_when came.faults.file file ++ [])
   blames = record {
     exact = λ on.
-        let same : faults.file ≡ broken = same_tests faults.file broken (λ blamed_is. elim (parts.shows.file_cause blamed_is) [
+        let same : came.faults.file ≡ came.broken = same_tests came.faults.file came.broken (λ blamed_is. elim (parts.shows.file_cause blamed_is) [
           | inl is ↦ is
-          | inr (inl world) ↦ is_true broken (λ none. not_risen ⊥ old.world.faults new.world.faults on.world (parts.name.world_told none) world)
-          | inr (inr inputs) ↦ is_true broken (λ none. not_risen ⊥ old.world.input_faults new.world.input_faults on.inputs (parts.name.inputs_told none) inputs)
+          | inr (inl world) ↦ is_true came.broken (λ none. not_risen ⊥ old.world.faults new.world.faults on.world (parts.name.world_told none) world)
+          | inr (inr inputs) ↦ is_true came.broken (λ none. not_risen ⊥ old.world.input_faults new.world.input_faults on.inputs (parts.name.inputs_told none) inputs)
         ]) (λ is. parts.shows.file_told (inl is)) in
         ap (λ (b : Bool). named_when b file ++ []) same ∙ sym parts.name.names_are;
-    caused = each_one (IsCaused (files_of kind file) old.world new.world) faults.file file (λ blamed_is. elim (file_rose blamed_is) [ inl world ↦ inl world | inr inputs ↦ inr (inl ((0, refl), inputs)) ]);
+    caused = each_one (IsCaused (files_of kind file) old.world new.world) came.faults.file file (λ blamed_is. elim (file_rose blamed_is) [ inl world ↦ inl world | inr inputs ↦ inr (inl ((0, refl), inputs)) ]);
     told = λ on risen none.
-        let well : faults.file ≡ false = false_from_ne_true faults.file (λ is. some_one faults.file file is none) in
+        let well : came.faults.file ≡ false = false_from_ne_true came.faults.file (λ is. some_one came.faults.file file is none) in
         elim risen [
-          | inl world ↦ both_ways faults.file well (parts.shows.file_told (inr (inl world)))
-          | inr (inl inputs) ↦ both_ways faults.file well (parts.shows.file_told (inr (inr inputs)))
+          | inl world ↦ both_ways came.faults.file well (parts.shows.file_told (inr (inl world)))
+          | inr (inl inputs) ↦ both_ways came.faults.file well (parts.shows.file_told (inr (inr inputs)))
           | inr (inr outputs) ↦ not_risen ⊥ old.world.output_faults new.world.output_faults on.outputs parts.name.outputs outputs
         ];
   }
 
   -- all that is promised of the command
-  pub reads_one : ReadsOne kind file old new entries ending answer
+  pub reads_one : ReadsOne kind file old new entries ending came.answer
   reads_one = record {
     ran = record {
       opened = parts.name.opened;
       leaves = parts.name.leaves;
       counts = parts.name.counts;
       printed = parts.takes;
-      failed = record { inputs = faults.file ∷ []; outputs = [] };
+      failed = record { inputs = came.faults.file ∷ []; outputs = [] };
       blames = blames;
-      printing = faults.printing;
+      printing = came.faults.printing;
       blames_output = (printing_rose, λ risen. parts.shows.printing_told (inr risen));
       said = parts.told;
     };
-    blamed = faults.file;
+    blamed = came.faults.file;
     blame = refl;
     cause = (file_rose, λ risen. parts.shows.file_told (inr risen));
     five = five;
@@ -441,37 +448,3 @@ module _ (kind : ObjectKind) (file : List ℕ) where
 -- what a world notes of a store that is taken back
 abbrev pub store_keeping : StoreState → Result Unit Failed → Keeping
 store_keeping store result = record { well = went_well result; faults = store.faults; left = None; asked = store.asked }
-
--- what was seen of the world at each of the calls: the store was opened, read so, and taken back
-pub record StoreGiven (file : List ℕ) (reads : StoreState → StoreState → Type 0) (w0 w1 w2 : WorldState) (store now : StoreState) (result : Result Unit Failed) : Type 0 where
-  pub opens : w1.told ≡ option_map (λ (t : Told). with_opening t (opened kinds.Store file true)) w0.told
-  pub stands : CountsStand w0 w1
-  pub still : w1.faults ≡ w0.faults
-  pub tells : TellsStore w0 file store
-  pub unused : IsUnused store
-  pub comes : reads store now
-  pub keeps : KeepsStore w1 w2 file now result
-  pub inputs : w2.input_faults ≡ added w1.input_faults now.faults
-  pub outputs : w2.output_faults ≡ w1.output_faults
-  pub cause : HasCause w1.faults w2.faults result
-  pub world_fits : w0.faults < 2 ^ 64
-  pub inputs_fit : w0.input_faults < 2 ^ 64
-  pub outputs_fit : w0.output_faults < 2 ^ 64
-
-pub store_back : (file : List ℕ) (reads : StoreState → StoreState → Type 0) (w0 w1 w2 : WorldState) (store now : StoreState) (result : Result Unit Failed) → StoreGiven file reads w0 w1 w2 store now result
-    → NameRead kinds.Store file w0 w2 (kept kinds.Store file (store_keeping now result) ∷ []) (failed_so (went_well result) now.faults)
-store_back file reads w0 w1 w2 store now result a =
-    let keeping : Keeping = store_keeping now result in
-    taken_back kinds.Store file w0 w1 w2 keeping result (record {
-      same = same_back kinds.Store file w0 w1 w2 keeping a.opens a.keeps;
-      well_is = refl;
-      stands = a.stands;
-      still = a.still;
-      inputs = a.inputs;
-      outputs = a.outputs;
-      cause = a.cause;
-      world_fits = a.world_fits;
-      inputs_fit = a.inputs_fit;
-      outputs_fit = a.outputs_fit;
-      input = store_input;
-    })

@@ -3,10 +3,14 @@
 use Rattle.std.specs.Prelude.{◌≡◌, ◌⊎◌, ◌↔◌, ℕ, List, [], ◌∷◌, ◌++◌, Bool, true, false}
 use Rattle.mcap_io.specs.Outside.{Rose, SinkState, WorldState, Opening}
 use Rattle.mcap_io.specs.declared.outside.ObjectKind.{ObjectKind}
+use Rattle.mcap_model.specs.declared.refusals.ReadingRefused.{ReadingRefused}
+use Rattle.mcap_model.specs.declared.refusals.ReadingRefused.TheVariants as refusals
+use Rattle.mcap_model.specs.declared.refusals.IndexedRefused.{IndexedRefused}
+use Rattle.mcap_model.specs.declared.refusals.IndexedRefused.TheVariants as indexed
 use Rattle.command_base.specs.declared.faults.Counts.{Counts}
 use Rattle.command_base.specs.declared.one_file.Faults.{Faults}
 use Rattle.command_base.specs.Printing.{TellsAll, TellsPart}
-use Rattle.command_base.specs.Texts.{Trouble, fault, output_fault, no_memory, asked_status}
+use Rattle.command_base.specs.Texts.{Trouble, fault, output_fault, grammar, compressed, limit, not_indexed, no_memory, asked_status}
 use Rattle.command_base.specs.Ran.{Scene, counts_in, AnyRose, Files, wanted, AreOpened, Leaves, CountsKept, named_when, failed_names, when, Findings, Ran}
 
 -- ---- the reading
@@ -18,6 +22,19 @@ pub data Ending : Type 0 where
   halted : Trouble → Ending
   failing : Ending
   lacked : Ending
+
+-- that of a reading that was refused
+abbrev pub refusal_ending : List ℕ → ReadingRefused → Ending
+refusal_ending file (refusals.Fault faults) = failing
+refusal_ending file (refusals.Grammar n rule) = halted (grammar file n)
+refusal_ending file (refusals.Compressed n name) = halted (compressed file name n)
+refusal_ending file (refusals.Limit n) = halted (limit file n)
+refusal_ending file refusals.Memory = lacked
+
+-- and of one by the file's index
+abbrev pub indexed_ending : List ℕ → IndexedRefused → Ending
+indexed_ending file (indexed.NotIndexed why) = halted (not_indexed file why)
+indexed_ending file (indexed.Refused why) = refusal_ending file why
 
 -- the text for standard output
 abbrev pub text_of : Ending → List ℕ

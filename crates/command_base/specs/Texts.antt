@@ -4,8 +4,8 @@ use Rattle.std.specs.List.{flat_map, list_any}
 use Rattle.json.specs.Print.{quoted}
 use Rattle.command_base.specs.declared.complaint.Complaint.{Complaint}
 use Rattle.command_base.specs.declared.complaint.Complaint.TheVariants as complaints
-use Rattle.command_base.specs.declared.complaint.Unindexed.{Unindexed}
-use Rattle.command_base.specs.declared.complaint.Unindexed.TheVariants as unindexed
+use Rattle.mcap_model.specs.declared.refusals.NotIndexed.{NotIndexed}
+use Rattle.mcap_model.specs.declared.refusals.NotIndexed.TheVariants as lacks
 use Rattle.mcap_model.specs.Kept.{Halt, at_end, grammar as breaks, compressed as names, beyond}
 
 -- ---- standard error
@@ -21,7 +21,7 @@ pub data Trouble : Type 0 where
   -- what was to be written under that name passes a limit
   output_limit : List ℕ → Trouble
   -- it lacks what a reading by its indexes wants
-  not_indexed : List ℕ → Unindexed → Trouble
+  not_indexed : List ℕ → NotIndexed → Trouble
   -- the rule of that number fails at that offset
   flaw : List ℕ → ℕ → ℕ → Trouble
   no_memory : Trouble
@@ -44,16 +44,13 @@ abbrev pub complained : Option Complaint → List Trouble
 complained None = []
 complained (Some complaint) = trouble_of complaint ∷ []
 
-abbrev pub usage : List ℕ
-usage = codes "usage: mcaprec\n  record [--plain] [--lossless] [--limit N] [--chunk N] [--profile T] [--watch START:END] [--watchers N] OUT FEED...\n  info FILE\n  check FILE\n  cat [--indexed] [--start N] [--end N] [--topic T] FILE\n  recover [--chunk N] IN OUT\n  merge [--chunk N] OUT IN...\n  gen SEED FEEDS MESSAGES OUT\n"
-
 -- the words for what a file lacks
-abbrev pub unindexed_text : Unindexed → List ℕ
-unindexed_text unindexed.NoSummary = codes "no summary"
-unindexed_text unindexed.NoStatistics = codes "no statistics"
-unindexed_text unindexed.ChunkCount = codes "chunk count"
-unindexed_text unindexed.NoMessageIndex = codes "no message index"
-unindexed_text unindexed.NoChannel = codes "no channel"
+abbrev pub unindexed_text : NotIndexed → List ℕ
+unindexed_text lacks.NoSummary = codes "no summary"
+unindexed_text lacks.NoStatistics = codes "no statistics"
+unindexed_text (lacks.ChunkCount stated found) = codes "chunk count"
+unindexed_text (lacks.NoMessageIndex chunk) = codes "no message index"
+unindexed_text (lacks.NoChannel id) = codes "no channel"
 
 -- a name, and what stands behind it
 abbrev pub about : List ℕ → List ℕ → List ℕ
@@ -64,7 +61,7 @@ abbrev pub at_offset : ℕ → List ℕ
 at_offset n = codes " at " ++ (decimal n ++ codes "\n")
 
 unfoldable pub line_of : Trouble → List ℕ
-line_of bad_words = codes "mcaprec: bad words\n" ++ usage
+line_of bad_words = codes "mcaprec: bad words\n"
 line_of (fault name) = about name (codes ": fault\n")
 line_of output_fault = codes "mcaprec: output: fault\n"
 line_of (grammar name n) = about name (codes ": grammar" ++ at_offset n)

@@ -1,5 +1,5 @@
 //! Telling standard error of the troubles of a command, and the status that they give. It takes no memory.
-ghost use Rattle.std.specs.Prelude.{◌≡◌, ◌∷◌, []};
+ghost use Rattle.std.specs.Prelude.{◌≡◌, ◌∷◌, ◌++◌, []};
 ghost use Rattle.std.specs.List.{flat_map};
 ghost use Rattle.command_base.specs.Texts.{trouble_of, complained, bad_words, no_memory, said};
 ghost use Rattle.command_base.specs.Printing.{Takes};
@@ -56,11 +56,14 @@ fn tell<E: Sink>(err: &mut E, text: &str)
     waiting.write_out(err);
 }
 
-/// Complains of words that are no command.
-pub fn refuse_words<E: Sink>(err: &mut E)
-    ensures { Takes (E.state err.old) (E.state err.new) (said (bad_words ∷ [])) }
+/// Complains of words that are no command, and shows the usage behind that.
+pub fn refuse_words<E: Sink>(err: &mut E, usage: &str)
+    ensures { Takes (E.state err.old) (E.state err.new) (said (bad_words ∷ []) ++ usage.now) }
 {
-    tell(err, BAD_WORDS);
+    let mut waiting = Waiting::new();
+    waiting.put_text(err, BAD_WORDS);
+    waiting.put_text(err, usage);
+    waiting.write_out(err);
 }
 
 /// Complains of a want of memory for reading the words.

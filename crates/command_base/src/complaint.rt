@@ -6,28 +6,13 @@ ghost use Rattle.command_base.specs.Putting.{Puts};
 
 use crate::waiting::Waiting;
 use mcap_io::Sink;
+use mcap_model::NotIndexed;
 
-/// What standard error is told of words that are no command, with the usage.
-pub const BAD_WORDS: &str =
-    "mcaprec: bad words\nusage: mcaprec\n  record [--plain] [--lossless] [--limit N] [--chunk N] [--profile T] [--watch START:END] [--watchers N] OUT FEED...\n  info FILE\n  check FILE\n  cat [--indexed] [--start N] [--end N] [--topic T] FILE\n  recover [--chunk N] IN OUT\n  merge [--chunk N] OUT IN...\n  gen SEED FEEDS MESSAGES OUT\n";
+/// What standard error is told of words that are no command, before the usage.
+pub const BAD_WORDS: &str = "mcaprec: bad words\n";
 
 /// What standard error is told of a want of memory.
 pub const NO_MEMORY: &str = "mcaprec: no memory\n";
-
-/// What a file lacks that was to be read by its indexes.
-#[derive(Clone, Copy)]
-pub enum Unindexed {
-    /// A summary (MCAP specification, "Summary Section").
-    NoSummary,
-    /// The Statistics in its summary.
-    NoStatistics,
-    /// As many Chunk Indexes as its Statistics count chunks.
-    ChunkCount,
-    /// The Message Indexes of a chunk.
-    NoMessageIndex,
-    /// The Channel of a message in its summary.
-    NoChannel,
-}
 
 /// A trouble, with the name of the file that it is about. Offsets count from the file's first byte.
 #[derive(Clone, Copy)]
@@ -63,7 +48,7 @@ pub enum Complaint<'a> {
     /// The file can't be read by its indexes.
     NotIndexed {
         name: &'a str,
-        why: Unindexed,
+        why: NotIndexed,
     },
     /// The rule of that number fails at the offset of the file.
     Flaw {
@@ -75,16 +60,16 @@ pub enum Complaint<'a> {
     NoMemory,
 }
 
-// The words for what a file lacks.
-fn words_for(why: Unindexed) -> &'static str
+// The words for why a file isn't indexed.
+fn words_for(why: NotIndexed) -> &'static str
     ensures { result.now ≡ codes ": not indexed: " ++ unindexed_text why }
 {
     match why {
-        Unindexed::NoSummary => ": not indexed: no summary",
-        Unindexed::NoStatistics => ": not indexed: no statistics",
-        Unindexed::ChunkCount => ": not indexed: chunk count",
-        Unindexed::NoMessageIndex => ": not indexed: no message index",
-        Unindexed::NoChannel => ": not indexed: no channel",
+        NotIndexed::NoSummary => ": not indexed: no summary",
+        NotIndexed::NoStatistics => ": not indexed: no statistics",
+        NotIndexed::ChunkCount { .. } => ": not indexed: chunk count",
+        NotIndexed::NoMessageIndex { .. } => ": not indexed: no message index",
+        NotIndexed::NoChannel { .. } => ": not indexed: no channel",
     }
 }
 
@@ -148,7 +133,7 @@ fn put_flaw<E: Sink>(waiting: &mut Waiting, err: &mut E, name: &str, rule: u8, o
     put_offset(waiting, err, offset);
 }
 
-/// Puts the line of a complaint, and behind that of bad words the usage. Names are quoted as JSON strings.
+/// Puts the line of a complaint. Names are quoted as JSON strings.
 #[tactic(auto, unfolding(crate::specs::Texts::line_of))]
 pub(crate) fn put_line<E: Sink>(waiting: &mut Waiting, err: &mut E, complaint: &Complaint<'_>)
     ensures { Puts (E.state err.old) waiting.old (E.state err.new) waiting.new (line_of (trouble_of complaint.now)) }

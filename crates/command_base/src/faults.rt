@@ -2,8 +2,9 @@
 ghost use Rattle.std.specs.Prelude.{◌≡◌, ◌<◌, ◌^◌, ◌↔◌, IsTrue};
 ghost use Rattle.mcap_io.specs.Outside.{Rose, went_well};
 ghost use Rattle.command_base.specs.Ran.{counts, failed_so};
+ghost use Rattle.command_base.specs.Readings.{is_failure as failed_to_open};
 
-use mcap_io::{Failed, Sink, World};
+use mcap_io::{Failed, OpenRefused, Sink, World};
 
 /// How often the world, its kept inputs and outputs, and standard output have failed.
 #[derive(Clone, Copy)]
@@ -45,5 +46,15 @@ pub fn has_failed(faults: u64, kept: Result<(), Failed>) -> bool
     match kept {
         Ok(()) => return faults != 0,
         Err(Failed) => return true,
+    }
+}
+
+/// Whether an opening was refused because the world failed.
+pub(crate) fn is_failure(why: OpenRefused) -> bool
+    ensures { result ≡ failed_to_open why }
+{
+    match why {
+        OpenRefused::Failed => true,
+        OpenRefused::Memory => false,
     }
 }

@@ -5,12 +5,22 @@
 mod complaining;
 mod complaint;
 mod faults;
+mod file_reading;
 mod line;
 mod one_file;
+mod refusing;
+mod source_reading;
+mod store_reading;
 mod waiting;
 
 pub use complaining::{complain_of, due_when, refuse_for_memory, refuse_words};
-pub use complaint::{Complaint, Unindexed};
+pub use complaint::Complaint;
 pub use faults::{Counts, has_failed, rose};
+pub use file_reading::{
+    FileReading, ReadName, Reading, answer_reading, halt_of, has_lacked, print_reading,
+};
 pub use line::{LINE_ROOM, Line};
 pub use one_file::{Faults, answer_file, faults_of};
+pub use refusing::{index_lacks_memory, indexed_complaint, lacks_memory, reading_complaint};
+pub use source_reading::{SourceReading, answer_source, read_source_name};
+pub use store_reading::{StoreReading, answer_store, read_store_name};

@@ -4,7 +4,6 @@ mod Added
 mod Shown
 mod Named
 mod Once
-mod OneName
 pub mod Tellings
 pub mod Checks
 pub mod Cats

@@ -1,8 +1,10 @@
 -- What the printing of a file by its indexes did: to the names of the world, to both outputs, and how it ended.
-use Rattle.std.specs.Prelude.{◌≡◌, ◌⊎◌, ℕ, List, Some, Result, Ok, Err}
-use Rattle.mcap_io.specs.Outside.{WorldState, Told, Opening}
+use Rattle.std.proofs.Common.{refl, subst, inl}
+use Rattle.std.specs.Prelude.{◌≡◌, ℕ, List, Some, Result, Ok, Err}
+use Rattle.mcap_io.specs.Outside.{Told}
 use Rattle.mcap_io.specs.Stores.{StoreState}
 use Rattle.mcap_io.specs.declared.outside.ObjectKind.TheVariants as kinds
+use Rattle.mcap_io.specs.declared.outside.OpenRefused.TheVariants as open_refusals
 use Rattle.mcap_model.specs.declared.replay.Replayed.{Replayed}
 use Rattle.mcap_model.specs.Tops.{Top}
 use Rattle.mcap_model.specs.Kept.{reading_limits, at_end, Halts}
@@ -11,32 +13,30 @@ use Rattle.mcap_model.specs.Showing.{Shows}
 use Rattle.time_player.specs.Text.{cat_text}
 use Rattle.mcap_model.specs.Valid.{IsFullyIndexed}
 use Rattle.mcap_model.specs.Led.{LedReplay}
-use Rattle.indexed_replay.specs.declared.answers.ReplayRefused.{ReplayRefused}
-use Rattle.indexed_replay.specs.declared.answers.ReplayRefused.TheVariants as refusals
-use Rattle.indexed_replay.specs.declared.answers.NotIndexed.{NotIndexed}
-use Rattle.indexed_replay.specs.declared.answers.NotIndexed.TheVariants as lacks
+use Rattle.mcap_model.specs.declared.refusals.ReadingRefused.{ReadingRefused}
+use Rattle.mcap_model.specs.declared.refusals.ReadingRefused.TheVariants as refusals
+use Rattle.mcap_model.specs.declared.refusals.IndexedRefused.{IndexedRefused}
+use Rattle.mcap_model.specs.declared.refusals.IndexedRefused.TheVariants as by_index
 use Rattle.indexed_replay.specs.Holding.{TellsRoom}
 use Rattle.indexed_replay.specs.Replaying.{IsReason, Plays, TellsChunks, TellsNoSummary, PlaysScan, ReplayCause}
 use Rattle.indexed_replay.specs.Played.{AsksIndexed, AsksUnloaded, AsksBound}
-use Rattle.file_commands.specs.declared.indexed.Following.{Following}
-use Rattle.file_commands.specs.declared.indexed.Following.TheVariants as followings
-use Rattle.file_commands.specs.declared.indexed.Followed.{Followed}
-use Rattle.command_base.specs.declared.complaint.Unindexed.{Unindexed}
-use Rattle.command_base.specs.declared.complaint.Unindexed.TheVariants as unindexed
-use Rattle.command_base.specs.Texts.{compressed, limit, not_indexed, flaw}
+use Rattle.command_base.specs.declared.file_reading.Reading.{Reading}
+use Rattle.command_base.specs.declared.file_reading.Reading.TheVariants as readings
+use Rattle.command_base.specs.Texts.{not_indexed, flaw}
 use Rattle.command_base.specs.Ran.{Scene, counts_in, AnyRose}
-use Rattle.command_base.specs.OneFile.{Ending, was_read, halted, failing, lacked, ReadsOne}
-use Rattle.file_commands.specs.Names.{StoreUnder, IsOpened, NameEnds}
+use Rattle.command_base.specs.OneFile.{Ending, halted, failing, refusal_ending}
+use Rattle.command_base.specs.Readings.{IsRefusal, ending_of, StoreUse, IsStoreRead, Reads}
+use Rattle.command_base.proofs.Refusals.{refusal_is, rises_some}
 use Rattle.file_commands.specs.Cat.{Selection}
 
 -- ---- the file
 
--- a store with these counts of faults and of bytes that it was asked for
-abbrev pub now_of : StoreState → ℕ → ℕ → StoreState
-now_of store faults asked = record { bytes = store.bytes; known = store.known; faults = faults; asked = asked }
+-- the store with these counts of faults and of bytes that it was asked for
+abbrev pub now_of : StoreState → StoreUse → StoreState
+now_of store now = record { bytes = store.bytes; known = store.known; faults = now.faults; asked = now.asked }
 
 -- what a replay of a store by its indexes comes to
-pub record Replays (asked : Selection) (store now : StoreState) (answer : Result Replayed ReplayRefused) : Type 0 where
+pub record Replays (asked : Selection) (store now : StoreState) (answer : Result Replayed IndexedRefused) : Type 0 where
   -- just the messages to which the indexes lead, or a reason that holds of the bytes
   pub plays : Plays store.bytes asked.range asked.topic answer
   pub counted : TellsChunks store.bytes answer
@@ -58,73 +58,83 @@ abbrev pub AreLines : Replayed → List ℕ → Type 0
 AreLines played text = (messages : List Seen) → Shows played messages → text ≡ cat_text messages
 
 -- what the reading of a store came to
-abbrev pub ComesTo : Selection → StoreState → StoreState → Following → Type 0
-ComesTo asked store now followings.Unopened = ⊥
-ComesTo asked store now (followings.Lines text) = (played : Replayed) × Replays asked store now (Ok played) × AreLines played text
-ComesTo asked store now (followings.Refused why) = Replays asked store now (Err why)
-
--- what its opening as a store came to
-abbrev pub IsFollowed : Selection → List ℕ → WorldState → List Opening → Following → Type 0
-IsFollowed asked file world entries following = IsOpened kinds.Store file entries (following ≡ followings.Refused refusals.Memory) (following ≡ followings.Unopened)
-    (StoreUnder file world (λ store faults requested. ComesTo asked store (now_of store faults requested) following))
+abbrev pub ComesTo : Selection → StoreState → StoreUse → Result (List ℕ) IndexedRefused → Type 0
+ComesTo asked store now (Ok text) = (played : Replayed) × Replays asked store (now_of store now) (Ok played) × AreLines played text
+ComesTo asked store now (Err why) = Replays asked store (now_of store now) (Err why)
 
 -- ---- how that ended
 
-abbrev pub reason_of : NotIndexed → Unindexed
-reason_of lacks.NoSummary = unindexed.NoSummary
-reason_of lacks.NoStatistics = unindexed.NoStatistics
-reason_of (lacks.ChunkCount stated found) = unindexed.ChunkCount
-reason_of (lacks.NoMessageIndex chunk) = unindexed.NoMessageIndex
-reason_of (lacks.NoChannel id) = unindexed.NoChannel
+-- a rule that is broken is told by its number
+abbrev pub broken_ending : List ℕ → ReadingRefused → Ending
+broken_ending file (refusals.Fault faults) = failing
+broken_ending file (refusals.Grammar n rule) = halted (flaw file rule n)
+broken_ending file (refusals.Compressed n name) = refusal_ending file (refusals.Compressed n name)
+broken_ending file (refusals.Limit n) = refusal_ending file (refusals.Limit n)
+broken_ending file refusals.Memory = refusal_ending file refusals.Memory
 
-abbrev pub refusal_ending : List ℕ → ReplayRefused → Ending
-refusal_ending file (refusals.Fault faults) = failing
-refusal_ending file (refusals.NotIndexed why) = halted (not_indexed file (reason_of why))
-refusal_ending file (refusals.Flaw rule offset) = halted (flaw file rule offset)
-refusal_ending file (refusals.Compressed offset name) = halted (compressed file name offset)
-refusal_ending file (refusals.Limit offset) = halted (limit file offset)
-refusal_ending file refusals.Memory = lacked
+abbrev pub led_ending : List ℕ → IndexedRefused → Ending
+led_ending file (by_index.NotIndexed why) = halted (not_indexed file why)
+led_ending file (by_index.Refused why) = broken_ending file why
 
-abbrev pub ending_of : List ℕ → Following → Ending
-ending_of file followings.Unopened = failing
-ending_of file (followings.Lines text) = was_read text
-ending_of file (followings.Refused why) = refusal_ending file why
+abbrev pub replay_ending : List ℕ → Reading (List ℕ) IndexedRefused → Ending
+replay_ending file reading = ending_of (λ text. text) (led_ending file) reading
 
--- what became of its name
-abbrev pub NameFollowed : Selection → List ℕ → WorldState → WorldState → Followed → Type 0
-NameFollowed asked file old new followed = NameEnds kinds.Store file old new (λ entries. IsFollowed asked file old entries followed.following) (ending_of file followed.following) followed.failed
+-- nothing is read
+pub led_is : (file : List ℕ) (why : IndexedRefused) → IsRefusal (led_ending file why)
+led_is file (by_index.NotIndexed why) = inl refl
+led_is file (by_index.Refused (refusals.Fault faults)) = tt
+led_is file (by_index.Refused (refusals.Grammar n rule)) = inl refl
+led_is file (by_index.Refused (refusals.Compressed n name)) = refusal_is file (refusals.Compressed n name)
+led_is file (by_index.Refused (refusals.Limit n)) = refusal_is file (refusals.Limit n)
+led_is file (by_index.Refused refusals.Memory) = tt
+
+-- only a failure of the store ends as one
+led_fault : (file : List ℕ) (why : IndexedRefused) → led_ending file why ≡ failing → (faults : ℕ) × (why ≡ by_index.Refused (refusals.Fault faults))
+led_fault file (by_index.NotIndexed why) e = absurd cc
+led_fault file (by_index.Refused (refusals.Fault faults)) e = (faults, refl)
+led_fault file (by_index.Refused (refusals.Grammar n rule)) e = absurd cc
+led_fault file (by_index.Refused (refusals.Compressed n name)) e = absurd cc
+led_fault file (by_index.Refused (refusals.Limit n)) e = absurd cc
+led_fault file (by_index.Refused refusals.Memory) e = absurd cc
+
+pub led_fails : (asked : Selection) (store : StoreState) (now : StoreUse) (file : List ℕ) (why : IndexedRefused) → ComesTo asked store now (Err why) → store.faults ≡ 0 → led_ending file why ≡ failing → now.faults ≡ 0 → ⊥
+led_fails asked store now file why comes unused e none =
+    let fault = led_fault file why e in
+    let cause = subst (λ (w : IndexedRefused). ReplayCause {P = Replayed} store.faults now.faults (Err w)) fault.1 comes.cause in
+    rises_some store.faults now.faults cause.0 unused none
 
 -- Where nothing failed, the lines are those of the messages to which the indexes in these bytes lead, or the reason holds
 -- of them.
-abbrev pub ShowsLed : Selection → List ℕ → Following → Type 0
-ShowsLed asked bytes followings.Unopened = ⊥
-ShowsLed asked bytes (followings.Lines text) = (shown : List Seen) × LedReplay bytes asked.range asked.topic shown × (text ≡ cat_text shown)
-ShowsLed asked bytes (followings.Refused why) = IsReason bytes asked.range why
+abbrev pub ShowsLed : Selection → List ℕ → Reading (List ℕ) IndexedRefused → Type 0
+ShowsLed asked bytes (readings.Unopened open_refusals.Failed) = ⊥
+ShowsLed asked bytes (readings.Unopened open_refusals.Memory) = Unit {0}
+ShowsLed asked bytes (readings.Opened (Ok text)) = (shown : List Seen) × LedReplay bytes asked.range asked.topic shown × (text ≡ cat_text shown)
+ShowsLed asked bytes (readings.Opened (Err why)) = IsReason bytes asked.range why
 
--- the lines are those of the messages of a scan that are asked for; or the store failed, a limit is passed or memory lacked
-abbrev pub ShowsScan : Selection → List Seen → Following → Type 0
-ShowsScan asked messages followings.Unopened = Unit {0}
-ShowsScan asked messages (followings.Lines text) = (shown : List Seen) × Replay asked.range asked.topic messages shown × (text ≡ cat_text shown)
-ShowsScan asked messages (followings.Refused (refusals.Fault faults)) = Unit {0}
-ShowsScan asked messages (followings.Refused (refusals.NotIndexed why)) = ⊥
-ShowsScan asked messages (followings.Refused (refusals.Flaw rule offset)) = ⊥
-ShowsScan asked messages (followings.Refused (refusals.Compressed offset name)) = ⊥
-ShowsScan asked messages (followings.Refused (refusals.Limit offset)) = Unit {0}
-ShowsScan asked messages (followings.Refused refusals.Memory) = Unit {0}
+-- the store failed, a limit is passed or memory lacked
+abbrev pub IsNoFlaw : IndexedRefused → Type 0
+IsNoFlaw (by_index.NotIndexed why) = ⊥
+IsNoFlaw (by_index.Refused (refusals.Fault faults)) = Unit {0}
+IsNoFlaw (by_index.Refused (refusals.Grammar n rule)) = ⊥
+IsNoFlaw (by_index.Refused (refusals.Compressed n name)) = ⊥
+IsNoFlaw (by_index.Refused (refusals.Limit n)) = Unit {0}
+IsNoFlaw (by_index.Refused refusals.Memory) = Unit {0}
+
+-- the lines are those of the messages of a scan that are asked for; or it isn't the file's fault that there are none
+abbrev pub ShowsScan : Selection → List Seen → Reading (List ℕ) IndexedRefused → Type 0
+ShowsScan asked messages (readings.Unopened why) = Unit {0}
+ShowsScan asked messages (readings.Opened (Ok text)) = (shown : List Seen) × Replay asked.range asked.topic messages shown × (text ≡ cat_text shown)
+ShowsScan asked messages (readings.Opened (Err why)) = IsNoFlaw why
 
 -- ---- the command
 
 -- what `cat --indexed` does
 pub record IndexedCats (asked : Selection) (file : List ℕ) (old new : Scene) (status : ℕ) : Type 0 where
-  -- the file is opened as a store, and nothing else; this is what its reading came to
-  pub entries : List Opening
-  pub following : Following
-  pub followed : IsFollowed asked file old.world entries following
-  -- standard output takes the lines of the messages, and standard error the troubles
-  pub ran : ReadsOne kinds.Store file old new entries (ending_of file following) status
+  -- the file is read as a store; standard output takes the lines of the messages, and standard error the troubles
+  pub reads : Reads (IsStoreRead (ComesTo asked) file) kinds.Store file (replay_ending file) old new status
   -- where the world tells, the bytes under the name decide what it came to, unless a count rises
   pub decided : (told : Told) (bytes : List ℕ) → old.world.told ≡ Some told → told.names file ≡ Some bytes
-      → (AnyRose (counts_in old) (counts_in new) → ⊥) → ShowsLed asked bytes following
+      → (AnyRose (counts_in old) (counts_in new) → ⊥) → ShowsLed asked bytes reads.reading
   -- and a fully indexed file that is read to its Data End is printed as its scan is
   pub scanned : (told : Told) (bytes : List ℕ) (tops : List Top) (end : ℕ) (messages : List Seen) → old.world.told ≡ Some told → told.names file ≡ Some bytes
-      → IsFullyIndexed bytes → Halts reading_limits bytes tops (at_end end) → Scan tops messages → ShowsScan asked messages following
+      → IsFullyIndexed bytes → Halts reading_limits bytes tops (at_end end) → Scan tops messages → ShowsScan asked messages reads.reading

@@ -4,8 +4,8 @@ pub mod Json
 pub mod Told
 pub mod Writing
 pub mod Laws
-pub mod Names
 pub mod Info
 pub mod Check
+pub mod FileCommand
 pub mod Cat
 pub mod Indexed

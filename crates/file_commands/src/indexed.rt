@@ -1,192 +1,115 @@
 //! Printing the messages of a file to which its indexes lead.
-ghost use Rattle.std.specs.Prelude.{◌≡◌, ◌<◌, ◌^◌, List, ℕ};
+ghost use Rattle.std.specs.Prelude.{◌≡◌, List, ℕ};
 ghost use Rattle.mcap_model.specs.Plain.{asked_topic};
 ghost use Rattle.command_base.specs.Texts.{complained};
-ghost use Rattle.command_base.specs.Printing.{Takes};
 ghost use Rattle.command_base.specs.Ran.{scene};
-ghost use Rattle.command_base.specs.OneFile.{text_of, troubles_in, is_lack, PrintsEnding};
+ghost use Rattle.command_base.specs.OneFile.{troubles_in, is_lack};
 ghost use Rattle.file_commands.specs.Cat.{selection};
-ghost use Rattle.file_commands.specs.Indexed.{now_of, ComesTo, reason_of, refusal_ending, ending_of, NameFollowed, IndexedCats};
+ghost use Rattle.file_commands.specs.Indexed.{ComesTo, broken_ending, led_ending, led_is, led_fails, IndexedCats};
 
-use command_base::{Complaint, Counts, Unindexed, answer_file, faults_of, has_failed};
-use indexed_replay::{NotIndexed, ReplayRefused, replay_kept};
-use mcap_io::{OpenRefused, Sink, Store, World};
-use mcap_model::Range;
+use command_base::{Complaint, FileReading, StoreReading, answer_store, reading_complaint};
+use indexed_replay::replay_kept;
+use mcap_io::{Sink, Store, World};
+use mcap_model::{IndexedRefused, Range, ReadingRefused};
 use mcap_wire::Text;
 use std::alloc::Global;
 use time_player::Printer;
 
-/// What the reading of a file by its indexes came to.
-#[derive(Drop)]
-pub enum Following {
-    /// The world failed to open it.
-    Unopened,
-    /// The messages that are asked for have these lines.
-    Lines { text: Printer },
-    /// It was refused; or memory lacked for the opening or for the lines.
-    Refused { why: ReplayRefused },
+/// The messages to which a file's indexes lead: those of these log times, and on that topic, if one is given.
+#[derive(Clone, Copy)]
+pub struct Following<'a> {
+    pub alloc: Global,
+    pub range: Range,
+    pub topic: Option<&'a Text>,
 }
 
-/// What became of a file's name: its reading, and whether the opening, the store or the keeping failed.
-#[derive(Drop)]
-pub struct Followed {
-    pub following: Following,
-    pub failed: bool,
-}
-
-// Reads a store by its indexes, and takes all the memory that the lines of its messages want.
-fn follow_store<T: Store>(
-    alloc: Global,
-    store: &mut T,
-    range: Range,
-    topic: Option<&Text>,
-) -> Following
-    ensures { ComesTo (selection range (asked_topic topic.entry)) (T.state store.old) (now_of (T.state store.old) (T.state store.new).faults (T.state store.new).asked) result }
-{
-    let replayed = match replay_kept(alloc, store, range, topic) {
-        Ok(replayed) => replayed,
-        Err(why) => return Following::Refused { why },
-    };
-    match Printer::of_kept(alloc, replayed) {
-        Ok(text) => return Following::Lines { text },
-        Err(_) => {
-            return Following::Refused {
-                why: ReplayRefused::Memory,
-            };
-        }
-    }
-}
-
-// Opens the name, reads it by its indexes, and keeps it.
-fn follow_name<W: World>(
-    alloc: Global,
-    file: &str,
-    range: Range,
-    topic: Option<&Text>,
-    world: &mut W,
-) -> Followed
-    requires world_fits { (W.state world.old).faults < 2 ^ 64 }
-    requires inputs_fit { (W.state world.old).input_faults < 2 ^ 64 }
-    requires outputs_fit { (W.state world.old).output_faults < 2 ^ 64 }
-    ensures { NameFollowed (selection range (asked_topic topic.entry)) file.now (W.state world.old) (W.state world.new) result }
-{
-    let mut store = match world.store(file) {
-        Ok(store) => store,
-        Err(OpenRefused::Failed) => {
-            return Followed {
-                following: Following::Unopened,
-                failed: true,
-            };
-        }
-        Err(OpenRefused::Memory) => {
-            return Followed {
-                following: Following::Refused {
-                    why: ReplayRefused::Memory,
-                },
-                failed: false,
-            };
-        }
-    };
-    let following = follow_store(alloc, &mut store, range, topic);
-    let faults = store.faults();
-    let kept = world.keep_store(file, store);
-    Followed {
-        following,
-        failed: has_failed(faults, kept),
-    }
-}
-
-// Prints the lines, if there are any, and says whether the output failed.
-fn print_followed<O: Sink>(alloc: Global, out: &mut O, following: &mut Following) -> bool
-    ensures prints { (file : List ℕ) → PrintsEnding (O.state out.old) (O.state out.new) (ending_of file following.old) result }
-    ensures takes { (file : List ℕ) → Takes (O.state out.old) (O.state out.new) (text_of (ending_of file following.old)) }
-    ensures halts { (file : List ℕ) → troubles_in (ending_of file following.new) ≡ troubles_in (ending_of file following.old) }
-    ensures lacks { (file : List ℕ) → is_lack (ending_of file following.new) ≡ is_lack (ending_of file following.old) }
-{
-    match following {
-        Following::Lines { text } => match text.print(alloc, out) {
-            Ok(()) => return false,
-            Err(_) => return true,
-        },
-        Following::Unopened => return false,
-        Following::Refused { .. } => return false,
-    }
-}
-
-// What a file lacks that isn't indexed.
-fn reason_for(why: NotIndexed) -> Unindexed
-    ensures { result ≡ reason_of why }
+// The complaint of why what the index leads to isn't read. A rule that is broken is told by its number.
+fn broken_complaint<'a>(file: &'a str, why: &'a ReadingRefused) -> Option<Complaint<'a>>
+    ensures { complained result ≡ troubles_in (broken_ending file.now why.now) }
 {
     match why {
-        NotIndexed::NoSummary => Unindexed::NoSummary,
-        NotIndexed::NoStatistics => Unindexed::NoStatistics,
-        NotIndexed::ChunkCount { .. } => Unindexed::ChunkCount,
-        NotIndexed::NoMessageIndex { .. } => Unindexed::NoMessageIndex,
-        NotIndexed::NoChannel { .. } => Unindexed::NoChannel,
-    }
-}
-
-// The complaint of why a reading was refused.
-fn refusal_complaint<'a>(file: &'a str, why: &'a ReplayRefused) -> Option<Complaint<'a>>
-    ensures { complained result ≡ troubles_in (refusal_ending file.now why.now) }
-{
-    match why {
-        ReplayRefused::NotIndexed { why } => Some(Complaint::NotIndexed {
-            name: file,
-            why: reason_for(*why),
-        }),
-        ReplayRefused::Flaw { rule, offset } => Some(Complaint::Flaw {
+        ReadingRefused::Grammar { offset, rule } => Some(Complaint::Flaw {
             name: file,
             rule: *rule,
             offset: *offset,
         }),
-        ReplayRefused::Compressed { offset, name } => Some(Complaint::Compressed {
-            name: file,
-            compression: name.as_str(),
-            offset: *offset,
-        }),
-        ReplayRefused::Limit { offset } => Some(Complaint::Limit {
-            name: file,
-            offset: *offset,
-        }),
-        ReplayRefused::Fault { .. } => None,
-        ReplayRefused::Memory => None,
+        ReadingRefused::Compressed { .. } => reading_complaint(file, why),
+        ReadingRefused::Limit { .. } => reading_complaint(file, why),
+        ReadingRefused::Fault { .. } | ReadingRefused::Memory => None,
     }
 }
 
-// The complaint of what was read of a file.
-fn following_complaint<'a>(file: &'a str, following: &'a Following) -> Option<Complaint<'a>>
-    ensures { complained result ≡ troubles_in (ending_of file.now following.now) }
-{
-    match following {
-        Following::Refused { why } => return refusal_complaint(file, why),
-        Following::Lines { .. } => return None,
-        Following::Unopened => return None,
-    }
-}
-
-// Whether memory lacked for a reading.
-fn is_for_memory(why: &ReplayRefused) -> bool
-    ensures { (file : List ℕ) → result ≡ is_lack (refusal_ending file why.now) }
+// Whether memory lacked for what the index leads to.
+fn lacks_so(why: &ReadingRefused) -> bool
+    ensures { (file : List ℕ) → result ≡ is_lack (broken_ending file why.now) }
 {
     match why {
-        ReplayRefused::Memory => true,
-        ReplayRefused::Fault { .. }
-        | ReplayRefused::NotIndexed { .. }
-        | ReplayRefused::Flaw { .. }
-        | ReplayRefused::Compressed { .. }
-        | ReplayRefused::Limit { .. } => false,
+        ReadingRefused::Memory => true,
+        ReadingRefused::Fault { .. }
+        | ReadingRefused::Grammar { .. }
+        | ReadingRefused::Compressed { .. }
+        | ReadingRefused::Limit { .. } => false,
     }
 }
 
-fn has_lacked(following: &Following) -> bool
-    ensures { (file : List ℕ) → result ≡ is_lack (ending_of file following.now) }
-{
-    match following {
-        Following::Refused { why } => return is_for_memory(why),
-        Following::Lines { .. } => return false,
-        Following::Unopened => return false,
+impl FileReading for Following<'_> {
+    type Read = Printer;
+
+    type Refused = IndexedRefused;
+
+    ghost text = { λ s text. text };
+
+    ghost ending = { λ s file why. led_ending file why };
+
+    fn print<O: Sink>(&self, out: &mut O, read: &mut Printer) -> bool {
+        match read.print(self.alloc, out) {
+            Ok(()) => return false,
+            Err(_) => return true,
+        }
     }
+
+    fn complaint<'a>(&self, file: &'a str, why: &'a IndexedRefused) -> Option<Complaint<'a>> {
+        match why {
+            IndexedRefused::NotIndexed { why } => {
+                return Some(Complaint::NotIndexed {
+                    name: file,
+                    why: *why,
+                });
+            }
+            IndexedRefused::Refused { why } => return broken_complaint(file, why),
+        }
+    }
+
+    fn lacks_memory(&self, why: &IndexedRefused) -> bool {
+        match why {
+            IndexedRefused::NotIndexed { .. } => return false,
+            IndexedRefused::Refused { why } => return lacks_so(why),
+        }
+    }
+
+    ghost refuses = { λ s file why. led_is file why };
+}
+
+impl StoreReading for Following<'_> {
+    ghost comes = { λ s before now came. ComesTo (selection s.range (asked_topic s.topic)) before now came };
+
+    // Takes all the memory that the lines of the messages want.
+    fn read_store<T: Store>(&self, store: &mut T) -> Result<Printer, IndexedRefused> {
+        let replayed = match replay_kept(self.alloc, store, self.range, self.topic) {
+            Ok(replayed) => replayed,
+            Err(why) => return Err(why),
+        };
+        match Printer::of_kept(self.alloc, replayed) {
+            Ok(text) => return Ok(text),
+            Err(_) => {
+                return Err(IndexedRefused::Refused {
+                    why: ReadingRefused::Memory,
+                });
+            }
+        }
+    }
+
+    ghost fails = { λ s before now file why comes unused e. led_fails (selection s.range (asked_topic s.topic)) before now file why comes unused e };
 }
 
 /// Prints on `out` the messages to which the indexes of the file under the name lead, that lie in the range and on the
@@ -207,12 +130,10 @@ pub fn print_indexed<W: World, O: Sink, E: Sink>(
         (scene (W.state world.new) (O.state out.new) (E.state err.new))
         result }
 {
-    let before = Counts::of(world, out);
-    let mut followed = follow_name(alloc, file, range, topic, world);
-    let broke = print_followed(alloc, out, &mut followed.following);
-    let now = Counts::of(world, out);
-    let faults = faults_of(&before, &now, followed.failed, broke);
-    let halt = following_complaint(file, &followed.following);
-    let lacked = has_lacked(&followed.following);
-    answer_file(err, file, halt, lacked, faults)
+    let what = Following {
+        alloc,
+        range,
+        topic,
+    };
+    answer_store(&what, file, world, out, err)
 }

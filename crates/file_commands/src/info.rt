@@ -9,9 +9,9 @@ ghost use Rattle.file_commands.specs.Writing.{Adds, ShowsParts, Spells};
 use crate::channels::put_channels;
 use crate::members::{close_object, open_object, put_name, put_number, put_text};
 use crate::names::put_names;
-use crate::refusals::InfoRefused;
 use crate::schemas::put_schemas;
 use json::Writer;
+use mcap_model::{IndexedRefused, NotIndexed, ReadingRefused};
 use mcap_wire::{Bytes, Memory};
 use rec_index::Statistics;
 use std::alloc::Global;
@@ -71,17 +71,25 @@ fn line_of(alloc: Global, loaded: &Loaded, statistics: &Statistics<'_>) -> Resul
 /// messages is what the Statistics have under its id, 0 where they have none, and null where they count no channel (MCAP
 /// specification, "Statistics (op=0x0B)").
 ///
-/// `NoStatistics` comes just where the summary has no Statistics; where it has one, memory may lack. The time grows with
-/// the summary alone, but for the ordering of the distinct names.
-pub fn info_text(alloc: Global, loaded: &Loaded) -> Result<Bytes, InfoRefused>
+/// `NoStatistics` comes just where the summary has no Statistics; where it has one, memory may lack. Nothing else is refused.
+/// The time grows with the summary alone, but for the ordering of the distinct names.
+pub fn info_text(alloc: Global, loaded: &Loaded) -> Result<Bytes, IndexedRefused>
     ensures { Informs loaded.now result }
 {
     let statistics = match loaded.statistics() {
         Some(statistics) => statistics,
-        None => return Err(InfoRefused::NoStatistics),
+        None => {
+            return Err(IndexedRefused::NotIndexed {
+                why: NotIndexed::NoStatistics,
+            });
+        }
     };
     match line_of(alloc, loaded, &statistics) {
         Ok(text) => return Ok(text),
-        Err(_) => return Err(InfoRefused::Memory),
+        Err(_) => {
+            return Err(IndexedRefused::Refused {
+                why: ReadingRefused::Memory,
+            });
+        }
     }
 }

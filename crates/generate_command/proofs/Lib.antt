@@ -1,5 +1,4 @@
 mod Printed
-mod Reread
 pub mod Statuses
 mod Stores
 mod Told
@@ -9,3 +8,4 @@ mod Soundness
 mod Recordings
 mod Spots
 mod SumsTold
+mod Backs

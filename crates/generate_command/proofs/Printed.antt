@@ -1,14 +1,10 @@
 -- What a sink takes of the line of sums.
-use Rattle.std.proofs.Common.{◌≡◌, ℕ, List, [], ◌∷◌, Result, Ok, Err, sym, subst, inl, inr, arith}
+use Rattle.std.proofs.Common.{◌≡◌, ℕ, List, [], ◌∷◌, Result, Ok, Err, subst, inl, inr, arith}
 use Rattle.mcap_io.specs.Outside.{SinkState, WritesAll}
 use Rattle.mcap_io.specs.declared.outside.Short.{Short}
 use Rattle.command_base.specs.Printing.{Tells, Takes}
-use Rattle.command_base.specs.OneFile.{text_of}
 use Rattle.message_sums.specs.declared.sums.Sums.{Sums}
-use Rattle.generate_command.specs.declared.back.Reading.{Reading}
-use Rattle.generate_command.specs.declared.back.Reading.TheVariants as readings
 use Rattle.generate_command.specs.Lines.{number_text, sums_line}
-use Rattle.generate_command.specs.Back.{ending_of}
 
 cons_some : (x : ℕ) (xs : List ℕ) → x ∷ xs ≡ [] → ⊥
 cons_some x xs e = absurd cc
@@ -24,7 +20,6 @@ wrote before now line (Ok it) all = inl (record { still = all.0; adds = all.1 })
 wrote before now line (Err short) part = inr (record { rises = part.0; adds = λ start is. let took = part.2 start is in (took.0, omega arith, took.2, took.3) })
 
 -- what was printed of a file that was read
-pub takes_line : (before now : SinkState) (feeds : ℕ) (file line : List ℕ) (result : Result Unit Short) (reading : Reading) (sums : Sums) → reading ≡ readings.Summed sums → line ≡ sums_line feeds sums → WritesAll before now line result → Takes before now (text_of (ending_of feeds file reading))
-takes_line before now feeds file line result reading sums is line_is written =
-    subst (λ (x : Reading). Takes before now (text_of (ending_of feeds file x))) (sym is)
-    (record { tells = subst (λ (l : List ℕ). Tells before now l) line_is (wrote before now line result written); silent = λ none. absurd (line_is_said feeds sums none) })
+pub takes_line : (before now : SinkState) (feeds : ℕ) (line : List ℕ) (result : Result Unit Short) (sums : Sums) → line ≡ sums_line feeds sums → WritesAll before now line result → Takes before now (sums_line feeds sums)
+takes_line before now feeds line result sums line_is written =
+    record { tells = subst (λ (l : List ℕ). Tells before now l) line_is (wrote before now line result written); silent = λ none. absurd (line_is_said feeds sums none) }

@@ -17,6 +17,8 @@ use Rattle.mcap_model.proofs.Places.{at_none, at_one}
 use Rattle.mcap_model.proofs.Lists.{pairs_at}
 use Rattle.mcap_model.proofs.Maps.{message_once}
 use Rattle.mcap_model.proofs.Halting.{readings_halt_once}
+use Rattle.mcap_model.specs.declared.refusals.ReadingRefused.{ReadingRefused}
+use Rattle.mcap_model.specs.declared.refusals.ReadingRefused.TheVariants as refusals
 use Rattle.feed_lane.specs.declared.report.Accepted.{Accepted}
 use Rattle.feed_lane.specs.declared.report.FeedReport.{FeedReport}
 use Rattle.feed_lane.specs.declared.report.FeedEnd.{FeedEnd}
@@ -44,7 +46,7 @@ any_at p [] k x at is = absurd (at_none k x at)
 any_at p (y ∷ xs) zero x at is = or_left (p y) (list_any p xs) (ap p (same_Some y x at) ∙ is)
 any_at p (y ∷ xs) (suc k) x at is = or_right (p y) (list_any p xs) (any_at p xs k x at is)
 
-feed_lacks : (r : Report) (n : ℕ) (f : FeedReport) → At r.feeds.items n f → f.end ≡ feed_ends.Memory → lacks_memory r ≡ true
+feed_lacks : (r : Report) (n : ℕ) (f : FeedReport) → At r.feeds.items n f → f.end ≡ feed_ends.Refused refusals.Memory → lacks_memory r ≡ true
 feed_lacks r n f at is =
     or_right (is_memory_writer r.writer.end) _ (any_at (λ (g : FeedReport). is_memory_end g.end || list_any (λ (x : Refused). is_memory x.cause) g.refused.items) r.feeds.items n f at
     (or_left (is_memory_end f.end) _ (ap is_memory_end is)))
@@ -143,14 +145,17 @@ module _ (options : RecordOptions) (sources back : List SourceState) (live live_
 
     -- its bytes, which are read to their Data End; it didn't fail
     module _ (bytes : List ℕ) (tops : List Top) (end : ℕ) (halts : Halts reading_limits bytes tops (at_end end)) (here : f.before.left ≡ Some bytes) (unused : f.before.faults ≡ 0) (still : f.now.faults ≡ 0) where
+      refused_none : (why : ReadingRefused) → f.feed.end ≡ feed_ends.Refused why → FeedEnds f.before f.now f.reports.tops (feed_ends.Refused why) → ⊥
+      refused_none (refusals.Fault faults) same came = let rises = came.rises in omega (arith, rises.once, unused, still)
+      refused_none (refusals.Grammar m rule) same came = (readings_halt_once bytes f.reports.tops tops (grammar m rule) (at_end end) (came.halts bytes here) halts).1
+      refused_none (refusals.Compressed m name) same came = let other = (readings_halt_once bytes f.reports.tops tops (compressed m name) (at_end end) (came.halts bytes here) halts).1 in cc
+      refused_none (refusals.Limit m) same came = let other = (readings_halt_once bytes f.reports.tops tops (beyond m) (at_end end) (came.halts bytes here) halts).1 in cc
+      refused_none refusals.Memory same came = both_ways (lacks_memory r) enough (feed_lacks r n f.feed report_at same)
+
       done : (e : FeedEnd) → f.feed.end ≡ e → FeedEnds f.before f.now f.reports.tops e → TakesMessages f.reports.tops f.reports.handled f.feed.passed f.feed.refused.items e
           → (f.reports.tops ≡ tops) × (f.reports.handled ≡ length (messages (flat f.reports.tops)))
       done feed_ends.Done same came takes = ((readings_halt_once bytes f.reports.tops tops (at_end came.0) (at_end end) (came.1.halts bytes here) halts).0, takes.0)
-      done (feed_ends.Grammar m) same came takes = absurd (readings_halt_once bytes f.reports.tops tops (grammar m came.0) (at_end end) (came.1.halts bytes here) halts).1
-      done (feed_ends.Compressed m name) same came takes = absurd (let other = (readings_halt_once bytes f.reports.tops tops (compressed m name) (at_end end) (came.halts bytes here) halts).1 in cc)
-      done (feed_ends.Limit m) same came takes = absurd (let other = (readings_halt_once bytes f.reports.tops tops (beyond m) (at_end end) (came.halts bytes here) halts).1 in cc)
-      done (feed_ends.Fault faults) same came takes = absurd (let rises = came.rises in omega (arith, rises.once, unused, still))
-      done feed_ends.Memory same came takes = absurd (both_ways (lacks_memory r) enough (feed_lacks r n f.feed report_at same))
+      done (feed_ends.Refused why) same came takes = absurd (refused_none why same came)
       done feed_ends.Ended same came takes = absurd (let has = takes.1 in none_at_all has.0 takes.0 has.1)
 
       came_so : (f.reports.tops ≡ tops) × (f.reports.handled ≡ length (messages (flat f.reports.tops)))

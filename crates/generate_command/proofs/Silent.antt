@@ -6,7 +6,7 @@ use Rattle.recorder.specs.declared.options.RecordOptions.{RecordOptions}
 use Rattle.recorder.specs.declared.report.Report.{Report}
 use Rattle.command_base.specs.Texts.{Trouble, bad_words, fault, output_fault, grammar, compressed, limit, output_limit, not_indexed, flaw, no_memory, is_asked, status_of}
 use Rattle.command_base.specs.Ran.{Scene, counts_in, WorldRose, when}
-use Rattle.generate_command.specs.declared.back.Back.{Back}
+use Rattle.generate_command.specs.Back.{Back}
 use Rattle.generate_command.specs.declared.making.Numbers.{Numbers}
 use Rattle.generate_command.specs.Generating.{limit_passed, halts_after, LackIsTold, Generates}
 use Rattle.generate_command.proofs.Statuses.{picked}

@@ -1,9 +1,9 @@
 -- With the status 0 the file was closed, kept, and read back.
-use Rattle.std.proofs.Common.{◌≡◌, ◌||◌, ℕ, ◌≤◌, Bool, true, false, List, [], ◌∷◌, Option, Some, None, refl, sym, ap, subst, inl, inr, ◌∙◌, arith}
+use Rattle.std.proofs.Common.{◌≡◌, ◌||◌, ℕ, ◌≤◌, Bool, true, false, List, [], ◌∷◌, Option, Some, None, Result, Ok, Err, refl, sym, ap, subst, inl, inr, ◌∙◌, arith}
 use Rattle.std.proofs.lemmas.Bool.{both_ways}
 use Rattle.mcap_io.specs.Outside.{Rose, added, SourceState, WorldState, SinkState, Told, Keeping, Opening}
 use Rattle.mcap_io.specs.declared.outside.ObjectKind.TheVariants as kinds
-use Rattle.mcap_scan.specs.declared.answers.ScanRefused.TheVariants as refusals
+use Rattle.mcap_model.specs.declared.refusals.ReadingRefused.TheVariants as refusals
 use Rattle.recorder.specs.declared.options.RecordOptions.{RecordOptions}
 use Rattle.recorder.specs.declared.report.Report.{Report}
 use Rattle.message_sums.specs.declared.sums.Sums.{Sums}
@@ -11,11 +11,14 @@ use Rattle.message_sums.specs.Reading.{SumsAll}
 use Rattle.command_base.specs.Printing.{TellsAll, Takes}
 use Rattle.command_base.specs.OneFile.{failing, troubles_in, is_lack, NameRead}
 use Rattle.command_base.specs.Ran.{Scene, counts_in, WorldRose, AnyRose, AreOpened, kept, refused}
-use Rattle.generate_command.specs.declared.back.Back.{Back}
-use Rattle.generate_command.specs.declared.back.Reading.{Reading}
-use Rattle.generate_command.specs.declared.back.Reading.TheVariants as readings
+use Rattle.mcap_model.specs.declared.refusals.ReadingRefused.{ReadingRefused}
+use Rattle.command_base.specs.declared.file_reading.Reading.{Reading}
+use Rattle.command_base.specs.declared.file_reading.Reading.TheVariants as readings
+use Rattle.mcap_io.specs.declared.outside.OpenRefused.TheVariants as open_refusals
 use Rattle.generate_command.specs.declared.making.Written.{Written}
-use Rattle.generate_command.specs.Back.{ComesTo, IsReadBack, ending_of, NameReadBack}
+use Rattle.command_base.specs.Readings.{IsSourceRead}
+use Rattle.command_base.proofs.ReadNames.{source_shows}
+use Rattle.generate_command.specs.Back.{Back, ComesTo, back_ending, NameReadBack}
 use Rattle.generate_command.specs.Making.{Stored, IsWriting}
 use Rattle.generate_command.specs.Generating.{ReadsBack}
 use Rattle.generate_command.proofs.Silent.{IsQuiet}
@@ -83,23 +86,26 @@ pub there_back : (sound : Bool) (out : List ℕ) (middle new : WorldState) (back
 there_back sound out middle new None reads is = absurd (both_ways sound reads.0 is)
 there_back sound out middle new (Some b) reads is = (b, refl, reads.1)
 
-pub summed : (feeds : ℕ) (out : List ℕ) (reading : Reading) → (ending_of feeds out reading ≡ failing → ⊥) → troubles_in (ending_of feeds out reading) ≡ [] → is_lack (ending_of feeds out reading) ≡ false → (sums : Sums) × (reading ≡ readings.Summed sums)
-summed feeds out readings.Unopened failed none enough = absurd (failed refl)
-summed feeds out (readings.Summed sums) failed none enough = (sums, refl)
-summed feeds out (readings.Refused (refusals.Fault faults)) failed none enough = absurd (failed refl)
-summed feeds out (readings.Refused (refusals.Grammar n rule)) failed none enough = absurd cc
-summed feeds out (readings.Refused (refusals.Compressed n name)) failed none enough = absurd cc
-summed feeds out (readings.Refused (refusals.Limit n)) failed none enough = absurd cc
-summed feeds out (readings.Refused refusals.Memory) failed none enough = absurd cc
+pub summed : (feeds : ℕ) (out : List ℕ) (reading : Reading Sums ReadingRefused) → (back_ending feeds out reading ≡ failing → ⊥) → troubles_in (back_ending feeds out reading) ≡ [] → is_lack (back_ending feeds out reading) ≡ false → (sums : Sums) × (reading ≡ readings.Opened (Ok sums))
+summed feeds out (readings.Unopened open_refusals.Failed) failed none enough = absurd (failed refl)
+summed feeds out (readings.Unopened open_refusals.Memory) failed none enough = absurd cc
+summed feeds out (readings.Opened (Ok sums)) failed none enough = (sums, refl)
+summed feeds out (readings.Opened (Err (refusals.Fault faults))) failed none enough = absurd (failed refl)
+summed feeds out (readings.Opened (Err (refusals.Grammar n rule))) failed none enough = absurd cc
+summed feeds out (readings.Opened (Err (refusals.Compressed n name))) failed none enough = absurd cc
+summed feeds out (readings.Opened (Err (refusals.Limit n))) failed none enough = absurd cc
+summed feeds out (readings.Opened (Err refusals.Memory)) failed none enough = absurd cc
+
+same_came : (a b : Result Sums ReadingRefused) → readings.Opened a ≡ readings.Opened b → a ≡ b
+same_came a b e = cc
 
 -- where the name told these bytes, these are what was summed
-pub summed_of : (out file : List ℕ) (world : WorldState) (told : Told) (entries : List Opening) (reading : Reading) (sums : Sums) → world.told ≡ Some told → told.names out ≡ Some file → IsReadBack out world entries reading → reading ≡ readings.Summed sums
+pub summed_of : (out file : List ℕ) (world : WorldState) (told : Told) (entries : List Opening) (reading : Reading Sums ReadingRefused) (sums : Sums) → world.told ≡ Some told → told.names out ≡ Some file → IsSourceRead ComesTo out world entries reading → reading ≡ readings.Opened (Ok sums)
     → (before : SourceState) × (now : SourceState) × (before.left ≡ Some file) × SumsAll before now sums
-summed_of out file world told [] reading sums here there is same = absurd (let apart = sym same ∙ is in cc)
-summed_of out file world told (entry ∷ more) reading sums here there (inl none) same = absurd (let apart = sym same ∙ none.1 in cc)
-summed_of out file world told (entry ∷ more) reading sums here there (inr (keeping, is, under)) same =
-    let now : SourceState = record { left = keeping.left; faults = keeping.faults } in
-    (under.source, now, (under.tells told here).0 ∙ there, subst (λ (x : Reading). ComesTo under.source now x) same under.comes)
+summed_of out file world told entries reading sums here there is same =
+    source_shows (λ (r : Reading Sums ReadingRefused). r ≡ readings.Opened (Ok sums) → (before : SourceState) × (now : SourceState) × (before.left ≡ Some file) × SumsAll before now sums)
+    out file world told here there (λ why e. absurd cc) ComesTo
+    (λ source now came left comes e. (source, now, left, subst (ComesTo source now) (same_came came (Ok sums) e) comes)) entries reading is same
 
 -- ---- what was printed
 

@@ -1,16 +1,18 @@
 -- The status of a generation isn't that of bad words.
-use Rattle.std.proofs.Common.{◌≡◌, ℕ, Bool, true, false, cond, ◌||◌, ◌==◌, List, ◌++◌, Option, Some, None, refl, sym, ap, ◌∙◌, unwrap_or, arith}
+use Rattle.std.proofs.Common.{◌≡◌, ℕ, Bool, true, false, cond, ◌||◌, ◌==◌, List, ◌++◌, Option, Some, None, Ok, Err, refl, sym, ap, ◌∙◌, unwrap_or, arith}
 use Rattle.std.proofs.lemmas.List.Folds.{list_any-append}
-use Rattle.mcap_scan.specs.declared.answers.ScanRefused.TheVariants as refusals
+use Rattle.mcap_model.specs.declared.refusals.ReadingRefused.TheVariants as refusals
 use Rattle.recorder.specs.declared.options.RecordOptions.{RecordOptions}
 use Rattle.recorder.specs.declared.report.Report.{Report}
 use Rattle.command_base.specs.Texts.{Trouble, fault, output_fault, output_limit, no_memory, asked_status, is_asked, status_of}
 use Rattle.command_base.specs.Ran.{Scene, when}
-use Rattle.generate_command.specs.declared.back.Back.{Back}
-use Rattle.generate_command.specs.declared.back.Reading.{Reading}
-use Rattle.generate_command.specs.declared.back.Reading.TheVariants as readings
+use Rattle.mcap_model.specs.declared.refusals.ReadingRefused.{ReadingRefused}
+use Rattle.command_base.specs.declared.file_reading.Reading.{Reading}
+use Rattle.command_base.specs.declared.file_reading.Reading.TheVariants as readings
+use Rattle.mcap_io.specs.declared.outside.OpenRefused.TheVariants as open_refusals
+use Rattle.message_sums.specs.declared.sums.Sums.{Sums}
 use Rattle.generate_command.specs.declared.making.Numbers.{Numbers}
-use Rattle.generate_command.specs.Back.{ending_of}
+use Rattle.generate_command.specs.Back.{Back, back_ending}
 use Rattle.command_base.specs.OneFile.{troubles_in}
 use Rattle.generate_command.specs.Generating.{halts_after, limit_passed, Generates}
 
@@ -31,14 +33,15 @@ not_asked due none two =
     unasked (is_asked due 5) (is_asked due 3) (is_asked due 4) (is_asked due 1)
     (ap (λ (x : Bool). picked x (is_asked due 5) (is_asked due 3) (is_asked due 4) (is_asked due 1)) (sym none) ∙ two)
 
-reading_asks : (feeds : ℕ) (out : List ℕ) (reading : Reading) → is_asked (troubles_in (ending_of feeds out reading)) 2 ≡ false
-reading_asks feeds out readings.Unopened = refl
-reading_asks feeds out (readings.Summed sums) = refl
-reading_asks feeds out (readings.Refused (refusals.Fault faults)) = refl
-reading_asks feeds out (readings.Refused (refusals.Grammar n rule)) = refl
-reading_asks feeds out (readings.Refused (refusals.Compressed n name)) = refl
-reading_asks feeds out (readings.Refused (refusals.Limit n)) = refl
-reading_asks feeds out (readings.Refused refusals.Memory) = refl
+reading_asks : (feeds : ℕ) (out : List ℕ) (reading : Reading Sums ReadingRefused) → is_asked (troubles_in (back_ending feeds out reading)) 2 ≡ false
+reading_asks feeds out (readings.Unopened open_refusals.Failed) = refl
+reading_asks feeds out (readings.Unopened open_refusals.Memory) = refl
+reading_asks feeds out (readings.Opened (Ok sums)) = refl
+reading_asks feeds out (readings.Opened (Err (refusals.Fault faults))) = refl
+reading_asks feeds out (readings.Opened (Err (refusals.Grammar n rule))) = refl
+reading_asks feeds out (readings.Opened (Err (refusals.Compressed n name))) = refl
+reading_asks feeds out (readings.Opened (Err (refusals.Limit n))) = refl
+reading_asks feeds out (readings.Opened (Err refusals.Memory)) = refl
 
 halts_ask : (feeds : ℕ) (out : List ℕ) (back : Option Back) → is_asked (halts_after feeds out back) 2 ≡ false
 halts_ask feeds out None = refl

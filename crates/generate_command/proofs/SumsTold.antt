@@ -1,5 +1,5 @@
 -- The sums that are printed are those of all messages that were made.
-use Rattle.std.proofs.Common.{◌≡◌, ℕ, zero, suc, ◌+◌, ◌%◌, ◌^◌, ◌<◌, ◌&&◌, if◌then◌else◌, Bool, true, false, List, [], ◌∷◌, ◌++◌, length, get_or, map, filter, Option, Some, None, refl, sym, ap, subst, inl, inr, ◌∙◌, arith}
+use Rattle.std.proofs.Common.{◌≡◌, ℕ, zero, suc, ◌+◌, ◌%◌, ◌^◌, ◌<◌, ◌&&◌, if◌then◌else◌, Bool, true, false, List, [], ◌∷◌, ◌++◌, length, get_or, map, filter, Option, Some, None, Ok, refl, sym, ap, subst, inl, inr, ◌∙◌, arith}
 use Rattle.std.specs.Prelude.{IsUtf8}
 use Rattle.std.specs.List.{All, AllZip, sum_by, range_with_len}
 use Rattle.std.proofs.lemmas.Bool.{both_ways, or_left}
@@ -36,12 +36,12 @@ use Rattle.generated_feed.specs.Generator.{generated, first_state}
 use Rattle.generated_feed.specs.Feeds.{feed_tops, feed_bytes, message_top, end_top}
 use Rattle.generated_feed.specs.Laws.{FeedsAreRead}
 use Rattle.generated_feed.proofs.Reading.{small_from, message_is}
-use Rattle.generate_command.specs.declared.back.Back.{Back}
-use Rattle.generate_command.specs.declared.back.Reading.{Reading}
-use Rattle.generate_command.specs.declared.back.Reading.TheVariants as readings
+use Rattle.mcap_model.specs.declared.refusals.ReadingRefused.{ReadingRefused}
+use Rattle.command_base.specs.declared.file_reading.Reading.{Reading}
+use Rattle.command_base.specs.declared.file_reading.Reading.TheVariants as readings
 use Rattle.generate_command.specs.declared.making.Numbers.{Numbers}
 use Rattle.generate_command.specs.Lines.{sums_line}
-use Rattle.generate_command.specs.Back.{ending_of, NameReadBack}
+use Rattle.generate_command.specs.Back.{Back, back_ending, NameReadBack}
 use Rattle.generate_command.specs.Making.{AreAllowed, source_of, sources_of, IsPlaced as NameIsPlaced}
 use Rattle.generate_command.specs.Generating.{is_closed, is_limit, is_memory_writer, passes_limit, lacks_memory, is_sound, ReadsBack, text_after, halts_after, is_lack_after, Generates}
 use Rattle.generate_command.specs.Laws.{made_for, all_made, AreInRange, GeneratedSumsAreTold}
@@ -155,7 +155,7 @@ record TellsSums (feeds : ℕ) (out : List ℕ) (middle : WorldState) (old new :
   back : Back
   name : NameReadBack out middle new.world back
   sums : Sums
-  summed : back.reading ≡ readings.Summed sums
+  summed : back.reading ≡ readings.Opened (Ok sums)
   line : TellsAll old.out new.out (sums_line feeds sums)
 
 module _ (options : RecordOptions) (numbers : Numbers) (out : List ℕ) (old new : Scene) (r : Report) (status : ℕ) (it : Generates options numbers out old new (Some r) status) (q : IsQuiet numbers.feeds out old new (Some r) it.back)
@@ -187,11 +187,11 @@ module _ (options : RecordOptions) (numbers : Numbers) (out : List ℕ) (old new
   tells_sums =
       let sound_is : is_sound (Some r) it.kept ≡ true = both (is_closed r.writer.end) it.kept (ap is_closed saved.closed) saved.well in
       let (b, back_is, name) = there_back (is_sound (Some r) it.kept) out it.middle new.world it.back it.reads sound_is in
-      let unfailed : ending_of numbers.feeds out b.reading ≡ failing → ⊥ =
+      let unfailed : back_ending numbers.feeds out b.reading ≡ failing → ⊥ =
       λ fails. q.world (failed_rose out old.world it.middle new.world (world_faults it.written.entries) (input_faults it.written.entries) name.entries b.failed it.written.counts.world it.written.counts.inputs name.name (name.sure numbers.feeds fails)) in
       let (sums, sums_are) = summed numbers.feeds out b.reading unfailed (sym (ap (halts_after numbers.feeds out) back_is) ∙ q.halts) (sym (ap (is_lack_after numbers.feeds out) back_is) ∙ lacks.1) in
       let taken : Takes old.out new.out (sums_line numbers.feeds sums) =
-      subst (λ (x : Reading). Takes old.out new.out (text_of (ending_of numbers.feeds out x))) sums_are (subst (λ (x : Option Back). Takes old.out new.out (text_after numbers.feeds out x)) back_is it.printed) in
+      subst (λ (x : Reading Sums ReadingRefused). Takes old.out new.out (text_of (back_ending numbers.feeds out x))) sums_are (subst (λ (x : Option Back). Takes old.out new.out (text_after numbers.feeds out x)) back_is it.printed) in
       record { back = b; name = name; sums = sums; summed = sums_are; line = all_taken old.out new.out (sums_line numbers.feeds sums) taken q.printing }
 
   module _ (told : Told) (allowed : AreAllowed options) (utf8 : IsUtf8 options.file.profile) (range : AreInRange numbers) (lossless : options.lossless ≡ true) (here : old.world.told ≡ Some told) (read : FeedsAreRead) where

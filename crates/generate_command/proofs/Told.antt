@@ -1,5 +1,5 @@
 -- What a generation comes to, of what its parts came to.
-use Rattle.std.proofs.Common.{◌≡◌, ◌⊎◌, ◌↔◌, ℕ, Bool, true, List, ◌++◌, Option, subst}
+use Rattle.std.proofs.Common.{◌≡◌, ◌⊎◌, ◌↔◌, ◌||◌, ℕ, Bool, true, List, ◌++◌, Option, Some, None, ap, subst, ◌∙◌}
 use Rattle.mcap_io.specs.Outside.{Rose, WorldState}
 use Rattle.recorder.specs.declared.options.RecordOptions.{RecordOptions}
 use Rattle.recorder.specs.declared.report.Report.{Report}
@@ -7,10 +7,10 @@ use Rattle.command_base.specs.declared.faults.Counts.{Counts}
 use Rattle.command_base.specs.Texts.{Trouble, fault, output_fault, output_limit, no_memory}
 use Rattle.command_base.specs.Printing.{Takes}
 use Rattle.command_base.specs.Ran.{Scene, counts_in, when, Complains}
-use Rattle.generate_command.specs.declared.back.Back.{Back}
+use Rattle.generate_command.specs.Back.{Back}
 use Rattle.generate_command.specs.declared.making.Numbers.{Numbers}
 use Rattle.generate_command.specs.Making.{sources_of, NameWritten}
-use Rattle.generate_command.specs.Generating.{limit_passed, is_sound, ReadsBack, text_after, halts_after, LackIsTold, Generates}
+use Rattle.generate_command.specs.Generating.{limit_passed, lacks_memory, is_sound, ReadsBack, text_after, halts_after, is_lack_after, LackIsTold, Generates}
 
 -- what is told of it, with these troubles of the reading back
 abbrev pub told_with : List ℕ → List Trouble → Bool → Bool → Bool → Bool → List Trouble
@@ -29,6 +29,11 @@ pub record CallsAre (options : RecordOptions) (numbers : Numbers) (out : List �
   pub halts_are : halts ≡ halts_after numbers.feeds out back
   pub limited_is : limited ≡ limit_passed report
   pub said : Complains (told_with out halts blamed limited printing lacked) old.err new.err status
+
+-- a printing leaves what is told of a want of memory
+pub lack_told : (before now : Counts) (feeds : ℕ) (out : List ℕ) (report : Option Report) (printed back : Option Back) (lacked : Bool) → is_lack_after feeds out printed ≡ is_lack_after feeds out back → LackIsTold before now feeds out report printed lacked → LackIsTold before now feeds out report back lacked
+lack_told before now feeds out None printed back lacked same told = told
+lack_told before now feeds out (Some r) printed back lacked same told = told ∙ ap (λ (b : Bool). lacks_memory r || b) same
 
 -- what holds of the counts that were taken holds of those of both scenes
 at_scenes : (P : Counts → Counts → Type 0) (before now old new : Counts) → before ≡ old → now ≡ new → P before now → P old new

@@ -1,55 +1,43 @@
 -- Reading back the file that was recorded: what becomes of its name, and what the reading comes to.
-use Rattle.std.specs.Prelude.{◌≡◌, ◌⊎◌, ℕ, List, [], ◌∷◌, true}
-use Rattle.mcap_io.specs.Outside.{SourceState, WorldState, Keeping, Opening, TellsName}
+use Rattle.std.proofs.Common.{subst}
+use Rattle.std.specs.Prelude.{◌≡◌, ℕ, List, true, Result, Ok, Err}
+use Rattle.mcap_io.specs.Outside.{SourceState, WorldState, Opening}
 use Rattle.mcap_io.specs.declared.outside.ObjectKind.TheVariants as kinds
 use Rattle.mcap_model.specs.Tops.{Top}
-use Rattle.mcap_scan.specs.declared.answers.ScanRefused.{ScanRefused}
-use Rattle.mcap_scan.specs.declared.answers.ScanRefused.TheVariants as refusals
+use Rattle.mcap_model.specs.declared.refusals.ReadingRefused.{ReadingRefused}
 use Rattle.mcap_scan.specs.Scanning.{RefusalStands}
+use Rattle.message_sums.specs.declared.sums.Sums.{Sums}
 use Rattle.message_sums.specs.Reading.{SumsAll}
-use Rattle.generate_command.specs.declared.back.Reading.{Reading}
-use Rattle.generate_command.specs.declared.back.Reading.TheVariants as readings
-use Rattle.generate_command.specs.declared.back.Back.{Back}
-use Rattle.command_base.specs.Texts.{grammar, compressed, limit}
-use Rattle.command_base.specs.Ran.{kept, refused}
-use Rattle.command_base.specs.OneFile.{Ending, was_read, halted, failing, lacked, NameRead}
+use Rattle.command_base.specs.declared.file_reading.Reading.{Reading}
+use Rattle.command_base.specs.declared.file_reading.ReadName.{ReadName}
+use Rattle.command_base.specs.OneFile.{Ending, failing, refusal_ending, NameRead}
+use Rattle.command_base.specs.Readings.{ending_of, IsSourceRead}
+use Rattle.command_base.proofs.Refusals.{refusal_fails, rises_some}
 use Rattle.generate_command.specs.Lines.{sums_line}
 
+-- what became of the file's name
+abbrev pub Back : Type 0
+Back = ReadName Sums ReadingRefused
+
 -- what the reading of a source came to
-abbrev pub ComesTo : SourceState → SourceState → Reading → Type 0
-ComesTo before now readings.Unopened = ⊥
-ComesTo before now (readings.Summed sums) = SumsAll before now sums
-ComesTo before now (readings.Refused why) = (tops : List Top) × RefusalStands why before now tops
+abbrev pub ComesTo : SourceState → SourceState → Result Sums ReadingRefused → Type 0
+ComesTo before now (Ok sums) = SumsAll before now sums
+ComesTo before now (Err why) = (tops : List Top) × RefusalStands why before now tops
 
--- the source that was opened under the name told the bytes there, where the world tells; it was read, and taken back
-pub record SummedUnder (file : List ℕ) (world : WorldState) (keeping : Keeping) (reading : Reading) : Type 0 where
-  pub source : SourceState
-  pub tells : TellsName world file source
-  pub unused : source.faults ≡ 0
-  pub comes : ComesTo source (record { left = keeping.left; faults = keeping.faults }) reading
-
--- what its opening as a source came to: no entry, where memory lacked for it
-abbrev pub IsReadBack : List ℕ → WorldState → List Opening → Reading → Type 0
-IsReadBack file world [] reading = reading ≡ readings.Refused refusals.Memory
-IsReadBack file world (entry ∷ more) reading = ((entry ≡ refused kinds.Source file) × (reading ≡ readings.Unopened))
-    ⊎ ((keeping : Keeping) × (entry ≡ kept kinds.Source file keeping) × SummedUnder file world keeping reading)
+-- one that failed has a source that failed
+pub back_fails : (before now : SourceState) (file : List ℕ) (why : ReadingRefused) → ComesTo before now (Err why) → before.faults ≡ 0 → refusal_ending file why ≡ failing → now.faults ≡ 0 → ⊥
+back_fails before now file why comes unused e none =
+    let fault = refusal_fails file why e in
+    let stands = subst (λ (w : ReadingRefused). (tops : List Top) × RefusalStands w before now tops) fault.1 comes in
+    rises_some before.faults now.faults stands.1.rises unused none
 
 -- how that ended
-abbrev pub refusal_ending : List ℕ → ScanRefused → Ending
-refusal_ending file (refusals.Fault faults) = failing
-refusal_ending file (refusals.Grammar n rule) = halted (grammar file n)
-refusal_ending file (refusals.Compressed n name) = halted (compressed file name n)
-refusal_ending file (refusals.Limit n) = halted (limit file n)
-refusal_ending file refusals.Memory = lacked
-
-abbrev pub ending_of : ℕ → List ℕ → Reading → Ending
-ending_of feeds file readings.Unopened = failing
-ending_of feeds file (readings.Summed sums) = was_read (sums_line feeds sums)
-ending_of feeds file (readings.Refused why) = refusal_ending file why
+abbrev pub back_ending : ℕ → List ℕ → Reading Sums ReadingRefused → Ending
+back_ending feeds file reading = ending_of (sums_line feeds) (refusal_ending file) reading
 
 -- what became of the name; where the reading failed, a failure is told
 pub record NameReadBack (file : List ℕ) (old new : WorldState) (back : Back) : Type 0 where
   pub entries : List Opening
-  pub reading : IsReadBack file old entries back.reading
+  pub reading : IsSourceRead ComesTo file old entries back.reading
   pub name : NameRead kinds.Source file old new entries back.failed
-  pub sure : (feeds : ℕ) → ending_of feeds file back.reading ≡ failing → back.failed ≡ true
+  pub sure : (feeds : ℕ) → back_ending feeds file back.reading ≡ failing → back.failed ≡ true

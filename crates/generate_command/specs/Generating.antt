@@ -14,10 +14,9 @@ use Rattle.command_base.specs.declared.faults.Counts.{Counts}
 use Rattle.command_base.specs.Texts.{Trouble, fault, output_fault, output_limit, no_memory}
 use Rattle.command_base.specs.Printing.{Takes}
 use Rattle.command_base.specs.Ran.{Scene, counts_in, AnyRose, WorldRose, when, Complains}
-use Rattle.command_base.specs.OneFile.{text_of, troubles_in, is_lack}
-use Rattle.generate_command.specs.declared.back.Back.{Back}
+use Rattle.command_base.specs.OneFile.{refusal_ending, text_of, troubles_in, is_lack}
 use Rattle.generate_command.specs.declared.making.Numbers.{Numbers}
-use Rattle.generate_command.specs.Back.{ending_of, NameReadBack}
+use Rattle.generate_command.specs.Back.{Back, back_ending, NameReadBack}
 use Rattle.generate_command.specs.Making.{sources_of, NameWritten}
 
 -- ---- what a report tells
@@ -39,11 +38,7 @@ passes_limit r = is_limit r.writer.end || list_any (λ f. list_any (λ x. is_ove
 -- memory lacked for a feed, for the file, or for a message
 abbrev pub is_memory_end : FeedEnd → Bool
 is_memory_end feed_ends.Done = false
-is_memory_end (feed_ends.Grammar n) = false
-is_memory_end (feed_ends.Compressed n name) = false
-is_memory_end (feed_ends.Limit n) = false
-is_memory_end (feed_ends.Fault faults) = false
-is_memory_end feed_ends.Memory = true
+is_memory_end (feed_ends.Refused why) = is_lack (refusal_ending [] why)
 is_memory_end feed_ends.Ended = false
 
 abbrev pub is_memory_writer : End → Bool
@@ -73,17 +68,17 @@ ReadsBack sound out old new (Some back) = (sound ≡ true) × NameReadBack out o
 -- the text for standard output
 abbrev pub text_after : ℕ → List ℕ → Option Back → List ℕ
 text_after feeds out None = []
-text_after feeds out (Some back) = text_of (ending_of feeds out back.reading)
+text_after feeds out (Some back) = text_of (back_ending feeds out back.reading)
 
 -- why the reading halted
 abbrev pub halts_after : ℕ → List ℕ → Option Back → List Trouble
 halts_after feeds out None = []
-halts_after feeds out (Some back) = troubles_in (ending_of feeds out back.reading)
+halts_after feeds out (Some back) = troubles_in (back_ending feeds out back.reading)
 
 -- whether memory lacked for it
 abbrev pub is_lack_after : ℕ → List ℕ → Option Back → Bool
 is_lack_after feeds out None = false
-is_lack_after feeds out (Some back) = is_lack (ending_of feeds out back.reading)
+is_lack_after feeds out (Some back) = is_lack (back_ending feeds out back.reading)
 
 -- ---- the end
 

@@ -11,9 +11,12 @@ ghost use Rattle.command_base.specs.Ran.{scene, AnyRose, when, Complains};
 ghost use Rattle.generate_command.specs.Making.{AreAllowed};
 ghost use Rattle.generate_command.specs.Generating.{is_closed as closes, is_limit, is_memory_end, is_memory_writer, limit_passed, lacks_memory as names_lack, is_sound as stands_whole, ReadsBack, text_after, halts_after, is_lack_after, LackIsTold, Generates};
 
-use crate::back::{Back, has_lacked, print_sums, read_back, reading_complaint};
+use crate::back::{Back, Summing};
 use crate::making::{Numbers, Written, write_generated};
-use command_base::{Complaint, Counts, complain_of, due_when, rose};
+use command_base::{
+    Complaint, Counts, complain_of, due_when, halt_of, has_lacked, lacks_memory, print_reading,
+    read_source_name, rose,
+};
 use mcap_io::{Sink, World};
 use mcap_model::{End, Stop};
 use recorder::{FeedEnd, FeedReport, RecordOptions, Report};
@@ -100,13 +103,8 @@ fn is_end_for_memory(end: &FeedEnd) -> bool
     ensures { result ≡ is_memory_end end.now }
 {
     match end {
-        FeedEnd::Memory => true,
-        FeedEnd::Done
-        | FeedEnd::Grammar { .. }
-        | FeedEnd::Compressed { .. }
-        | FeedEnd::Limit { .. }
-        | FeedEnd::Fault { .. }
-        | FeedEnd::Ended => false,
+        FeedEnd::Refused { why } => return lacks_memory(why),
+        FeedEnd::Done | FeedEnd::Ended => return false,
     }
 }
 
@@ -158,38 +156,45 @@ fn any_rose(before: &Counts, now: &Counts) -> bool
 }
 
 // Whether memory lacked for the reading back.
-fn back_lacked(back: &Option<Back>) -> bool
-    ensures { (feeds : ℕ) (out : List ℕ) → result ≡ is_lack_after feeds out back.now }
+fn back_lacked(what: &Summing, back: &Option<Back>) -> bool
+    ensures { (out : List ℕ) → result ≡ is_lack_after what.now.feeds out back.now }
 {
     match back {
-        Some(back) => return has_lacked(&back.reading),
+        Some(back) => return has_lacked(what, &back.reading),
         None => return false,
     }
 }
 
 // Whether memory lacked: the report or the reading back tells of it, or there is no report though nothing failed.
-fn is_lack(before: &Counts, now: &Counts, report: &Option<Report>, back: &Option<Back>) -> bool
-    ensures { (feeds : ℕ) (out : List ℕ) → LackIsTold before.now now.now feeds out report.now back.now result }
+fn is_lack(
+    what: &Summing,
+    before: &Counts,
+    now: &Counts,
+    report: &Option<Report>,
+    back: &Option<Back>,
+) -> bool
+    ensures { (out : List ℕ) → LackIsTold before.now now.now what.now.feeds out report.now back.now result }
 {
     match report {
-        Some(report) => return names_memory(report) || back_lacked(back),
+        Some(report) => return names_memory(report) || back_lacked(what, back),
         None => return !any_rose(before, now),
     }
 }
 
 // The complaint of the reading back.
-fn back_complaint<'a>(out: &'a str, back: &'a Option<Back>) -> Option<Complaint<'a>>
-    ensures { (feeds : ℕ) → complained result ≡ halts_after feeds out.now back.now }
+fn back_complaint<'a>(what: &Summing, out: &'a str, back: &'a Option<Back>) -> Option<Complaint<'a>>
+    ensures { complained result ≡ halts_after what.now.feeds out.now back.now }
 {
     match back {
-        Some(back) => return reading_complaint(out, &back.reading),
+        Some(back) => return halt_of(what, out, &back.reading),
         None => return None,
     }
 }
 
 // Reads the file back, if it is whole and stands under its name.
+#[tactic(auto, using(crate::proofs::Backs::read_back))]
 fn read_written<W: World>(
-    alloc: Global,
+    what: &Summing,
     out: &str,
     world: &mut W,
     written: &Written,
@@ -200,17 +205,22 @@ fn read_written<W: World>(
     ensures { ReadsBack (stands_whole written.now.report written.now.kept) out.now (W.state world.old) (W.state world.new) result }
 {
     if is_sound(written) {
-        return Some(read_back(alloc, out, world));
+        return Some(read_source_name(what, out, world));
     }
     return None;
 }
 
 // Prints the line of what was read back, if something was.
-fn print_back<O: Sink>(out: &mut O, feeds: u64, back: &Option<Back>)
-    ensures { (file : List ℕ) → Takes (O.state out.old) (O.state out.new) (text_after feeds file back.now) }
+fn print_back<O: Sink>(what: &Summing, out: &mut O, back: &mut Option<Back>)
+    ensures takes { (file : List ℕ) → Takes (O.state out.old) (O.state out.new) (text_after what.now.feeds file back.old) }
+    ensures halts { (file : List ℕ) → halts_after what.now.feeds file back.new ≡ halts_after what.now.feeds file back.old }
+    ensures lacks { (file : List ℕ) → is_lack_after what.now.feeds file back.new ≡ is_lack_after what.now.feeds file back.old }
 {
     match back {
-        Some(back) => return print_sums(out, feeds, &back.reading),
+        Some(back) => {
+            let _ = print_reading(what, out, &mut back.reading);
+            return;
+        }
         None => return,
     }
 }
@@ -264,17 +274,21 @@ pub fn generate_file<R: AllocGlobal + Threads + Wait + Sync, W: World, O: Sink, 
     let before = Counts::of(world, out);
     let written = write_generated(rt, rt.alloc(), options, numbers, out_name, world, listed);
     let _middle = Counts::of(world, out);
-    let back = read_written(rt.alloc(), out_name, world, &written);
-    print_back(out, numbers.feeds, &back);
+    let what = Summing {
+        alloc: rt.alloc(),
+        feeds: numbers.feeds,
+    };
+    let mut back = read_written(&what, out_name, world, &written);
+    print_back(&what, out, &mut back);
     let now = Counts::of(world, out);
     let status = answer(
         err,
         out_name,
-        back_complaint(out_name, &back),
+        back_complaint(&what, out_name, &back),
         world_rose(&before, &now),
         has_limit(&written.report),
         rose(before.printing, now.printing),
-        is_lack(&before, &now, &written.report, &back),
+        is_lack(&what, &before, &now, &written.report, &back),
     );
     Generated {
         status,

@@ -7,7 +7,7 @@ mod laws;
 mod line;
 mod making;
 
-pub use back::{Back, Reading, has_lacked, print_sums, read_back, reading_complaint};
+pub use back::{Back, Summing};
 pub use generating::{Generated, generate_file};
 pub use laws::generated_sums_are_told;
 pub use making::{Numbers, Written, write_generated};

@@ -1,6 +1,7 @@
 -- The calls come to what is promised of the command.
+use Rattle.std.proofs.Common.{◌∙◌}
 use Rattle.command_base.specs.Ran.{scene}
-use Rattle.generate_command.proofs.Told.{generates}
+use Rattle.generate_command.proofs.Told.{lack_told, generates}
 use Rattle.generate_command.proofs.generating.generate_file.Goals as goal
 
 pub returns-clause-generates : goal.returns-clause-generates
@@ -14,11 +15,11 @@ returns-clause-generates g c =
       now_is = c.of-now.ensures.are;
       written = made.ensures.written;
       reads = c.read_written-back.ensures;
-      printed = c.print_back.ensures c.args.out_name.now;
+      printed = c.print_back.ensures.takes c.args.out_name.now;
       blame = c.world_rose.ensures;
       print_blame = c.rose.ensures;
-      lacks = c.is_lack.ensures c.args.numbers.feeds c.args.out_name.now;
-      halts_are = c.back_complaint.ensures c.args.numbers.feeds;
+      lacks = lack_told c.of-before.result c.of-now.result c.args.numbers.feeds c.args.out_name.now made.result.report _ c.read_written-back.result c.is_lack.result (c.print_back.ensures.lacks c.args.out_name.now) (c.is_lack.ensures c.args.out_name.now);
+      halts_are = c.back_complaint.ensures ∙ c.print_back.ensures.halts c.args.out_name.now;
       limited_is = c.has_limit.ensures;
       said = c.answer-status.ensures;
     })

@@ -1,0 +1,13 @@
+-- What the calls did is what is promised of a command that reads one source.
+use Rattle.mcap_io.specs.declared.outside.ObjectKind.TheVariants as kinds
+use Rattle.command_base.proofs.source_reading.answer_source.Goals as goal
+
+pub returns : goal.returns
+returns g c =
+    let name = c.read_source_name-read.ensures in
+    record {
+      entries = name.entries;
+      reading = c.read_source_name-read.result.reading;
+      read = name.reading;
+      ran = c.answer_reading.ensures kinds.Source (g.W.World.state c.args.world.now) name.entries c.of-before.ensures.are name.name name.sure;
+    }

@@ -1,0 +1,96 @@
+-- What becomes of the name of a file that a command reads: its reading, and how that ended.
+use Rattle.std.specs.Prelude.{◌≡◌, ◌⊎◌, ℕ, List, [], ◌∷◌, Bool, true, false, Result, Ok, Err}
+use Rattle.mcap_io.specs.Outside.{SourceState, WorldState, Keeping, Opening, TellsName}
+use Rattle.mcap_io.specs.Stores.{StoreState, IsUnused, TellsStore}
+use Rattle.mcap_io.specs.declared.outside.ObjectKind.{ObjectKind}
+use Rattle.mcap_io.specs.declared.outside.ObjectKind.TheVariants as kinds
+use Rattle.mcap_io.specs.declared.outside.OpenRefused.{OpenRefused}
+use Rattle.mcap_io.specs.declared.outside.OpenRefused.TheVariants as open_refusals
+use Rattle.command_base.specs.declared.file_reading.Reading.{Reading}
+use Rattle.command_base.specs.declared.file_reading.Reading.TheVariants as readings
+use Rattle.command_base.specs.Ran.{Scene, kept, refused}
+use Rattle.command_base.specs.OneFile.{Ending, was_read, halted, failing, lacked, IsHalt, NameRead, ReadsOne}
+
+-- ---- endings
+
+-- nothing was read: the file halted it, its object failed, or memory lacked
+abbrev pub IsRefusal : Ending → Type 0
+IsRefusal (was_read text) = ⊥
+IsRefusal (halted trouble) = IsHalt trouble
+IsRefusal failing = Unit {0}
+IsRefusal lacked = Unit {0}
+
+-- that of a reading, where this is the text of what was read, and so a refusal ends it
+abbrev pub ending_of : {T R : Type 0} → (T → List ℕ) → (R → Ending) → Reading T R → Ending
+ending_of text refusal (readings.Unopened open_refusals.Failed) = failing
+ending_of text refusal (readings.Unopened open_refusals.Memory) = lacked
+ending_of text refusal (readings.Opened (Ok what)) = was_read (text what)
+ending_of text refusal (readings.Opened (Err why)) = refusal why
+
+-- an opening was refused because the world failed
+abbrev pub is_failure : OpenRefused → Bool
+is_failure open_refusals.Failed = true
+is_failure open_refusals.Memory = false
+
+-- ---- objects
+
+-- what a store shows when it is taken back: how often it failed, and for how many bytes it was asked
+pub record StoreUse : Type 0 where
+  pub faults : ℕ
+  pub asked : ℕ
+
+abbrev pub seen : ℕ → ℕ → StoreUse
+seen faults asked = record { faults = faults; asked = asked }
+
+abbrev pub use_of : StoreState → StoreUse
+use_of store = seen store.faults store.asked
+
+-- the source that was opened under the name told the bytes there, where the world tells; this came of its reading, and it was
+-- taken back
+pub record SourceUnder {A : Type 0} (Comes : SourceState → SourceState → A → Type 0) (file : List ℕ) (world : WorldState) (keeping : Keeping) (came : A) : Type 0 where
+  pub source : SourceState
+  pub tells : TellsName world file source
+  pub unused : source.faults ≡ 0
+  pub comes : Comes source (record { left = keeping.left; faults = keeping.faults }) came
+
+-- the same of a store
+pub record StoreUnder {A : Type 0} (Comes : StoreState → StoreUse → A → Type 0) (file : List ℕ) (world : WorldState) (keeping : Keeping) (came : A) : Type 0 where
+  pub store : StoreState
+  pub tells : TellsStore world file store
+  pub unused : IsUnused store
+  pub comes : Comes store (seen keeping.faults keeping.asked) came
+
+-- ---- names
+
+-- No entry, where memory lacked for the opening; or it was refused; or an object was given and taken back, and of its reading this
+-- came.
+abbrev pub IsOpened : {T R : Type 0} → ObjectKind → (Keeping → Result T R → Type 0) → List ℕ → List Opening → Reading T R → Type 0
+IsOpened kind Under file [] reading = reading ≡ readings.Unopened open_refusals.Memory
+IsOpened {T} {R} kind Under file (entry ∷ more) reading = ((entry ≡ refused kind file) × (reading ≡ readings.Unopened open_refusals.Failed))
+    ⊎ ((keeping : Keeping) × (entry ≡ kept kind file keeping) × ((came : Result T R) × (reading ≡ readings.Opened came) × Under keeping came))
+
+-- what the opening of a name as a source came to
+abbrev pub IsSourceRead : {T R : Type 0} → (SourceState → SourceState → Result T R → Type 0) → List ℕ → WorldState → List Opening → Reading T R → Type 0
+IsSourceRead Comes file world entries reading = IsOpened kinds.Source (SourceUnder Comes file world) file entries reading
+
+-- and as a store
+abbrev pub IsStoreRead : {T R : Type 0} → (StoreState → StoreUse → Result T R → Type 0) → List ℕ → WorldState → List Opening → Reading T R → Type 0
+IsStoreRead Comes file world entries reading = IsOpened kinds.Store (StoreUnder Comes file world) file entries reading
+
+-- the name's reading came to that, and ended so; and where it failed, a failure is told
+pub record NameEnds (kind : ObjectKind) (file : List ℕ) (old new : WorldState) (Reads : List Opening → Type 0) (ending : Ending) (failed : Bool) : Type 0 where
+  pub entries : List Opening
+  pub reading : Reads entries
+  pub name : NameRead kind file old new entries failed
+  pub sure : ending ≡ failing → failed ≡ true
+
+-- ---- commands
+
+-- What a command did that reads one file: this came of its reading, and it has that text, or so a refusal ends it.
+pub record Reads {T R : Type 0} (IsRead : WorldState → List Opening → Reading T R → Type 0) (kind : ObjectKind) (file : List ℕ) (ending : Reading T R → Ending) (old new : Scene) (status : ℕ) : Type 0 where
+  -- the file is opened as an object of that kind, and nothing else; this is what its reading came to
+  pub entries : List Opening
+  pub reading : Reading T R
+  pub read : IsRead old.world entries reading
+  -- standard output takes the text, and standard error the troubles
+  pub ran : ReadsOne kind file old new entries (ending reading) status
