@@ -103,21 +103,9 @@ both_lines="$feed_line end
 $file_line"
 session_lines='feed 1 accepted=5 refused=0 passed=0 end
 file records=8 blocks=0 bytes=411 closed'
-usage='mcaprec: bad words
-usage: mcaprec
-  record [--plain] [--lossless] [--limit N] [--chunk N] [--profile T] [--watch START:END] [--watchers N] OUT FEED...
-  info FILE
-  check FILE
-  cat [--indexed] [--start N] [--end N] [--topic T] FILE
-  recover [--chunk N] IN OUT
-  merge [--chunk N] OUT IN...
-  gen SEED FEEDS MESSAGES OUT'
-
-compare "the launcher's usage" "$usage" "mcaprec: bad words
-$(sed -n '/^usage: mcaprec$/,/^END$/p' "$root/mcaprec" | sed '$d')"
-for command in record info check cat recover merge gen; do
-    grep -q "^        .*\\b$command\\b.*) build" "$root/mcaprec" || say_wrong "the launcher doesn't build the program for $command"
-done
+# The text that the program prints; also what the launcher says where the program isn't built.
+usage=$("$root/.ci/usage")
+compare 'the commands in the README' "$(printf '%s\n' "$usage" | sed -n 's/^  \([a-z]*\) .*/\1/p')" "$(sed -n 's/^| `\([a-z]*\) [A-Z].*/\1/p' "$root/README.md")"
 
 "$root/mcaprec" info "$one" >/dev/null </dev/null
 compare 'the status of the first run' 0 $?

@@ -1,11 +1,15 @@
 -- What holds of each command, a line for each: it is listed, it is of one variant, its words fit it, and they are those of no other.
-use Rattle.std.proofs.Common.{◌≡◌, ◌⊎◌, ℕ, Bool, List, [], ◌∷◌, Option, refl, sym, ap, subst, inl, inr, codes}
+use Rattle.std.proofs.Common.{◌≡◌, ◌⊎◌, ℕ, Bool, true, false, List, [], ◌∷◌, ◌++◌, map, Option, Some, None, refl, sym, ap, subst, inl, inr, codes, arith}
+use Rattle.std.specs.Prelude.{if◌then◌else◌}
+use Rattle.std.specs.Str.{bytes_eq}
+use Rattle.std.proofs.lemmas.Option.{same_Some}
 use Rattle.mcap_model.specs.declared.options.FileOptions.{FileOptions}
 use Rattle.mcap_model.specs.declared.replay.Range.{Range}
 use Rattle.command_words.specs.Items.{Word, given}
-use Rattle.command_words.specs.Commands.{Behind, IsGenerate, IsMerge, IsRecover, synopsis_of, told_with, verb_of, verbs}
+use Rattle.command_words.specs.Commands.{Behind, IsGenerate, IsMerge, IsRecover, command_name, file_commands, file_synopsis, synopsis_of, told_with, verb_of, verbs}
+use Rattle.command_words.specs.declared.command.FileCommand.{FileCommand}
 use Rattle.command_words.specs.declared.command.Command.{Command}
-use Rattle.command_words.specs.declared.command.Command.TheVariants.{Record, Info, Check, Cat, Recover, Merge, Generate}
+use Rattle.command_words.specs.declared.command.Command.TheVariants.{Record, OfFile, Cat, Recover, Merge, Generate}
 use Rattle.command_words.specs.declared.verbs.Verb.{Verb}
 use Rattle.command_words.specs.declared.verbs.Verb.TheVariants as verb
 use Rattle.command_words.proofs.CommandLemmas.{Fitting, fit_cat, fit_file, fit_record, fit_with, once_number}
@@ -16,20 +20,50 @@ abbrev pub IsListed : List Verb → Verb → Type 0
 IsListed [] verb = ⊥
 IsListed (v ∷ some) verb = (verb ≡ v) ⊎ IsListed some verb
 
+listed_left : (some more : List Verb) (v : Verb) → IsListed some v → IsListed (some ++ more) v
+listed_left [] more v is = absurd is
+listed_left (u ∷ some) more v (inl same) = inl same
+listed_left (u ∷ some) more v (inr later) = inr (listed_left some more v later)
+
+listed_right : (some more : List Verb) (v : Verb) → IsListed more v → IsListed (some ++ more) v
+listed_right [] more v is = is
+listed_right (u ∷ some) more v is = inr (listed_right some more v is)
+
+-- the first of the commands of one file that has this name
+abbrev first_named : Word → List FileCommand → Option FileCommand
+first_named name [] = None
+first_named name (w ∷ some) = if bytes_eq (command_name w) name then Some w else first_named name some
+
+pick : (b : Bool) (w what : FileCommand) (rest : Option FileCommand) (more : List Verb) → (if b then Some w else rest) ≡ Some what → (rest ≡ Some what → IsListed more (verb.OfFile what)) → IsListed (verb.OfFile w ∷ more) (verb.OfFile what)
+pick true w what rest more is later = inl (ap verb.OfFile (sym (same_Some w what is)))
+pick false w what rest more is later = inr (later is)
+
+listed_by : (name : Word) (some : List FileCommand) (what : FileCommand) → first_named name some ≡ Some what → IsListed (map verb.OfFile some) (verb.OfFile what)
+listed_by name [] what is = cc
+listed_by name (w ∷ some) what is = pick (bytes_eq (command_name w) name) w what (first_named name some) (map verb.OfFile some) is (listed_by name some what)
+
+-- each of them is found by its name
+found_again : (what : FileCommand) → first_named (command_name what) file_commands ≡ Some what
+found_again what = grind arith
+
+of_files : (what : FileCommand) → IsListed (map verb.OfFile file_commands) (verb.OfFile what)
+of_files what = listed_by (command_name what) file_commands what (found_again what)
+
+abbrev others : List Verb
+others = verb.Cat ∷ verb.Recover ∷ verb.Merge ∷ verb.Generate ∷ []
+
 pub listed : (v : Verb) → IsListed verbs v
 listed verb.Record = inl refl
-listed verb.Info = inr (inl refl)
-listed verb.Check = inr (inr (inl refl))
-listed verb.Cat = inr (inr (inr (inl refl)))
-listed verb.Recover = inr (inr (inr (inr (inl refl))))
-listed verb.Merge = inr (inr (inr (inr (inr (inl refl)))))
-listed verb.Generate = inr (inr (inr (inr (inr (inr (inl refl))))))
+listed (verb.OfFile what) = inr (listed_left (map verb.OfFile file_commands) others (verb.OfFile what) (of_files what))
+listed verb.Cat = inr (listed_right (map verb.OfFile file_commands) others verb.Cat (inl refl))
+listed verb.Recover = inr (listed_right (map verb.OfFile file_commands) others verb.Recover (inr (inl refl)))
+listed verb.Merge = inr (listed_right (map verb.OfFile file_commands) others verb.Merge (inr (inr (inl refl))))
+listed verb.Generate = inr (listed_right (map verb.OfFile file_commands) others verb.Generate (inr (inr (inr (inl refl)))))
 
 -- it holds of each command with this verb
 abbrev pub OfVerb : Verb → (Command → Type 0) → Type 0
 OfVerb verb.Record P = (out : Word) (feeds : List Word) (file : FileOptions) (limit : ℕ) (lossless : Bool) (range : Range) (watchers : ℕ) → P (Record out feeds file limit lossless range watchers)
-OfVerb verb.Info P = (file : Word) → P (Info file)
-OfVerb verb.Check P = (file : Word) → P (Check file)
+OfVerb (verb.OfFile what) P = (file : Word) → P (OfFile what file)
 OfVerb verb.Cat P = (file : Word) (indexed : Bool) (range : Range) (topic : Option Word) → P (Cat file indexed range topic)
 OfVerb verb.Recover P = (input out : Word) (chunk : ℕ) → P (Recover input out chunk)
 OfVerb verb.Merge P = (out : Word) (inputs : List Word) (chunk : ℕ) → P (Merge out inputs chunk)
@@ -37,8 +71,7 @@ OfVerb verb.Generate P = (seed feeds messages : ℕ) (out : Word) → P (Generat
 
 of_its : (P : Command → Type 0) (command : Command) → OfVerb (verb_of command) P → P command
 of_its P (Record out feeds file limit lossless range watchers) all = all out feeds file limit lossless range watchers
-of_its P (Info file) all = all file
-of_its P (Check file) all = all file
+of_its P (OfFile what file) all = all file
 of_its P (Cat file indexed range topic) all = all file indexed range topic
 of_its P (Recover input out chunk) all = all input out chunk
 of_its P (Merge out inputs chunk) all = all out inputs chunk
@@ -50,8 +83,7 @@ of_verb v P all command same = of_its P command (subst (λ (u : Verb). OfVerb u 
 -- the words behind a command fit it
 pub fitting : (words : List Word) (command : Command) → Behind words command → Fitting (synopsis_of (verb_of command)) words
 fitting words (Record out feeds file limit lossless range watchers) is = fit_record words out feeds (told_with file limit lossless range watchers) is
-fitting words (Info file) is = fit_file (synopsis_of verb.Info) words file (codes "info", refl) is
-fitting words (Check file) is = fit_file (synopsis_of verb.Check) words file (codes "check", refl) is
+fitting words (OfFile what file) is = fit_file (file_synopsis (command_name what)) words file (command_name what, refl) is
 fitting words (Cat file indexed range topic) is = fit_cat words file indexed range topic is
 fitting words (Recover input out chunk) is =
     let one : IsRecover words input out chunk = is in fit_with (synopsis_of verb.Recover) words one.items (input ∷ out ∷ []) one.reads (once_number 1 67108864 (given (codes "chunk") one.items) one.size one.sized, tt) tt tt
@@ -65,8 +97,8 @@ pub one_behind : (words : List Word) (a b : Command) → verb_of b ≡ verb_of a
 one_behind words (Record out feeds file limit lossless range watchers) b same is =
     of_verb verb.Record (λ c. Behind words c → c ≡ Record out feeds file limit lossless range watchers)
     (λ out' feeds' file' limit' lossless' range' watchers' other. one_record words out feeds (told_with file limit lossless range watchers) out' feeds' (told_with file' limit' lossless' range' watchers') is other) b same
-one_behind words (Info file) b same is = of_verb verb.Info (λ c. Behind words c → c ≡ Info file) (λ file' other. ap Info (one_file (synopsis_of verb.Info) words file file' is other)) b same
-one_behind words (Check file) b same is = of_verb verb.Check (λ c. Behind words c → c ≡ Check file) (λ file' other. ap Check (one_file (synopsis_of verb.Check) words file file' is other)) b same
+one_behind words (OfFile what file) b same is =
+    of_verb (verb.OfFile what) (λ c. Behind words c → c ≡ OfFile what file) (λ file' other. ap (OfFile what) (one_file (file_synopsis (command_name what)) words file file' is other)) b same
 one_behind words (Cat file indexed range topic) b same is =
     of_verb verb.Cat (λ c. Behind words c → c ≡ Cat file indexed range topic) (λ file' indexed' range' topic' other. one_cat words file indexed range topic file' indexed' range' topic' is other) b same
 one_behind words (Recover input out chunk) b same is =

@@ -7,7 +7,9 @@ use Rattle.clap.specs.declared.builder.command.Command.{Command}
 use Rattle.clap.specs.declared.builder.command.Command.TheViews.{out-Command}
 use Rattle.command_words.specs.Synopses.{Synopsis, Word}
 use Rattle.command_words.specs.Commands.{synopsis_of, verbs}
+use Rattle.command_words.specs.declared.command.FileCommand.{FileCommand}
 use Rattle.command_words.specs.declared.verbs.Verb.{Verb}
+use Rattle.command_words.specs.declared.verbs.Verb.TheVariants.{OfFile}
 
 abbrev pub flag_given : Word → Rule
 flag_given name = record (new_rule name) { long = Some name; action = Some SetTrue }
@@ -46,6 +48,9 @@ bare_top = record {
 
 abbrev pub with_verb : App → Verb → App
 with_verb app verb = with_subcommand app (verb_app verb).top
+
+abbrev pub with_command : App → FileCommand → App
+with_command app what = with_verb app (OfFile what)
 
 abbrev pub program : App
 program = fold with_verb bare_top verbs

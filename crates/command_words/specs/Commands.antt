@@ -9,11 +9,22 @@ use Rattle.mcap_model.specs.declared.replay.Range.{Range}
 use Rattle.command_words.specs.Synopses.{Synopsis}
 use Rattle.command_words.specs.Items.{Word, Item, IsCut, given, place_of}
 use Rattle.command_words.specs.declared.command.Command.{Command}
-use Rattle.command_words.specs.declared.command.Command.TheVariants.{Record, Info, Check, Cat, Recover, Merge, Generate}
+use Rattle.command_words.specs.declared.command.FileCommand.{FileCommand}
+use Rattle.command_words.specs.declared.command.FileCommand.TheVariants.{Info, Check}
+use Rattle.command_words.specs.declared.command.Command.TheVariants.{Record, OfFile, Cat, Recover, Merge, Generate}
 use Rattle.command_words.specs.declared.verbs.Verb.{Verb}
 use Rattle.command_words.specs.declared.verbs.Verb.TheVariants as verb
 
--- a command of one file, without options
+-- the word that calls a command of one file without options
+abbrev pub command_name : FileCommand → Word
+command_name Info = codes "info"
+command_name Check = codes "check"
+
+-- all of these
+abbrev pub file_commands : List FileCommand
+file_commands = Info ∷ Check ∷ []
+
+-- how such a command is written
 abbrev pub file_synopsis : Word → Synopsis
 file_synopsis name = record {
   name = name;
@@ -33,8 +44,7 @@ synopsis_of verb.Record = record {
   rest = Some (codes "feed");
   sound = refl;
 }
-synopsis_of verb.Info = file_synopsis (codes "info")
-synopsis_of verb.Check = file_synopsis (codes "check")
+synopsis_of (verb.OfFile what) = file_synopsis (command_name what)
 synopsis_of verb.Cat = record {
   name = codes "cat";
   flags = codes "indexed" ∷ [];
@@ -70,10 +80,25 @@ synopsis_of verb.Generate = record {
 
 -- all commands
 abbrev pub verbs : List Verb
-verbs = verb.Record ∷ verb.Info ∷ verb.Check ∷ verb.Cat ∷ verb.Recover ∷ verb.Merge ∷ verb.Generate ∷ []
+verbs = verb.Record ∷ (map verb.OfFile file_commands ++ (verb.Cat ∷ verb.Recover ∷ verb.Merge ∷ verb.Generate ∷ []))
 
 abbrev pub name_of : Verb → Word
 name_of verb = (synopsis_of verb).name
+
+-- how the usage shows a command
+abbrev pub shown : Verb → Word
+shown verb.Record = codes "record [--plain] [--lossless] [--limit N] [--chunk N] [--profile T] [--watch START:END] [--watchers N] OUT FEED..."
+shown (verb.OfFile what) = command_name what ++ codes " FILE"
+shown verb.Cat = codes "cat [--indexed] [--start N] [--end N] [--topic T] FILE"
+shown verb.Recover = codes "recover [--chunk N] IN OUT"
+shown verb.Merge = codes "merge [--chunk N] OUT IN..."
+shown verb.Generate = codes "gen SEED FEEDS MESSAGES OUT"
+
+abbrev pub usage_line : Verb → Word
+usage_line verb = codes "  " ++ (shown verb ++ codes "\n")
+
+abbrev pub usage_text : Word
+usage_text = codes "usage: mcaprec\n" ++ flat_map usage_line verbs
 
 -- the size of chunks where the words say none: 768 KiB
 abbrev pub usual_chunk_size : ℕ
@@ -310,8 +335,7 @@ pub record IsGenerate (words : List Word) (seed feeds messages : ℕ) (out : Wor
 -- the words behind the command are those of this one
 abbrev pub Behind : List Word → Command → Type 0
 Behind words (Record out feeds file limit lossless range watchers) = IsRecord words out feeds (told_with file limit lossless range watchers)
-Behind words (Info file) = IsOfFile (synopsis_of verb.Info) words file
-Behind words (Check file) = IsOfFile (synopsis_of verb.Check) words file
+Behind words (OfFile what file) = IsOfFile (file_synopsis (command_name what)) words file
 Behind words (Cat file indexed range topic) = IsCat words file indexed range topic
 Behind words (Recover input out chunk) = IsRecover words input out chunk
 Behind words (Merge out inputs chunk) = IsMerge words out inputs chunk
@@ -319,8 +343,7 @@ Behind words (Generate seed feeds messages out) = IsGenerate words seed feeds me
 
 abbrev pub verb_of : Command → Verb
 verb_of (Record out feeds file limit lossless range watchers) = verb.Record
-verb_of (Info file) = verb.Info
-verb_of (Check file) = verb.Check
+verb_of (OfFile what file) = verb.OfFile what
 verb_of (Cat file indexed range topic) = verb.Cat
 verb_of (Recover input out chunk) = verb.Recover
 verb_of (Merge out inputs chunk) = verb.Merge

@@ -1,5 +1,7 @@
-//! What the program is asked to do.
-ghost use Rattle.std.specs.Prelude.{◌≡◌};
+//! What the program is asked to do, and how its usage shows that.
+ghost use Rattle.std.specs.Prelude.{◌≡◌, ◌≢◌, MatchOption};
+ghost use Rattle.command_words.specs.Commands.{command_name, usage_text};
+ghost use Rattle.command_words.specs.declared.command.FileCommand.{FileCommand as Named};
 
 use mcap_model::{FileOptions, Range};
 use mcap_wire::Text;
@@ -33,6 +35,58 @@ impl Names {
     }
 }
 
+/// A command of one file, without options.
+#[derive(Clone, Copy)]
+pub enum FileCommand {
+    /// Print what the file is.
+    Info,
+    /// Check the file by the rules of the format.
+    Check,
+}
+
+/// All commands of one file without options.
+pub(crate) const FILE_COMMANDS: [FileCommand; 2] = [FileCommand::Info, FileCommand::Check];
+
+impl FileCommand {
+    /// The word that calls it.
+    pub fn name(self) -> &'static str
+        ensures { result.now ≡ command_name self }
+    {
+        match self {
+            FileCommand::Info => "info",
+            FileCommand::Check => "check",
+        }
+    }
+
+    /// The one of this name.
+    pub(crate) fn named(name: &str) -> Option<FileCommand>
+        ensures { MatchOption result ((what : Named) → name.now ≢ command_name what) (λ what. name.now ≡ command_name what) }
+    {
+        if name == "info" {
+            return Some(FileCommand::Info);
+        }
+        if name == "check" {
+            return Some(FileCommand::Check);
+        }
+        None
+    }
+}
+
+/// All commands with their options, a line each.
+pub fn usage() -> &'static str
+    ensures { result.now ≡ usage_text }
+{
+    "usage: mcaprec
+  record [--plain] [--lossless] [--limit N] [--chunk N] [--profile T] [--watch START:END] [--watchers N] OUT FEED...
+  info FILE
+  check FILE
+  cat [--indexed] [--start N] [--end N] [--topic T] FILE
+  recover [--chunk N] IN OUT
+  merge [--chunk N] OUT IN...
+  gen SEED FEEDS MESSAGES OUT
+"
+}
+
 /// What the program is to do, with what the words give.
 #[derive(Drop)]
 pub enum Command {
@@ -48,12 +102,9 @@ pub enum Command {
         range: Range,
         watchers: u32,
     },
-    /// Print what the file is.
-    Info {
-        file: Text,
-    },
-    /// Check the file by the rules of the format.
-    Check {
+    /// Do this with the file.
+    OfFile {
+        what: FileCommand,
         file: Text,
     },
     /// Print the messages in the range of log times, those of one topic where it is named, by the file's indexes where

@@ -1,10 +1,11 @@
 //! The command line as `clap` is told of it.
-ghost use Rattle.std.specs.Prelude.{◌≡◌, false, IfOk};
+ghost use Rattle.std.specs.Prelude.{◌≡◌, false, fold, IfOk};
 ghost use Rattle.clap.specs.Words.{App, new_rule, with_rule, with_subcommand};
-ghost use Rattle.command_words.specs.CommandLine.{IsMade, bare_top, app_given, flag_given, option_given, program, rest_given, verb_app};
-ghost use Rattle.command_words.specs.Commands.{file_synopsis};
+ghost use Rattle.command_words.specs.CommandLine.{IsMade, bare_top, app_given, flag_given, option_given, program, rest_given, verb_app, with_command};
+ghost use Rattle.command_words.specs.Commands.{command_name, file_synopsis};
 ghost use Rattle.command_words.specs.declared.verbs.Verb.TheVariants as verb;
 
+use crate::command::{FILE_COMMANDS, FileCommand};
 use clap::{Arg, ArgAction, Command};
 use std::alloc::{AllocError, Global};
 
@@ -68,9 +69,10 @@ fn record<'a>(alloc: Global) -> Result<Command<'a>, AllocError>
 }
 
 // A command of one file, without options.
-fn of_file<'a>(alloc: Global, name: &'a str) -> Result<Command<'a>, AllocError>
-    ensures { IfOk result (IsMade (app_given (file_synopsis name.entry.now))) }
+fn of_file<'a>(alloc: Global, what: FileCommand) -> Result<Command<'a>, AllocError>
+    ensures { IfOk result (IsMade (app_given (file_synopsis (command_name what)))) }
 {
+    let name: &'a str = what.name();
     with_place(Ok(Command::new(alloc, name)), alloc, "file")
 }
 
@@ -148,14 +150,27 @@ fn with_verb<'a>(
     }
 }
 
-/// The program with its seven commands, without help or a version. That a positional is there is looked at where it is
+// Adds the commands of one file without options.
+fn with_file_commands<'a>(
+    made: Result<Command<'a>, AllocError>,
+    alloc: Global,
+) -> Result<Command<'a>, AllocError>
+    ensures { (app : App) → IfOk made.entry (IsMade app) → IfOk result (IsMade (fold with_command app FILE_COMMANDS)) }
+{
+    let mut made = made;
+    'commands: for what in FILE_COMMANDS {
+        made = with_verb(made, of_file(alloc, what));
+    }
+    made
+}
+
+/// The program with its commands, without help or a version. That a positional is there is looked at where it is
 /// read, as is what stands in it.
 pub fn program_command<'a>(alloc: Global) -> Result<Command<'a>, AllocError>
     ensures { IfOk result (IsMade program) }
 {
     let command = with_verb(Ok(bare_program(alloc)), record(alloc));
-    let command = with_verb(command, of_file(alloc, "info"));
-    let command = with_verb(command, of_file(alloc, "check"));
+    let command = with_file_commands(command, alloc);
     let command = with_verb(command, cat(alloc));
     let command = with_verb(command, recover(alloc));
     let command = with_verb(command, merge(alloc));

@@ -10,7 +10,7 @@ mod read;
 mod verbs;
 mod watches;
 
-pub use command::{Command, Names, WordsRefused};
+pub use command::{Command, FileCommand, Names, WordsRefused, usage};
 pub use options::USUAL_CHUNK;
 pub use parse::{USUAL_LIMIT, parse_words};
 pub use watches::watch_names;

@@ -348,12 +348,8 @@ fn command_of(alloc: Global, verb: Verb, found: &ArgMatches) -> Result<Command, 
 {
     match verb {
         Verb::Record => return record_of(alloc, found),
-        Verb::Info => match one_name(alloc, found) {
-            Ok(file) => return Ok(Command::Info { file }),
-            Err(refused) => return Err(refused),
-        },
-        Verb::Check => match one_name(alloc, found) {
-            Ok(file) => return Ok(Command::Check { file }),
+        Verb::OfFile { what } => match one_name(alloc, found) {
+            Ok(file) => return Ok(Command::OfFile { what, file }),
             Err(refused) => return Err(refused),
         },
         Verb::Cat => return cat_of(alloc, found),
@@ -377,9 +373,7 @@ fn found_command(alloc: Global, found: &ArgMatches) -> Result<Command, WordsRefu
     }
 }
 
-/// Reads the words behind the program's own name: `record [--plain] [--lossless] [--limit N] [--chunk N] [--profile T]
-/// [--watch START:END] [--watchers N] OUT FEED...`, `info FILE`, `check FILE`, `cat [--indexed] [--start N] [--end N] [--topic
-/// T] FILE`, `recover [--chunk N] IN OUT`, `merge [--chunk N] OUT IN...` or `gen SEED FEEDS MESSAGES OUT`.
+/// Reads the words behind the program's own name, which are those of a command as the usage shows it.
 ///
 /// Options and positionals stand in any order behind the command, and `--` ends the options. An option has its value
 /// behind `=` in the same word, or in the next word, which then doesn't begin with `-`; each stands at most once. A number

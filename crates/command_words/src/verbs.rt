@@ -3,12 +3,13 @@ ghost use Rattle.std.specs.Prelude.{◌≡◌, ◌≢◌, MatchOption};
 ghost use Rattle.command_words.specs.Commands.{name_of};
 ghost use Rattle.command_words.specs.declared.verbs.Verb.{Verb as Named};
 
+use crate::command::FileCommand;
+
 /// A command by its name.
 #[derive(Clone, Copy)]
 pub enum Verb {
     Record,
-    Info,
-    Check,
+    OfFile { what: FileCommand },
     Cat,
     Recover,
     Merge,
@@ -22,12 +23,6 @@ pub fn named_verb(name: &str) -> Option<Verb>
     if name == "record" {
         return Some(Verb::Record);
     }
-    if name == "info" {
-        return Some(Verb::Info);
-    }
-    if name == "check" {
-        return Some(Verb::Check);
-    }
     if name == "cat" {
         return Some(Verb::Cat);
     }
@@ -40,5 +35,8 @@ pub fn named_verb(name: &str) -> Option<Verb>
     if name == "gen" {
         return Some(Verb::Generate);
     }
-    None
+    match FileCommand::named(name) {
+        Some(what) => return Some(Verb::OfFile { what }),
+        None => return None,
+    }
 }

@@ -6,9 +6,8 @@ use Rattle.command_words.proofs.command_line.program_command.Goals as goal
 pub returns : goal.returns
 returns c =
     let record_in = c.with_verb-command.ensures bare_top (verb_app verb.Record) c.bare_program.ensures c.record.ensures in
-    let info_in = c.with_verb-command-2.ensures _ (verb_app verb.Info) record_in c.of_file.ensures in
-    let check_in = c.with_verb-command-3.ensures _ (verb_app verb.Check) info_in c.of_file-2.ensures in
-    let cat_in = c.with_verb-command-4.ensures _ (verb_app verb.Cat) check_in c.cat.ensures in
-    let recover_in = c.with_verb-command-5.ensures _ (verb_app verb.Recover) cat_in c.recover.ensures in
-    let merge_in = c.with_verb-command-6.ensures _ (verb_app verb.Merge) recover_in c.merge.ensures in
+    let files_in = c.with_file_commands-command.ensures _ record_in in
+    let cat_in = c.with_verb-command-2.ensures _ (verb_app verb.Cat) files_in c.cat.ensures in
+    let recover_in = c.with_verb-command-3.ensures _ (verb_app verb.Recover) cat_in c.recover.ensures in
+    let merge_in = c.with_verb-command-4.ensures _ (verb_app verb.Merge) recover_in c.merge.ensures in
     c.with_verb.ensures _ (verb_app verb.Generate) merge_in c.generate.ensures

@@ -1,11 +1,11 @@
 -- The command is that of the verb.
-use Rattle.std.proofs.Common.{◌≡◌, IfOk, List, codes, refl, subst, sym}
+use Rattle.std.proofs.Common.{◌≡◌, IfOk, List, refl, subst, sym}
 use Rattle.std.specs.Prelude.{IfErr}
 use Rattle.std.specs.declared.result.Result.{Result}
 use Rattle.std.proofs.lemmas.Result.{IfErr-weaker}
 use Rattle.clap.specs.Words.{Row}
 use Rattle.command_words.specs.Items.{Word}
-use Rattle.command_words.specs.Commands.{Behind, synopsis_of, told_with, verb_of}
+use Rattle.command_words.specs.Commands.{Behind, command_name, file_synopsis, synopsis_of, told_with, verb_of}
 use Rattle.command_words.specs.Matches.{IsReading, rows_found}
 use Rattle.command_words.specs.declared.command.Command.{Command}
 use Rattle.command_words.specs.declared.command.WordsRefused.{WordsRefused}
@@ -33,25 +33,17 @@ returns-in-Record-clause-bad c = subst (Refuses (rows_found c.args.found.now) c.
 
 pub returns-in-Ok-clause-command : goal.returns-in-Ok-clause-command
 returns-in-Ok-clause-command c = λ words reading.
-    let here = subst (λ (v : Verb). IsReading (synopsis_of v) words (rows_found c.args.found.now)) c.in-Info.is reading in
-    (of_file_is (synopsis_of verb.Info) words (rows_found c.args.found.now) here c.in-Ok.file (codes "info", refl) c.in-Ok.ensures.file.1 c.in-Ok.ensures.file.0, sym c.in-Info.is)
+    let what = c.in-OfFile.what in
+    let here = subst (λ (v : Verb). IsReading (synopsis_of v) words (rows_found c.args.found.now)) c.in-OfFile.is reading in
+    (of_file_is (file_synopsis (command_name what)) words (rows_found c.args.found.now) here c.in-Ok.file (command_name what, refl) c.in-Ok.ensures.file.1 c.in-Ok.ensures.file.0, sym c.in-OfFile.is)
 
 pub returns-in-Err-clause-bad : goal.returns-in-Err-clause-bad
 returns-in-Err-clause-bad c = λ words reading why command same.
-    let here = subst (λ (v : Verb). IsReading (synopsis_of v) words (rows_found c.args.found.now)) c.in-Info.is reading in
-    of_verb verb.Info (λ command. Behind words command → ⊥) (λ file is. let named = of_named_file (synopsis_of verb.Info) words (rows_found c.args.found.now) here file (codes "info", refl) is in c.in-Err.ensures.bad why file named.0 named.1) command
-    (subst (λ (v : Verb). verb_of command ≡ v) c.in-Info.is same)
-
-pub returns-in-Ok-one_name-clause-command : goal.returns-in-Ok-one_name-clause-command
-returns-in-Ok-one_name-clause-command c = λ words reading.
-    let here = subst (λ (v : Verb). IsReading (synopsis_of v) words (rows_found c.args.found.now)) c.in-Check.is reading in
-    (of_file_is (synopsis_of verb.Check) words (rows_found c.args.found.now) here c.in-Ok-one_name.file (codes "check", refl) c.in-Ok-one_name.ensures.file.1 c.in-Ok-one_name.ensures.file.0, sym c.in-Check.is)
-
-pub returns-in-Err-one_name-clause-bad : goal.returns-in-Err-one_name-clause-bad
-returns-in-Err-one_name-clause-bad c = λ words reading why command same.
-    let here = subst (λ (v : Verb). IsReading (synopsis_of v) words (rows_found c.args.found.now)) c.in-Check.is reading in
-    of_verb verb.Check (λ command. Behind words command → ⊥) (λ file is. let named = of_named_file (synopsis_of verb.Check) words (rows_found c.args.found.now) here file (codes "check", refl) is in c.in-Err-one_name.ensures.bad why file named.0 named.1) command
-    (subst (λ (v : Verb). verb_of command ≡ v) c.in-Check.is same)
+    let what = c.in-OfFile.what in
+    let here = subst (λ (v : Verb). IsReading (synopsis_of v) words (rows_found c.args.found.now)) c.in-OfFile.is reading in
+    of_verb (verb.OfFile what) (λ command. Behind words command → ⊥)
+    (λ file is. let named = of_named_file (file_synopsis (command_name what)) words (rows_found c.args.found.now) here file (command_name what, refl) is in c.in-Err.ensures.bad why file named.0 named.1) command
+    (subst (λ (v : Verb). verb_of command ≡ v) c.in-OfFile.is same)
 
 pub returns-in-Cat-clause-command : goal.returns-in-Cat-clause-command
 returns-in-Cat-clause-command c = subst (Gives (rows_found c.args.found.now) c.cat_of.result) (sym c.in-Cat.is) c.cat_of.ensures.command
