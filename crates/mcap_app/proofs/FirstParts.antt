@@ -34,6 +34,7 @@ use Rattle.mcap_model.proofs.Readings.{kept_once}
 use Rattle.mcap_model.proofs.Repairs.{repairs_once}
 use Rattle.record_cache.specs.Buffers.{IsKept}
 use Rattle.chunk_writer.specs.Limits.{Holds}
+use Rattle.chunk_writer.specs.declared.tape.Written.{Written}
 use Rattle.chunk_writer.specs.Stops.{StopsAt}
 use Rattle.recorder.specs.Laws.{AreReadable, ReadsAs}
 use Rattle.recorder.specs.Recorded.{Sides, sides, Recorded}
@@ -43,6 +44,7 @@ use Rattle.recorder.proofs.ReadBack.{IsClosedFile, closed_file, can_be_read, fil
 use Rattle.recorder.proofs.Validity.{can_be_written, files_sound}
 use Rattle.mcap_recover.specs.declared.answers.Why.{Why}
 use Rattle.mcap_recover.specs.declared.answers.Why.TheVariants as whys
+use Rattle.mcap_model.specs.declared.refusals.ReadingRefused.TheVariants as scans
 use Rattle.mcap_recover.specs.declared.answers.RecoverRefused.TheVariants as refusals
 use Rattle.mcap_recover.specs.Recovering.{recovered_options, TellsHalt}
 use Rattle.command_base.specs.Ran.{Scene, counts_in, AnyRose}
@@ -138,9 +140,9 @@ cut_short at whys.Limit halt n is same = absurd (subst (λ (h : Halt). SameHalt 
 
 -- ---- a limit of writing
 
-limit_passed : (options : FileOptions) (history : List Rec) (opened now : Option (List ℕ)) (blocks bytes : ℕ) → StopsAt options [] history opened now (stops.Limit blocks bytes) blocks bytes
+limit_passed : (options : FileOptions) (history : List Rec) (opened now : Option (List ℕ)) (blocks bytes : ℕ) (written : Written) → StopsAt options [] history opened now (stops.Limit blocks bytes) written
     → IsWithin options history → ⊥
-limit_passed options history opened now blocks bytes stop within =
+limit_passed options history opened now blocks bytes written stop within =
     let pieces = pieces_of options.chunk history in
     let n = stop.place + 1 - 1 in
     let few = within.few in
@@ -220,13 +222,14 @@ module _ (options : FileOptions) (history : List Rec) (part : List ℕ) (recorde
       at_either [] is none some = none is
       at_either (t ∷ ts) is none some = some (λ e. let apart : t ∷ ts ≡ [] = sym is ∙ e in absurd cc)
 
-  passes : (blocks bytes status : ℕ) (it : RecoversFile chunk input output later last status) → it.recovery ≡ recoveries.Refused (refusals.Limit blocks bytes) → PassesLimit options history chunk part
+  passes : (blocks bytes status : ℕ) (it : RecoversFile chunk input output later last status) → it.recovery ≡ recoveries.Refused (refusals.Stopped (stops.Limit blocks bytes)) → PassesLimit options history chunk part
   passes blocks bytes status it is =
-      let all = reached chunk input output later.world last.world it.entries it.recovery (Err (refusals.Limit blocks bytes)) it.comes is (λ e. absurd cc) in
-      let stop = all.recovers.2.of_repaired part ((all.tells told here).0 ∙ there) keeps.front.profile keeps.front.kept keeps.front.first keeps.front.repaired in
-      let stopped : StopsAt new_options [] keeps.front.first all.live.held all.stored.held (stops.Limit blocks bytes) blocks bytes =
-      subst (λ (l : List Top). StopsAt new_options l keeps.front.first all.live.held all.stored.held (stops.Limit blocks bytes) blocks bytes) keeps.none stop in
-      (keeps, limit_passed new_options keeps.front.first all.live.held all.stored.held blocks bytes stopped)
+      let all = reached chunk input output later.world last.world it.entries it.recovery (Err (refusals.Stopped (stops.Limit blocks bytes))) it.comes is (λ e. absurd cc) in
+      let unwritten = all.recovers in
+      let stop = unwritten.stops.of_repaired part ((all.tells told here).0 ∙ there) keeps.front.profile keeps.front.kept keeps.front.first keeps.front.repaired in
+      let stopped : StopsAt new_options [] keeps.front.first all.live.held all.stored.held (stops.Limit blocks bytes) unwritten.written =
+      subst (λ (l : List Top). StopsAt new_options l keeps.front.first all.live.held all.stored.held (stops.Limit blocks bytes) unwritten.written) keeps.none stop in
+      (keeps, limit_passed new_options keeps.front.first all.live.held all.stored.held blocks bytes unwritten.written stopped)
 
   abbrev Comes : ℕ → Type 0
   Comes status = ((status ≡ 0) × RecoversFirst options history chunk part output later last) ⊎ (((status ≡ 4) × PassesLimit options history chunk part) ⊎ (status ≡ 5))
@@ -234,10 +237,15 @@ module _ (options : FileOptions) (history : List Rec) (part : List ℕ) (recorde
   comes : (status : ℕ) (it : RecoversFile chunk input output later last status) (recovery : Recovery) → it.recovery ≡ recovery → V1 part → Decides part recovery status → Comes status
   comes status it recoveries.Unopened is begins decided = absurd decided
   comes status it (recoveries.Made r) is begins decided = inl (decided.1, recovers_first status it decided.1)
-  comes status it (recoveries.Refused (refusals.Fault faults)) is begins decided = absurd decided
   comes status it (recoveries.Refused refusals.NoMagic) is begins decided = absurd (decided.0 begins)
-  comes status it (recoveries.Refused (refusals.Limit blocks bytes)) is begins decided = inr (inl (decided.1, passes blocks bytes status it is))
-  comes status it (recoveries.Refused refusals.Memory) is begins decided = inr (inr decided)
+  comes status it (recoveries.Refused (refusals.Refused (scans.Fault faults))) is begins decided = absurd decided
+  comes status it (recoveries.Refused (refusals.Refused (scans.Grammar offset rule))) is begins decided = absurd decided
+  comes status it (recoveries.Refused (refusals.Refused (scans.Compressed offset name))) is begins decided = absurd decided
+  comes status it (recoveries.Refused (refusals.Refused (scans.Limit offset))) is begins decided = absurd decided
+  comes status it (recoveries.Refused (refusals.Refused scans.Memory)) is begins decided = inr (inr decided)
+  comes status it (recoveries.Refused (refusals.Stopped (stops.Fault faults))) is begins decided = absurd decided
+  comes status it (recoveries.Refused (refusals.Stopped (stops.Limit blocks bytes))) is begins decided = inr (inl (decided.1, passes blocks bytes status it is))
+  comes status it (recoveries.Refused (refusals.Stopped stops.Memory)) is begins decided = inr (inr decided)
 
 -- ---- the laws
 

@@ -31,6 +31,8 @@ use Rattle.mcap_model.proofs.WrittenChunks.{empty_utf8}
 use Rattle.mcap_laws.proofs.Ranges.{small_blocks_fit}
 use Rattle.mcap_laws.proofs.Validity.{files_are_valid, files_are_indexed}
 use Rattle.chunk_writer.specs.Limits.{Holds}
+use Rattle.mcap_model.specs.declared.ends.Stop.TheVariants as stops
+use Rattle.mcap_model.specs.declared.refusals.ReadingRefused.TheVariants as readings
 use Rattle.mcap_merge.specs.declared.answers.Merged.{Merged}
 use Rattle.mcap_merge.specs.declared.answers.MergeRefused.{MergeRefused}
 use Rattle.mcap_merge.specs.declared.answers.MergeRefused.TheVariants as merges
@@ -151,14 +153,17 @@ same_text a b e = cc
 line_of : (inputs : List (List ℕ)) (merging : Merging) (text : List ℕ) → ending_of inputs merging ≡ was_written text → (m : Merged) × (merging ≡ mergings.Made m) × (text ≡ merged_line (length inputs) m)
 line_of inputs mergings.Unopened text e = absurd cc
 line_of inputs (mergings.Made m) text e = (m, refl, sym (same_text (merged_line (length inputs) m) text e))
-line_of inputs (mergings.Refused (merges.Fault faults)) text e = absurd cc
-line_of inputs (mergings.Refused (merges.Grammar input offset)) text e = absurd cc
-line_of inputs (mergings.Refused (merges.Compressed input offset name)) text e = absurd cc
-line_of inputs (mergings.Refused (merges.Limit input offset)) text e = absurd cc
+line_of inputs (mergings.Refused (merges.Halted input (readings.Fault faults))) text e = absurd cc
+line_of inputs (mergings.Refused (merges.Halted input (readings.Grammar offset rule))) text e = absurd cc
+line_of inputs (mergings.Refused (merges.Halted input (readings.Compressed offset name))) text e = absurd cc
+line_of inputs (mergings.Refused (merges.Halted input (readings.Limit offset))) text e = absurd cc
+line_of inputs (mergings.Refused (merges.Halted input readings.Memory)) text e = absurd cc
+line_of inputs (mergings.Refused (merges.Changed input offset)) text e = absurd cc
 line_of inputs (mergings.Refused merges.TooManySchemas) text e = absurd cc
 line_of inputs (mergings.Refused merges.TooManyChannels) text e = absurd cc
-line_of inputs (mergings.Refused (merges.FileLimit blocks bytes)) text e = absurd cc
-line_of inputs (mergings.Refused merges.Memory) text e = absurd cc
+line_of inputs (mergings.Refused (merges.Stopped (stops.Fault faults))) text e = absurd cc
+line_of inputs (mergings.Refused (merges.Stopped (stops.Limit blocks bytes))) text e = absurd cc
+line_of inputs (mergings.Refused (merges.Stopped stops.Memory)) text e = absurd cc
 
 -- ---- the output was kept
 

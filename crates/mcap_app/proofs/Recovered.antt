@@ -13,18 +13,23 @@ use Rattle.mcap_laws.proofs.Validity.{files_are_valid, files_are_indexed}
 use Rattle.mcap_recover.specs.declared.answers.Recovered.{Recovered}
 use Rattle.mcap_recover.specs.declared.answers.RecoverRefused.{RecoverRefused}
 use Rattle.mcap_recover.specs.declared.answers.RecoverRefused.TheVariants as refusals
+use Rattle.mcap_model.specs.declared.refusals.ReadingRefused.{ReadingRefused}
+use Rattle.mcap_model.specs.declared.refusals.ReadingRefused.TheVariants as scans
+use Rattle.mcap_model.specs.declared.ends.Stop.{Stop}
+use Rattle.mcap_model.specs.declared.ends.Stop.TheVariants as stops
+use Rattle.mcap_recover.specs.Readings.{lacks}
 use Rattle.mcap_recover.specs.Recovering.{recovered_options}
 use Rattle.command_base.specs.Printing.{TellsAll}
 use Rattle.command_base.specs.Ran.{Scene, kept, failed_so, named_when, failed_names}
 use Rattle.output_commands.specs.declared.recovering.Recovery.{Recovery}
 use Rattle.output_commands.specs.declared.recovering.Recovery.TheVariants as recoveries
 use Rattle.output_commands.specs.OneOutput.{was_written}
-use Rattle.output_commands.specs.Recover.{HoldsRecovered, Reached, IsRefusal, recovery_of, IsRecovery, recovered_line, ending_of, RecoversFile}
+use Rattle.output_commands.specs.Recover.{HoldsRecovered, Reached, IsRefusal, recovery_of, IsRecovery, recovered_line, unread_ending, stopped_ending, ending_of, RecoversFile}
 use Rattle.mcap_app.specs.Laws.{RecoveriesAreSound}
 
 -- ---- what it came to
 
-refused_so : (entries : List Opening) (recovery : Recovery) → IsRefusal entries recovery → (recovery ≡ recoveries.Unopened) ⊎ (recovery ≡ recoveries.Refused refusals.Memory)
+refused_so : (entries : List Opening) (recovery : Recovery) → IsRefusal entries recovery → (recovery ≡ recoveries.Unopened) ⊎ (recovery ≡ recoveries.Refused lacks)
 refused_so [] recovery is = inr is
 refused_so (entry ∷ []) recovery (inl is) = inl is.1
 refused_so (entry ∷ []) recovery (inr is) = inr is.1
@@ -34,7 +39,7 @@ opened_both : (result : Result Recovered RecoverRefused) → recovery_of result 
 opened_both (Ok r) e = absurd cc
 opened_both (Err why) e = absurd cc
 
-lacks_memory : (result : Result Recovered RecoverRefused) → recovery_of result ≡ recoveries.Refused refusals.Memory → result ≡ Err refusals.Memory
+lacks_memory : (result : Result Recovered RecoverRefused) → recovery_of result ≡ recoveries.Refused lacks → result ≡ Err lacks
 lacks_memory (Ok r) e = absurd cc
 lacks_memory (Err why) e = cc
 
@@ -46,7 +51,7 @@ same_result (Err why) (Err other) e = cc
 
 -- both names were given, unless memory lacked
 pub reached : (chunk : ℕ) (input out : List ℕ) (old new : WorldState) (entries : List Opening) (recovery : Recovery) (result : Result Recovered RecoverRefused) → IsRecovery chunk input out old new entries recovery → recovery ≡ recovery_of result
-    → (result ≡ Err refusals.Memory → ⊥) → Reached chunk input out old new entries result
+    → (result ≡ Err lacks → ⊥) → Reached chunk input out old new entries result
 reached chunk input out old new entries recovery result (inl (refusal, unreached)) is enough = elim (refused_so entries recovery refusal) [
   | inl unopened ↦ absurd (opened_both result (sym is ∙ unopened))
   | inr memory ↦ absurd (enough (lacks_memory result (sym is ∙ memory)))
@@ -71,10 +76,21 @@ same_text a b e = cc
 line_of : (input : List ℕ) (recovery : Recovery) (text : List ℕ) → ending_of input recovery ≡ was_written text → (r : Recovered) × (recovery ≡ recoveries.Made r) × (text ≡ recovered_line r)
 line_of input recoveries.Unopened text e = absurd cc
 line_of input (recoveries.Made r) text e = (r, refl, sym (same_text (recovered_line r) text e))
-line_of input (recoveries.Refused (refusals.Fault faults)) text e = absurd cc
 line_of input (recoveries.Refused refusals.NoMagic) text e = absurd cc
-line_of input (recoveries.Refused (refusals.Limit blocks bytes)) text e = absurd cc
-line_of input (recoveries.Refused refusals.Memory) text e = absurd cc
+line_of input (recoveries.Refused (refusals.Refused why)) text e = absurd (unread why e)
+  where
+    unread : (w : ReadingRefused) → unread_ending w ≡ was_written text → ⊥
+    unread (scans.Fault faults) is = cc
+    unread (scans.Grammar offset rule) is = cc
+    unread (scans.Compressed offset name) is = cc
+    unread (scans.Limit offset) is = cc
+    unread scans.Memory is = cc
+line_of input (recoveries.Refused (refusals.Stopped stop)) text e = absurd (unwritten stop e)
+  where
+    unwritten : (s : Stop) → stopped_ending s ≡ was_written text → ⊥
+    unwritten (stops.Fault faults) is = cc
+    unwritten (stops.Limit blocks bytes) is = cc
+    unwritten stops.Memory is = cc
 
 bytes_of : (found : Option (List ℕ)) → IsSome found → (bytes : List ℕ) × (found ≡ Some bytes)
 bytes_of None some = absurd (both_ways false refl some)

@@ -1,5 +1,5 @@
 -- What is recorded is printed.
-use Rattle.std.proofs.Common.{◌≡◌, ◌⊎◌, ℕ, List, [], ◌∷◌, filter, Some, refl, sym, ap, subst, inl, inr, ◌∙◌, arith}
+use Rattle.std.proofs.Common.{◌≡◌, ◌⊎◌, ℕ, List, [], filter, Some, Result, Ok, refl, sym, ap, subst, inl, inr, ◌∙◌, arith}
 use Rattle.std.specs.Prelude.{IsUtf8}
 use Rattle.std.specs.List.{AllZip}
 use Rattle.rec_data.specs.declared.owned.Rec.{Rec}
@@ -16,15 +16,18 @@ use Rattle.mcap_model.proofs.Halting.{readings_halt_once}
 use Rattle.recorder.specs.declared.report.Report.{Report}
 use Rattle.recorder.specs.Laws.{AreReadable, ReadsAs}
 use Rattle.recorder.proofs.ReadBack.{recordings_are_read_back}
-use Rattle.file_commands.specs.declared.cat.Reading.{Reading}
-use Rattle.file_commands.specs.declared.cat.Reading.TheVariants as readings
+use Rattle.command_base.specs.declared.file_reading.Reading.{Reading}
+use Rattle.command_base.specs.declared.file_reading.Reading.TheVariants as readings
 use Rattle.command_base.specs.Ran.{Scene, counts_in, AnyRose}
 use Rattle.recorder.specs.declared.options.RecordOptions.{RecordOptions}
 use Rattle.record_command.specs.Record.{AreAllowed}
-use Rattle.mcap_scan.specs.declared.answers.ScanRefused.TheVariants as refusals
-use Rattle.command_base.specs.OneFile.{was_read}
+use Rattle.mcap_model.specs.declared.refusals.ReadingRefused.{ReadingRefused}
+use Rattle.command_base.specs.OneFile.{refusal_ending}
+use Rattle.command_base.specs.Readings.{IsSourceRead}
+use Rattle.command_base.proofs.ReadNames.{read_is, source_shows}
+use Rattle.command_base.proofs.Refusals.{refusal_is}
 use Rattle.command_base.specs.Printing.{TellsAll}
-use Rattle.file_commands.specs.Cat.{ComesTo, IsReading, IsPrinted, ending_of, Cats}
+use Rattle.file_commands.specs.Cat.{ComesTo, IsPrinted, Cats}
 use Rattle.mcap_app.specs.Laws.{everything, PrintsHistory, RecordingsArePrinted}
 use Rattle.mcap_app.proofs.Recordings.{Recording, of_records}
 
@@ -38,27 +41,16 @@ lines_of file history before now text here printed reads =
     let scan : Scan reads.tops printed.messages = subst (λ (ts : List Top). Scan ts printed.messages) same printed.scan in
     (printed.messages, printed.shown, reads.messages_are printed.messages scan, printed.replay, printed.text_is, scan)
 
--- what was read has lines
-read_lines : (name : List ℕ) (reading : Reading) (text : List ℕ) → ending_of name reading ≡ was_read text → reading ≡ readings.Lines text
-read_lines name readings.Unopened text e = absurd cc
-read_lines name (readings.Lines other) text e = ap readings.Lines (same other text e)
-  where
-    same : (a b : List ℕ) → was_read a ≡ was_read b → a ≡ b
-    same a b e = cc
-read_lines name (readings.Refused (refusals.Fault faults)) text e = absurd cc
-read_lines name (readings.Refused (refusals.Grammar n rule)) text e = absurd cc
-read_lines name (readings.Refused (refusals.Compressed n compression)) text e = absurd cc
-read_lines name (readings.Refused (refusals.Limit n)) text e = absurd cc
-read_lines name (readings.Refused refusals.Memory) text e = absurd cc
+same_came : (a b : Result (List ℕ) ReadingRefused) → readings.Opened a ≡ readings.Opened b → a ≡ b
+same_came a b e = cc
 
 -- what a reading that gave lines was of
-read_of : (name file : List ℕ) (world : WorldState) (told : Told) (entries : List Opening) (reading : Reading) (text : List ℕ) → world.told ≡ Some told → told.names name ≡ Some file → IsReading everything name world entries reading → reading ≡ readings.Lines text
-    → (before : SourceState) × (now : SourceState) × (before.left ≡ Some file) × IsPrinted everything before now text
-read_of name file world told [] reading text here there is lines = absurd (let apart = sym lines ∙ is in cc)
-read_of name file world told (entry ∷ more) reading text here there (inl refused) lines = absurd (let apart = sym lines ∙ refused.1 in cc)
-read_of name file world told (entry ∷ more) reading text here there (inr (keeping, is, under)) lines =
-    let now : SourceState = record { left = keeping.left; faults = keeping.faults } in
-    (under.source, now, (under.tells told here).0 ∙ there, subst (λ (x : Reading). ComesTo everything under.source now x) lines under.comes)
+read_of : (name file : List ℕ) (world : WorldState) (told : Told) (entries : List Opening) (reading : Reading (List ℕ) ReadingRefused) (text : List ℕ) → world.told ≡ Some told → told.names name ≡ Some file → IsSourceRead (ComesTo everything) name world entries reading
+    → reading ≡ readings.Opened (Ok text) → (before : SourceState) × (now : SourceState) × (before.left ≡ Some file) × IsPrinted everything before now text
+read_of name file world told entries reading text here there is lines =
+    source_shows (λ (r : Reading (List ℕ) ReadingRefused). r ≡ readings.Opened (Ok text) → (before : SourceState) × (now : SourceState) × (before.left ≡ Some file) × IsPrinted everything before now text)
+    name file world told here there (λ why e. absurd cc) (ComesTo everything)
+    (λ source now came left comes e. (source, now, left, subst (ComesTo everything source now) (same_came came (Ok text) e) comes)) entries reading is lines
 
 -- what a recording with the status 0 left in a world that tells: it is closed, and the file of its history stands under the
 -- output's name and is read back
@@ -93,9 +85,10 @@ printed_so options out old new later last r answer told allowed text it here sam
     elim (cats.decided left.0 file reads.tops (at_end reads.end) tells held reads.halts quiet) [
       | inr five ↦ inr five
       | inl zero_is ↦
-          let (well, printed) = cats.ran.whole zero_is in
-          let source = read_of out file later.world left.0 cats.entries cats.reading printed.0 tells held cats.read (read_lines out cats.reading printed.0 printed.1) in
-          let lines = lines_of file history source.0 source.1 printed.0 source.2 source.3 reads in
+          let (well, printed) = cats.reads.ran.whole zero_is in
+          let (text, read, text_is) = read_is (λ (t : List ℕ). t) (refusal_ending out) (refusal_is out) cats.reads.reading printed.0 printed.1 in
+          let source = read_of out file later.world left.0 cats.reads.entries cats.reads.reading text tells held cats.reads.read read in
+          let lines = lines_of file history source.0 source.1 text source.2 source.3 reads in
           inl (
             zero_is,
             record {
@@ -106,7 +99,7 @@ printed_so options out old new later last r answer told allowed text it here sam
               shown = lines.1;
               are = lines.2;
               replay = lines.3;
-              lines = subst (λ (t : List ℕ). TellsAll later.out last.out t) lines.4 printed.2;
+              lines = subst (λ (t : List ℕ). TellsAll later.out last.out t) (sym text_is ∙ lines.4) printed.2;
             },
           )
     ]

@@ -12,8 +12,6 @@ use Rattle.recorder.specs.declared.report.Report.{Report}
 use Rattle.command_base.specs.Ran.{Scene}
 use Rattle.record_command.proofs.Answered.{not_two as record_not_two}
 use Rattle.record_command.proofs.WatchedAnswered.{not_two as watched_not_two}
-use Rattle.file_commands.proofs.Tellings.{not_two as info_not_two}
-use Rattle.file_commands.proofs.Checks.{not_two as check_not_two}
 use Rattle.file_commands.proofs.Cats.{not_two as cat_not_two}
 use Rattle.file_commands.proofs.Followings.{indexed_not_two}
 use Rattle.output_commands.proofs.Recoveries.{recovers_not_two}
@@ -30,8 +28,7 @@ use Rattle.mcap_app.specs.Runs.{IsAllowed, IsWatchable, LacksForWords, RecordsBe
 pub not_two : (command : Command) (old new : Scene) (report : Option Report) (status : ℕ) → Runs command old new report status → status ≡ 2 → ⊥
 not_two (commands.Record out feeds file limit lossless range zero) old new report status runs two = record_not_two _ _ _ _ _ _ _ runs two
 not_two (commands.Record out feeds file limit lossless range (suc n)) old new report status runs two = watched_not_two _ _ _ _ _ _ _ _ _ runs two
-not_two (commands.Info file) old new report status runs two = info_not_two _ _ _ _ runs.0 two
-not_two (commands.Check file) old new report status runs two = check_not_two _ _ _ _ runs.0 two
+not_two (commands.OfFile what file) old new report status runs two = runs.1 two
 not_two (commands.Cat file true range topic) old new report status runs two = indexed_not_two _ _ _ _ _ runs.0 two
 not_two (commands.Cat file false range topic) old new report status runs two = cat_not_two _ _ _ _ _ runs.0 two
 not_two (commands.Recover input out chunk) old new report status runs two = recovers_not_two _ _ _ _ _ _ runs.0 two
@@ -126,8 +123,7 @@ allowed words (commands.Record out feeds file limit lossless range watchers) der
       (is.some, is.few),
       watchable is.items file range watchers is.options is.watched,
     )
-allowed words (commands.Info file) derives = tt
-allowed words (commands.Check file) derives = tt
+allowed words (commands.OfFile what file) derives = tt
 allowed words (commands.Cat file indexed range topic) derives = tt
 allowed words (commands.Recover input out chunk) derives =
     let is = derives.behind in

@@ -1,5 +1,5 @@
 -- What is recorded keeps all rules.
-use Rattle.std.proofs.Common.{◌≡◌, ◌⊎◌, ℕ, ◌≤◌, List, [], ◌++◌, length, Option, Some, None, refl, ap, subst, inl, inr, ◌∙◌, arith, length-append}
+use Rattle.std.proofs.Common.{◌≡◌, ◌⊎◌, ℕ, ◌≤◌, List, [], ◌++◌, length, Option, Some, None, Ok, Err, refl, ap, subst, inl, inr, ◌∙◌, arith, length-append}
 use Rattle.std.specs.Prelude.{IsUtf8}
 use Rattle.std.proofs.lemmas.Bool.{both_ways}
 use Rattle.mcap_wire.specs.Layout.{magic}
@@ -31,11 +31,13 @@ use Rattle.recorder.specs.declared.options.RecordOptions.{RecordOptions}
 use Rattle.recorder.specs.declared.report.Report.{Report}
 use Rattle.recorder.specs.Laws.{ReadsAs, IsSound}
 use Rattle.recorder.proofs.Validity.{recordings_are_valid}
-use Rattle.file_check.specs.declared.refusals.CheckRefused.TheVariants as refusals
+use Rattle.mcap_io.specs.declared.outside.OpenRefused.TheVariants as open_refusals
+use Rattle.mcap_model.specs.declared.refusals.ReadingRefused.{ReadingRefused}
+use Rattle.mcap_model.specs.declared.refusals.ReadingRefused.TheVariants as refusals
 use Rattle.file_check.specs.Checking.{IsSo, HaltsBefore, MeetsLimit}
 use Rattle.file_check.proofs.RealLimits.{limits_are_real}
-use Rattle.file_commands.specs.declared.checking.Judgement.{Judgement}
-use Rattle.file_commands.specs.declared.checking.Judgement.TheVariants as judgements
+use Rattle.command_base.specs.declared.file_reading.Reading.{Reading}
+use Rattle.command_base.specs.declared.file_reading.Reading.TheVariants as readings
 use Rattle.file_commands.specs.Check.{verdict_status, Decides, FileChecks}
 use Rattle.command_base.specs.Ran.{Scene, counts_in, AnyRose}
 use Rattle.record_command.specs.Record.{AreAllowed}
@@ -144,25 +146,27 @@ meets_none options file offset sound meets =
     both_ways (is_beyond reading_limits offset (length past.top.content)) (ap (λ (k : ℕ). is_beyond reading_limits k (length past.top.content)) there ∙ within tops n past.top valid.v4 at) past.past
 
 -- the status where the bytes of a sound file decide it
-ends_well : (options : FileOptions) (file : List ℕ) (tops : List Top) (end : ℕ) (judgement : Judgement) (answer : ℕ) → IsExact options file → Halts reading_limits file tops (at_end end)
-    → Decides file judgement answer → (answer ≡ 0) ⊎ (answer ≡ 5)
-ends_well options file tops end judgements.Unopened answer exact halts is = absurd is
-ends_well options file tops end (judgements.Given verdict) answer exact halts is = inl (verdict_ends options.chunk verdict answer (said_of options file verdict exact is.0) is.1)
-ends_well options file tops end (judgements.Refused (refusals.Fault faults)) answer exact halts is = absurd is
-ends_well options file tops end (judgements.Refused (refusals.Compressed n name)) answer exact halts is = absurd (reads_on file tops end halts (names n name) (λ e. absurd cc) is.0)
-ends_well options file tops end (judgements.Refused (refusals.Limit n)) answer exact halts is = absurd (meets_none options file n exact.sound is.0)
-ends_well options file tops end (judgements.Refused refusals.Memory) answer exact halts is = inr is
+ends_well : (options : FileOptions) (file : List ℕ) (tops : List Top) (end : ℕ) (reading : Reading Verdict ReadingRefused) (answer : ℕ) → IsExact options file → Halts reading_limits file tops (at_end end)
+    → Decides file reading answer → (answer ≡ 0) ⊎ (answer ≡ 5)
+ends_well options file tops end (readings.Unopened open_refusals.Failed) answer exact halts is = absurd is
+ends_well options file tops end (readings.Unopened open_refusals.Memory) answer exact halts is = inr is
+ends_well options file tops end (readings.Opened (Ok verdict)) answer exact halts is = inl (verdict_ends options.chunk verdict answer (said_of options file verdict exact is.0) is.1)
+ends_well options file tops end (readings.Opened (Err (refusals.Fault faults))) answer exact halts is = absurd is
+ends_well options file tops end (readings.Opened (Err (refusals.Grammar n rule))) answer exact halts is = absurd is
+ends_well options file tops end (readings.Opened (Err (refusals.Compressed n name))) answer exact halts is = absurd (reads_on file tops end halts (names n name) (λ e. absurd cc) is.0)
+ends_well options file tops end (readings.Opened (Err (refusals.Limit n))) answer exact halts is = absurd (meets_none options file n exact.sound is.0)
+ends_well options file tops end (readings.Opened (Err refusals.Memory)) answer exact halts is = inr is
 
 -- a check of such a file that is read to its Data End, in which no count rises
 pub found_sound : (options : FileOptions) (file name : List ℕ) (tops : List Top) (end : ℕ) (later last : Scene) (told : Told) (answer : ℕ) → IsExact options file → Halts reading_limits file tops (at_end end) → later.world.told ≡ Some told
     → told.names name ≡ Some file → FileChecks name later last answer → (AnyRose (counts_in later) (counts_in last) → ⊥) → ((answer ≡ 0) × PrintsSound options.chunk later.out last.out) ⊎ (answer ≡ 5)
 found_sound options file name tops end later last told answer exact halts here held checks quiet =
     let decided = checks.decided told file here held quiet in
-    elim (ends_well options file tops end checks.judgement answer exact halts decided) [
+    elim (ends_well options file tops end checks.reads.reading answer exact halts decided) [
       | inr other ↦ inr other
       | inl zero_is ↦
           let given = checks.whole zero_is in
-          let so : IsSo file given.0 = (subst (λ (j : Judgement). Decides file j answer) given.1 decided).0 in
+          let so : IsSo file given.0 = (subst (λ (r : Reading Verdict ReadingRefused). Decides file r answer) given.1 decided).0 in
           inl (zero_is, record { verdict = given.0; said = said_of options file given.0 exact so; line = given.3 })
     ]
 

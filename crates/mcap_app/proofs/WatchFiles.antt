@@ -121,7 +121,7 @@ is_calm live viewed sealed w e whole ends = subst (EndsSo live viewed sealed w) 
 wrote_all : (options : FileOptions) (range : Range) (history : List Rec) (writer : WriterReport) (w : Watch) → IsWatchedFile options range history writer w → w.view ≡ Some 0 → w.report.end ≡ watch_ends.Whole → w.before.took ≡ Some []
     → (text : List ℕ) × WatchText (FrontReplay options range history) writer.blocks w.report.fronts.items (sealed_by writer.end) text × (w.now.took ≡ Some text)
 wrote_all options range history writer w told view whole empty =
-    let seen : TellsFile options range history writer w.before w.now (Some 0) w.report = subst (λ (v : Option ℕ). TellsFile options range history writer w.before w.now v w.report) view told in
+    let seen : TellsFile options range history writer w (Some 0) = subst (λ (v : Option ℕ). TellsFile options range history writer w v) view told in
     let wrote = subst (λ (e : WatchEnd). WritesOfFile options range history writer (unwritten w.before 0) (written_by w.now 0 w.report) e) whole seen in
     let (text, is, took) = wrote.1 [] empty in
     (text, is, took)

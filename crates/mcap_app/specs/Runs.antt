@@ -1,5 +1,5 @@
 -- What the program does, command by command.
-use Rattle.std.specs.Prelude.{◌≡◌, ◌≤◌, ℕ, zero, suc, [], ◌∷◌, true, false, Option, None, Some}
+use Rattle.std.specs.Prelude.{◌≡◌, ◌≢◌, ◌≤◌, ℕ, zero, suc, [], ◌∷◌, true, false, Option, None, Some}
 use Rattle.command_words.specs.declared.command.Command.{Command}
 use Rattle.command_words.specs.declared.command.Command.TheVariants as commands
 use Rattle.recorder.specs.declared.report.Report.{Report}
@@ -10,8 +10,7 @@ use Rattle.record_command.specs.Record.{AreAllowed, AreFew, Records}
 use Rattle.record_command.specs.Watched.{Requested, requested}
 use Rattle.record_command.specs.WatchedAnswer.{RecordsWatched}
 use Rattle.mcap_model.specs.declared.options.FileOptions.{FileOptions}
-use Rattle.file_commands.specs.Info.{Describes}
-use Rattle.file_commands.specs.Check.{FileChecks}
+use Rattle.file_commands.specs.FileCommand.{RunsOnFile}
 use Rattle.file_commands.specs.Cat.{selection, Cats}
 use Rattle.file_commands.specs.Indexed.{IndexedCats}
 use Rattle.mcap_wire.specs.Limits.{chunk_size_limit}
@@ -35,8 +34,7 @@ pub data Way : Type 0 where
 
 abbrev pub way_of : Command → Way
 way_of (commands.Record out feeds file limit lossless range watchers) = records
-way_of (commands.Info file) = reads
-way_of (commands.Check file) = reads
+way_of (commands.OfFile what file) = reads
 way_of (commands.Cat file indexed range topic) = reads
 way_of (commands.Recover input out chunk) = writes
 way_of (commands.Merge out inputs chunk) = writes
@@ -45,8 +43,7 @@ way_of (commands.Generate seed feeds messages out) = generates
 -- the numbers and texts of a command are in their ranges
 abbrev pub IsAllowed : Command → Type 0
 IsAllowed (commands.Record out feeds file limit lossless range watchers) = AreAllowed (record { file = file; limit = limit; lossless = lossless }) × AreFew feeds × IsWatchable file watchers
-IsAllowed (commands.Info file) = Unit {0}
-IsAllowed (commands.Check file) = Unit {0}
+IsAllowed (commands.OfFile what file) = Unit {0}
 IsAllowed (commands.Cat file indexed range topic) = Unit {0}
 IsAllowed (commands.Recover input out chunk) = (1 ≤ chunk) × (chunk ≤ chunk_size_limit)
 IsAllowed (commands.Merge out inputs chunk) = (1 ≤ chunk) × (chunk ≤ chunk_size_limit) × AreFewInputs inputs
@@ -64,8 +61,7 @@ RecordsBeside (suc n) request old new report status = RecordsWatched request old
 -- only a recording has a report, of feeds that are read or generated
 abbrev pub Runs : Command → Scene → Scene → Option Report → ℕ → Type 0
 Runs (commands.Record out feeds file limit lossless range watchers) old new report status = RecordsBeside watchers (requested (record { file = file; limit = limit; lossless = lossless }) range out (watch_names out watchers) feeds) old new report status
-Runs (commands.Info file) old new report status = Describes file old new status × (report ≡ None)
-Runs (commands.Check file) old new report status = FileChecks file old new status × (report ≡ None)
+Runs (commands.OfFile what file) old new report status = RunsOnFile what file old new status × (status ≢ 2) × (report ≡ None)
 Runs (commands.Cat file false range topic) old new report status = Cats (selection range topic) file old new status × (report ≡ None)
 Runs (commands.Cat file true range topic) old new report status = IndexedCats (selection range topic) file old new status × (report ≡ None)
 Runs (commands.Recover input out chunk) old new report status = RecoversFile chunk input out old new status × (report ≡ None)

@@ -5,8 +5,8 @@ pub mod laws;
 mod program;
 pub mod watched_laws;
 
-pub use command_words::{Command, Names, WordsRefused, parse_words};
-pub use mcap_model::{End, Stop};
+pub use command_words::{Command, FileCommand, Names, WordsRefused, parse_words};
+pub use mcap_model::{End, ReadingRefused, Stop};
 pub use program::run;
 pub use record_command::Ended;
 pub use recorder::{

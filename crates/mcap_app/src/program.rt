@@ -1,7 +1,7 @@
 //! The program: what each command does to the world and to both outputs.
-ghost use Rattle.std.specs.Prelude.{◌≡◌, ◌⊎◌, ◌≤◌, ℕ, [], ◌∷◌, length, None, Some};
+ghost use Rattle.std.specs.Prelude.{◌≡◌, ◌⊎◌, ◌≤◌, ◌++◌, ℕ, [], ◌∷◌, length, None, Some};
 ghost use Rattle.command_words.specs.declared.command.Command.{Command as Wanted};
-ghost use Rattle.command_words.specs.Commands.{AreBad, Derives};
+ghost use Rattle.command_words.specs.Commands.{AreBad, Derives, usage_text};
 ghost use Rattle.command_base.specs.Texts.{bad_words, no_memory, said};
 ghost use Rattle.mcap_model.specs.Places.{Each};
 ghost use Rattle.feed_lane.specs.Feeds.{ListsMessages};
@@ -13,8 +13,10 @@ ghost use Rattle.record_command.specs.Watched.{requested};
 ghost use Rattle.mcap_app.specs.Runs.{IsAllowed, IsWatchable, RecordsBeside, Runs, LacksForWords, records, generates, reads, writes, way_of, generate_options};
 
 use command_base::{refuse_for_memory, refuse_words};
-use command_words::{Command, USUAL_CHUNK, USUAL_LIMIT, WordsRefused, parse_words, watch_names};
-use file_commands::{check_file, describe_file, print_file, print_indexed};
+use command_words::{
+    Command, USUAL_CHUNK, USUAL_LIMIT, WordsRefused, parse_words, usage, watch_names,
+};
+use file_commands::{print_file, print_indexed, run_file_command};
 use generate_command::{Generated, Numbers, generate_file};
 use mcap_io::{Sink, World};
 use mcap_model::{FileOptions, Range};
@@ -198,8 +200,9 @@ fn run_reading<W: World, O: Sink, E: Sink>(
         None result }
 {
     match command {
-        Command::Info { file } => return describe_file(alloc, file.as_str(), world, out, err),
-        Command::Check { file } => return check_file(alloc, file.as_str(), world, out, err),
+        Command::OfFile { what, file } => {
+            return run_file_command(alloc, what, file.as_str(), world, out, err);
+        }
         Command::Cat {
             file,
             indexed,
@@ -275,7 +278,7 @@ fn run_command<R: AllocGlobal + Threads + Wait + Sync, W: World, O: Sink, E: Sin
     match command {
         Command::Record { .. } => return run_recording(rt, command, world, out, err, listed),
         Command::Generate { .. } => return run_generate(rt, command, world, out, err, listed),
-        Command::Info { .. } | Command::Check { .. } | Command::Cat { .. } => {
+        Command::OfFile { .. } | Command::Cat { .. } => {
             return unreported(run_reading(rt.alloc(), command, world, out, err));
         }
         Command::Recover { .. } | Command::Merge { .. } => {
@@ -302,7 +305,7 @@ pub fn run<R: AllocGlobal + Threads + Wait + Sync, W: World, O: Sink, E: Sink>(
     ensures world { AreBad words.now → world.new ≡ world.old }
     ensures out { AreBad words.now → out.new ≡ out.old }
     ensures report { AreBad words.now → result.report ≡ None }
-    ensures err { AreBad words.now → ((result.status ≡ 2) × Takes (E.state err.old) (E.state err.new) (said (bad_words ∷ [])))
+    ensures err { AreBad words.now → ((result.status ≡ 2) × Takes (E.state err.old) (E.state err.new) (said (bad_words ∷ []) ++ usage_text))
         ⊎ ((result.status ≡ 5) × Takes (E.state err.old) (E.state err.new) (said (no_memory ∷ []))) }
 
     // The words of a command do what it does, or memory lacks for reading them or for the names of watchers' files.
@@ -322,7 +325,7 @@ pub fn run<R: AllocGlobal + Threads + Wait + Sync, W: World, O: Sink, E: Sink>(
     match parse_words(rt.alloc(), words) {
         Ok(command) => return run_command(rt, command, world, out, err, listed),
         Err(WordsRefused::BadWords) => {
-            refuse_words(err);
+            refuse_words(err, usage());
             return unreported(2);
         }
         Err(WordsRefused::Memory) => {

@@ -7,6 +7,7 @@ mod Entries
 mod SomeDue
 mod SomeInputs
 pub mod SomeOutput
+mod Halting
 mod MergedStores
 mod Mergings
 pub mod Merges

@@ -9,6 +9,8 @@ use Rattle.mcap_io.specs.declared.outside.Failed.{Failed}
 use Rattle.rec_data.specs.declared.owned.Rec.{Rec}
 use Rattle.mcap_model.specs.declared.ends.Stop.{Stop}
 use Rattle.mcap_model.specs.declared.ends.Stop.TheVariants as stops
+use Rattle.mcap_model.specs.declared.refusals.ReadingRefused.{ReadingRefused}
+use Rattle.mcap_model.specs.declared.refusals.ReadingRefused.TheVariants as readings
 use Rattle.mcap_model.specs.Places.{At, Each}
 use Rattle.mcap_model.specs.Tops.{Top}
 use Rattle.mcap_model.specs.File.{file_of}
@@ -23,7 +25,7 @@ use Rattle.mcap_merge.specs.declared.answers.MergeRefused.{MergeRefused}
 use Rattle.mcap_merge.specs.declared.answers.MergeRefused.TheVariants as merges
 use Rattle.mcap_merge.specs.Inputs.{Read, tops_of}
 use Rattle.mcap_merge.specs.Reading.{IsReadOf, CountStands, HaltsFirst, OneRose}
-use Rattle.mcap_merge.specs.Filed.{merged_options, AllTell, TellsNot, MergeIs, FileStands, IsWriterRefusal, MergeStops, MergeIsCut, MergesInto, MergeFails}
+use Rattle.mcap_merge.specs.Filed.{merged_options, AllTell, TellsNot, MergeIs, FileStands, MergeStops, MergeIsCut, MergesInto, MergeFails}
 use Rattle.command_base.specs.Texts.{Trouble, grammar, compressed, limit, asked_status}
 use Rattle.command_base.specs.Ran.{failed_so, has_failed}
 use Rattle.command_base.proofs.Counting.{failed_often}
@@ -85,33 +87,20 @@ merges_to given files profile extras history told is =
 were_read : (given : List StoreState) (files : List (List ℕ)) (profile : List ℕ) (extras : List Top) (history : List Rec) → AllZip TellsBytes given files → MergeIs given profile extras history → OfRead files (λ inputs. Unit {0})
 were_read given files profile extras history told is = let it = merges_to given files profile extras history told is in (it.inputs, it.read, tt)
 
--- ---- why a writer stops
+-- ---- a writer that stops
 
--- a writer breaks no rule of an input
-not_grammar : (stop : Stop) (input offset : ℕ) (A : Type 0) → IsWriterRefusal stop (merges.Grammar input offset) → A
-not_grammar (stops.Fault faults) input offset A is = absurd cc
-not_grammar (stops.Limit blocks bytes) input offset A is = absurd cc
-not_grammar stops.Memory input offset A is = absurd cc
+-- it refuses no input, and no ids
+not_halted : (input : ℕ) (why : ReadingRefused) (stop : Stop) → merges.Halted input why ≡ merges.Stopped stop → ⊥
+not_halted input why stop e = cc
 
-not_compressed : (stop : Stop) (input offset : ℕ) (name : List ℕ) (A : Type 0) → IsWriterRefusal stop (merges.Compressed input offset name) → A
-not_compressed (stops.Fault faults) input offset name A is = absurd cc
-not_compressed (stops.Limit blocks bytes) input offset name A is = absurd cc
-not_compressed stops.Memory input offset name A is = absurd cc
+not_changed : (input offset : ℕ) (stop : Stop) → merges.Changed input offset ≡ merges.Stopped stop → ⊥
+not_changed input offset stop e = cc
 
-not_limit : (stop : Stop) (input offset : ℕ) (A : Type 0) → IsWriterRefusal stop (merges.Limit input offset) → A
-not_limit (stops.Fault faults) input offset A is = absurd cc
-not_limit (stops.Limit blocks bytes) input offset A is = absurd cc
-not_limit stops.Memory input offset A is = absurd cc
+not_schemas : (stop : Stop) → merges.TooManySchemas ≡ merges.Stopped stop → ⊥
+not_schemas stop e = cc
 
-not_schemas : (stop : Stop) (A : Type 0) → IsWriterRefusal stop merges.TooManySchemas → A
-not_schemas (stops.Fault faults) A is = absurd cc
-not_schemas (stops.Limit blocks bytes) A is = absurd cc
-not_schemas stops.Memory A is = absurd cc
-
-not_channels : (stop : Stop) (A : Type 0) → IsWriterRefusal stop merges.TooManyChannels → A
-not_channels (stops.Fault faults) A is = absurd cc
-not_channels (stops.Limit blocks bytes) A is = absurd cc
-not_channels stops.Memory A is = absurd cc
+not_channels : (stop : Stop) → merges.TooManyChannels ≡ merges.Stopped stop → ⊥
+not_channels stop e = cc
 
 -- ---- what the output holds
 
@@ -154,27 +143,39 @@ output_holds chunk given back live stored (Ok m) files out all now result it tol
   within = it.within;
   placed = placed_so (file_of (merged_options it.profile chunk) it.extras it.history) all now out result (placed (file_of (merged_options it.profile chunk) it.extras it.history) (it.file [] none));
 }
-output_holds chunk given back live stored (Err (merges.Fault faults)) files out all now result (inl nothing) told none placed = inl (nothing_placed chunk given live stored files out all now result told none placed nothing.0)
-output_holds chunk given back live stored (Err (merges.Fault faults)) files out all now result (inr some) told none placed = inr (some_placed chunk given live stored files out all now result told none placed back (merges.Fault faults) some)
-output_holds chunk given back live stored (Err (merges.Grammar input offset)) files out all now result (inl nothing) told none placed = nothing_placed chunk given live stored files out all now result told none placed nothing.0
-output_holds chunk given back live stored (Err (merges.Grammar input offset)) files out all now result (inr (inl (still, it))) told none placed = not_grammar it.stop input offset _ it.answer
-output_holds chunk given back live stored (Err (merges.Grammar input offset)) files out all now result (inr (inr it)) told none placed = told_changes given files input told it.cause.0 it.cause.2
-output_holds chunk given back live stored (Err (merges.Compressed input offset name)) files out all now result (inl nothing) told none placed = nothing_placed chunk given live stored files out all now result told none placed nothing.0
-output_holds chunk given back live stored (Err (merges.Compressed input offset name)) files out all now result (inr (inl (still, it))) told none placed = not_compressed it.stop input offset name _ it.answer
-output_holds chunk given back live stored (Err (merges.Compressed input offset name)) files out all now result (inr (inr it)) told none placed = absurd it.cause
-output_holds chunk given back live stored (Err (merges.Limit input offset)) files out all now result (inl nothing) told none placed = nothing_placed chunk given live stored files out all now result told none placed nothing.0
-output_holds chunk given back live stored (Err (merges.Limit input offset)) files out all now result (inr (inl (still, it))) told none placed = not_limit it.stop input offset _ it.answer
-output_holds chunk given back live stored (Err (merges.Limit input offset)) files out all now result (inr (inr it)) told none placed = absurd it.cause
+output_holds chunk given back live stored (Err (merges.Halted input (readings.Fault faults))) files out all now result (inl nothing) told none placed = inl (nothing_placed chunk given live stored files out all now result told none placed nothing.0)
+output_holds chunk given back live stored (Err (merges.Halted input (readings.Fault faults))) files out all now result (inr some) told none placed = inr (some_placed chunk given live stored files out all now result told none placed back (merges.Halted input (readings.Fault faults)) some)
+output_holds chunk given back live stored (Err (merges.Halted input (readings.Grammar offset rule))) files out all now result (inl nothing) told none placed = nothing_placed chunk given live stored files out all now result told none placed nothing.0
+output_holds chunk given back live stored (Err (merges.Halted input (readings.Grammar offset rule))) files out all now result (inr (inl (still, it))) told none placed = absurd (not_halted input (readings.Grammar offset rule) it.stop it.answer)
+output_holds chunk given back live stored (Err (merges.Halted input (readings.Grammar offset rule))) files out all now result (inr (inr it)) told none placed = absurd it.cause
+output_holds chunk given back live stored (Err (merges.Halted input (readings.Compressed offset name))) files out all now result (inl nothing) told none placed = nothing_placed chunk given live stored files out all now result told none placed nothing.0
+output_holds chunk given back live stored (Err (merges.Halted input (readings.Compressed offset name))) files out all now result (inr (inl (still, it))) told none placed = absurd (not_halted input (readings.Compressed offset name) it.stop it.answer)
+output_holds chunk given back live stored (Err (merges.Halted input (readings.Compressed offset name))) files out all now result (inr (inr it)) told none placed = absurd it.cause
+output_holds chunk given back live stored (Err (merges.Halted input (readings.Limit offset))) files out all now result (inl nothing) told none placed = nothing_placed chunk given live stored files out all now result told none placed nothing.0
+output_holds chunk given back live stored (Err (merges.Halted input (readings.Limit offset))) files out all now result (inr (inl (still, it))) told none placed = absurd (not_halted input (readings.Limit offset) it.stop it.answer)
+output_holds chunk given back live stored (Err (merges.Halted input (readings.Limit offset))) files out all now result (inr (inr it)) told none placed = absurd it.cause
+output_holds chunk given back live stored (Err (merges.Halted input readings.Memory)) files out all now result (inl (same, inl never)) told none placed = never
+output_holds chunk given back live stored (Err (merges.Halted input readings.Memory)) files out all now result (inl (same, inr (still, reads, are, never))) told none placed = never
+output_holds chunk given back live stored (Err (merges.Halted input readings.Memory)) files out all now result (inr (inl (still, it))) told none placed = not_halted input readings.Memory it.stop it.answer
+output_holds chunk given back live stored (Err (merges.Halted input readings.Memory)) files out all now result (inr (inr it)) told none placed = it.cause
+output_holds chunk given back live stored (Err (merges.Changed input offset)) files out all now result (inl (same, inl never)) told none placed = never
+output_holds chunk given back live stored (Err (merges.Changed input offset)) files out all now result (inl (same, inr (still, reads, are, never))) told none placed = never
+output_holds chunk given back live stored (Err (merges.Changed input offset)) files out all now result (inr (inl (still, it))) told none placed = not_changed input offset it.stop it.answer
+output_holds chunk given back live stored (Err (merges.Changed input offset)) files out all now result (inr (inr it)) told none placed = told_changes given files input told it.cause.0 it.cause.2
 output_holds chunk given back live stored (Err merges.TooManySchemas) files out all now result (inl nothing) told none placed = nothing_placed chunk given live stored files out all now result told none placed nothing.0
-output_holds chunk given back live stored (Err merges.TooManySchemas) files out all now result (inr (inl (still, it))) told none placed = not_schemas it.stop _ it.answer
+output_holds chunk given back live stored (Err merges.TooManySchemas) files out all now result (inr (inl (still, it))) told none placed = absurd (not_schemas it.stop it.answer)
 output_holds chunk given back live stored (Err merges.TooManySchemas) files out all now result (inr (inr it)) told none placed = absurd it.cause
 output_holds chunk given back live stored (Err merges.TooManyChannels) files out all now result (inl nothing) told none placed = nothing_placed chunk given live stored files out all now result told none placed nothing.0
-output_holds chunk given back live stored (Err merges.TooManyChannels) files out all now result (inr (inl (still, it))) told none placed = not_channels it.stop _ it.answer
+output_holds chunk given back live stored (Err merges.TooManyChannels) files out all now result (inr (inl (still, it))) told none placed = absurd (not_channels it.stop it.answer)
 output_holds chunk given back live stored (Err merges.TooManyChannels) files out all now result (inr (inr it)) told none placed = absurd it.cause
-output_holds chunk given back live stored (Err (merges.FileLimit blocks bytes)) files out all now result (inl nothing) told none placed = elim nothing.1 [ inl never ↦ absurd never | inr (still, reads, are, never) ↦ absurd never ]
-output_holds chunk given back live stored (Err (merges.FileLimit blocks bytes)) files out all now result (inr some) told none placed = some_placed chunk given live stored files out all now result told none placed back (merges.FileLimit blocks bytes) some
-output_holds chunk given back live stored (Err merges.Memory) files out all now result (inl nothing) told none placed = inl (nothing_placed chunk given live stored files out all now result told none placed nothing.0)
-output_holds chunk given back live stored (Err merges.Memory) files out all now result (inr some) told none placed = inr (some_placed chunk given live stored files out all now result told none placed back merges.Memory some)
+output_holds chunk given back live stored (Err (merges.Stopped (stops.Fault faults))) files out all now result (inl (same, inl never)) told none placed = absurd never
+output_holds chunk given back live stored (Err (merges.Stopped (stops.Fault faults))) files out all now result (inl (same, inr (still, reads, are, never))) told none placed = absurd never
+output_holds chunk given back live stored (Err (merges.Stopped (stops.Fault faults))) files out all now result (inr some) told none placed = some_placed chunk given live stored files out all now result told none placed back (merges.Stopped (stops.Fault faults)) some
+output_holds chunk given back live stored (Err (merges.Stopped (stops.Limit blocks bytes))) files out all now result (inl (same, inl never)) told none placed = absurd never
+output_holds chunk given back live stored (Err (merges.Stopped (stops.Limit blocks bytes))) files out all now result (inl (same, inr (still, reads, are, never))) told none placed = absurd never
+output_holds chunk given back live stored (Err (merges.Stopped (stops.Limit blocks bytes))) files out all now result (inr some) told none placed = some_placed chunk given live stored files out all now result told none placed back (merges.Stopped (stops.Limit blocks bytes)) some
+output_holds chunk given back live stored (Err (merges.Stopped stops.Memory)) files out all now result (inl nothing) told none placed = inl (nothing_placed chunk given live stored files out all now result told none placed nothing.0)
+output_holds chunk given back live stored (Err (merges.Stopped stops.Memory)) files out all now result (inr some) told none placed = inr (some_placed chunk given live stored files out all now result told none placed back (merges.Stopped stops.Memory) some)
 
 -- ---- which input halts
 
@@ -192,23 +193,29 @@ halted_so inputs given k trouble P long (before, s, at, so) asked =
 
 pub merges_well : (inputs : List (List ℕ)) (chunk : ℕ) (given back : List StoreState) (live stored : LiveState) (answer : Result Merged MergeRefused) → length inputs ≡ length given → MergesStores given back live stored chunk answer → HaltsWell inputs (ending_of inputs (merging_of answer))
 merges_well inputs chunk given back live stored (Ok m) long it n trouble e = absurd cc
-merges_well inputs chunk given back live stored (Err (merges.Fault faults)) long it n trouble e = absurd cc
-merges_well inputs chunk given back live stored (Err (merges.Grammar input offset)) long (inl (same, inl (still, first))) n trouble e = halted_so inputs given input (grammar (name_at inputs input) offset) _ long first (inl refl) n trouble e
-merges_well inputs chunk given back live stored (Err (merges.Grammar input offset)) long (inl (same, inr (still, reads, are, never))) n trouble e = absurd never
-merges_well inputs chunk given back live stored (Err (merges.Grammar input offset)) long (inr (inl (still, it))) n trouble e = not_grammar it.stop input offset _ it.answer
-merges_well inputs chunk given back live stored (Err (merges.Grammar input offset)) long (inr (inr it)) n trouble e = halts_within inputs input (grammar (name_at inputs input) offset) (omega (arith, long, (let within = it.cause.0 in within))) (inl refl) n trouble e
-merges_well inputs chunk given back live stored (Err (merges.Compressed input offset name)) long (inl (same, inl (still, first))) n trouble e = halted_so inputs given input (compressed (name_at inputs input) name offset) _ long first (inl refl) n trouble e
-merges_well inputs chunk given back live stored (Err (merges.Compressed input offset name)) long (inl (same, inr (still, reads, are, never))) n trouble e = absurd never
-merges_well inputs chunk given back live stored (Err (merges.Compressed input offset name)) long (inr (inl (still, it))) n trouble e = not_compressed it.stop input offset name _ it.answer
-merges_well inputs chunk given back live stored (Err (merges.Compressed input offset name)) long (inr (inr it)) n trouble e = absurd it.cause
-merges_well inputs chunk given back live stored (Err (merges.Limit input offset)) long (inl (same, inl (still, first))) n trouble e = halted_so inputs given input (limit (name_at inputs input) offset) _ long first (inr refl) n trouble e
-merges_well inputs chunk given back live stored (Err (merges.Limit input offset)) long (inl (same, inr (still, reads, are, never))) n trouble e = absurd never
-merges_well inputs chunk given back live stored (Err (merges.Limit input offset)) long (inr (inl (still, it))) n trouble e = not_limit it.stop input offset _ it.answer
-merges_well inputs chunk given back live stored (Err (merges.Limit input offset)) long (inr (inr it)) n trouble e = absurd it.cause
+merges_well inputs chunk given back live stored (Err (merges.Halted input (readings.Fault faults))) long it n trouble e = absurd cc
+merges_well inputs chunk given back live stored (Err (merges.Halted input (readings.Grammar offset rule))) long (inl (same, inl (still, first))) n trouble e = halted_so inputs given input (grammar (name_at inputs input) offset) _ long first (inl refl) n trouble e
+merges_well inputs chunk given back live stored (Err (merges.Halted input (readings.Grammar offset rule))) long (inl (same, inr (still, reads, are, never))) n trouble e = absurd never
+merges_well inputs chunk given back live stored (Err (merges.Halted input (readings.Grammar offset rule))) long (inr (inl (still, it))) n trouble e = absurd (not_halted input (readings.Grammar offset rule) it.stop it.answer)
+merges_well inputs chunk given back live stored (Err (merges.Halted input (readings.Grammar offset rule))) long (inr (inr it)) n trouble e = absurd it.cause
+merges_well inputs chunk given back live stored (Err (merges.Halted input (readings.Compressed offset name))) long (inl (same, inl (still, first))) n trouble e = halted_so inputs given input (compressed (name_at inputs input) name offset) _ long first (inl refl) n trouble e
+merges_well inputs chunk given back live stored (Err (merges.Halted input (readings.Compressed offset name))) long (inl (same, inr (still, reads, are, never))) n trouble e = absurd never
+merges_well inputs chunk given back live stored (Err (merges.Halted input (readings.Compressed offset name))) long (inr (inl (still, it))) n trouble e = absurd (not_halted input (readings.Compressed offset name) it.stop it.answer)
+merges_well inputs chunk given back live stored (Err (merges.Halted input (readings.Compressed offset name))) long (inr (inr it)) n trouble e = absurd it.cause
+merges_well inputs chunk given back live stored (Err (merges.Halted input (readings.Limit offset))) long (inl (same, inl (still, first))) n trouble e = halted_so inputs given input (limit (name_at inputs input) offset) _ long first (inr refl) n trouble e
+merges_well inputs chunk given back live stored (Err (merges.Halted input (readings.Limit offset))) long (inl (same, inr (still, reads, are, never))) n trouble e = absurd never
+merges_well inputs chunk given back live stored (Err (merges.Halted input (readings.Limit offset))) long (inr (inl (still, it))) n trouble e = absurd (not_halted input (readings.Limit offset) it.stop it.answer)
+merges_well inputs chunk given back live stored (Err (merges.Halted input (readings.Limit offset))) long (inr (inr it)) n trouble e = absurd it.cause
+merges_well inputs chunk given back live stored (Err (merges.Halted input readings.Memory)) long it n trouble e = absurd cc
+merges_well inputs chunk given back live stored (Err (merges.Changed input offset)) long (inl (same, inl never)) n trouble e = absurd never
+merges_well inputs chunk given back live stored (Err (merges.Changed input offset)) long (inl (same, inr (still, reads, are, never))) n trouble e = absurd never
+merges_well inputs chunk given back live stored (Err (merges.Changed input offset)) long (inr (inl (still, it))) n trouble e = absurd (not_changed input offset it.stop it.answer)
+merges_well inputs chunk given back live stored (Err (merges.Changed input offset)) long (inr (inr it)) n trouble e = halts_within inputs input (grammar (name_at inputs input) offset) (omega (arith, long, (let within = it.cause.0 in within))) (inl refl) n trouble e
 merges_well inputs chunk given back live stored (Err merges.TooManySchemas) long it n trouble e = absurd cc
 merges_well inputs chunk given back live stored (Err merges.TooManyChannels) long it n trouble e = absurd cc
-merges_well inputs chunk given back live stored (Err (merges.FileLimit blocks bytes)) long it n trouble e = absurd cc
-merges_well inputs chunk given back live stored (Err merges.Memory) long it n trouble e = absurd cc
+merges_well inputs chunk given back live stored (Err (merges.Stopped (stops.Fault faults))) long it n trouble e = absurd cc
+merges_well inputs chunk given back live stored (Err (merges.Stopped (stops.Limit blocks bytes))) long it n trouble e = absurd cc
+merges_well inputs chunk given back live stored (Err (merges.Stopped stops.Memory)) long it n trouble e = absurd cc
 
 -- ---- what failed
 
@@ -226,13 +233,13 @@ flag_at [] n s at some = absurd (at_none n s at)
 flag_at (k ∷ ks) zero s at some = or_first (has_failed (entry_of k)) _ (failed_often k.well k.back.faults (λ none. some (ap (λ (x : StoreState). x.faults) (sym (same_Some k.back s at)) ∙ none)))
 flag_at (k ∷ ks) (suc n) s at some = or_second (has_failed (entry_of k)) _ (flag_at ks n s at some)
 
-stop_shows : (stop : Stop) (faults before now : ℕ) (well : Bool) → IsWriterRefusal stop (merges.Fault faults) → StopCause before now stop → before ≡ 0 → failed_so well now ≡ true
+stop_shows : (stop : Stop) (faults before now : ℕ) (well : Bool) → merges.Stopped (stops.Fault faults) ≡ merges.Stopped stop → StopCause before now stop → before ≡ 0 → failed_so well now ≡ true
 stop_shows (stops.Fault count) faults before now well is cause new = failed_often well now (λ none. omega (arith, cause.0.once, none, new))
 stop_shows (stops.Limit blocks bytes) faults before now well is cause new = absurd cc
 stop_shows stops.Memory faults before now well is cause new = absurd cc
 
-one_shows : (given : List StoreState) (ks : List InputKept) (faults : ℕ) → Each IsUnused given → OneRose given (back_stores ks) faults → some_failed (map (λ (k : InputKept). has_failed (entry_of k)) ks) ≡ true
-one_shows given ks faults unused (k, was, now, at_was, at_now, rises, count, others) =
+one_shows : (given : List StoreState) (ks : List InputKept) (k faults : ℕ) → Each IsUnused given → OneRose given (back_stores ks) k faults → some_failed (map (λ (k : InputKept). has_failed (entry_of k)) ks) ≡ true
+one_shows given ks k faults unused (was, now, at_was, at_now, rises, count, others) =
     let none = (unused k was at_was).faults in
     flag_at ks k now at_now (λ zero_is. omega (arith, rises.once, none, zero_is))
 
@@ -240,17 +247,23 @@ one_shows given ks faults unused (k, was, now, at_was, at_now, rises, count, oth
 pub fault_shows : (inputs : List (List ℕ)) (chunk : ℕ) (given : List StoreState) (live stored : LiveState) (well : Bool) (ks : List InputKept) (answer : Result Merged MergeRefused) → MergesStores given (back_stores ks) live stored chunk answer → Each IsUnused given → live.faults ≡ 0
     → ending_of inputs (merging_of answer) ≡ failing → (some_failed (map (λ (k : InputKept). has_failed (entry_of k)) ks) ≡ true) ⊎ (failed_so well stored.faults ≡ true)
 fault_shows inputs chunk given live stored well ks (Ok m) it unused new e = absurd cc
-fault_shows inputs chunk given live stored well ks (Err (merges.Fault faults)) (inl (same, inl rose)) unused new e = inl (one_shows given ks faults unused rose)
-fault_shows inputs chunk given live stored well ks (Err (merges.Fault faults)) (inl (same, inr (still, reads, are, never))) unused new e = absurd never
-fault_shows inputs chunk given live stored well ks (Err (merges.Fault faults)) (inr (inl (still, it))) unused new e = inr (stop_shows it.stop faults live.faults stored.faults well it.answer it.cause new)
-fault_shows inputs chunk given live stored well ks (Err (merges.Fault faults)) (inr (inr it)) unused new e = inl (one_shows given ks faults unused it.cause)
-fault_shows inputs chunk given live stored well ks (Err (merges.Grammar input offset)) it unused new e = absurd cc
-fault_shows inputs chunk given live stored well ks (Err (merges.Compressed input offset name)) it unused new e = absurd cc
-fault_shows inputs chunk given live stored well ks (Err (merges.Limit input offset)) it unused new e = absurd cc
+fault_shows inputs chunk given live stored well ks (Err (merges.Halted input (readings.Fault faults))) (inl (same, inl rose)) unused new e = inl (one_shows given ks input faults unused rose)
+fault_shows inputs chunk given live stored well ks (Err (merges.Halted input (readings.Fault faults))) (inl (same, inr (still, reads, are, never))) unused new e = absurd never
+fault_shows inputs chunk given live stored well ks (Err (merges.Halted input (readings.Fault faults))) (inr (inl (still, it))) unused new e = absurd (not_halted input (readings.Fault faults) it.stop it.answer)
+fault_shows inputs chunk given live stored well ks (Err (merges.Halted input (readings.Fault faults))) (inr (inr it)) unused new e = inl (one_shows given ks input faults unused it.cause)
+fault_shows inputs chunk given live stored well ks (Err (merges.Halted input (readings.Grammar offset rule))) it unused new e = absurd cc
+fault_shows inputs chunk given live stored well ks (Err (merges.Halted input (readings.Compressed offset name))) it unused new e = absurd cc
+fault_shows inputs chunk given live stored well ks (Err (merges.Halted input (readings.Limit offset))) it unused new e = absurd cc
+fault_shows inputs chunk given live stored well ks (Err (merges.Halted input readings.Memory)) it unused new e = absurd cc
+fault_shows inputs chunk given live stored well ks (Err (merges.Changed input offset)) it unused new e = absurd cc
 fault_shows inputs chunk given live stored well ks (Err merges.TooManySchemas) it unused new e = absurd cc
 fault_shows inputs chunk given live stored well ks (Err merges.TooManyChannels) it unused new e = absurd cc
-fault_shows inputs chunk given live stored well ks (Err (merges.FileLimit blocks bytes)) it unused new e = absurd cc
-fault_shows inputs chunk given live stored well ks (Err merges.Memory) it unused new e = absurd cc
+fault_shows inputs chunk given live stored well ks (Err (merges.Stopped (stops.Fault faults))) (inl (same, inl never)) unused new e = absurd never
+fault_shows inputs chunk given live stored well ks (Err (merges.Stopped (stops.Fault faults))) (inl (same, inr (still, reads, are, never))) unused new e = absurd never
+fault_shows inputs chunk given live stored well ks (Err (merges.Stopped (stops.Fault faults))) (inr (inl (still, it))) unused new e = inr (stop_shows it.stop faults live.faults stored.faults well it.answer it.cause new)
+fault_shows inputs chunk given live stored well ks (Err (merges.Stopped (stops.Fault faults))) (inr (inr it)) unused new e = absurd it.cause
+fault_shows inputs chunk given live stored well ks (Err (merges.Stopped (stops.Limit blocks bytes))) it unused new e = absurd cc
+fault_shows inputs chunk given live stored well ks (Err (merges.Stopped stops.Memory)) it unused new e = absurd cc
 
 -- ---- what the bytes decide
 
@@ -271,32 +284,41 @@ first_halts given files n P told (before, s, at, so) =
 merge_decides : (inputs : List (List ℕ)) (chunk : ℕ) (given back : List StoreState) (live stored : LiveState) (answer : Result Merged MergeRefused) (files : List (List ℕ)) (status : ℕ) → MergesStores given back live stored chunk answer → AllZip TellsBytes given files
     → (ending_of inputs (merging_of answer) ≡ failing → ⊥) → status ≡ ending_status (ending_of inputs (merging_of answer)) → Decides files (merging_of answer) status
 merge_decides inputs chunk given back live stored (Ok m) files status it told other is = (were_read given files it.profile it.extras it.history told it.is, is)
-merge_decides inputs chunk given back live stored (Err (merges.Fault faults)) files status it told other is = absurd (other refl)
-merge_decides inputs chunk given back live stored (Err (merges.Grammar input offset)) files status (inl (same, inl (still, first))) told other is = (first_halts given files input _ told first, is)
-merge_decides inputs chunk given back live stored (Err (merges.Grammar input offset)) files status (inl (same, inr (still, reads, are, never))) told other is = absurd never
-merge_decides inputs chunk given back live stored (Err (merges.Grammar input offset)) files status (inr (inl (still, it))) told other is = not_grammar it.stop input offset _ it.answer
-merge_decides inputs chunk given back live stored (Err (merges.Grammar input offset)) files status (inr (inr it)) told other is = told_changes given files input told it.cause.0 it.cause.2
-merge_decides inputs chunk given back live stored (Err (merges.Compressed input offset name)) files status (inl (same, inl (still, first))) told other is = (first_halts given files input _ told first, is)
-merge_decides inputs chunk given back live stored (Err (merges.Compressed input offset name)) files status (inl (same, inr (still, reads, are, never))) told other is = absurd never
-merge_decides inputs chunk given back live stored (Err (merges.Compressed input offset name)) files status (inr (inl (still, it))) told other is = not_compressed it.stop input offset name _ it.answer
-merge_decides inputs chunk given back live stored (Err (merges.Compressed input offset name)) files status (inr (inr it)) told other is = absurd it.cause
-merge_decides inputs chunk given back live stored (Err (merges.Limit input offset)) files status (inl (same, inl (still, first))) told other is = (first_halts given files input _ told first, is)
-merge_decides inputs chunk given back live stored (Err (merges.Limit input offset)) files status (inl (same, inr (still, reads, are, never))) told other is = absurd never
-merge_decides inputs chunk given back live stored (Err (merges.Limit input offset)) files status (inr (inl (still, it))) told other is = not_limit it.stop input offset _ it.answer
-merge_decides inputs chunk given back live stored (Err (merges.Limit input offset)) files status (inr (inr it)) told other is = absurd it.cause
+merge_decides inputs chunk given back live stored (Err (merges.Halted input (readings.Fault faults))) files status it told other is = absurd (other refl)
+merge_decides inputs chunk given back live stored (Err (merges.Halted input (readings.Grammar offset rule))) files status (inl (same, inl (still, first))) told other is = (first_halts given files input _ told first, is)
+merge_decides inputs chunk given back live stored (Err (merges.Halted input (readings.Grammar offset rule))) files status (inl (same, inr (still, reads, are, never))) told other is = absurd never
+merge_decides inputs chunk given back live stored (Err (merges.Halted input (readings.Grammar offset rule))) files status (inr (inl (still, it))) told other is = absurd (not_halted input (readings.Grammar offset rule) it.stop it.answer)
+merge_decides inputs chunk given back live stored (Err (merges.Halted input (readings.Grammar offset rule))) files status (inr (inr it)) told other is = absurd it.cause
+merge_decides inputs chunk given back live stored (Err (merges.Halted input (readings.Compressed offset name))) files status (inl (same, inl (still, first))) told other is = (first_halts given files input _ told first, is)
+merge_decides inputs chunk given back live stored (Err (merges.Halted input (readings.Compressed offset name))) files status (inl (same, inr (still, reads, are, never))) told other is = absurd never
+merge_decides inputs chunk given back live stored (Err (merges.Halted input (readings.Compressed offset name))) files status (inr (inl (still, it))) told other is = absurd (not_halted input (readings.Compressed offset name) it.stop it.answer)
+merge_decides inputs chunk given back live stored (Err (merges.Halted input (readings.Compressed offset name))) files status (inr (inr it)) told other is = absurd it.cause
+merge_decides inputs chunk given back live stored (Err (merges.Halted input (readings.Limit offset))) files status (inl (same, inl (still, first))) told other is = (first_halts given files input _ told first, is)
+merge_decides inputs chunk given back live stored (Err (merges.Halted input (readings.Limit offset))) files status (inl (same, inr (still, reads, are, never))) told other is = absurd never
+merge_decides inputs chunk given back live stored (Err (merges.Halted input (readings.Limit offset))) files status (inr (inl (still, it))) told other is = absurd (not_halted input (readings.Limit offset) it.stop it.answer)
+merge_decides inputs chunk given back live stored (Err (merges.Halted input (readings.Limit offset))) files status (inr (inr it)) told other is = absurd it.cause
+merge_decides inputs chunk given back live stored (Err (merges.Halted input readings.Memory)) files status (inl (same, inl never)) told other is = never
+merge_decides inputs chunk given back live stored (Err (merges.Halted input readings.Memory)) files status (inl (same, inr (still, reads, are, never))) told other is = never
+merge_decides inputs chunk given back live stored (Err (merges.Halted input readings.Memory)) files status (inr (inl (still, it))) told other is = not_halted input readings.Memory it.stop it.answer
+merge_decides inputs chunk given back live stored (Err (merges.Halted input readings.Memory)) files status (inr (inr it)) told other is = it.cause
+merge_decides inputs chunk given back live stored (Err (merges.Changed input offset)) files status (inl (same, inl never)) told other is = never
+merge_decides inputs chunk given back live stored (Err (merges.Changed input offset)) files status (inl (same, inr (still, reads, are, never))) told other is = never
+merge_decides inputs chunk given back live stored (Err (merges.Changed input offset)) files status (inr (inl (still, it))) told other is = not_changed input offset it.stop it.answer
+merge_decides inputs chunk given back live stored (Err (merges.Changed input offset)) files status (inr (inr it)) told other is = told_changes given files input told it.cause.0 it.cause.2
 merge_decides inputs chunk given back live stored (Err merges.TooManySchemas) files status (inl (same, inl never)) told other is = absurd never
 merge_decides inputs chunk given back live stored (Err merges.TooManySchemas) files status (inl (same, inr (still, reads, are, many))) told other is = ((tops_of reads, are_read given files reads told are, many), is)
-merge_decides inputs chunk given back live stored (Err merges.TooManySchemas) files status (inr (inl (still, it))) told other is = not_schemas it.stop _ it.answer
+merge_decides inputs chunk given back live stored (Err merges.TooManySchemas) files status (inr (inl (still, it))) told other is = absurd (not_schemas it.stop it.answer)
 merge_decides inputs chunk given back live stored (Err merges.TooManySchemas) files status (inr (inr it)) told other is = absurd it.cause
 merge_decides inputs chunk given back live stored (Err merges.TooManyChannels) files status (inl (same, inl never)) told other is = absurd never
 merge_decides inputs chunk given back live stored (Err merges.TooManyChannels) files status (inl (same, inr (still, reads, are, many))) told other is = ((tops_of reads, are_read given files reads told are, many), is)
-merge_decides inputs chunk given back live stored (Err merges.TooManyChannels) files status (inr (inl (still, it))) told other is = not_channels it.stop _ it.answer
+merge_decides inputs chunk given back live stored (Err merges.TooManyChannels) files status (inr (inl (still, it))) told other is = absurd (not_channels it.stop it.answer)
 merge_decides inputs chunk given back live stored (Err merges.TooManyChannels) files status (inr (inr it)) told other is = absurd it.cause
-merge_decides inputs chunk given back live stored (Err (merges.FileLimit blocks bytes)) files status (inl (same, inl never)) told other is = absurd never
-merge_decides inputs chunk given back live stored (Err (merges.FileLimit blocks bytes)) files status (inl (same, inr (still, reads, are, never))) told other is = absurd never
-merge_decides inputs chunk given back live stored (Err (merges.FileLimit blocks bytes)) files status (inr (inl (still, it))) told other is = (were_read given files it.profile it.extras it.history told it.is, is)
-merge_decides inputs chunk given back live stored (Err (merges.FileLimit blocks bytes)) files status (inr (inr it)) told other is = absurd it.cause
-merge_decides inputs chunk given back live stored (Err merges.Memory) files status it told other is = is
+merge_decides inputs chunk given back live stored (Err (merges.Stopped (stops.Fault faults))) files status it told other is = absurd (other refl)
+merge_decides inputs chunk given back live stored (Err (merges.Stopped (stops.Limit blocks bytes))) files status (inl (same, inl never)) told other is = absurd never
+merge_decides inputs chunk given back live stored (Err (merges.Stopped (stops.Limit blocks bytes))) files status (inl (same, inr (still, reads, are, never))) told other is = absurd never
+merge_decides inputs chunk given back live stored (Err (merges.Stopped (stops.Limit blocks bytes))) files status (inr (inl (still, it))) told other is = (were_read given files it.profile it.extras it.history told it.is, is)
+merge_decides inputs chunk given back live stored (Err (merges.Stopped (stops.Limit blocks bytes))) files status (inr (inr it)) told other is = absurd it.cause
+merge_decides inputs chunk given back live stored (Err (merges.Stopped stops.Memory)) files status it told other is = is
 
 -- an opening that was refused failed, or memory lacked for it
 refusal_decides : (inputs files : List (List ℕ)) (failed : Bool) (status : ℕ) → (ending_of inputs (unopened_so failed) ≡ failing → ⊥) → status ≡ ending_status (ending_of inputs (unopened_so failed)) → Decides files (unopened_so failed) status

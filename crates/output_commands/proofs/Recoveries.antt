@@ -15,8 +15,13 @@ use Rattle.mcap_model.proofs.Pieces.{pieces_make_files, stops_leave_prefixes}
 use Rattle.mcap_recover.specs.declared.answers.Recovered.{Recovered}
 use Rattle.mcap_recover.specs.declared.answers.RecoverRefused.{RecoverRefused}
 use Rattle.mcap_recover.specs.declared.answers.RecoverRefused.TheVariants as refusals
-use Rattle.mcap_recover.specs.Recovering.{recovered_options, OfBoth, StandsPart, Recovers}
-use Rattle.chunk_writer.specs.Stops.{StopsAt}
+use Rattle.mcap_model.specs.declared.ends.Stop.{Stop}
+use Rattle.mcap_model.specs.declared.refusals.ReadingRefused.{ReadingRefused}
+use Rattle.mcap_model.specs.declared.refusals.ReadingRefused.TheVariants as scans
+use Rattle.mcap_recover.specs.Readings.{lacks}
+use Rattle.mcap_recover.specs.Recovering.{recovered_options, OfBoth, StandsPart, IsUnrecovered, Recovers}
+use Rattle.chunk_writer.specs.declared.tape.Written.{Written}
+use Rattle.chunk_writer.specs.Stops.{StopsAt, StopCause}
 use Rattle.command_base.specs.Printing.{Tells, Takes}
 use Rattle.command_base.specs.Ran.{Scene, counts_in, failed_so, troubles_of, Complains}
 use Rattle.command_base.proofs.Counting.{failed_often}
@@ -24,8 +29,8 @@ use Rattle.output_commands.specs.declared.recovering.Recovery.{Recovery}
 use Rattle.output_commands.specs.declared.recovering.Recovery.TheVariants as recoveries
 use Rattle.output_commands.specs.declared.recovering.Restored.{Restored}
 use Rattle.output_commands.specs.declared.failures.Failures.{Failures}
-use Rattle.output_commands.specs.OneOutput.{text_of, findings_of, files_of, failed_of, failing, ending_status, HaltsWell, FaultsShow, ReadsOneWritesOne}
-use Rattle.output_commands.specs.Recover.{IsPlaced, HoldsPart, OutputHolds, Reached, IsRefusal, unopened_so, recovery_of, IsRecovery, ending_of, number_text, recovered_line, NamesRecovered, Decides, RecoversFile}
+use Rattle.output_commands.specs.OneOutput.{halted, text_of, findings_of, files_of, failed_of, failing, ending_status, HaltsWell, FaultsShow, ReadsOneWritesOne}
+use Rattle.output_commands.specs.Recover.{IsPlaced, HoldsPart, UnreadHolds, OutputHolds, Reached, IsRefusal, unopened_so, recovery_of, IsRecovery, unread_ending, stopped_ending, ending_of, number_text, recovered_line, NamesRecovered, ReadingDecides, StopDecides, Decides, RecoversFile}
 use Rattle.output_commands.proofs.Names.{NotGiven, no_entries, alone_entries, BothGiven, both_entries, both_placed, nothing_yet, both_kept}
 use Rattle.output_commands.proofs.OneOutput.{reads_one_writes_one, not_two}
 
@@ -35,10 +40,21 @@ use Rattle.output_commands.proofs.OneOutput.{reads_one_writes_one, not_two}
 well : (input : List ℕ) (recovery : Recovery) → HaltsWell (ending_of input recovery)
 well input recoveries.Unopened trouble e = absurd cc
 well input (recoveries.Made r) trouble e = absurd cc
-well input (recoveries.Refused (refusals.Fault faults)) trouble e = absurd cc
 well input (recoveries.Refused refusals.NoMagic) trouble e = cc
-well input (recoveries.Refused (refusals.Limit blocks bytes)) trouble e = absurd cc
-well input (recoveries.Refused refusals.Memory) trouble e = absurd cc
+well input (recoveries.Refused (refusals.Refused why)) trouble e = absurd (unread why e)
+  where
+    unread : (w : ReadingRefused) → unread_ending w ≡ halted trouble → ⊥
+    unread (scans.Fault faults) is = cc
+    unread (scans.Grammar offset rule) is = cc
+    unread (scans.Compressed offset name) is = cc
+    unread (scans.Limit offset) is = cc
+    unread scans.Memory is = cc
+well input (recoveries.Refused (refusals.Stopped stop)) trouble e = absurd (unwritten stop e)
+  where
+    unwritten : (s : Stop) → stopped_ending s ≡ halted trouble → ⊥
+    unwritten (stops.Fault faults) is = cc
+    unwritten (stops.Limit blocks bytes) is = cc
+    unwritten stops.Memory is = cc
 
 -- ---- what the output holds
 
@@ -64,9 +80,9 @@ stands_part chunk source live stored bytes told none it =
           subst (λ (l : List ℕ). IsPrefix l (file_of (recovered_options profile chunk) extras history)) (same_Some other.0 first.0 (sym other.1 ∙ first.1)) other.2;
     }
 
-stops_part : (chunk blocks written : ℕ) (source : SourceState) (live stored : LiveState) (bytes : List ℕ) → source.left ≡ Some bytes → live.held ≡ Some []
-    → OfBoth chunk source (λ options extras history. StopsAt options extras history live.held stored.held (stops.Limit blocks written) blocks written) → HasPart chunk bytes stored.held
-stops_part chunk blocks written source live stored bytes told none it =
+stops_part : (chunk : ℕ) (stop : Stop) (written : Written) (source : SourceState) (live stored : LiveState) (bytes : List ℕ) → source.left ≡ Some bytes → live.held ≡ Some []
+    → OfBoth chunk source (λ options extras history. StopsAt options extras history live.held stored.held stop written) → HasPart chunk bytes stored.held
+stops_part chunk stop written source live stored bytes told none it =
     let first = it.of_read.stands.took [] none in
     record {
       text = first.0;
@@ -75,10 +91,17 @@ stops_part chunk blocks written source live stored bytes told none it =
           let options = recovered_options profile chunk in
           let stopped = it.of_repaired bytes told profile extras history repaired in
           let other = stopped.took [] none in
-          let prefix = stops_leave_prefixes (file_pieces options extras history) stopped.place (stops.Limit blocks written) other.0 written other.2 in
+          let prefix = stops_leave_prefixes (file_pieces options extras history) stopped.place stop other.0 written.bytes other.2 in
           let whole : IsPrefix other.0 (file_of options extras history) = (prefix.0, prefix.1 ∙ pieces_make_files options extras history) in
           subst (λ (l : List ℕ). IsPrefix l (file_of options extras history)) (same_Some other.0 first.0 (sym other.1 ∙ first.1)) whole;
     }
+
+unread_part : (chunk : ℕ) (source back : SourceState) (live stored : LiveState) (why : ReadingRefused) (bytes : List ℕ) → source.left ≡ Some bytes → live.held ≡ Some [] → IsUnrecovered chunk source back live stored why → HasPart chunk bytes stored.held
+unread_part chunk source back live stored (scans.Fault faults) bytes told none (rises, carried, still, changed, part) = stands_part chunk source live stored bytes told none part
+unread_part chunk source back live stored (scans.Grammar offset rule) bytes told none it = absurd it
+unread_part chunk source back live stored (scans.Compressed offset name) bytes told none it = absurd it
+unread_part chunk source back live stored (scans.Limit offset) bytes told none it = absurd it
+unread_part chunk source back live stored scans.Memory bytes told none (still, changed, part) = stands_part chunk source live stored bytes told none part
 
 part_placed : (chunk : ℕ) (bytes out : List ℕ) (all now : Names) (held : Option (List ℕ)) (result : Result Unit Failed) → HasPart chunk bytes held → ((text : List ℕ) → held ≡ Some text → Placed all now out text result)
     → HoldsPart chunk bytes (went_well result) (all out) (now out)
@@ -87,6 +110,14 @@ part_placed chunk bytes out all now held result it placed = record {
   placed = placed_so it.text all now out result (placed it.text it.is);
   part = it.part;
 }
+
+held_unread : (chunk : ℕ) (source back : SourceState) (live stored : LiveState) (why : ReadingRefused) (bytes : List ℕ) (kept : Bool) (before now : Option (List ℕ)) → IsUnrecovered chunk source back live stored why → HoldsPart chunk bytes kept before now
+    → UnreadHolds chunk bytes why kept before now
+held_unread chunk source back live stored (scans.Fault faults) bytes kept before now it part = part
+held_unread chunk source back live stored (scans.Grammar offset rule) bytes kept before now it part = absurd it
+held_unread chunk source back live stored (scans.Compressed offset name) bytes kept before now it part = absurd it
+held_unread chunk source back live stored (scans.Limit offset) bytes kept before now it part = absurd it
+held_unread chunk source back live stored scans.Memory bytes kept before now it part = part
 
 output_holds : (chunk : ℕ) (source back : SourceState) (live stored : LiveState) (answer : Result Recovered RecoverRefused) (bytes out : List ℕ) (all now : Names) (result : Result Unit Failed) → Recovers chunk source back live stored answer
     → source.left ≡ Some bytes → live.held ≡ Some [] → ((text : List ℕ) → stored.held ≡ Some text → Placed all now out text result) → OutputHolds chunk bytes answer (went_well result) (all out) (now out)
@@ -106,10 +137,10 @@ output_holds chunk source back live stored (Ok r) bytes out all now result it to
   within = it.within;
   placed = placed_so (file_of (recovered_options it.profile chunk) it.extras it.history) all now out result (placed (file_of (recovered_options it.profile chunk) it.extras it.history) (it.file [] none));
 }
-output_holds chunk source back live stored (Err (refusals.Fault faults)) bytes out all now result it told none placed = part_placed chunk bytes out all now stored.held result (stands_part chunk source live stored bytes told none it.1) placed
 output_holds chunk source back live stored (Err refusals.NoMagic) bytes out all now result it told none placed = (it.0 bytes told, placed_so [] all now out result (placed [] (ap (λ (l : LiveState). l.held) it.2 ∙ none)))
-output_holds chunk source back live stored (Err (refusals.Limit blocks written)) bytes out all now result it told none placed = part_placed chunk bytes out all now stored.held result (stops_part chunk blocks written source live stored bytes told none it.2) placed
-output_holds chunk source back live stored (Err refusals.Memory) bytes out all now result it told none placed = part_placed chunk bytes out all now stored.held result (stands_part chunk source live stored bytes told none it.2) placed
+output_holds chunk source back live stored (Err (refusals.Refused why)) bytes out all now result it told none placed =
+    held_unread chunk source back live stored why bytes (went_well result) (all out) (now out) it (part_placed chunk bytes out all now stored.held result (unread_part chunk source back live stored why bytes told none it) placed)
+output_holds chunk source back live stored (Err (refusals.Stopped stop)) bytes out all now result it told none placed = part_placed chunk bytes out all now stored.held result (stops_part chunk stop it.written source live stored bytes told none it.stops) placed
 
 -- ---- both were given
 
@@ -117,13 +148,21 @@ output_holds chunk source back live stored (Err refusals.Memory) bytes out all n
 fault_shows : (input : List ℕ) (chunk : ℕ) (source back : SourceState) (live stored : LiveState) (answer : Result Recovered RecoverRefused) (first second : Bool) → Recovers chunk source back live stored answer
     → source.faults ≡ 0 → live.faults ≡ 0 → ending_of input (recovery_of answer) ≡ failing → (failed_so first back.faults ≡ true) ⊎ (failed_so second stored.faults ≡ true)
 fault_shows input chunk source back live stored (Ok r) first second it unused new e = absurd cc
-fault_shows input chunk source back live stored (Err (refusals.Fault faults)) first second it unused new e = elim it.0 [
-  | inl source_rose ↦ inl (failed_often first back.faults (λ none. omega (arith, source_rose.0.once, none, unused)))
-  | inr store_rose ↦ inr (failed_often second stored.faults (λ none. omega (arith, store_rose.0.once, none, new)))
-]
 fault_shows input chunk source back live stored (Err refusals.NoMagic) first second it unused new e = absurd cc
-fault_shows input chunk source back live stored (Err (refusals.Limit blocks written)) first second it unused new e = absurd cc
-fault_shows input chunk source back live stored (Err refusals.Memory) first second it unused new e = absurd cc
+fault_shows input chunk source back live stored (Err (refusals.Refused why)) first second it unused new e = unread why it e
+  where
+    unread : (w : ReadingRefused) → IsUnrecovered chunk source back live stored w → unread_ending w ≡ failing → (failed_so first back.faults ≡ true) ⊎ (failed_so second stored.faults ≡ true)
+    unread (scans.Fault faults) (rises, carried, still, changed, part) is = inl (failed_often first back.faults (λ none. let once = rises.once in omega (arith, once, none, unused)))
+    unread (scans.Grammar offset rule) none is = absurd none
+    unread (scans.Compressed offset name) none is = absurd none
+    unread (scans.Limit offset) none is = absurd none
+    unread scans.Memory lacking is = absurd cc
+fault_shows input chunk source back live stored (Err (refusals.Stopped stop)) first second it unused new e = unwritten stop it.store e
+  where
+    unwritten : (s : Stop) → StopCause live.faults stored.faults s → stopped_ending s ≡ failing → (failed_so first back.faults ≡ true) ⊎ (failed_so second stored.faults ≡ true)
+    unwritten (stops.Fault faults) (rises, carried) is = inr (failed_often second stored.faults (λ none. let once = rises.once in omega (arith, once, none, new)))
+    unwritten (stops.Limit blocks bytes) still is = absurd cc
+    unwritten stops.Memory still is = absurd cc
 
 pub both_recovered : (chunk : ℕ) (input out : List ℕ) (w0 w1 w2 w3 w4 : WorldState) (source back : SourceState) (live stored : LiveState) (source_kept live_kept : Result Unit Failed) (answer : Result Recovered RecoverRefused)
     → BothGiven input out w0 w1 w2 w3 w4 source back live stored source_kept live_kept → Recovers chunk source back live stored answer
@@ -192,7 +231,7 @@ alone_recovered chunk input out old new source result input_failed failed it = r
 -- ---- the bytes decide
 
 -- a refused opening failed, or memory lacked for it
-refusal_decides : (input bytes : List ℕ) (entries : List Opening) (recovery : Recovery) (status : ℕ) → IsRefusal entries recovery → (ending_of input recovery ≡ failing → ⊥) → (recovery ≡ recoveries.Refused refusals.Memory → status ≡ 5) → Decides bytes recovery status
+refusal_decides : (input bytes : List ℕ) (entries : List Opening) (recovery : Recovery) (status : ℕ) → IsRefusal entries recovery → (ending_of input recovery ≡ failing → ⊥) → (recovery ≡ recoveries.Refused lacks → status ≡ 5) → Decides bytes recovery status
 refusal_decides input bytes [] recovery status is other five = subst (λ (r : Recovery). Decides bytes r status) (sym is) (five is)
 refusal_decides input bytes (entry ∷ []) recovery status (inl is) other five = absurd (other (ap (ending_of input) is.1))
 refusal_decides input bytes (entry ∷ []) recovery status (inr is) other five = subst (λ (r : Recovery). Decides bytes r status) (sym is.1) (five is.1)
@@ -201,10 +240,21 @@ refusal_decides input bytes (entry ∷ next ∷ more) recovery status is other f
 reached_decides : (chunk : ℕ) (input out bytes : List ℕ) (old new : WorldState) (entries : List Opening) (answer : Result Recovered RecoverRefused) (told : Told) (status : ℕ) → Reached chunk input out old new entries answer → old.told ≡ Some told → told.names input ≡ Some bytes
     → (ending_of input (recovery_of answer) ≡ failing → ⊥) → status ≡ ending_status (ending_of input (recovery_of answer)) → Decides bytes (recovery_of answer) status
 reached_decides chunk input out bytes old new entries (Ok r) told status it here there other is = (it.recovers.magic bytes ((it.tells told here).0 ∙ there), is)
-reached_decides chunk input out bytes old new entries (Err (refusals.Fault faults)) told status it here there other is = absurd (other refl)
 reached_decides chunk input out bytes old new entries (Err refusals.NoMagic) told status it here there other is = (it.recovers.0 bytes ((it.tells told here).0 ∙ there), is)
-reached_decides chunk input out bytes old new entries (Err (refusals.Limit blocks written)) told status it here there other is = (it.recovers.1 bytes ((it.tells told here).0 ∙ there), is)
-reached_decides chunk input out bytes old new entries (Err refusals.Memory) told status it here there other is = is
+reached_decides chunk input out bytes old new entries (Err (refusals.Refused why)) told status it here there other is = unread why it.recovers other is
+  where
+    unread : (w : ReadingRefused) → IsUnrecovered chunk it.source it.back it.live it.stored w → (unread_ending w ≡ failing → ⊥) → status ≡ ending_status (unread_ending w) → ReadingDecides w status
+    unread (scans.Fault faults) failed others same = absurd (others refl)
+    unread (scans.Grammar offset rule) none others same = absurd none
+    unread (scans.Compressed offset name) none others same = absurd none
+    unread (scans.Limit offset) none others same = absurd none
+    unread scans.Memory lacking others same = same
+reached_decides chunk input out bytes old new entries (Err (refusals.Stopped stop)) told status it here there other is = unwritten stop other is
+  where
+    unwritten : (s : Stop) → (stopped_ending s ≡ failing → ⊥) → status ≡ ending_status (stopped_ending s) → StopDecides bytes s status
+    unwritten (stops.Fault faults) others same = absurd (others refl)
+    unwritten (stops.Limit blocks written) others same = (it.recovers.magic bytes ((it.tells told here).0 ∙ there), same)
+    unwritten stops.Memory others same = same
 
 decides : (chunk : ℕ) (input out bytes : List ℕ) (old new : WorldState) (entries : List Opening) (recovery : Recovery) (told : Told) (status : ℕ) → IsRecovery chunk input out old new entries recovery → old.told ≡ Some told → told.names input ≡ Some bytes
     → (ending_of input recovery ≡ failing → ⊥) → status ≡ ending_status (ending_of input recovery) → Decides bytes recovery status

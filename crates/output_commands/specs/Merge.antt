@@ -6,6 +6,10 @@ use Rattle.mcap_io.specs.Outside.{LiveState, WorldState, Told, Opening}
 use Rattle.mcap_io.specs.Stores.{StoreState, IsUnused, TellsStore}
 use Rattle.mcap_io.specs.declared.outside.ObjectKind.TheVariants as kinds
 use Rattle.mcap_wire.specs.Limits.{id_limit}
+use Rattle.mcap_model.specs.declared.ends.Stop.{Stop}
+use Rattle.mcap_model.specs.declared.ends.Stop.TheVariants as stops
+use Rattle.mcap_model.specs.declared.refusals.ReadingRefused.{ReadingRefused}
+use Rattle.mcap_model.specs.declared.refusals.ReadingRefused.TheVariants as readings
 use Rattle.mcap_model.specs.Places.{At, Each}
 use Rattle.mcap_model.specs.Tops.{Top}
 use Rattle.mcap_model.specs.Blocks.{pieces_of, blocks_in}
@@ -19,7 +23,9 @@ use Rattle.mcap_merge.specs.declared.answers.Merged.{Merged}
 use Rattle.mcap_merge.specs.declared.answers.MergeRefused.{MergeRefused}
 use Rattle.mcap_merge.specs.declared.answers.MergeRefused.TheVariants as merges
 use Rattle.mcap_merge.specs.Filed.{merged_options, MergesInto, MergeFails, AsksTwice}
-use Rattle.command_base.specs.Texts.{grammar, compressed, limit}
+use Rattle.command_base.specs.Texts.{grammar}
+use Rattle.command_base.specs.OneFile.{refusal_ending}
+use Rattle.command_base.specs.OneFile as one
 use Rattle.command_base.specs.Ran.{Scene, counts_in, AnyRose, kept}
 use Rattle.output_commands.specs.declared.merging.Merging.{Merging}
 use Rattle.output_commands.specs.declared.merging.Merging.TheVariants as mergings
@@ -62,18 +68,29 @@ pub record HoldsFirst (chunk : ℕ) (files : List (List ℕ)) (well : Bool) (bef
 abbrev pub HoldsNothing : Bool → Option (List ℕ) → Option (List ℕ) → Type 0
 HoldsNothing well before now = IsPlaced [] well before now
 
--- Of these files, by what a merge answered. An input may fail, or memory lack, before anything is written, or while the inputs are read
--- again for what is written.
+-- Of these files, by why the reading of one of them was refused: it may fail before anything is written, or while the inputs are
+-- read again for what is written.
+abbrev pub HaltedHolds : ℕ → List (List ℕ) → ReadingRefused → Bool → Option (List ℕ) → Option (List ℕ) → Type 0
+HaltedHolds chunk files (readings.Fault faults) well before now = HoldsNothing well before now ⊎ HoldsFirst chunk files well before now
+HaltedHolds chunk files (readings.Grammar offset rule) well before now = HoldsNothing well before now
+HaltedHolds chunk files (readings.Compressed offset name) well before now = HoldsNothing well before now
+HaltedHolds chunk files (readings.Limit offset) well before now = HoldsNothing well before now
+HaltedHolds chunk files readings.Memory well before now = ⊥
+
+-- By why the merge stopped: memory may lack before anything is written, or while it is.
+abbrev pub StoppedHolds : ℕ → List (List ℕ) → Stop → Bool → Option (List ℕ) → Option (List ℕ) → Type 0
+StoppedHolds chunk files (stops.Fault faults) well before now = HoldsFirst chunk files well before now
+StoppedHolds chunk files (stops.Limit blocks bytes) well before now = HoldsFirst chunk files well before now
+StoppedHolds chunk files stops.Memory well before now = HoldsNothing well before now ⊎ HoldsFirst chunk files well before now
+
+-- By what a merge answered. No input that tells is found changed.
 abbrev pub OutputHolds : ℕ → List (List ℕ) → Result Merged MergeRefused → Bool → Option (List ℕ) → Option (List ℕ) → Type 0
 OutputHolds chunk files (Ok m) well before now = HoldsMerged chunk files m well before now
-OutputHolds chunk files (Err (merges.Fault faults)) well before now = HoldsNothing well before now ⊎ HoldsFirst chunk files well before now
-OutputHolds chunk files (Err (merges.Grammar input offset)) well before now = HoldsNothing well before now
-OutputHolds chunk files (Err (merges.Compressed input offset name)) well before now = HoldsNothing well before now
-OutputHolds chunk files (Err (merges.Limit input offset)) well before now = HoldsNothing well before now
+OutputHolds chunk files (Err (merges.Halted input why)) well before now = HaltedHolds chunk files why well before now
+OutputHolds chunk files (Err (merges.Changed input offset)) well before now = ⊥
 OutputHolds chunk files (Err merges.TooManySchemas) well before now = HoldsNothing well before now
 OutputHolds chunk files (Err merges.TooManyChannels) well before now = HoldsNothing well before now
-OutputHolds chunk files (Err (merges.FileLimit blocks bytes)) well before now = HoldsFirst chunk files well before now
-OutputHolds chunk files (Err merges.Memory) well before now = HoldsNothing well before now ⊎ HoldsFirst chunk files well before now
+OutputHolds chunk files (Err (merges.Stopped stop)) well before now = StoppedHolds chunk files stop well before now
 
 -- ---- the names
 
@@ -106,7 +123,7 @@ pub record Reached (chunk : ℕ) (inputs : List (List ℕ)) (out : List ℕ) (ol
 -- an opening failed, or memory lacked for it
 abbrev pub unopened_so : Bool → Merging
 unopened_so true = mergings.Unopened
-unopened_so false = mergings.Refused merges.Memory
+unopened_so false = mergings.Refused (merges.Stopped stops.Memory)
 
 -- the last opening was refused: a failure has its entry, a want of memory none
 abbrev pub some_refused : List Opening → Bool
@@ -135,21 +152,31 @@ merged_line inputs m = number_text (codes "merged inputs=") inputs ++ (number_te
 abbrev pub name_at : List (List ℕ) → ℕ → List ℕ
 name_at inputs n = get_or inputs n []
 
--- how the merging ended
-abbrev pub refusal_ending : List (List ℕ) → MergeRefused → Ending
-refusal_ending inputs (merges.Fault faults) = failing
-refusal_ending inputs (merges.Grammar input offset) = halted input (grammar (name_at inputs input) offset)
-refusal_ending inputs (merges.Compressed input offset name) = halted input (compressed (name_at inputs input) name offset)
-refusal_ending inputs (merges.Limit input offset) = halted input (limit (name_at inputs input) offset)
-refusal_ending inputs merges.TooManySchemas = limited
-refusal_ending inputs merges.TooManyChannels = limited
-refusal_ending inputs (merges.FileLimit blocks bytes) = limited
-refusal_ending inputs merges.Memory = lacked
+-- how a merging ended in which the reading of the input of that number ended so
+abbrev pub ending_at : ℕ → one.Ending → Ending
+ending_at n (one.was_read text) = was_written text
+ending_at n (one.halted trouble) = halted n trouble
+ending_at n one.failing = failing
+ending_at n one.lacked = lacked
+
+-- and one that stopped
+abbrev pub stop_ending : Stop → Ending
+stop_ending (stops.Fault faults) = failing
+stop_ending (stops.Limit blocks bytes) = limited
+stop_ending stops.Memory = lacked
+
+-- how a merging ended that was refused; an input that changed is told as one that breaks a rule
+abbrev pub merge_ending : List (List ℕ) → MergeRefused → Ending
+merge_ending inputs (merges.Halted input why) = ending_at input (refusal_ending (name_at inputs input) why)
+merge_ending inputs (merges.Changed input offset) = halted input (grammar (name_at inputs input) offset)
+merge_ending inputs merges.TooManySchemas = limited
+merge_ending inputs merges.TooManyChannels = limited
+merge_ending inputs (merges.Stopped stop) = stop_ending stop
 
 abbrev pub ending_of : List (List ℕ) → Merging → Ending
 ending_of inputs mergings.Unopened = failing
 ending_of inputs (mergings.Made m) = was_written (merged_line (length inputs) m)
-ending_of inputs (mergings.Refused why) = refusal_ending inputs why
+ending_of inputs (mergings.Refused why) = merge_ending inputs why
 
 -- what became of all names, and which of them failed; where the merging failed, a failure of one is told
 pub record NamesMerged (chunk : ℕ) (inputs : List (List ℕ)) (out : List ℕ) (old new : WorldState) (outcome : Outcome) : Type 0 where
@@ -176,18 +203,28 @@ pub record FirstHalts (files : List (List ℕ)) (n : ℕ) (halts : List ℕ → 
 abbrev pub OfRead : List (List ℕ) → (List (List Top) → Type 0) → Type 0
 OfRead files P = (inputs : List (List Top)) × AreRead files inputs × P inputs
 
+-- Where nothing failed, the file of that number decides, whose reading was refused; memory lacks for the merge, not for it.
+abbrev pub HaltDecides : List (List ℕ) → ℕ → ReadingRefused → ℕ → Type 0
+HaltDecides files input (readings.Fault faults) status = ⊥
+HaltDecides files input (readings.Grammar offset rule) status = FirstHalts files input (λ bytes. (tops : List Top) × Halts reading_limits bytes tops (breaks offset rule)) × (status ≡ 1)
+HaltDecides files input (readings.Compressed offset name) status = FirstHalts files input (λ bytes. (tops : List Top) × Halts reading_limits bytes tops (names offset name)) × (status ≡ 1)
+HaltDecides files input (readings.Limit offset) status = FirstHalts files input (λ bytes. (tops : List Top) × Halts reading_limits bytes tops (beyond offset)) × (status ≡ 4)
+HaltDecides files input readings.Memory status = ⊥
+
+abbrev pub StopDecides : List (List ℕ) → Stop → ℕ → Type 0
+StopDecides files (stops.Fault faults) status = ⊥
+StopDecides files (stops.Limit blocks bytes) status = OfRead files (λ inputs. Unit {0}) × (status ≡ 4)
+StopDecides files stops.Memory status = status ≡ 5
+
 -- Where nothing failed, the bytes decide, but for want of memory and for the limits of a file.
 abbrev pub Decides : List (List ℕ) → Merging → ℕ → Type 0
 Decides files mergings.Unopened status = ⊥
 Decides files (mergings.Made m) status = OfRead files (λ inputs. Unit {0}) × (status ≡ 0)
-Decides files (mergings.Refused (merges.Fault faults)) status = ⊥
-Decides files (mergings.Refused (merges.Grammar input offset)) status = FirstHalts files input (λ bytes. (tops : List Top) × (rule : ℕ) × Halts reading_limits bytes tops (breaks offset rule)) × (status ≡ 1)
-Decides files (mergings.Refused (merges.Compressed input offset name)) status = FirstHalts files input (λ bytes. (tops : List Top) × Halts reading_limits bytes tops (names offset name)) × (status ≡ 1)
-Decides files (mergings.Refused (merges.Limit input offset)) status = FirstHalts files input (λ bytes. (tops : List Top) × Halts reading_limits bytes tops (beyond offset)) × (status ≡ 4)
+Decides files (mergings.Refused (merges.Halted input why)) status = HaltDecides files input why status
+Decides files (mergings.Refused (merges.Changed input offset)) status = ⊥
 Decides files (mergings.Refused merges.TooManySchemas) status = OfRead files (λ inputs. MoreThan id_limit (SchemaIsUsed inputs)) × (status ≡ 4)
 Decides files (mergings.Refused merges.TooManyChannels) status = OfRead files (λ inputs. MoreThan id_limit (IsUsed inputs) × AtMost id_limit (SchemaIsUsed inputs)) × (status ≡ 4)
-Decides files (mergings.Refused (merges.FileLimit blocks bytes)) status = OfRead files (λ inputs. Unit {0}) × (status ≡ 4)
-Decides files (mergings.Refused merges.Memory) status = status ≡ 5
+Decides files (mergings.Refused (merges.Stopped stop)) status = StopDecides files stop status
 
 -- ---- the command
 

@@ -16,6 +16,11 @@ use Rattle.mcap_recover.specs.declared.answers.Why.TheVariants as whys
 use Rattle.mcap_recover.specs.declared.answers.Recovered.{Recovered}
 use Rattle.mcap_recover.specs.declared.answers.RecoverRefused.{RecoverRefused}
 use Rattle.mcap_recover.specs.declared.answers.RecoverRefused.TheVariants as refusals
+use Rattle.mcap_model.specs.declared.refusals.ReadingRefused.{ReadingRefused}
+use Rattle.mcap_model.specs.declared.refusals.ReadingRefused.TheVariants as scans
+use Rattle.mcap_model.specs.declared.ends.Stop.{Stop}
+use Rattle.mcap_model.specs.declared.ends.Stop.TheVariants as stops
+use Rattle.mcap_recover.specs.Readings.{lacks}
 use Rattle.mcap_recover.specs.Recovering.{recovered_options, TellsHalt, Recovers}
 use Rattle.command_base.specs.Texts.{grammar}
 use Rattle.command_base.specs.Ran.{Scene, counts_in, AnyRose, kept}
@@ -60,13 +65,20 @@ pub record HoldsPart (chunk : ℕ) (bytes : List ℕ) (well : Bool) (before now 
 abbrev pub HoldsNothing : List ℕ → Bool → Option (List ℕ) → Option (List ℕ) → Type 0
 HoldsNothing bytes well before now = (V1 bytes → ⊥) × IsPlaced [] well before now
 
+-- a first part, where the source failed or memory lacked; a reading is refused for nothing else
+abbrev pub UnreadHolds : ℕ → List ℕ → ReadingRefused → Bool → Option (List ℕ) → Option (List ℕ) → Type 0
+UnreadHolds chunk bytes (scans.Fault faults) well before now = HoldsPart chunk bytes well before now
+UnreadHolds chunk bytes (scans.Grammar offset rule) well before now = ⊥
+UnreadHolds chunk bytes (scans.Compressed offset name) well before now = ⊥
+UnreadHolds chunk bytes (scans.Limit offset) well before now = ⊥
+UnreadHolds chunk bytes scans.Memory well before now = HoldsPart chunk bytes well before now
+
 -- of these bytes, by what a recovery answered
 abbrev pub OutputHolds : ℕ → List ℕ → Result Recovered RecoverRefused → Bool → Option (List ℕ) → Option (List ℕ) → Type 0
 OutputHolds chunk bytes (Ok r) well before now = HoldsRecovered chunk bytes r well before now
 OutputHolds chunk bytes (Err refusals.NoMagic) well before now = HoldsNothing bytes well before now
-OutputHolds chunk bytes (Err (refusals.Fault faults)) well before now = HoldsPart chunk bytes well before now
-OutputHolds chunk bytes (Err (refusals.Limit blocks written)) well before now = HoldsPart chunk bytes well before now
-OutputHolds chunk bytes (Err refusals.Memory) well before now = HoldsPart chunk bytes well before now
+OutputHolds chunk bytes (Err (refusals.Refused why)) well before now = UnreadHolds chunk bytes why well before now
+OutputHolds chunk bytes (Err (refusals.Stopped stop)) well before now = HoldsPart chunk bytes well before now
 
 -- ---- the names
 
@@ -92,14 +104,14 @@ pub record Reached (chunk : ℕ) (input out : List ℕ) (old new : WorldState) (
 
 -- the last opening was refused: a failure has its entry, a want of memory none
 abbrev pub IsRefusal : List Opening → Recovery → Type 0
-IsRefusal [] recovery = recovery ≡ recoveries.Refused refusals.Memory
-IsRefusal (entry ∷ []) recovery = ((entry.given ≡ false) × (recovery ≡ recoveries.Unopened)) ⊎ ((entry.given ≡ true) × (recovery ≡ recoveries.Refused refusals.Memory))
+IsRefusal [] recovery = recovery ≡ recoveries.Refused lacks
+IsRefusal (entry ∷ []) recovery = ((entry.given ≡ false) × (recovery ≡ recoveries.Unopened)) ⊎ ((entry.given ≡ true) × (recovery ≡ recoveries.Refused lacks))
 IsRefusal (entry ∷ other ∷ more) recovery = (other.given ≡ false) × (recovery ≡ recoveries.Unopened)
 
 -- an opening failed, or memory lacked for it
 abbrev pub unopened_so : Bool → Recovery
 unopened_so true = recoveries.Unopened
-unopened_so false = recoveries.Refused refusals.Memory
+unopened_so false = recoveries.Refused lacks
 
 abbrev pub recovery_of : Result Recovered RecoverRefused → Recovery
 recovery_of (Ok r) = recoveries.Made r
@@ -128,12 +140,23 @@ unfoldable pub recovered_line : Recovered → List ℕ
 recovered_line r = number_text (codes "recovered messages=") r.messages ++ (number_text (codes " records=") r.records ++ (number_text (codes " extras=") r.extras
     ++ (number_text (codes " at=") r.at ++ (codes " " ++ (why_text r.why ++ codes "\n")))))
 
--- how the recovery ended
+-- how the recovery ended: of what else a reading can be refused for none comes
+abbrev pub unread_ending : ReadingRefused → Ending
+unread_ending (scans.Fault faults) = failing
+unread_ending (scans.Grammar offset rule) = failing
+unread_ending (scans.Compressed offset name) = failing
+unread_ending (scans.Limit offset) = failing
+unread_ending scans.Memory = lacked
+
+abbrev pub stopped_ending : Stop → Ending
+stopped_ending (stops.Fault faults) = failing
+stopped_ending (stops.Limit blocks bytes) = limited
+stopped_ending stops.Memory = lacked
+
 abbrev pub refusal_ending : List ℕ → RecoverRefused → Ending
-refusal_ending input (refusals.Fault faults) = failing
 refusal_ending input refusals.NoMagic = halted (grammar input 0)
-refusal_ending input (refusals.Limit blocks bytes) = limited
-refusal_ending input refusals.Memory = lacked
+refusal_ending input (refusals.Refused why) = unread_ending why
+refusal_ending input (refusals.Stopped stop) = stopped_ending stop
 
 abbrev pub ending_of : List ℕ → Recovery → Ending
 ending_of input recoveries.Unopened = failing
@@ -149,14 +172,26 @@ pub record NamesRecovered (chunk : ℕ) (input out : List ℕ) (old new : WorldS
 
 -- ---- the status
 
+-- a fault is a count that rose, and of what else refuses a reading only want of memory comes
+abbrev pub ReadingDecides : ReadingRefused → ℕ → Type 0
+ReadingDecides (scans.Fault faults) status = ⊥
+ReadingDecides (scans.Grammar offset rule) status = ⊥
+ReadingDecides (scans.Compressed offset name) status = ⊥
+ReadingDecides (scans.Limit offset) status = ⊥
+ReadingDecides scans.Memory status = status ≡ 5
+
+abbrev pub StopDecides : List ℕ → Stop → ℕ → Type 0
+StopDecides bytes (stops.Fault faults) status = ⊥
+StopDecides bytes (stops.Limit blocks written) status = V1 bytes × (status ≡ 4)
+StopDecides bytes stops.Memory status = status ≡ 5
+
 -- Where nothing failed, the first bytes decide, but for want of memory and for the limit of the output.
 abbrev pub Decides : List ℕ → Recovery → ℕ → Type 0
 Decides bytes recoveries.Unopened status = ⊥
 Decides bytes (recoveries.Made r) status = V1 bytes × (status ≡ 0)
-Decides bytes (recoveries.Refused (refusals.Fault faults)) status = ⊥
 Decides bytes (recoveries.Refused refusals.NoMagic) status = (V1 bytes → ⊥) × (status ≡ 1)
-Decides bytes (recoveries.Refused (refusals.Limit blocks written)) status = V1 bytes × (status ≡ 4)
-Decides bytes (recoveries.Refused refusals.Memory) status = status ≡ 5
+Decides bytes (recoveries.Refused (refusals.Refused why)) status = ReadingDecides why status
+Decides bytes (recoveries.Refused (refusals.Stopped stop)) status = StopDecides bytes stop status
 
 -- ---- the command
 

@@ -5,16 +5,19 @@ ghost use Rattle.mcap_wire.specs.Limits.{chunk_size_limit};
 ghost use Rattle.command_base.specs.Printing.{Takes};
 ghost use Rattle.command_base.specs.Ran.{scene};
 ghost use Rattle.output_commands.specs.SomeInputs.{InputsOpened};
-ghost use Rattle.output_commands.specs.SomeOutput.{AreFew, HaltsWell, text_of, halts_in, is_limited, is_lack, halted_lists};
-ghost use Rattle.output_commands.specs.Merge.{merging_of as came_to, unopened_so, name_at, refusal_ending, ending_of, NamesMerged, MergesFiles};
+ghost use Rattle.output_commands.specs.SomeOutput.{AreFew, text_of, halts_in, is_limited, is_lack, halted_lists};
+ghost use Rattle.command_base.specs.Texts.{complained};
+ghost use Rattle.command_base.specs.OneFile.{Ending as OneEnding, troubles_in};
+ghost use Rattle.output_commands.specs.Merge.{merging_of as came_to, unopened_so, name_at, ending_at, stop_ending, merge_ending, ending_of, NamesMerged, MergesFiles};
 
 use crate::blaming::{Halted, answer_inputs, failed_parts};
 use crate::failures::is_failed;
 use crate::inputs::{Room, add_refused, keep_inputs, make_room, open_inputs};
 use crate::merged_line::line_of_merged;
-use command_base::{Complaint, Counts, has_failed};
+use command_base::{Complaint, Counts, has_failed, lacks_memory, reading_complaint};
 use mcap_io::{LiveStore, Sink, World, write_all_of};
 use mcap_merge::{MergeRefused, Merged, merge};
+use mcap_model::Stop;
 use mcap_wire::Text;
 use std::alloc::Global;
 
@@ -56,7 +59,7 @@ fn unopened(failed: bool) -> Merging
         return Merging::Unopened;
     }
     return Merging::Refused {
-        why: MergeRefused::Memory,
+        why: MergeRefused::Stopped { stop: Stop::Memory },
     };
 }
 
@@ -170,55 +173,53 @@ fn print_merging<O: Sink>(out: &mut O, inputs: &[Text], merging: &Merging)
     }
 }
 
-// The name of the input of that number, from 0.
+// The name of the input of that number, from 0, or an empty one where there is none.
 fn name_of(inputs: &[Text], number: u32) -> &str
-    requires { number < length inputs.now }
     ensures { result.now ≡ name_at inputs.now number }
 {
-    inputs[number as usize].as_str()
+    let n = number as usize;
+    if n >= inputs.len() {
+        return "";
+    }
+    return inputs[n].as_str();
+}
+
+// The input that was halted, and the complaint of it, if there is one.
+#[tactic(auto, using(crate::proofs::Halting::halted_some, crate::proofs::Halting::halted_none))]
+fn halted_at(input: u32, complaint: Option<Complaint<'_>>) -> Option<Halted<'_>>
+    ensures { (ending : OneEnding) → complained complaint.entry ≡ troubles_in ending → halted_lists result ≡ halts_in (ending_at input ending) }
+{
+    match complaint {
+        Some(complaint) => Some(Halted {
+            input: input as usize,
+            complaint,
+        }),
+        None => None,
+    }
 }
 
 // The input that couldn't be read, and the complaint of it, where a merge was refused for that.
 fn halted_by<'a>(inputs: &'a [Text], why: &'a MergeRefused) -> Option<Halted<'a>>
-    requires { HaltsWell inputs.now (refusal_ending inputs.now why.now) }
-    ensures { halted_lists result ≡ halts_in (refusal_ending inputs.now why.now) }
+    ensures { halted_lists result ≡ halts_in (merge_ending inputs.now why.now) }
 {
     match why {
-        MergeRefused::Grammar { input, offset } => Some(Halted {
+        MergeRefused::Halted { input, why } => {
+            return halted_at(*input, reading_complaint(name_of(inputs, *input), why));
+        }
+        MergeRefused::Changed { input, offset } => return Some(Halted {
             input: *input as usize,
             complaint: Complaint::Grammar {
                 name: name_of(inputs, *input),
                 offset: *offset,
             },
         }),
-        MergeRefused::Compressed {
-            input,
-            offset,
-            name,
-        } => Some(Halted {
-            input: *input as usize,
-            complaint: Complaint::Compressed {
-                name: name_of(inputs, *input),
-                compression: name.as_str(),
-                offset: *offset,
-            },
-        }),
-        MergeRefused::Limit { input, offset } => Some(Halted {
-            input: *input as usize,
-            complaint: Complaint::Limit {
-                name: name_of(inputs, *input),
-                offset: *offset,
-            },
-        }),
-        MergeRefused::Fault { .. } | MergeRefused::Memory => None,
-        MergeRefused::TooManySchemas | MergeRefused::TooManyChannels => None,
-        MergeRefused::FileLimit { .. } => None,
+        MergeRefused::TooManySchemas | MergeRefused::TooManyChannels => return None,
+        MergeRefused::Stopped { .. } => return None,
     }
 }
 
 // The same of what a merging came to.
 fn halted_in<'a>(inputs: &'a [Text], merging: &'a Merging) -> Option<Halted<'a>>
-    requires { HaltsWell inputs.now (ending_of inputs.now merging.now) }
     ensures { halted_lists result ≡ halts_in (ending_of inputs.now merging.now) }
 {
     match merging {
@@ -227,23 +228,58 @@ fn halted_in<'a>(inputs: &'a [Text], merging: &'a Merging) -> Option<Halted<'a>>
     }
 }
 
+// Whether the writing stopped at a limit.
+fn stops_at_limit(stop: &Stop) -> bool
+    ensures { result ≡ is_limited (stop_ending stop.now) }
+{
+    match stop {
+        Stop::Limit { .. } => true,
+        Stop::Fault { .. } | Stop::Memory => false,
+    }
+}
+
+// Whether it stopped for want of memory.
+fn stops_for_memory(stop: &Stop) -> bool
+    ensures { result ≡ is_lack (stop_ending stop.now) }
+{
+    match stop {
+        Stop::Memory => true,
+        Stop::Fault { .. } | Stop::Limit { .. } => false,
+    }
+}
+
+// Whether a merge was refused since the output would pass a limit.
+#[tactic(auto, using(crate::proofs::Halting::halted_unlimited))]
+fn is_refused_at_limit(why: &MergeRefused) -> bool
+    ensures { (inputs : List (List ℕ)) → result ≡ is_limited (merge_ending inputs why.now) }
+{
+    match why {
+        MergeRefused::TooManySchemas | MergeRefused::TooManyChannels => return true,
+        MergeRefused::Stopped { stop } => return stops_at_limit(stop),
+        MergeRefused::Halted { .. } => return false,
+        MergeRefused::Changed { .. } => return false,
+    }
+}
+
+// Whether it was for want of memory.
+#[tactic(auto, using(crate::proofs::Halting::halted_lack))]
+fn is_refused_for_memory(why: &MergeRefused) -> bool
+    ensures { (inputs : List (List ℕ)) → result ≡ is_lack (merge_ending inputs why.now) }
+{
+    match why {
+        MergeRefused::Halted { input: _, why } => return lacks_memory(why),
+        MergeRefused::Stopped { stop } => return stops_for_memory(stop),
+        MergeRefused::TooManySchemas | MergeRefused::TooManyChannels => return false,
+        MergeRefused::Changed { .. } => return false,
+    }
+}
+
 // Whether the output would pass a limit.
 fn is_at_limit(merging: &Merging) -> bool
     ensures { (inputs : List (List ℕ)) → result ≡ is_limited (ending_of inputs merging.now) }
 {
     match merging {
-        Merging::Refused {
-            why: MergeRefused::TooManySchemas
-            | MergeRefused::TooManyChannels
-            | MergeRefused::FileLimit { .. },
-        } => true,
-        Merging::Refused {
-            why: MergeRefused::Fault { .. }
-            | MergeRefused::Grammar { .. }
-            | MergeRefused::Compressed { .. }
-            | MergeRefused::Limit { .. }
-            | MergeRefused::Memory,
-        } => false,
+        Merging::Refused { why } => is_refused_at_limit(why),
         Merging::Unopened | Merging::Made { .. } => false,
     }
 }
@@ -253,18 +289,7 @@ fn has_lacked(merging: &Merging) -> bool
     ensures { (inputs : List (List ℕ)) → result ≡ is_lack (ending_of inputs merging.now) }
 {
     match merging {
-        Merging::Refused {
-            why: MergeRefused::Memory,
-        } => true,
-        Merging::Refused {
-            why: MergeRefused::Fault { .. }
-            | MergeRefused::Grammar { .. }
-            | MergeRefused::Compressed { .. }
-            | MergeRefused::Limit { .. }
-            | MergeRefused::TooManySchemas
-            | MergeRefused::TooManyChannels
-            | MergeRefused::FileLimit { .. },
-        } => false,
+        Merging::Refused { why } => is_refused_for_memory(why),
         Merging::Unopened | Merging::Made { .. } => false,
     }
 }

@@ -11,11 +11,12 @@ use crate::failures::{answer_output, failures_of, is_failed};
 use crate::recovered_line::line_of_recovered;
 use command_base::{Complaint, Counts, has_failed};
 use mcap_io::{LiveStore, Sink, Source, World, write_all_of};
+use mcap_model::{ReadingRefused, Stop};
 use mcap_recover::{RecoverRefused, Recovered, recover};
 use std::alloc::Global;
 
 /// What the recovery of a file came to.
-#[derive(Clone, Copy)]
+#[derive(Drop)]
 pub enum Recovery {
     /// The world failed to open one of both names.
     Unopened,
@@ -26,7 +27,7 @@ pub enum Recovery {
 }
 
 /// What became of both names: the recovery, and for each whether its opening, its object or the keeping failed.
-#[derive(Clone, Copy)]
+#[derive(Drop)]
 pub struct Restored {
     pub recovery: Recovery,
     pub input_failed: bool,
@@ -51,7 +52,9 @@ fn unopened(failed: bool) -> Recovery
         return Recovery::Unopened;
     }
     return Recovery::Refused {
-        why: RecoverRefused::Memory,
+        why: RecoverRefused::Refused {
+            why: ReadingRefused::Memory,
+        },
     };
 }
 
@@ -106,12 +109,12 @@ fn recover_names<W: World>(
 }
 
 // Prints the line of what was recovered, if something was. It takes no memory.
-fn print_recovery<O: Sink>(out: &mut O, recovery: Recovery)
-    ensures { (input : List ℕ) → Takes (O.state out.old) (O.state out.new) (text_of (ending_of input recovery)) }
+fn print_recovery<O: Sink>(out: &mut O, recovery: &Recovery)
+    ensures { (input : List ℕ) → Takes (O.state out.old) (O.state out.new) (text_of (ending_of input recovery.now)) }
 {
     match recovery {
         Recovery::Made { recovered } => {
-            let line = line_of_recovered(recovered);
+            let line = line_of_recovered(*recovered);
             match write_all_of(out, line.as_bytes()) {
                 Ok(()) => return,
                 Err(_) => return,
@@ -123,8 +126,8 @@ fn print_recovery<O: Sink>(out: &mut O, recovery: Recovery)
 }
 
 // The complaint of a source that doesn't begin with the magic.
-fn halt_complaint(input: &str, recovery: Recovery) -> Option<Complaint<'_>>
-    ensures { complained result ≡ halts_in (ending_of input.now recovery) }
+fn halt_complaint<'a>(input: &'a str, recovery: &Recovery) -> Option<Complaint<'a>>
+    ensures { complained result ≡ halts_in (ending_of input.now recovery.now) }
 {
     match recovery {
         Recovery::Refused {
@@ -134,43 +137,40 @@ fn halt_complaint(input: &str, recovery: Recovery) -> Option<Complaint<'_>>
             offset: 0,
         }),
         Recovery::Refused {
-            why: RecoverRefused::Fault { .. }
-            | RecoverRefused::Limit { .. }
-            | RecoverRefused::Memory,
+            why: RecoverRefused::Refused { .. } | RecoverRefused::Stopped { .. },
         } => None,
         Recovery::Unopened | Recovery::Made { .. } => None,
     }
 }
 
 // Whether the output would pass a limit.
-fn is_at_limit(recovery: Recovery) -> bool
-    ensures { (input : List ℕ) → result ≡ is_limited (ending_of input recovery) }
+fn is_at_limit(recovery: &Recovery) -> bool
+    ensures { (input : List ℕ) → result ≡ is_limited (ending_of input recovery.now) }
 {
     match recovery {
         Recovery::Refused {
-            why: RecoverRefused::Limit { .. },
+            why: RecoverRefused::Stopped {
+                stop: Stop::Limit { .. },
+            },
         } => true,
-        Recovery::Refused {
-            why: RecoverRefused::Fault { .. } | RecoverRefused::NoMagic | RecoverRefused::Memory,
-        } => false,
-        Recovery::Unopened | Recovery::Made { .. } => false,
+        Recovery::Refused { .. } | Recovery::Unopened | Recovery::Made { .. } => false,
     }
 }
 
 // Whether memory lacked.
-fn has_lacked(recovery: Recovery) -> bool
-    ensures { (input : List ℕ) → result ≡ is_lack (ending_of input recovery) }
+fn has_lacked(recovery: &Recovery) -> bool
+    ensures { (input : List ℕ) → result ≡ is_lack (ending_of input recovery.now) }
 {
     match recovery {
         Recovery::Refused {
-            why: RecoverRefused::Memory,
+            why: RecoverRefused::Refused {
+                why: ReadingRefused::Memory,
+            },
         } => true,
         Recovery::Refused {
-            why: RecoverRefused::Fault { .. }
-            | RecoverRefused::NoMagic
-            | RecoverRefused::Limit { .. },
-        } => false,
-        Recovery::Unopened | Recovery::Made { .. } => false,
+            why: RecoverRefused::Stopped { stop: Stop::Memory },
+        } => true,
+        Recovery::Refused { .. } | Recovery::Unopened | Recovery::Made { .. } => false,
     }
 }
 
@@ -196,13 +196,13 @@ pub fn recover_file<W: World, O: Sink, E: Sink>(
 {
     let before = Counts::of(world, out);
     let restored = recover_names(alloc, chunk, input, out_name, world);
-    print_recovery(out, restored.recovery);
+    print_recovery(out, &restored.recovery);
     let now = Counts::of(world, out);
     let failed = failures_of(&before, &now, restored.input_failed, restored.out_failed);
-    let halt = halt_complaint(input, restored.recovery);
+    let halt = halt_complaint(input, &restored.recovery);
     let (limited, lacked) = (
-        is_at_limit(restored.recovery),
-        has_lacked(restored.recovery),
+        is_at_limit(&restored.recovery),
+        has_lacked(&restored.recovery),
     );
     answer_output(err, input, out_name, halt, limited, lacked, failed)
 }

@@ -6,9 +6,12 @@ use Rattle.recorder.specs.declared.report.Report.{Report}
 use Rattle.feed_lane.specs.declared.report.FeedReport.{FeedReport}
 use Rattle.feed_lane.specs.declared.report.FeedEnd.{FeedEnd}
 use Rattle.feed_lane.specs.declared.report.FeedEnd.TheVariants as feed_ends
+use Rattle.mcap_model.specs.declared.refusals.ReadingRefused.{ReadingRefused}
+use Rattle.mcap_model.specs.declared.refusals.ReadingRefused.TheVariants as refusals
+use Rattle.command_base.specs.OneFile.{refusal_ending, troubles_in}
 use Rattle.command_base.specs.Texts.{Trouble, fault, output_fault, output_limit, no_memory, asked_status, is_asked, status_of}
 use Rattle.command_base.specs.Ran.{when, first_failed, told_of, troubles_of}
-use Rattle.record_command.specs.Record.{files_of, end_troubles, end_status, ends_of, reports_in, limit_passed, findings_of, some_failed, failed_of, worst}
+use Rattle.record_command.specs.Record.{files_of, end_troubles, refusal_status, end_status, ends_of, reports_in, limit_passed, findings_of, some_failed, failed_of, worst}
 
 -- ---- what the feeds ask for
 
@@ -62,79 +65,54 @@ asked_told s (feed ∷ feeds) (report ∷ reports) flags behind =
     asked_first s (end_troubles feed report.end) (when (first_failed flags) (fault feed)) (told_of feeds (ends_of feeds reports) (drop 1 flags) behind) true true _ (asked_told s feeds reports (drop 1 flags) behind)
     ∙ shuffled (is_asked (end_troubles feed report.end) s) (is_asked (when (first_failed flags) (fault feed)) s) (halts_ask s feeds reports) (faults_ask s feeds (drop 1 flags)) (is_asked behind s)
 
-end_two : (feed : List ℕ) (end : FeedEnd) → is_asked (end_troubles feed end) 2 ≡ false
-end_two feed feed_ends.Done = refl
-end_two feed (feed_ends.Grammar n) = refl
-end_two feed (feed_ends.Compressed n name) = refl
-end_two feed (feed_ends.Limit n) = refl
-end_two feed (feed_ends.Fault faults) = refl
-end_two feed feed_ends.Memory = refl
-end_two feed feed_ends.Ended = refl
+-- which status some troubles ask for: that one, or none
+record AskFor (troubles : List Trouble) (status : ℕ) : Type 0 where
+  pub one : is_asked troubles 1 ≡ (status == 1)
+  pub two : is_asked troubles 2 ≡ false
+  pub three : is_asked troubles 3 ≡ false
+  pub four : is_asked troubles 4 ≡ (status == 4)
+  pub five : is_asked troubles 5 ≡ false
+
+refusal_asks : (feed : List ℕ) (why : ReadingRefused) → AskFor (troubles_in (refusal_ending feed why)) (refusal_status why)
+refusal_asks feed (refusals.Fault faults) = record { one = refl; two = refl; three = refl; four = refl; five = refl }
+refusal_asks feed (refusals.Grammar n rule) = record { one = refl; two = refl; three = refl; four = refl; five = refl }
+refusal_asks feed (refusals.Compressed n name) = record { one = refl; two = refl; three = refl; four = refl; five = refl }
+refusal_asks feed (refusals.Limit n) = record { one = refl; two = refl; three = refl; four = refl; five = refl }
+refusal_asks feed refusals.Memory = record { one = refl; two = refl; three = refl; four = refl; five = refl }
+
+end_asks : (feed : List ℕ) (end : FeedEnd) → AskFor (end_troubles feed end) (end_status end)
+end_asks feed feed_ends.Done = record { one = refl; two = refl; three = refl; four = refl; five = refl }
+end_asks feed (feed_ends.Refused why) = refusal_asks feed why
+end_asks feed feed_ends.Ended = record { one = refl; two = refl; three = refl; four = refl; five = refl }
 
 pub halts_two : (feeds : List (List ℕ)) (reports : List FeedReport) → halts_ask 2 feeds reports ≡ false
 halts_two [] reports = refl
 halts_two (feed ∷ feeds) [] = refl
-halts_two (feed ∷ feeds) (report ∷ reports) = ap (λ (b : Bool). b || halts_ask 2 feeds reports) (end_two feed report.end) ∙ halts_two feeds reports
-
-end_three : (feed : List ℕ) (end : FeedEnd) → is_asked (end_troubles feed end) 3 ≡ false
-end_three feed feed_ends.Done = refl
-end_three feed (feed_ends.Grammar n) = refl
-end_three feed (feed_ends.Compressed n name) = refl
-end_three feed (feed_ends.Limit n) = refl
-end_three feed (feed_ends.Fault faults) = refl
-end_three feed feed_ends.Memory = refl
-end_three feed feed_ends.Ended = refl
+halts_two (feed ∷ feeds) (report ∷ reports) = ap (λ (b : Bool). b || halts_ask 2 feeds reports) (end_asks feed report.end).two ∙ halts_two feeds reports
 
 pub halts_three : (feeds : List (List ℕ)) (reports : List FeedReport) → halts_ask 3 feeds reports ≡ false
 halts_three [] reports = refl
 halts_three (feed ∷ feeds) [] = refl
-halts_three (feed ∷ feeds) (report ∷ reports) = ap (λ (b : Bool). b || halts_ask 3 feeds reports) (end_three feed report.end) ∙ halts_three feeds reports
-
-end_five : (feed : List ℕ) (end : FeedEnd) → is_asked (end_troubles feed end) 5 ≡ false
-end_five feed feed_ends.Done = refl
-end_five feed (feed_ends.Grammar n) = refl
-end_five feed (feed_ends.Compressed n name) = refl
-end_five feed (feed_ends.Limit n) = refl
-end_five feed (feed_ends.Fault faults) = refl
-end_five feed feed_ends.Memory = refl
-end_five feed feed_ends.Ended = refl
+halts_three (feed ∷ feeds) (report ∷ reports) = ap (λ (b : Bool). b || halts_ask 3 feeds reports) (end_asks feed report.end).three ∙ halts_three feeds reports
 
 pub halts_five : (feeds : List (List ℕ)) (reports : List FeedReport) → halts_ask 5 feeds reports ≡ false
 halts_five [] reports = refl
 halts_five (feed ∷ feeds) [] = refl
-halts_five (feed ∷ feeds) (report ∷ reports) = ap (λ (b : Bool). b || halts_ask 5 feeds reports) (end_five feed report.end) ∙ halts_five feeds reports
-
-end_four : (feed : List ℕ) (end : FeedEnd) → is_asked (end_troubles feed end) 4 ≡ (end_status end == 4)
-end_four feed feed_ends.Done = refl
-end_four feed (feed_ends.Grammar n) = refl
-end_four feed (feed_ends.Compressed n name) = refl
-end_four feed (feed_ends.Limit n) = refl
-end_four feed (feed_ends.Fault faults) = refl
-end_four feed feed_ends.Memory = refl
-end_four feed feed_ends.Ended = refl
+halts_five (feed ∷ feeds) (report ∷ reports) = ap (λ (b : Bool). b || halts_ask 5 feeds reports) (end_asks feed report.end).five ∙ halts_five feeds reports
 
 pub halts_four : (feeds : List (List ℕ)) (reports : List FeedReport) → length reports ≤ length feeds → halts_ask 4 feeds reports ≡ list_any (λ (n : ℕ). n == 4) (map (λ (f : FeedReport). end_status f.end) reports)
 halts_four [] [] few = refl
 halts_four [] (report ∷ reports) few = absurd (omega (arith, few))
 halts_four (feed ∷ feeds) [] few = refl
 halts_four (feed ∷ feeds) (report ∷ reports) few =
-    ap (λ (b : Bool). b || halts_ask 4 feeds reports) (end_four feed report.end) ∙ ap (λ (b : Bool). (end_status report.end == 4) || b) (halts_four feeds reports (omega (arith, few)))
-
-end_one : (feed : List ℕ) (end : FeedEnd) → is_asked (end_troubles feed end) 1 ≡ (end_status end == 1)
-end_one feed feed_ends.Done = refl
-end_one feed (feed_ends.Grammar n) = refl
-end_one feed (feed_ends.Compressed n name) = refl
-end_one feed (feed_ends.Limit n) = refl
-end_one feed (feed_ends.Fault faults) = refl
-end_one feed feed_ends.Memory = refl
-end_one feed feed_ends.Ended = refl
+    ap (λ (b : Bool). b || halts_ask 4 feeds reports) (end_asks feed report.end).four ∙ ap (λ (b : Bool). (end_status report.end == 4) || b) (halts_four feeds reports (omega (arith, few)))
 
 pub halts_one : (feeds : List (List ℕ)) (reports : List FeedReport) → length reports ≤ length feeds → halts_ask 1 feeds reports ≡ list_any (λ (n : ℕ). n == 1) (map (λ (f : FeedReport). end_status f.end) reports)
 halts_one [] [] few = refl
 halts_one [] (report ∷ reports) few = absurd (omega (arith, few))
 halts_one (feed ∷ feeds) [] few = refl
 halts_one (feed ∷ feeds) (report ∷ reports) few =
-    ap (λ (b : Bool). b || halts_ask 1 feeds reports) (end_one feed report.end) ∙ ap (λ (b : Bool). (end_status report.end == 1) || b) (halts_one feeds reports (omega (arith, few)))
+    ap (λ (b : Bool). b || halts_ask 1 feeds reports) (end_asks feed report.end).one ∙ ap (λ (b : Bool). (end_status report.end == 1) || b) (halts_one feeds reports (omega (arith, few)))
 
 fault_two : (feed : List ℕ) (b : Bool) → is_asked (when b (fault feed)) 2 ≡ false
 fault_two feed true = refl

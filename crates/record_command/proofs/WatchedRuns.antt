@@ -427,7 +427,7 @@ module _ (options : RecordOptions) (range : Range) (out : List ℕ) (watches fee
   -- ---- all was recorded
 
   abbrev Watched : {X : Type 0} → (X → Option (List ℕ)) → Report → List WatchReport → Bool → Type 0
-  Watched tells r reports sealed = RecordedWatched tells options range (sides b.ss b.live) (sides b.ss_now b.live_now) b.ks r (record { sinks = b.ks_now; views = b.views; reports = reports; sealed = sealed })
+  Watched tells r reports sealed = RecordedWatched tells options range (sides b.ss b.live) (sides b.ss_now b.live_now) r (record { handed = b.ks; sinks = b.ks_now; views = b.views; reports = reports; sealed = sealed })
 
   ends_are : {X : Type 0} (tells : X → Option (List ℕ)) (r : Report) (reports : List WatchReport) (sealed : Bool) (it : Watched tells r reports sealed) → Each (λ (w : Watch). EndsSo b.live it.viewed sealed w w.report.end) it.watches
   ends_are tells r reports sealed it n w at =
@@ -575,4 +575,4 @@ module _ (options : RecordOptions) (range : Range) (out : List ℕ) (watches fee
   all_watched tells outcome whole none flags_are out_is ends_added same (size, chunked) made law =
       all_by tells outcome outcome.report refl whole none flags_are out_is ends_added same (λ r here.
       let it = made r here in
-      (it, λ told there readable sealed. law options range (sides b.ss b.live) (sides b.ss_now b.live_now) b.ks r (record { sinks = b.ks_now; views = b.views; reports = outcome.watches.items; sealed = outcome.sealed }) it readable size chunked [] (nothing_yet out feeds names b told there) sealed))
+      (it, λ told there readable sealed. law options range (sides b.ss b.live) (sides b.ss_now b.live_now) r (record { handed = b.ks; sinks = b.ks_now; views = b.views; reports = outcome.watches.items; sealed = outcome.sealed }) it readable size chunked [] (nothing_yet out feeds names b told there) sealed))

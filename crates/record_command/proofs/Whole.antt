@@ -15,6 +15,8 @@ use Rattle.mcap_model.specs.Kept.{Halt, reading_limits, at_end, grammar as break
 use Rattle.mcap_model.proofs.Halting.{readings_halt_once}
 use Rattle.chunk_writer.specs.Stops.{Cause as WriterCause}
 use Rattle.feed_lane.specs.declared.report.FeedReport.{FeedReport}
+use Rattle.mcap_model.specs.declared.refusals.ReadingRefused.{ReadingRefused}
+use Rattle.mcap_model.specs.declared.refusals.ReadingRefused.TheVariants as refusals
 use Rattle.feed_lane.specs.declared.report.FeedEnd.{FeedEnd}
 use Rattle.feed_lane.specs.declared.report.FeedEnd.TheVariants as feed_ends
 use Rattle.feed_lane.specs.declared.report.Refused.{Refused}
@@ -33,7 +35,7 @@ use Rattle.command_base.specs.Texts.{halt_status}
 use Rattle.command_base.specs.Ran.{Scene, counts_in, AnyRose, CountsKept, input_faults, output_faults}
 use Rattle.recorder.proofs.Unfull.{lossless_refuses_none_as_full}
 use Rattle.feed_lane.specs.Causes.{is_over, is_memory}
-use Rattle.record_command.specs.Record.{FeedKept, entry_of, live_entry, back_sources, Reported, EndsWith, worst, ends_status, IsAllRecorded, RecordsAll, HaltsThere, end_status, is_full, is_limit, is_memory_end, is_memory_writer, passes_limit, lacks_memory, limit_passed, LackIsTold}
+use Rattle.record_command.specs.Record.{FeedKept, entry_of, live_entry, back_sources, Reported, EndsWith, worst, ends_status, IsAllRecorded, RecordsAll, HaltsThere, refusal_status, end_status, is_full, is_limit, is_memory_end, is_memory_writer, passes_limit, lacks_memory, limit_passed, LackIsTold}
 use Rattle.record_command.proofs.Runs.{input_faults-append, output_faults-append}
 use Rattle.record_command.proofs.Sources.{zip_long}
 
@@ -87,7 +89,7 @@ any_at p (y ∷ xs) (suc k) x at is = or_right (p y) (list_any p xs) (any_at p x
 none_at : {X : Type 0} (p : X → Bool) (xs : List X) (k : ℕ) (x : X) → list_any p xs ≡ false → At xs k x → p x ≡ false
 none_at p xs k x none at = false_from_ne_true (p x) (λ is. both_ways (list_any p xs) none (any_at p xs k x at is))
 
-feed_lacks : (r : Report) (n : ℕ) (f : FeedReport) → At r.feeds.items n f → f.end ≡ feed_ends.Memory → lacks_memory r ≡ true
+feed_lacks : (r : Report) (n : ℕ) (f : FeedReport) → At r.feeds.items n f → f.end ≡ feed_ends.Refused refusals.Memory → lacks_memory r ≡ true
 feed_lacks r n f at is =
     or_right (is_memory_writer r.writer.end) _ (any_at (λ (g : FeedReport). is_memory_end g.end || list_any (λ (x : Refused). is_memory x.cause) g.refused.items) r.feeds.items n f at
     (or_left (is_memory_end f.end) _ (ap is_memory_end is)))
@@ -230,22 +232,25 @@ module _ (options : RecordOptions) (feeds : List (List ℕ)) (old new : WorldSta
           | inr why ↦ why
         ]
 
-    fault_why : (faults : ℕ) → f.feed.end ≡ feed_ends.Fault faults → Hindered old new r
+    fault_why : (faults : ℕ) → f.feed.end ≡ feed_ends.Refused (refusals.Fault faults) → Hindered old new r
     fault_why faults failed =
         let stood = subst (λ (e : FeedEnd). FeedEnds f.before f.now f.reports.tops e) failed f.reports.ends in
         let some : 1 ≤ f.now.faults = omega (arith, stood.rises.once, is.unused n f.before before_at) in
         inl (first_rose old.input_faults new.input_faults (input_faults (map entry_of is.kept_feeds)) inputs_fit is.inputs (fault_counts is.kept_feeds n f.now now_at some))
 
-    memory_why : f.feed.end ≡ feed_ends.Memory → Hindered old new r
+    memory_why : f.feed.end ≡ feed_ends.Refused refusals.Memory → Hindered old new r
     memory_why lacked = inr (inr (inl (feed_lacks r n f.feed report_at lacked)))
+
+    refusal_why : (why : ReadingRefused) → f.feed.end ≡ feed_ends.Refused why → refusal_status why ≡ 0 → Hindered old new r
+    refusal_why (refusals.Fault faults) same status = fault_why faults same
+    refusal_why (refusals.Grammar m rule) same status = absurd (omega (arith, status))
+    refusal_why (refusals.Compressed m name) same status = absurd (omega (arith, status))
+    refusal_why (refusals.Limit m) same status = absurd (omega (arith, status))
+    refusal_why refusals.Memory same status = memory_why same
 
     done_or : (end : FeedEnd) → f.feed.end ≡ end → end_status end ≡ 0 → (f.feed.end ≡ feed_ends.Done) ⊎ Hindered old new r
     done_or feed_ends.Done same status = inl same
-    done_or (feed_ends.Grammar m) same status = absurd (omega (arith, status))
-    done_or (feed_ends.Compressed m name) same status = absurd (omega (arith, status))
-    done_or (feed_ends.Limit m) same status = absurd (omega (arith, status))
-    done_or (feed_ends.Fault faults) same status = inr (fault_why faults same)
-    done_or feed_ends.Memory same status = inr (memory_why same)
+    done_or (feed_ends.Refused why) same status = inr (refusal_why why same status)
     done_or feed_ends.Ended same status = inr (end_why same)
 
     -- ---- its bytes decide
@@ -272,13 +277,16 @@ module _ (options : RecordOptions) (feeds : List (List ℕ)) (old new : WorldSta
       one_status : (others : List Top) (other : Halt) → Halts reading_limits bytes others other → halt_status other ≡ halt_status halt
       one_status others other found = same_status other halt (readings_halt_once bytes others tops other halt found halts).1
 
+      refusal_decides : (why : ReadingRefused) → f.feed.end ≡ feed_ends.Refused why → FeedEnds f.before f.now f.reports.tops (feed_ends.Refused why) → (refusal_status why ≡ halt_status halt) ⊎ Hindered old new r
+      refusal_decides (refusals.Fault faults) same came = inr (fault_why faults same)
+      refusal_decides (refusals.Grammar m rule) same came = inl (one_status f.reports.tops (breaks m rule) (came.halts bytes here))
+      refusal_decides (refusals.Compressed m name) same came = inl (one_status f.reports.tops (names m name) (came.halts bytes here))
+      refusal_decides (refusals.Limit m) same came = inl (one_status f.reports.tops (beyond m) (came.halts bytes here))
+      refusal_decides refusals.Memory same came = inr (memory_why same)
+
       decides : (end : FeedEnd) → f.feed.end ≡ end → FeedEnds f.before f.now f.reports.tops end → (end_status end ≡ halt_status halt) ⊎ Hindered old new r
       decides feed_ends.Done same came = inl (one_status f.reports.tops (at_end came.0) (came.1.halts bytes here))
-      decides (feed_ends.Grammar m) same came = inl (one_status f.reports.tops (breaks m came.0) (came.1.halts bytes here))
-      decides (feed_ends.Compressed m name) same came = inl (one_status f.reports.tops (names m name) (came.halts bytes here))
-      decides (feed_ends.Limit m) same came = inl (one_status f.reports.tops (beyond m) (came.halts bytes here))
-      decides (feed_ends.Fault faults) same came = inr (fault_why faults same)
-      decides feed_ends.Memory same came = inr (memory_why same)
+      decides (feed_ends.Refused why) same came = refusal_decides why same came
       decides feed_ends.Ended same came = inr (end_why same)
 
       decided_or : (end_status f.feed.end ≡ halt_status halt) ⊎ Hindered old new r
@@ -341,13 +349,16 @@ neither true one is = absurd (omega (arith, is))
 neither false true is = absurd (omega (arith, is))
 neither false false is = (refl, refl)
 
+no_refusal : (why : ReadingRefused) → (refusal_status why == 4) ≡ false → (refusal_status why == 1) ≡ false → refusal_status why ≡ 0
+no_refusal (refusals.Fault faults) four one = refl
+no_refusal (refusals.Grammar n rule) four one = absurd cc
+no_refusal (refusals.Compressed n name) four one = absurd cc
+no_refusal (refusals.Limit n) four one = absurd cc
+no_refusal refusals.Memory four one = refl
+
 no_other : (end : FeedEnd) → (end_status end == 4) ≡ false → (end_status end == 1) ≡ false → end_status end ≡ 0
 no_other feed_ends.Done four one = refl
-no_other (feed_ends.Grammar n) four one = absurd cc
-no_other (feed_ends.Compressed n name) four one = absurd cc
-no_other (feed_ends.Limit n) four one = absurd cc
-no_other (feed_ends.Fault faults) four one = refl
-no_other feed_ends.Memory four one = refl
+no_other (feed_ends.Refused why) four one = no_refusal why four one
 no_other feed_ends.Ended four one = refl
 
 -- where none is worse than 0 each is 0

@@ -8,6 +8,8 @@ use Rattle.rec_data.specs.declared.owned.Rec.{Rec}
 use Rattle.mcap_model.specs.declared.ends.End.{End}
 use Rattle.mcap_model.specs.declared.ends.End.TheVariants as ends
 use Rattle.mcap_model.specs.declared.ends.Stop.TheVariants as stops
+use Rattle.mcap_model.specs.declared.refusals.ReadingRefused.{ReadingRefused}
+use Rattle.mcap_model.specs.declared.refusals.ReadingRefused.TheVariants as refusals
 use Rattle.mcap_model.specs.declared.options.FileOptions.{FileOptions}
 use Rattle.mcap_model.specs.Places.{Has, Each}
 use Rattle.mcap_model.specs.Tops.{Top}
@@ -26,7 +28,8 @@ use Rattle.recorder.specs.declared.report.WriterReport.{WriterReport}
 use Rattle.recorder.specs.Recorded.{sides, Recorded}
 use Rattle.command_base.specs.declared.faults.Counts.{Counts}
 use Rattle.record_command.specs.declared.answering.Outcome.{Outcome}
-use Rattle.command_base.specs.Texts.{Trouble, grammar, compressed, limit, output_limit, halt_status}
+use Rattle.command_base.specs.Texts.{Trouble, output_limit, halt_status}
+use Rattle.command_base.specs.OneFile.{refusal_ending, troubles_in, is_lack}
 use Rattle.command_words.specs.Commands.{feed_limit}
 use Rattle.record_command.specs.ReportTexts.{printed}
 use Rattle.command_base.specs.Ran.{Scene, counts_in, AnyRose, Files, wanted, kept, AreOpened, Leaves, input_faults, output_faults, CountsKept, has_failed, failed_names, blamed_names, when, Findings, Failed, Ran}
@@ -125,20 +128,20 @@ report_text (Some r) = printed r
 -- the trouble that a feed's end is
 abbrev pub end_troubles : List ℕ → FeedEnd → List Trouble
 end_troubles feed feed_ends.Done = []
-end_troubles feed (feed_ends.Grammar n) = grammar feed n ∷ []
-end_troubles feed (feed_ends.Compressed n name) = compressed feed name n ∷ []
-end_troubles feed (feed_ends.Limit n) = limit feed n ∷ []
-end_troubles feed (feed_ends.Fault faults) = []
-end_troubles feed feed_ends.Memory = []
+end_troubles feed (feed_ends.Refused why) = troubles_in (refusal_ending feed why)
 end_troubles feed feed_ends.Ended = []
+
+-- the status that a refused reading of a feed asks for; a fault and a want of memory are told by themselves
+abbrev pub refusal_status : ReadingRefused → ℕ
+refusal_status (refusals.Fault faults) = 0
+refusal_status (refusals.Grammar n rule) = 1
+refusal_status (refusals.Compressed n name) = 1
+refusal_status (refusals.Limit n) = 4
+refusal_status refusals.Memory = 0
 
 abbrev pub end_status : FeedEnd → ℕ
 end_status feed_ends.Done = 0
-end_status (feed_ends.Grammar n) = 1
-end_status (feed_ends.Compressed n name) = 1
-end_status (feed_ends.Limit n) = 4
-end_status (feed_ends.Fault faults) = 0
-end_status feed_ends.Memory = 0
+end_status (feed_ends.Refused why) = refusal_status why
 end_status feed_ends.Ended = 0
 
 -- that of the feed of the first report
@@ -165,11 +168,7 @@ passes_limit r = is_limit r.writer.end || list_any (λ f. list_any (λ x. is_ove
 -- memory lacked for a feed, for the file, or for a message
 abbrev pub is_memory_end : FeedEnd → Bool
 is_memory_end feed_ends.Done = false
-is_memory_end (feed_ends.Grammar n) = false
-is_memory_end (feed_ends.Compressed n name) = false
-is_memory_end (feed_ends.Limit n) = false
-is_memory_end (feed_ends.Fault faults) = false
-is_memory_end feed_ends.Memory = true
+is_memory_end (feed_ends.Refused why) = is_lack (refusal_ending [] why)
 is_memory_end feed_ends.Ended = false
 
 abbrev pub is_memory_writer : End → Bool

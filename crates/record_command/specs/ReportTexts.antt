@@ -5,17 +5,22 @@ use Rattle.recorder.specs.declared.report.WriterReport.{WriterReport}
 use Rattle.feed_lane.specs.declared.report.FeedReport.{FeedReport}
 use Rattle.feed_lane.specs.declared.report.FeedEnd.{FeedEnd}
 use Rattle.feed_lane.specs.declared.report.FeedEnd.TheVariants as feed_ends
+use Rattle.mcap_model.specs.declared.refusals.ReadingRefused.{ReadingRefused}
+use Rattle.mcap_model.specs.declared.refusals.ReadingRefused.TheVariants as refusals
 use Rattle.mcap_model.specs.declared.ends.End.{End}
 use Rattle.mcap_model.specs.declared.ends.End.TheVariants as ends
 use Rattle.mcap_model.specs.declared.ends.Stop.TheVariants as stops
 
+abbrev pub refusal_text : ReadingRefused → List ℕ
+refusal_text (refusals.Fault faults) = codes "fault"
+refusal_text (refusals.Grammar n rule) = codes "grammar " ++ decimal n
+refusal_text (refusals.Compressed n name) = codes "compressed " ++ decimal n
+refusal_text (refusals.Limit n) = codes "limit " ++ decimal n
+refusal_text refusals.Memory = codes "memory"
+
 abbrev pub feed_end_text : FeedEnd → List ℕ
 feed_end_text feed_ends.Done = codes "end"
-feed_end_text (feed_ends.Grammar n) = codes "grammar " ++ decimal n
-feed_end_text (feed_ends.Compressed n name) = codes "compressed " ++ decimal n
-feed_end_text (feed_ends.Limit n) = codes "limit " ++ decimal n
-feed_end_text (feed_ends.Fault faults) = codes "fault"
-feed_end_text feed_ends.Memory = codes "memory"
+feed_end_text (feed_ends.Refused why) = refusal_text why
 feed_end_text feed_ends.Ended = codes "ended"
 
 abbrev pub end_text : End → List ℕ

@@ -12,7 +12,7 @@ ghost use Rattle.command_base.specs.Ran.{first_failed, told_of, Complains};
 ghost use Rattle.record_command.specs.Record.{AreFew, end_troubles, first_end, ends_of, reports_in, some_failed, is_limit, passes_limit, is_memory_end, is_memory_writer, lacks_memory as report_lacks, limit_passed};
 
 use arrayvec::ArrayVec;
-use command_base::{Complaint, Counts, complain_of, due_when, rose};
+use command_base::{Complaint, Counts, complain_of, due_when, reading_complaint, rose};
 use mcap_io::Sink;
 use mcap_model::{End, Stop};
 use mcap_wire::Text;
@@ -85,20 +85,8 @@ fn feed_complaint<'a>(feed: &'a str, end: &'a FeedEnd) -> Option<Complaint<'a>>
     ensures { complained result ≡ end_troubles feed.now end.now }
 {
     match end {
-        FeedEnd::Grammar { offset } => Some(Complaint::Grammar {
-            name: feed,
-            offset: *offset,
-        }),
-        FeedEnd::Compressed { offset, name } => Some(Complaint::Compressed {
-            name: feed,
-            compression: name.as_str(),
-            offset: *offset,
-        }),
-        FeedEnd::Limit { offset } => Some(Complaint::Limit {
-            name: feed,
-            offset: *offset,
-        }),
-        FeedEnd::Done | FeedEnd::Fault { .. } | FeedEnd::Memory | FeedEnd::Ended => None,
+        FeedEnd::Refused { why } => return reading_complaint(feed, why),
+        FeedEnd::Done | FeedEnd::Ended => return None,
     }
 }
 
@@ -211,13 +199,8 @@ fn is_end_for_memory(end: &FeedEnd) -> bool
     ensures { result ≡ is_memory_end end.now }
 {
     match end {
-        FeedEnd::Memory => true,
-        FeedEnd::Done
-        | FeedEnd::Grammar { .. }
-        | FeedEnd::Compressed { .. }
-        | FeedEnd::Limit { .. }
-        | FeedEnd::Fault { .. }
-        | FeedEnd::Ended => false,
+        FeedEnd::Refused { why } => return command_base::lacks_memory(why),
+        FeedEnd::Done | FeedEnd::Ended => return false,
     }
 }
 

@@ -1,12 +1,36 @@
 //! What the program prints of a recording on standard output.
 ghost use Rattle.std.specs.Prelude.{◌≡◌, ◌+◌, ◌≤◌, ◌++◌, length};
-ghost use Rattle.record_command.specs.ReportTexts.{feed_end_text, end_text, feed_line, feed_lines, file_line, printed};
+ghost use Rattle.record_command.specs.ReportTexts.{refusal_text, feed_end_text, end_text, feed_line, feed_lines, file_line, printed};
 ghost use Rattle.command_base.specs.Printing.{Prints};
 
 use command_base::{LINE_ROOM, Line};
 use mcap_io::{Failed, Sink, write_all_of};
-use mcap_model::{End, Stop};
+use mcap_model::{End, ReadingRefused, Stop};
 use recorder::{FeedEnd, FeedReport, Report, WriterReport};
+
+// Puts why the reading of a feed was refused behind the line.
+fn push_refusal(line: &mut Line, why: &ReadingRefused)
+    requires { length line.old + 31 ≤ LINE_ROOM }
+    ensures text { line.new ≡ line.old ++ refusal_text why.now }
+    ensures len { length line.new ≤ length line.old + 31 }
+{
+    match why {
+        ReadingRefused::Grammar { offset, .. } => {
+            line.push_text("grammar ");
+            line.push_number(*offset);
+        }
+        ReadingRefused::Compressed { offset, .. } => {
+            line.push_text("compressed ");
+            line.push_number(*offset);
+        }
+        ReadingRefused::Limit { offset } => {
+            line.push_text("limit ");
+            line.push_number(*offset);
+        }
+        ReadingRefused::Fault { .. } => line.push_text("fault"),
+        ReadingRefused::Memory => line.push_text("memory"),
+    }
+}
 
 // Puts the end of a feed behind the line.
 fn push_feed_end(line: &mut Line, end: &FeedEnd)
@@ -16,20 +40,7 @@ fn push_feed_end(line: &mut Line, end: &FeedEnd)
 {
     match end {
         FeedEnd::Done => line.push_text("end"),
-        FeedEnd::Grammar { offset } => {
-            line.push_text("grammar ");
-            line.push_number(*offset);
-        }
-        FeedEnd::Compressed { offset, .. } => {
-            line.push_text("compressed ");
-            line.push_number(*offset);
-        }
-        FeedEnd::Limit { offset } => {
-            line.push_text("limit ");
-            line.push_number(*offset);
-        }
-        FeedEnd::Fault { .. } => line.push_text("fault"),
-        FeedEnd::Memory => line.push_text("memory"),
+        FeedEnd::Refused { why } => push_refusal(line, why),
         FeedEnd::Ended => line.push_text("ended"),
     }
 }

@@ -1,6 +1,7 @@
 //! What is said of reports that no run brings about.
 use mcap_app::{
-    Cause, End, FeedEnd, FeedReport, Listing, Refusals, Refused, Report, Stop, WriterReport,
+    Cause, End, FeedEnd, FeedReport, Listing, ReadingRefused, Refusals, Refused, Report, Stop,
+    WriterReport,
 };
 use mcap_io::MemorySink;
 use mcap_wire::Text;
@@ -63,7 +64,8 @@ fn add_feeds(
     let refused = [Refused { index: 0, cause }, Refused { index: 1, cause }];
     add_feed(alloc, feeds, &refused, FeedEnd::Done)?;
     if is_lacking {
-        return add_feed(alloc, feeds, &[], FeedEnd::Memory);
+        let why = ReadingRefused::Memory;
+        return add_feed(alloc, feeds, &[], FeedEnd::Refused { why });
     }
     add_feed(alloc, feeds, &[], FeedEnd::Done)
 }

@@ -75,13 +75,9 @@ fn said(alloc: Global, command: &Command) -> Result<String, AllocError> {
                 "record {out}{feeds} profile='{profile}' chunk={chunk:?} limit={limit}{waits}{watched}"
             )
         }
-        Command::Info { file } => {
-            let file = file.as_str();
-            format!(in alloc; "info {file}")
-        }
-        Command::Check { file } => {
-            let file = file.as_str();
-            format!(in alloc; "check {file}")
+        Command::OfFile { what, file } => {
+            let (what, file) = (what.name(), file.as_str());
+            format!(in alloc; "{what} {file}")
         }
         Command::Cat {
             file,

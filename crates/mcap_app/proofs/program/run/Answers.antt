@@ -1,8 +1,10 @@
 -- The words derive the one command that ran, whose numbers are in their ranges and whose status isn't that of bad words.
-use Rattle.std.proofs.Common.{◌⊎◌, sym, ap, subst, inl, Err}
+use Rattle.std.proofs.Common.{◌⊎◌, ℕ, List, [], ◌∷◌, ◌++◌, sym, ap, subst, inl, Err}
 use Rattle.command_words.specs.declared.command.Command.{Command}
 use Rattle.record_command.specs.declared.recording.Ended.{Ended}
+use Rattle.command_base.specs.Printing.{Takes}
 use Rattle.command_base.specs.Ran.{scene}
+use Rattle.command_base.specs.Texts.{bad_words, said}
 use Rattle.mcap_app.specs.Runs.{LacksForWords, Runs}
 use Rattle.mcap_app.proofs.Running.{allowed, ran_not_two}
 use Rattle.mcap_app.proofs.program.run.Goals as goal
@@ -24,7 +26,9 @@ pub returns-in-Err-BadWords-clause-two : goal.returns-in-Err-BadWords-clause-two
 returns-in-Err-BadWords-clause-two g c = λ two. c.in-Err-BadWords.ensures.bad (ap Err c.in-Err-BadWords.field-0-is)
 
 pub returns-in-Err-BadWords-clause-err : goal.returns-in-Err-BadWords-clause-err
-returns-in-Err-BadWords-clause-err g c = λ bad. inl (ap (λ (e : Ended). e.status) c.unreported.ensures, c.refuse_words.ensures)
+returns-in-Err-BadWords-clause-err g c = λ bad.
+    let taken = subst (λ (u : List ℕ). Takes (g.E.Sink.state c.args.err.now) (g.E.Sink.state c.refuse_words.new.err) (said (bad_words ∷ []) ++ u)) c.usage.ensures c.refuse_words.ensures in
+    inl (ap (λ (e : Ended). e.status) c.unreported.ensures, taken)
 
 pub returns-in-Err-BadWords-clause-runs : goal.returns-in-Err-BadWords-clause-runs
 returns-in-Err-BadWords-clause-runs g c = λ command derives. absurd (c.in-Err-BadWords.ensures.bad (ap Err c.in-Err-BadWords.field-0-is) command derives)

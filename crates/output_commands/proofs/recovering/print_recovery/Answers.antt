@@ -5,8 +5,8 @@ use Rattle.output_commands.proofs.recovering.print_recovery.Goals as goal
 
 pub returns-in-Ok : goal.returns-in-Ok
 returns-in-Ok g c = λ input.
-    takes_line (g.O.Sink.state c.args.out.now) (g.O.Sink.state c.write_all_of.new.sink) input c.as_bytes.result.now c.write_all_of.result c.args.recovery c.in-Made.recovered c.in-Made.is (c.as_bytes.ensures ∙ c.line_of_recovered-line.ensures) c.write_all_of.ensures
+    takes_line (g.O.Sink.state c.args.out.now) (g.O.Sink.state c.write_all_of.new.sink) input c.as_bytes.result.now c.write_all_of.result c.args.recovery.now c.in-Made.recovered c.in-Made.is (c.as_bytes.ensures ∙ c.line_of_recovered-line.ensures) c.write_all_of.ensures
 
 pub returns-in-Err : goal.returns-in-Err
 returns-in-Err g c = λ input.
-    takes_line (g.O.Sink.state c.args.out.now) (g.O.Sink.state c.write_all_of.new.sink) input c.as_bytes.result.now c.write_all_of.result c.args.recovery c.in-Made.recovered c.in-Made.is (c.as_bytes.ensures ∙ c.line_of_recovered-line.ensures) c.write_all_of.ensures
+    takes_line (g.O.Sink.state c.args.out.now) (g.O.Sink.state c.write_all_of.new.sink) input c.as_bytes.result.now c.write_all_of.result c.args.recovery.now c.in-Made.recovered c.in-Made.is (c.as_bytes.ensures ∙ c.line_of_recovered-line.ensures) c.write_all_of.ensures

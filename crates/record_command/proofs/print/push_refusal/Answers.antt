@@ -1,12 +1,12 @@
 use Rattle.std.proofs.Common.{List, ℕ, ◌++◌, ◌∙◌, ap, sym, append_assoc, codes}
 use Rattle.std.specs.Prelude.{decimal}
-use Rattle.feed_lane.specs.declared.report.FeedEnd.{FeedEnd}
-use Rattle.record_command.specs.ReportTexts.{feed_end_text}
-use Rattle.record_command.proofs.print.push_feed_end.Goals as goal
+use Rattle.mcap_model.specs.declared.refusals.ReadingRefused.{ReadingRefused}
+use Rattle.record_command.specs.ReportTexts.{refusal_text}
+use Rattle.record_command.proofs.print.push_refusal.Goals as goal
 
 pub returns-in-Compressed-clause-text : goal.returns-in-Compressed-clause-text
 returns-in-Compressed-clause-text c =
     c.push_number-in-Compressed.ensures.text
     ∙ ap (λ (l : List ℕ). l ++ decimal c.in-Compressed.offset) c.push_text-in-Compressed.ensures.text
     ∙ append_assoc c.args.line.now (codes "compressed ") (decimal c.in-Compressed.offset)
-    ∙ sym (ap (λ (e : FeedEnd). c.args.line.now ++ feed_end_text e) c.in-Compressed.is)
+    ∙ sym (ap (λ (w : ReadingRefused). c.args.line.now ++ refusal_text w) c.in-Compressed.is)
