@@ -2,9 +2,9 @@
 use crate::replays::{Wanted, are_shown};
 use crate::same::holds_at;
 use crate::sources::TWO_CHUNKS;
-use indexed_replay::{NotIndexed, ReplayRefused, replay_indexed};
+use indexed_replay::replay_indexed;
 use mcap_io::{QuietStore, Store};
-use mcap_model::Range;
+use mcap_model::{IndexedRefused, NotIndexed, Range, ReadingRefused};
 use mcap_wire::Text;
 use std::alloc::Global;
 use std::test::Fail;
@@ -85,13 +85,15 @@ enum End {
 }
 
 // Whether V12 fails at that offset, a chunk there names "lz4", or so many chunks are stated where there are two.
-fn is_end(why: &ReplayRefused, end: End) -> bool {
+fn is_end(why: &IndexedRefused, end: End) -> bool {
     match why {
-        ReplayRefused::Flaw { rule: 12, offset } => matches!(end, End::Flaw(at) if at == *offset),
-        ReplayRefused::Compressed { offset, name } => {
-            name.is("lz4") && matches!(end, End::Compressed(at) if at == *offset)
-        }
-        ReplayRefused::NotIndexed {
+        IndexedRefused::Refused {
+            why: ReadingRefused::Grammar { offset, rule: 12 },
+        } => matches!(end, End::Flaw(at) if at == *offset),
+        IndexedRefused::Refused {
+            why: ReadingRefused::Compressed { offset, name },
+        } => name.is("lz4") && matches!(end, End::Compressed(at) if at == *offset),
+        IndexedRefused::NotIndexed {
             why: NotIndexed::ChunkCount { stated, found: 2 },
         } => matches!(end, End::Counts(n) if n == *stated),
         _ => false,

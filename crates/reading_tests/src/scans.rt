@@ -2,8 +2,8 @@
 use crate::same::holds_at;
 use crate::sources::{TWO_CHUNKS, quiet};
 use mcap_io::{MemorySource, Source};
-use mcap_model::{PlainRefused, scan_plain};
-use mcap_scan::{Lent, ScanRefused, Scanner, Step, Top};
+use mcap_model::{ReadingRefused, scan_plain};
+use mcap_scan::{Lent, Scanner, Step, Top};
 use mcap_wire::cut;
 use std::alloc::Global;
 use std::test::Fail;
@@ -133,13 +133,13 @@ const FILES: [(&[u8], Outcome, usize); 18] = [
     ),
 ];
 
-fn refused(why: &ScanRefused, count: u64) -> Outcome {
+fn refused(why: &ReadingRefused, count: u64) -> Outcome {
     match why {
-        ScanRefused::Grammar { offset, rule } => (count, *offset, *rule),
-        ScanRefused::Compressed { offset, name: _ } => (count, *offset, COMPRESSED),
-        ScanRefused::Limit { offset } => (count, *offset, LIMIT),
-        ScanRefused::Fault { faults } => (count, *faults, FAULT),
-        ScanRefused::Memory => (count, 0, MEMORY),
+        ReadingRefused::Grammar { offset, rule } => (count, *offset, *rule),
+        ReadingRefused::Compressed { offset, name: _ } => (count, *offset, COMPRESSED),
+        ReadingRefused::Limit { offset } => (count, *offset, LIMIT),
+        ReadingRefused::Fault { faults } => (count, *faults, FAULT),
+        ReadingRefused::Memory => (count, 0, MEMORY),
     }
 }
 
@@ -251,15 +251,15 @@ fn halts(alloc: Global, bytes: &[u8], copied: bool, want: Outcome, left: usize) 
     }
 }
 
-// Whether the plain scan of the bytes halts at the same offset for the same kind of reason.
+// Whether the plain scan of the bytes halts at the same offset for the same reason.
 fn halts_plainly(alloc: Global, bytes: &[u8], want: Outcome) -> bool {
     let (_, place, why) = want;
     match scan_plain(alloc, bytes) {
         Ok(_) => why == END,
-        Err(PlainRefused::Grammar { offset }) => offset == place && why != END && why < COMPRESSED,
-        Err(PlainRefused::Compressed { offset }) => offset == place && why == COMPRESSED,
-        Err(PlainRefused::Limit { offset }) => offset == place && why == LIMIT,
-        Err(PlainRefused::Memory) => false,
+        Err(ReadingRefused::Grammar { offset, rule }) => offset == place && why == rule,
+        Err(ReadingRefused::Compressed { offset, .. }) => offset == place && why == COMPRESSED,
+        Err(ReadingRefused::Limit { offset }) => offset == place && why == LIMIT,
+        Err(_) => false,
     }
 }
 

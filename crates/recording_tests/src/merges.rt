@@ -5,6 +5,7 @@ use crate::recoveries::file;
 use crate::same::{holds, holds_at};
 use mcap_io::{MemoryLive, QuietStore};
 use mcap_merge::{MergeRefused, Merged, merge};
+use mcap_model::ReadingRefused;
 use mcap_wire::{MAGIC, PairsRef};
 use rec_data::{Channel, DataEnd, Header, Message, Schema};
 use std::alloc::Global;
@@ -220,9 +221,12 @@ fn the_first_input_that_is_cut_short_is_named(rt: HostRuntime) -> Result<(), Fai
     let (result, bytes) = merged(alloc, stores)?;
     let is_named = matches!(
         result,
-        Err(MergeRefused::Grammar {
+        Err(MergeRefused::Halted {
             input: 1,
-            offset: 25
+            why: ReadingRefused::Grammar {
+                offset: 25,
+                rule: 4
+            }
         })
     );
     holds(&rt, is_named);

@@ -11,6 +11,7 @@ use mcap_io::{
     QuietStore, Store,
 };
 use mcap_merge::{MergeRefused, Merged, merge};
+use mcap_model::ReadingRefused;
 use std::alloc::Global;
 use std::mem::swap;
 use std::sync::atomic::AtomicU64;
@@ -333,7 +334,13 @@ fn a_reading_that_fails_leaves_a_first_part(rt: HostRuntime) -> Result<(), Fail>
             holds_at(&rt, left == 173, &left);
             return Ok(());
         }
-        let is_told = matches!(merging.answer, Err(MergeRefused::Fault { faults: 1 }));
+        let is_told = matches!(
+            merging.answer,
+            Err(MergeRefused::Halted {
+                input: 0,
+                why: ReadingRefused::Fault { faults: 1 }
+            })
+        );
         holds_at(&rt, is_told, &call);
         left = merging.bytes.len();
     }
@@ -417,7 +424,7 @@ fn a_chunk_that_changed_is_named(rt: HostRuntime) -> Result<(), Fail> {
     let merging = merge_stores(alloc, &mut stores, 59)?;
     let is_named = matches!(
         merging.answer,
-        Err(MergeRefused::Grammar {
+        Err(MergeRefused::Changed {
             input: 0,
             offset: 173
         })
@@ -437,7 +444,7 @@ fn a_second_input_that_changed_is_named_as_the_second(rt: HostRuntime) -> Result
     let merging = merge_stores(alloc, &mut stores, 59)?;
     let is_named = matches!(
         merging.answer,
-        Err(MergeRefused::Grammar {
+        Err(MergeRefused::Changed {
             input: 1,
             offset: 173
         })
