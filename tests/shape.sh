@@ -129,9 +129,16 @@ sub places_with {
     return @places;
 }
 
+# The walk's own: what all others go over, and the judging of a chunk, behind which it gives the records inside. And a walk over
+# records that stand behind a chunk, not inside one.
+sub is_own_walk { return $_[0] =~ m{^crates/(?:record_walk/|mcap_model/src/chunks\.rt)| keep_indexes$}; }
+
 sub count_walks {
     my @walks = places_with(qr/\bInnerWalk::new\(/);
-    figure('walks over framed records by hand, each an InnerWalk::new', scalar @walks, 'floor: 2', @walks);
+    my @own = grep { is_own_walk($_) } @walks;
+    my @others = grep { !is_own_walk($_) } @walks;
+    figure('walks over the records of chunks by hand, each an InnerWalk::new', scalar @others, 'floor: 2', @others);
+    figure('besides, the walk itself, the judging of a chunk, and one over Message Indexes', scalar @own, '', @own);
     my @parses = places_with(qr/\bMessage::parse\(/);
     figure('messages parsed, each a Message::parse', scalar @parses, '', @parses);
 }
